@@ -124,7 +124,7 @@ rises (change ∷ changes) up =
       rises changes (order_tail change changes up),
     )
 
-corrections_rise : (old new : List Row) (changes : List Pair) → AreCorrections old new changes
+pub corrections_rise : (old new : List Row) (changes : List Pair) → AreCorrections old new changes
     → Rises changes
 corrections_rise old new changes are =
     subst Rises (sym are.listed) (rises (filter is_changed are.pairs)
@@ -361,7 +361,7 @@ pub record HasTokens (changes : List Pair) (text : List ℕ) : Type 0 where
   pub are : AreTokensOf changes tokens
   pub shown : text ≡ tokens_lines changes tokens
 
-tokens_by : (changes : List Pair) → Rises changes
+pub tokens_by : (changes : List Pair) → Rises changes
     → HasTokens changes (ended_lines None changes ++ sums_line (sums_after None changes))
 unfolding IsStrictlySortedBy
 tokens_by [] order = record {

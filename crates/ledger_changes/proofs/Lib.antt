@@ -1,8 +1,10 @@
+pub mod Begun
 pub mod Beside
 pub mod ByToken
 pub mod Keys
 pub mod Listed
 pub mod Merging
+pub mod ReadTo
 pub mod Readings
 pub mod Sorted
 pub mod Summing

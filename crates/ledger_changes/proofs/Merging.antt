@@ -138,7 +138,7 @@ pub record IsPaired (olds news : List Row) (pairs : List Pair) : Type 0 where
   pub of_old : befores pairs ≡ olds
   pub of_new : afters pairs ≡ news
 
-beside : (olds news : List Row) (pairs : List Pair) → IsPaired olds news pairs
+pub beside : (olds news : List Row) (pairs : List Pair) → IsPaired olds news pairs
     → AreSideBySide olds news pairs
 beside olds news pairs is = record {
   olds = is.of_old;
@@ -160,7 +160,7 @@ pub record IsFirst (b a : Option Row) (pair : Pair) (olds news : List Row) : Typ
   pub olds_past : pair.before ≡ None → AllByRecursion (λ row. Lt pair.key row.key) olds
   pub news_past : pair.after ≡ None → AllByRecursion (λ row. Lt pair.key row.key) news
 
-paired_more : (b a : Option Row) (pair : Pair) (olds news : List Row) (pairs : List Pair)
+pub paired_more : (b a : Option Row) (pair : Pair) (olds news : List Row) (pairs : List Pair)
     → IsFirst b a pair olds news → IsPaired olds news pairs
     → IsPaired (rows_in b ++ olds) (rows_in a ++ news) (pair ∷ pairs)
 paired_more b a pair olds news pairs first is = record {
@@ -217,7 +217,7 @@ up_behind : (row : Row) (rows : List Row) → Begin (Some row) (row ∷ rows)
 up_behind row rows is = rise_all row rows is.2
 
 -- all rows, if the first is past the key
-past_first : (key : Key) (row : Row) (rows : List Row) → key_cmp key row.key ≡ Less
+pub past_first : (key : Key) (row : Row) (rows : List Row) → key_cmp key row.key ≡ Less
     → Begin (Some row) rows → AllByRecursion (λ later. Lt key later.key) rows
 past_first key row rows less is =
     subst (AllByRecursion (λ later. Lt key later.key)) (sym is.1) (
@@ -250,7 +250,7 @@ pub record Pairing (b a : Option Row) (olds news : List Row) : Type 0 where
 some_is_none : {A : Type 0} (x : A) → Some x ≡ None → ⊥
 some_is_none x e = cc
 
-only_old : (old : Row) (olds news : List Row) → Begin (Some old) (old ∷ olds)
+pub only_old : (old : Row) (olds news : List Row) → Begin (Some old) (old ∷ olds)
     → AllByRecursion (λ later. Lt old.key later.key) news → Pairing (Some old) None olds news
 only_old old olds news is past = record {
   pair = record { key = old.key; before = Some old.charge; after = None };
@@ -266,7 +266,7 @@ only_old old olds news is past = record {
   };
 }
 
-only_new : (new : Row) (olds news : List Row) → Begin (Some new) (new ∷ news)
+pub only_new : (new : Row) (olds news : List Row) → Begin (Some new) (new ∷ news)
     → AllByRecursion (λ later. Lt new.key later.key) olds → Pairing None (Some new) olds news
 only_new new olds news is past = record {
   pair = record { key = new.key; before = None; after = Some new.charge };
@@ -282,7 +282,7 @@ only_new new olds news is past = record {
   };
 }
 
-both_rows : (old new : Row) (olds news : List Row) → old.key ≡ new.key
+pub both_rows : (old new : Row) (olds news : List Row) → old.key ≡ new.key
     → Begin (Some old) (old ∷ olds) → Begin (Some new) (new ∷ news)
     → Pairing (Some old) (Some new) olds news
 both_rows old new olds news same is also = record {
@@ -300,10 +300,10 @@ both_rows old new olds news same is also = record {
   };
 }
 
-greater_less : (a b : Key) → key_cmp a b ≡ Greater → key_cmp b a ≡ Less
+pub greater_less : (a b : Key) → key_cmp a b ≡ Greater → key_cmp b a ≡ Less
 greater_less a b e = key_cmp_total.antisymm b a ∙ ap ordering_reverse e
 
-equal_same : (a b : Key) → key_cmp a b ≡ Equal → a ≡ b
+pub equal_same : (a b : Key) → key_cmp a b ≡ Equal → a ≡ b
 equal_same a b e =
     same_key a b (ap is_lt e) (ap is_lt (key_cmp_total.antisymm b a ∙ ap ordering_reverse e))
 

@@ -90,7 +90,7 @@ from_rows left (Some row) after rows read has =
     subst (λ (rows : List Row). AreRowLines rows left) (sym has.shown)
     (read.0, subst (AreRowLines has.more) text has.lines)
 
-rise_rows : (next : Option Row) (after : Option (List ℕ)) (rows : List Row)
+pub rise_rows : (next : Option Row) (after : Option (List ℕ)) (rows : List Row)
     → HasRowsAt next after rows → Rise rows
 rise_rows None after rows has = subst Rise (sym has) rise_none
 rise_rows (Some row) after rows has = has.sorted

@@ -95,7 +95,7 @@ second_is_one row other before after none is same =
     (subst (λ (a : Option LedgerRow). IsOne row None a) (sym is) same)
 
 -- ---- all corrections
-ended_more : (last : Option TokenSum) (done more : List Pair)
+pub ended_more : (last : Option TokenSum) (done more : List Pair)
     → ended_lines last (done ++ more)
     ≡ ended_lines last done ++ ended_lines (sums_after last done) more
 ended_more last [] more = refl

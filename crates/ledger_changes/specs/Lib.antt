@@ -1,5 +1,6 @@
 pub mod Changes
 pub mod Faults
+pub mod FirstWrongLines
 pub mod Ledgers
 pub mod RowFields
 pub mod Rows

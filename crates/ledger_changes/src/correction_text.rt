@@ -1,9 +1,10 @@
 //! The line of a correction.
 
-ghost use Rattle.std.specs.Prelude.{◌≡◌, ◌++◌, IfOk, IfErr, OnOk, Some, codes};
+ghost use Rattle.std.specs.Prelude.{◌≡◌, ◌++◌, IfOk, IfErr, OnErr, OnOk, Some, codes};
 ghost use Rattle.std.specs.Fmt.{decimal};
 ghost use Rattle.std.specs.Io.KnownBytes.{Appends};
 ghost use Rattle.std.specs.Option.{option_map};
+ghost use Rattle.fare_texts.specs.WrittenOut.{Begins};
 ghost use Rattle.ledger_changes.specs.Changes.{Pair, agree};
 ghost use Rattle.ledger_changes.specs.Faults.{IsOfLedger};
 ghost use Rattle.ledger_changes.specs.Texts.{cents_of, change_word, charge_fields};
@@ -14,6 +15,7 @@ ghost use Rattle.ledger_changes.specs.inside.Written.{changes_of, row_in};
 
 use crate::fault::CorrectionsFault;
 use crate::row::LedgerRow;
+use fare_texts::write_bytes;
 use itoa::Buffer;
 use std::alloc::{AllocError, Global};
 use std::io::Write;
@@ -133,9 +135,10 @@ fn correction_line(
 
 pub(crate) fn write_text<W: Write>(out: &mut W, text: &[u8]) -> Result<(), CorrectionsFault>
     ensures written { OnOk result (Appends (W.contents out.old) (W.contents out.new) text.now) }
+    ensures begun { OnErr result (Begins (W.contents out.old) (W.contents out.new) text.now) }
     ensures fault { IfErr result (λ fault. (bill : ABill) → ¬ (IsOfLedger bill fault)) }
 {
-    match out.write_all(text) {
+    match write_bytes(text, out) {
         Ok(()) => Ok(()),
         Err(_) => Err(CorrectionsFault::Write),
     }
@@ -149,6 +152,8 @@ pub(crate) fn write_change<W: Write>(
     after: &Option<LedgerRow>,
 ) -> Result<(), CorrectionsFault>
     ensures written { OnOk result (Appends (W.contents out.old) (W.contents out.new)
+        (corrections_lines (changes_of (row_in before.now) (row_in after.now)))) }
+    ensures begun { OnErr result (Begins (W.contents out.old) (W.contents out.new)
         (corrections_lines (changes_of (row_in before.now) (row_in after.now)))) }
     ensures fault { IfErr result (λ fault. (bill : ABill) → ¬ (IsOfLedger bill fault)) }
 {

@@ -7,10 +7,12 @@ ghost use Rattle.std.specs.Prelude.{if◌then◌else◌};
 ghost use Rattle.std.specs.Io.BufRead.{drop_through, take_through};
 ghost use Rattle.std.specs.Option.{option_map};
 ghost use Rattle.ledger_changes.specs.Faults.{IsOfLedger};
+ghost use Rattle.ledger_changes.specs.FirstWrongLines.{NamesFirstWrong};
 ghost use Rattle.ledger_changes.specs.Ledgers.{AreRowLines, IsSettledLedger};
 ghost use Rattle.ledger_changes.specs.Rows.{Row};
 ghost use Rattle.ledger_changes.specs.declared.fault.Bill.{Bill as ABill};
 ghost use Rattle.ledger_changes.specs.inside.LedgerRows.{row_of, rows_in};
+ghost use Rattle.ledger_changes.specs.inside.ReadTo.{HasReadTo, IsOfNoRow, next_number};
 ghost use Rattle.ledger_changes.specs.inside.Standings.{HasRows, IsKnown, IsMoved, MayFollow};
 ghost use Rattle.ledger_changes.specs.inside.Standings.{ReadsRow, standing, StandsBefore};
 
@@ -60,6 +62,7 @@ impl<R: BufRead + Drop> LedgerRows<R> {
             → (self.new.line.items ≡ take_through 10 left)
             × (R.remaining self.new.from ≡ Some (drop_through 10 left))) }
         ensures kept { (self.new.bill ≡ self.old.bill) × (self.new.row ≡ self.old.row) }
+        ensures lines { OnOk result (self.new.lines ≡ next_number self.old.lines) }
         ensures fault { IfErr result (λ fault. (bill : ABill) → ¬ (IsOfLedger bill fault)) }
     {
         self.line.clear();
@@ -89,6 +92,9 @@ impl<R: BufRead + Drop> LedgerRows<R> {
         ensures refused { IfErr result (λ fault. (bill : ABill) → IsOfLedger bill fault
             → (self.old.bill ≡ bill) × ((left : List ℕ) → R.remaining self.old.from ≡ Some left
             → (rows : List Row) → ¬ (AreRowLines rows left))) }
+        ensures lines { OnOk result (self.new.lines ≡ next_number self.old.lines) }
+        ensures form { IfErr result (λ fault. (left : List ℕ)
+            → R.remaining self.old.from ≡ Some left → IsOfNoRow self.old.lines left fault) }
     {
         self.next_line()?;
         if self.is_over() {
@@ -112,6 +118,10 @@ impl<R: BufRead + Drop> LedgerRows<R> {
         ensures refused { IfErr result (λ fault. (other : ABill) → IsOfLedger other fault
             → (bill ≡ other) × ((text : List ℕ) → R.remaining from ≡ Some text
             → (rows : List Row) → ¬ (IsSettledLedger rows text))) }
+        ensures read { IfOk result (λ ledger. (text : List ℕ) → R.remaining from ≡ Some text
+            → HasReadTo R.remaining ledger text) }
+        ensures first { IfErr result (λ fault. (text : List ℕ) → R.remaining from ≡ Some text
+            → NamesFirstWrong text fault) }
     {
         let mut ledger = LedgerRows {
             from,
@@ -139,6 +149,10 @@ impl<R: BufRead + Drop> LedgerRows<R> {
         ensures refused { IfErr result (λ fault. (bill : ABill) → IsOfLedger bill fault
             → (self.old.bill ≡ bill) × (IsKnown (standing R.remaining self.old)
             → (rows : List Row) → ¬ (HasRows (standing R.remaining self.old) rows))) }
+        ensures read { OnOk result ((text : List ℕ) → HasReadTo R.remaining self.old text
+            → HasReadTo R.remaining self.new text) }
+        ensures first { IfErr result (λ fault. (text : List ℕ)
+            → HasReadTo R.remaining self.old text → NamesFirstWrong text fault) }
     {
         let Some(_row) = &self.row else {
             return Ok(None);
@@ -165,6 +179,10 @@ impl<R: BufRead + Drop> LedgerRows<R> {
         ensures refused { IfErr result (λ fault. (bill : ABill) → IsOfLedger bill fault
             → (self.old.bill ≡ bill) × (IsKnown (standing R.remaining self.old)
             → (rows : List Row) → ¬ (HasRows (standing R.remaining self.old) rows))) }
+        ensures read { OnOk result ((text : List ℕ) → HasReadTo R.remaining self.old text
+            → HasReadTo R.remaining self.new text) }
+        ensures first { IfErr result (λ fault. (text : List ℕ)
+            → HasReadTo R.remaining self.old text → NamesFirstWrong text fault) }
     {
         if is_wanted {
             self.next_row(alloc)

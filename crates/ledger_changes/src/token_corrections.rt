@@ -1,16 +1,21 @@
 //! The corrections from one settled ledger to another, summed by token.
 
-ghost use Rattle.std.specs.Prelude.{◌≡◌, ◌+◌, ℕ, List, Some, IfErr, IfOk, IfSome};
+ghost use Rattle.std.specs.Prelude.{◌≡◌, ◌++◌, ◌+◌, ℕ, List, None, Some, IfErr, IfOk, IfSome};
+ghost use Rattle.std.specs.Prelude.{OnErr};
 ghost use Rattle.std.specs.Prelude.{MatchOption, false};
 ghost use Rattle.std.specs.Io.KnownBytes.{Appends};
+ghost use Rattle.fare_texts.specs.WrittenOut.{Begins};
 ghost use Rattle.ledger_changes.specs.Faults.{IsOfLedger};
+ghost use Rattle.ledger_changes.specs.FirstWrongLines.{NamesFirstWrong};
 ghost use Rattle.ledger_changes.specs.Ledgers.{IsSettledLedger};
 ghost use Rattle.ledger_changes.specs.Rows.{Row};
 ghost use Rattle.ledger_changes.specs.Tokens.{IsCorrectionsByTokenText};
 ghost use Rattle.ledger_changes.specs.declared.fault.Bill.{Bill as ABill};
 ghost use Rattle.ledger_changes.specs.declared.fault.Bill.TheVariants.{New, Old};
+ghost use Rattle.ledger_changes.specs.inside.ReadTo.{HasReadTo};
 ghost use Rattle.ledger_changes.specs.inside.Standings.{HasRows, IsKnown, standing};
-ghost use Rattle.ledger_changes.specs.inside.Sums.{AreSumsWritten};
+ghost use Rattle.ledger_changes.specs.inside.Sums.{AreSumsWritten, ended_lines, sums_after};
+ghost use Rattle.ledger_changes.specs.inside.Sums.{sums_line};
 ghost use Rattle.ledger_changes.specs.inside.Written.{HoldsOfCorrections};
 
 use crate::both_ledgers::{count_removed, next_sides};
@@ -44,6 +49,18 @@ fn write_token_sums<R: BufRead + Drop, W: Write>(
     ensures refused_new { IfErr result (λ fault. IsOfLedger New fault
         → IsKnown (standing R.remaining new.old) → (rows : List Row)
         → ¬ (HasRows (standing R.remaining new.old) rows)) }
+    // What was written is a beginning of the lines of all corrections.
+    ensures begun { OnErr result (IsKnown (standing R.remaining old.old)
+        → IsKnown (standing R.remaining new.old) → (old_rows new_rows : List Row)
+        → HasRows (standing R.remaining old.old) old_rows
+        → HasRows (standing R.remaining new.old) new_rows
+        → HoldsOfCorrections (standing R.remaining old.old) (standing R.remaining new.old)
+        (λ changes. Begins (W.contents out.old) (W.contents out.new)
+        (ended_lines None changes ++ sums_line (sums_after None changes)))) }
+    ensures first_old { IfErr result (λ fault. IsOfLedger Old fault → (text : List ℕ)
+        → HasReadTo R.remaining old.old text → NamesFirstWrong text fault) }
+    ensures first_new { IfErr result (λ fault. IsOfLedger New fault → (text : List ℕ)
+        → HasReadTo R.remaining new.old text → NamesFirstWrong text fault) }
 {
     let mut removed = 0;
     let mut last = None::<TokenSums>;
@@ -82,6 +99,17 @@ pub fn corrections_by_token<R: BufRead + Drop, W: Write>(
         → R.remaining old ≡ Some text → (rows : List Row) → ¬ (IsSettledLedger rows text)) }
     ensures refused_new { IfErr result (λ fault. IsOfLedger New fault → (text : List ℕ)
         → R.remaining new ≡ Some text → (rows : List Row) → ¬ (IsSettledLedger rows text)) }
+    // What was written before a fault is a beginning of the right text, if there is one.
+    ensures begun { OnErr result ((old_text new_text : List ℕ)
+        → R.remaining old ≡ Some old_text → R.remaining new ≡ Some new_text
+        → (some : List ℕ) (count : ℕ) → IsCorrectionsByTokenText old_text new_text some count
+        → (text : List ℕ) × (removed : ℕ) × IsCorrectionsByTokenText old_text new_text text removed
+        × Begins (W.contents out.old) (W.contents out.new) text) }
+    // The line that is refused is the first wrong one of its ledger, for the reason of the fault.
+    ensures first_old { IfErr result (λ fault. IsOfLedger Old fault → (text : List ℕ)
+        → R.remaining old ≡ Some text → NamesFirstWrong text fault) }
+    ensures first_new { IfErr result (λ fault. IsOfLedger New fault → (text : List ℕ)
+        → R.remaining new ≡ Some text → NamesFirstWrong text fault) }
 {
     let mut old = LedgerRows::begin(alloc, old, Bill::Old)?;
     let mut new = LedgerRows::begin(alloc, new, Bill::New)?;

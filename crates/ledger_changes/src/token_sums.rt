@@ -1,8 +1,9 @@
 //! The corrections of one token, summed, and their line.
 
-ghost use Rattle.std.specs.Prelude.{◌≡◌, IfOk, IfErr, IfSome, OnOk};
+ghost use Rattle.std.specs.Prelude.{◌≡◌, IfOk, IfErr, IfSome, OnErr, OnOk};
 ghost use Rattle.std.specs.Io.KnownBytes.{Appends};
 ghost use Rattle.std.specs.Option.{option_map};
+ghost use Rattle.fare_texts.specs.WrittenOut.{Begins};
 ghost use Rattle.ledger_changes.specs.Faults.{IsOfLedger};
 ghost use Rattle.ledger_changes.specs.Rows.{is_same_text};
 ghost use Rattle.ledger_changes.specs.Texts.{is_only_before};
@@ -126,6 +127,8 @@ pub(crate) fn write_sums<W: Write>(
 ) -> Result<(), CorrectionsFault>
     ensures written { OnOk result (Appends (W.contents out.old) (W.contents out.new)
         (sums_line (sum_in sums.now))) }
+    ensures begun { OnErr result (Begins (W.contents out.old) (W.contents out.new)
+        (sums_line (sum_in sums.now))) }
     ensures fault { IfErr result (λ fault. (bill : ABill) → ¬ (IsOfLedger bill fault)) }
 {
     match sums {
@@ -147,18 +150,22 @@ fn sums_for<W: Write>(
 ) -> Result<TokenSums, CorrectionsFault>
     ensures written { OnOk result (Appends (W.contents out.old) (W.contents out.new)
         (ended_line (sum_in last) row.now.token.items)) }
+    ensures begun { OnErr result (Begins (W.contents out.old) (W.contents out.new)
+        (ended_line (sum_in last) row.now.token.items)) }
     ensures sums { IfOk result
         (λ sums. token_sum_of sums ≡ sums_for (sum_in last) row.now.token.items) }
     ensures fault { IfErr result (λ fault. (bill : ABill) → ¬ (IsOfLedger bill fault)) }
 {
-    if let Some(sums) = last {
-        if sums.is_of(row) {
-            return Ok(sums);
-        }
-        let line = sums.line(alloc)?;
-        write_text(out, &line)?;
+    let Some(sums) = last else {
+        return Ok(TokenSums::begin(alloc, row)?);
+    };
+    if sums.is_of(row) {
+        return Ok(sums);
     }
-    Ok(TokenSums::begin(alloc, row)?)
+    let next = TokenSums::begin(alloc, row)?;
+    let line = sums.line(alloc)?;
+    write_text(out, &line)?;
+    Ok(next)
 }
 
 /// Adds the correction from the one row to the other to the sums of its token, if they do not
@@ -171,6 +178,8 @@ pub(crate) fn sum_change<W: Write>(
     after: &Option<LedgerRow>,
 ) -> Result<Option<TokenSums>, CorrectionsFault>
     ensures written { OnOk result (Appends (W.contents out.old) (W.contents out.new)
+        (ended_lines (sum_in last) (changes_of (row_in before.now) (row_in after.now)))) }
+    ensures begun { OnErr result (Begins (W.contents out.old) (W.contents out.new)
         (ended_lines (sum_in last) (changes_of (row_in before.now) (row_in after.now)))) }
     ensures sums { IfOk result (λ sums. sum_in sums
         ≡ sums_after (sum_in last) (changes_of (row_in before.now) (row_in after.now))) }

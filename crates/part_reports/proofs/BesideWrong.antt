@@ -90,7 +90,7 @@ first_reported (Err fault) first second lines This That of this =
     of_first first second lines This That fault of this
 
 -- ---- a report that is none
-no_line_sums : (file : List ℕ) (left : ReportAt) (done : List LineCharge) (token : Token)
+pub no_line_sums : (file : List ℕ) (left : ReportAt) (done : List LineCharge) (token : Token)
     → IsUsedBy file left done → left.at.token ≡ Some token
     → ((before : Sums) → ¬ (IsLineOfSums left.at.line before)) → ⊥
 no_line_sums file left done token is there none =

@@ -1,16 +1,13 @@
 -- The first wrong line of a text of uploads' ends.
-use Rattle.std.proofs.Common.{◌≡◌, ◌∙◌, ◌+◌, ◌<◌, ◌≤◌, ◌^◌, ℕ, suc, List, [], ◌∷◌, ◌++◌, Option}
-use Rattle.std.proofs.Common.{Some, None, Err, arith, ap, drop, get_or, length, map, refl, subst, sym}
+use Rattle.std.proofs.Common.{◌≡◌, ◌∙◌, ◌+◌, ◌<◌, ◌≤◌, ◌^◌, ℕ, suc, List, ◌∷◌, ◌++◌, Option}
+use Rattle.std.proofs.Common.{Some, None, Err, arith, ap, drop, get_or, length, refl, subst, sym}
 use Rattle.std.proofs.Common.{◌-◌, take}
-use Rattle.std.specs.Prelude.{All, IfSome, min}
-use Rattle.std.specs.Io.BufRead.{drop_through, take_through}
+use Rattle.std.specs.Prelude.{IfSome}
+use Rattle.std.specs.Io.BufRead.{drop_through}
 use Rattle.std.proofs.lemmas.List.Elements.{All-append}
-use Rattle.std.proofs.lemmas.Option.{MatchOption-at_some}
 use Rattle.report_texts.specs.Numbers.{IsUploadEnd}
 use Rattle.report_texts.specs.Report.{upload_line, upload_lines}
-use Rattle.report_texts.specs.declared.upload_end.UploadEnd.{UploadEnd}
 use Rattle.part_reports.specs.Faults.{number_from}
-use Rattle.part_reports.specs.FirstWrongLines.{IsFirstWrongOfEnds}
 use Rattle.part_reports.specs.Reports.{all_ends, end_texts}
 use Rattle.part_reports.specs.Texts.{AreLeft}
 use Rattle.part_reports.specs.inside.FirstWrong.{up_to_64}

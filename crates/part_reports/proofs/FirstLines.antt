@@ -1,6 +1,7 @@
 -- The next line of a text, and the line feeds before it.
 use Rattle.std.proofs.Common.{◌≡◌, ◌≢◌, ◌∙◌, ◌+◌, ℕ, zero, suc, List, [], ◌∷◌, ◌++◌, Option}
-use Rattle.std.proofs.Common.{Some, None, append_assoc, arith, ap, inl, inr, length, map, refl}
+use Rattle.std.proofs.Common.{Some, None, append-nil, append_assoc, arith, ap, inl, inr, length}
+use Rattle.std.proofs.Common.{map, refl}
 use Rattle.std.proofs.Common.{subst, sym}
 use Rattle.std.specs.Prelude.{Err, IfErr, IfSome, IsErr, Ok, Result, codes, slice_get, slice_set}
 use Rattle.std.specs.Io.BufRead.{take_through}
@@ -15,8 +16,8 @@ use Rattle.part_reports.specs.TokenLines.{TokenLine, text_of}
 use Rattle.part_reports.specs.inside.FirstWrong.{IsCounted, IsCountedAt, IsOfNext, IsWrongLine}
 use Rattle.part_reports.specs.inside.FirstWrong.{IsLineReason, line_feeds}
 use Rattle.part_reports.specs.inside.Least.{IsBelowOthers}
-use Rattle.part_reports.specs.inside.Standings.{IsAtLine, IsBehindOne, IsFirstLine, IsLineOfKind}
-use Rattle.part_reports.specs.inside.Standings.{IsMoved}
+use Rattle.part_reports.specs.inside.Standings.{IsAtEnd, IsAtLine, IsBehindOne, IsFirstLine}
+use Rattle.part_reports.specs.inside.Standings.{IsLineOfKind, IsMoved}
 use Rattle.part_reports.specs.inside.Standings.{IsMovedAt, MayFollowToken, Standing, StandsInText}
 use Rattle.part_reports.specs.inside.Standings.{StandsInTextAt, line_with}
 use Rattle.part_reports.specs.inside.Reported.{IsOfReader, next_number}
@@ -76,7 +77,8 @@ reason_behind (Tokens left rest) before line wrong why =
         | inr order ↦ absurd (cc (order.1.3))
       ]
     ]
-reason_behind Entries before line wrong why = tt
+reason_behind Entries before line wrong why =
+    elim why [ inl form ↦ inl form | inr order ↦ absurd (cc (order.1.2)) ]
 
 -- what may stand nowhere may not stand behind a line
 pub next_behind : (kind : LineKind) (before : Option Token) (left : Option (List ℕ)) (number : ℕ)
@@ -135,11 +137,23 @@ left_some : (left : ℕ) (rest : SumsLeft) (line : TokenLine) (behind : LineKind
 left_some left rest line (Tokens count after) one none = absurd (omega (arith, one.0, none))
 left_some left rest line Entries one none = absurd one
 
--- why: a report's tokens do not rise
+-- why: a report's tokens do not rise, or a ledger's fall
 pub order_reason : (kind : LineKind) (text : List ℕ) (at : Standing) (before : Option Token)
     → StandsInText (kind, text) at → ¬ (MayFollowToken kind before at.token)
     → IsLineReason kind before (take_through 10 text) Order
-order_reason Entries text at before source wrong = tt
+order_reason Entries text at before source wrong = by_heads before at.token source wrong
+  where
+    by_heads : (before head : Option Token) → StandsInTextAt (Entries, text) at head
+        → ¬ (MayFollowToken Entries before head)
+        → IsLineReason Entries before (take_through 10 text) Order
+    by_heads None head source wrong = absurd (wrong tt)
+    by_heads (Some last) None source wrong = absurd (wrong tt)
+    by_heads (Some last) (Some head) here wrong =
+        let line : take_through 10 text ≡ at.line =
+        ap (take_through 10) here.shown ∙ taken_one at.line here.rest
+        (line_is_one Entries (line_with head at.line) here.line) in
+        subst (λ line. IsLineReason Entries (Some last) line Order) (sym line)
+        (inr (refl, (last, head, refl, here.line, wrong)))
 order_reason (Tokens left rest) text at before source wrong = by_heads before at.token source wrong
   where
     by_heads : (before head : Option Token) → StandsInTextAt (Tokens left rest, text) at head
@@ -195,12 +209,23 @@ lines_feeds kind (line ∷ lines) each =
     omega (arith, all, first, rest)
 
 -- ---- lines that are counted
-counted_moved : (file : List ℕ) (was is : Standing) (before : Token) → was.token ≡ Some before
+pub counted_moved : (file : List ℕ) (was is : Standing) (before : Token) → was.token ≡ Some before
     → IsCounted file was → IsMoved was is → IsCounted file is
 counted_moved file was is before there counted moved = by_head is.token refl
   where
     by_head : (head : Option Token) → is.token ≡ head → IsCountedAt file is head
-    by_head None none = tt
+    by_head None none =
+        let (front, left, left_is, whole, number) =
+        subst (λ head. IsCountedAt file was head) there counted in
+        let source : StandsInText (was.behind, left) is =
+        MatchOption-at_some (Unit {0}) (λ left. StandsInText (was.behind, left) is) left left_is
+        moved.read in
+        let end : IsAtEnd (was.behind, left) =
+        subst (λ head. StandsInTextAt (was.behind, left) is head) none source in
+        let next = moved.number in
+        let feeds = ap line_feeds (whole ∙ ap (λ left. front ++ left) end.shown
+        ∙ append-nil front) in
+        omega (arith, next, number, feeds)
     by_head (Some token) here =
         let (front, left, left_is, whole, number) =
         subst (λ head. IsCountedAt file was head) there counted in

@@ -2,7 +2,7 @@
 use Rattle.std.proofs.Common.{◌≡◌, ◌∙◌, ◌+◌, ◌<◌, ◌^◌, ℕ, List, [], ◌∷◌, ◌++◌, Option, Some}
 use Rattle.std.proofs.Common.{Err, Ok, arith, ap, codes, false, inl, inr, length, map, refl, subst, sym}
 use Rattle.std.proofs.Common.{Result, true}
-use Rattle.std.specs.Prelude.{All, IsTrue}
+use Rattle.std.specs.Prelude.{IsTrue}
 use Rattle.std.specs.Io.BufRead.{take_through}
 use Rattle.std.proofs.lemmas.Bool.{false≢true}
 use Rattle.std.proofs.lemmas.List.{length_push}
@@ -17,8 +17,8 @@ use Rattle.shard_book.specs.Shown.{validator_sum}
 use Rattle.shard_book.specs.Sums.{Sums, sums_of}
 use Rattle.shard_book.specs.declared.sums.ValidatorSum.{ValidatorSum}
 use Rattle.shard_book.specs.declared.sums.totals.Totals.{Totals}
-use Rattle.part_reports.specs.FirstWrongLines.{IsNext, IsRight, OfNothing, OfTokens, OfTotals}
-use Rattle.part_reports.specs.FirstWrongLines.{OfUploads, OfValidators, SoFar}
+use Rattle.part_reports.specs.FirstWrongLines.{IsNext, OfNothing, OfTokens, OfTotals}
+use Rattle.part_reports.specs.FirstWrongLines.{OfUploads, OfValidators}
 use Rattle.part_reports.specs.Reports.{added}
 use Rattle.part_reports.specs.inside.Fronts.{MayFollowValidators}
 use Rattle.part_reports.specs.inside.LinesRead.{IsRead}

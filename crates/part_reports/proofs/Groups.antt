@@ -1,27 +1,24 @@
 -- Charges that use up the sums of tokens, and their groups.
 use Rattle.std.proofs.Common.{◌≡◌, ◌≢◌, ◌∙◌, List, [], ◌∷◌, ◌++◌, Option, Some, None, inl, inr}
 use Rattle.std.proofs.Common.{refl, sym, ap, subst, arith}
-use Rattle.std.specs.Prelude.{◌↔◌, flat_map, map}
+use Rattle.std.specs.Prelude.{◌↔◌, flat_map}
 use Rattle.std.specs.List.{AllByRecursion, AllZip}
 use Rattle.std.specs.List.Sorted.{IsStrictlySortedBy}
 use Rattle.std.specs.Map.{keys_of}
 use Rattle.std.specs.declared.cmp.Ordering.TheVariants.{Less}
 use Rattle.std.proofs.lemmas.List.Elements.{All-from_recursion, recursion_from_All}
-use Rattle.shard_book.specs.Sums.{Sums, add_all, add_sums, sums}
+use Rattle.shard_book.specs.Sums.{Sums, add_sums, sums}
 use Rattle.tap_views.specs.Token.{token_cmp}
 use Rattle.tap_views.specs.declared.token.Token.{Token}
 use Rattle.part_reports.specs.Charges.{LineCharge}
 use Rattle.part_reports.specs.LedgersWithReports.{AreOfToken}
 use Rattle.part_reports.specs.inside.ReportsLeft.{UseUp}
 use Rattle.part_reports.proofs.Added.{left_unique}
+use Rattle.part_reports.proofs.Leaves.{charged}
 use Rattle.part_reports.proofs.Orders.{below_differs}
 
 abbrev Sum : Type 0
 Sum = Token × Sums
-
--- the sums of charges, added up
-abbrev charged : List LineCharge → Sums
-charged charges = add_all (map (λ (charge : LineCharge). charge.sums) charges)
 
 abbrev joined : List (List LineCharge) → List LineCharge
 joined groups = flat_map (λ (group : List LineCharge). group) groups

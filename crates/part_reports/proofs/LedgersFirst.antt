@@ -1,34 +1,36 @@
 -- The first wrong line of a ledger.
-use Rattle.std.proofs.Common.{◌≡◌, ◌≢◌, ◌∙◌, ◌⊎◌, ◌+◌, ◌-◌, ◌^◌, ℕ, zero, suc, List, [], ◌∷◌}
+use Rattle.std.proofs.Common.{◌≡◌, ◌≢◌, ◌∙◌, ◌+◌, ◌-◌, ◌^◌, ℕ, zero, suc, List, [], ◌∷◌}
 use Rattle.std.proofs.Common.{◌++◌, Option, Some, None, append-nil, append_assoc, arith, ap, inl}
 use Rattle.std.proofs.Common.{inr}
 use Rattle.std.proofs.Common.{length, map, refl, subst, sym}
-use Rattle.std.specs.Prelude.{Err, IfErr, IfOk, IfSome, Ok, Result, min, slice_get}
+use Rattle.std.specs.Prelude.{All, Err, IfErr, IfOk, IfSome, Ok, Result, min, slice_get}
 use Rattle.std.specs.Io.BufRead.{drop_through, take_through}
 use Rattle.std.specs.List.{AllByRecursion, AllZip}
-use Rattle.std.proofs.lemmas.List.Elements.{All-from_recursion, recursion_from_All}
+use Rattle.std.proofs.lemmas.List.Elements.{All-from_recursion, All-nil}
 use Rattle.std.proofs.lemmas.Option.{MatchOption-at_some}
 use Rattle.fare_texts.specs.LedgerLines.{head_text}
 use Rattle.tap_views.specs.declared.token.Token.{Token}
-use Rattle.tap_views.proofs.Lists.{each-back}
 use Rattle.part_reports.specs.Faults.{IsOfTaps, IsOfTexts}
-use Rattle.part_reports.specs.Ledgers.{GoesWrongAt, IsFirstSharedAt, IsLedgerEntryLine}
-use Rattle.part_reports.specs.Ledgers.{IsPartLedger}
-use Rattle.part_reports.specs.Ledgers.{NamesFirstWrongLine, ledger_text}
-use Rattle.part_reports.specs.TokenLines.{TokenLine, text_of}
+use Rattle.part_reports.specs.Ledgers.{GoesWrongAt, IsFirstSharedAt, IsFirstWrongOfLedger}
+use Rattle.part_reports.specs.Ledgers.{IsLedgerEntryLine, IsPartLedger, IsWhyInLedger}
+use Rattle.part_reports.specs.Ledgers.{NamesFirstWrongLine, ShareNoneBefore, ledger_text}
+use Rattle.part_reports.specs.TokenLines.{HaveOtherTokens, TokenLine, text_of}
 use Rattle.part_reports.specs.inside.BegunLedgers.{AreBegunLedgers, IsBegunLedger, IsOfFirstLines}
 use Rattle.part_reports.specs.inside.FirstWrong.{IsCounted, IsCountedAt, IsFirstWrongAt}
 use Rattle.part_reports.specs.inside.FirstWrong.{IsFirstWrongOf, IsOfNext, IsStuckBehind}
+use Rattle.part_reports.specs.inside.FirstWrong.{Falls, HasNotEntryForm, IsLineReason}
 use Rattle.part_reports.specs.inside.FirstWrong.{IsTwinBehind, IsWrongLine, line_feeds}
 use Rattle.part_reports.specs.inside.Going.{IsBehindSo, Rise}
 use Rattle.part_reports.specs.inside.Kinds.{IsTextOf}
-use Rattle.part_reports.specs.inside.Standings.{IsAtLine, IsLineOfKind, MayFollowToken, Standing}
+use Rattle.part_reports.specs.inside.Standings.{IsAtEnd, IsAtLine, IsLineOfKind, MayFollow}
+use Rattle.part_reports.specs.inside.Standings.{Standing}
 use Rattle.part_reports.specs.inside.Standings.{StandsInText, StandsInTextAt, line_with}
-use Rattle.part_reports.specs.inside.Reported.{AreNumbered, IsOfReader, IsOfText, next_number}
+use Rattle.part_reports.specs.inside.Reported.{AreNumbered, IsOfText, next_number}
 use Rattle.part_reports.specs.declared.fault.MergeFault.{MergeFault}
 use Rattle.part_reports.specs.declared.fault.MergeFault.TheVariants.{Line, Taps, Unread, Write}
 use Rattle.part_reports.specs.declared.fault.MergeFault.TheVariants.{NoMemory}
 use Rattle.part_reports.specs.declared.fault.Wrong.{Wrong}
+use Rattle.part_reports.specs.declared.fault.Wrong.TheVariants.{Form, Order}
 use Rattle.part_reports.specs.declared.merging.LineKind.{LineKind}
 use Rattle.part_reports.specs.declared.merging.LineKind.TheVariants.{Tokens, Entries}
 use Rattle.part_reports.proofs.FirstLines.{feeds_append, feeds_one, lines_feeds}
@@ -45,8 +47,8 @@ kind_entries (Tokens left rest) done is = absurd is
 kind_entries Entries done is = refl
 
 -- lines of a ledger, behind the head line
-ledger_from : (lines : List TokenLine) → AllByRecursion IsLedgerEntryLine lines → Rise Entries lines
-    → IsPartLedger lines (ledger_text lines)
+pub ledger_from : (lines : List TokenLine) → AllByRecursion IsLedgerEntryLine lines
+    → Rise Entries lines → IsPartLedger lines (ledger_text lines)
 ledger_from lines each rise = record {
   each = All-from_recursion IsLedgerEntryLine lines each;
   no_fall = falls_from lines rise;
@@ -63,23 +65,44 @@ none_empty (Some before) rest wrong none =
     subst (λ rest. IsWrongLine Entries (Some before) (take_through 10 rest)) none wrong Entries None
     (refl, tt) tt
 
--- a line that may not follow makes no ledger
-none_follows : (front : List TokenLine) (last : TokenLine) (rest : List ℕ)
-    → IsWrongLine Entries (Some last.token) (take_through 10 rest) → (line : TokenLine)
-    → line.text ≡ take_through 10 rest
-    → ¬ (IsPartLedger ((front ++ last ∷ []) ++ line ∷ [])
-    (ledger_text ((front ++ last ∷ []) ++ line ∷ [])))
-none_follows front last rest wrong line text is =
-    let each = each-back IsLedgerEntryLine (front ++ last ∷ []) (line ∷ [])
-    (recursion_from_All IsLedgerEntryLine ((front ++ last ∷ []) ++ line ∷ []) is.each) in
-    let rise : Rise Entries ((front ++ last ∷ []) ++ line ∷ []) = falls_to _ is.no_fall in
-    let may : MayFollowToken Entries (Some last.token) (Some line.token) =
-    rise_middle Entries front last (line ∷ []) rise in
-    subst (IsWrongLine Entries (Some last.token)) (sym text) wrong Entries (Some line.token)
-    (each.0, tt) may
+-- why the line behind the last one is wrong
+no_entry : (text : List ℕ) → HasNotEntryForm text → (line : TokenLine) → line.text ≡ text
+    → ¬ (IsLedgerEntryLine line)
+no_entry text none line is entry =
+    none line.token (subst (λ text. IsLedgerEntryLine (line_with line.token text)) is entry)
+
+falls_behind : (front : List TokenLine) (last : TokenLine) (text : List ℕ)
+    → Falls (Some last.token) text → IsWhyInLedger Order (front ++ last ∷ []) text
+falls_behind front last text fall =
+    let (before, token, is, entry, below) = fall in
+    let same : last.token ≡ before = cc in (
+      line_with token text,
+      refl,
+      entry,
+      λ sorted. below (subst (λ (before : Token). MayFollow Entries before token) same
+          (rise_middle Entries front last (line_with token text ∷ []) (falls_to _ sorted))),
+    )
+
+why_behind : (front : List TokenLine) (last : TokenLine) (text : List ℕ) (wrong : Wrong)
+    → IsLineReason Entries (Some last.token) text wrong
+    → IsWhyInLedger wrong (front ++ last ∷ []) text
+why_behind front last text wrong reason = elim reason [
+  | inl form ↦ subst (λ wrong. IsWhyInLedger wrong (front ++ last ∷ []) text) (sym form.0)
+      (no_entry text form.1)
+  | inr order ↦ subst (λ wrong. IsWhyInLedger wrong (front ++ last ∷ []) text) (sym order.0)
+      (falls_behind front last text order.1)
+]
+
+-- why the first line is
+why_first : (text : List ℕ) (wrong : Wrong) → IsLineReason Entries None text wrong
+    → IsWhyInLedger wrong [] text
+why_first text wrong reason = elim reason [
+  | inl form ↦ subst (λ wrong. IsWhyInLedger wrong [] text) (sym form.0) (no_entry text form.1)
+  | inr order ↦ absurd (cc (order.1.2))
+]
 
 -- the text at the place behind its head line
-head_behind : (files lefts : List (List ℕ)) (place : ℕ) (file left : List ℕ)
+pub head_behind : (files lefts : List (List ℕ)) (place : ℕ) (file left : List ℕ)
     → AllZip (λ file left. file ≡ head_text ++ left) files lefts → slice_get files place ≡ Some file
     → slice_get lefts place ≡ Some left → file ≡ head_text ++ left
 head_behind [] lefts place file left shown there left_there = absurd (cc)
@@ -94,13 +117,13 @@ head_behind (one ∷ files) (other ∷ lefts) (suc place) file left shown there 
     head_behind files lefts place file left shown.1 there left_there
 
 -- a ledger is the lines of its text behind the head line
-record IsTextOfFile (lefts : List (List ℕ)) (place : ℕ) (file : List ℕ) : Type 0 where
-  left : List ℕ
-  there : slice_get {X = LineKind × List ℕ} (map (λ (left : List ℕ). (Entries, left)) lefts) place
-      ≡ Some (Entries, left)
-  of : (lines : List TokenLine) → IsPartLedger lines file → IsTextOf (Entries, left) lines
+pub record IsTextOfFile (lefts : List (List ℕ)) (place : ℕ) (file : List ℕ) : Type 0 where
+  pub left : List ℕ
+  pub there : slice_get {X = LineKind × List ℕ}
+      (map (λ (left : List ℕ). (Entries, left)) lefts) place ≡ Some (Entries, left)
+  pub of : (lines : List TokenLine) → IsPartLedger lines file → IsTextOf (Entries, left) lines
 
-text_of_file : (files lefts : List (List ℕ)) (place : ℕ) (file : List ℕ)
+pub text_of_file : (files lefts : List (List ℕ)) (place : ℕ) (file : List ℕ)
     → AllZip (λ file left. file ≡ head_text ++ left) files lefts → slice_get files place ≡ Some file
     → IsTextOfFile lefts place file
 text_of_file [] lefts place file shown there = absurd (cc)
@@ -152,30 +175,44 @@ module _ (files lefts : List (List ℕ)) (place number : ℕ) (why : Wrong)
       let lines = lines_feeds Entries at.done each in
       omega (arith, is, both, head, lines)
 
-  goes_wrong : IsStuckBehind at.kind at.done at.rest why → GoesWrongAt at.file number
+  none_before : ShareNoneBefore files place at.done
+  none_before other one some below there is =
+      let text = text_of_file files lefts other one shown there in
+      at.none_before other (Entries, text.left) some below text.there (text.of some is)
+
+  goes_wrong : IsStuckBehind at.kind at.done at.rest why
+      → (goes : GoesWrongAt at.file number why) × ShareNoneBefore files place goes.lines
   goes_wrong stuck =
       let entries : at.kind ≡ Entries = kind_entries at.kind at.done
       (subst (λ all. IsBehindSo all at.kind at.done) kind_is at.behind) in
       let wrong : IsWrongLine Entries (Some stuck.last.token) (take_through 10 at.rest) =
       subst (λ kind. IsWrongLine kind (Some stuck.last.token) (take_through 10 at.rest)) entries
       stuck.wrong in
-      record {
+      let reason : IsLineReason Entries (Some stuck.last.token) (take_through 10 at.rest) why =
+      subst (λ kind. IsLineReason kind (Some stuck.last.token) (take_through 10 at.rest) why)
+      entries stuck.reason in
+      let goes : GoesWrongAt at.file number why = record {
         lines = at.done;
         ledger = ledger_from at.done each rise;
         rest = at.rest;
         more = none_empty (Some stuck.last.token) at.rest wrong;
         shown = lines_whole;
         number_is = number_of;
-        wrong = λ line text. subst (λ done. ¬ (IsPartLedger (done ++ line ∷ [])
-            (ledger_text (done ++ line ∷ [])))) (sym stuck.is_last)
-            (none_follows stuck.front stuck.last at.rest wrong line text);
-      }
+        why = subst (λ done. IsWhyInLedger why done (take_through 10 at.rest)) (sym stuck.is_last)
+            (why_behind stuck.front stuck.last (take_through 10 at.rest) why reason);
+      } in
+      (goes, none_before)
 
   first_shared : IsTwinBehind (map (λ left. (Entries, left)) lefts) place at.text.0 at.kind at.done
       at.rest why → IsFirstSharedAt files place number
   first_shared twin =
       let shares = twin.shares in
       let first = file_of files lefts shares.earlier shares.first shown shares.first_there in
+      let (first_left, left_there, first_is) =
+      at_map (λ (left : List ℕ). (Entries, left)) lefts shares.earlier shares.first
+      shares.first_there in
+      let first_kind : shares.first.0 ≡ Entries =
+      ap (λ (text : LineKind × List ℕ). text.0) (sym first_is) in
       let line_is : IsLedgerEntryLine twin.line =
       subst (λ kind. IsLineOfKind kind twin.line) kind_is twin.is_line in
       let rises : Rise Entries (at.done ++ twin.line ∷ []) =
@@ -195,10 +232,18 @@ module _ (files lefts : List (List ℕ)) (place number : ℕ) (why : Wrong)
         before = shares.before;
         first = first.file;
         first_there = first.there;
-        shared = λ some is. shares.shared some (first.of some is);
-        none_before = λ other one some below there is.
-            let text = text_of_file files lefts other one shown there in
-            shares.none_before other (Entries, text.left) some below text.there (text.of some is);
+        some = shares.some;
+        is_some = ledger_from shares.some
+            (subst (λ kind. AllByRecursion (IsLineOfKind kind) shares.some) first_kind shares.each)
+            (subst (λ kind. Rise kind shares.some) first_kind shares.rise);
+        behind = shares.behind;
+        first_shown = head_behind files lefts shares.earlier first.file first_left shown
+            first.there left_there
+            ∙ ap (λ (text : LineKind × List ℕ). head_text ++ text.1) first_is
+            ∙ ap (λ text. head_text ++ text) shares.shown
+            ∙ sym (append_assoc head_text (text_of shares.some) shares.behind);
+        shared = shares.has;
+        none_before = none_before;
       }
     where
       one_behind_text : (done : List TokenLine) (line : TokenLine) (rest : List ℕ)
@@ -208,19 +253,23 @@ module _ (files lefts : List (List ℕ)) (place number : ℕ) (why : Wrong)
           ∙ ap (λ text. head_text ++ text) (one_text line done rest)
           ∙ sym (append_assoc head_text (text_of (done ++ line ∷ [])) rest)
 
-  pub names_first : (text : ℕ) → text ≡ place
-      → ((file : List ℕ) × (slice_get files text ≡ Some file)
-      × (((number ≡ 1) × (take_through 10 file ≢ head_text)) ⊎ GoesWrongAt file number))
-      ⊎ IsFirstSharedAt files text number
+  pub names_first : (text : ℕ) → text ≡ place → IsFirstWrongOfLedger files text number why
   names_first text is = elim at.wrong [
     | inl stuck ↦
         inl (
           at.file,
           subst (λ place. slice_get files place ≡ Some at.file) (sym is) at.file_there,
-          inr (goes_wrong stuck),
+          inr (
+            (goes_wrong stuck).0,
+            subst (λ place. ShareNoneBefore files place (goes_wrong stuck).0.lines) (sym is)
+                (goes_wrong stuck).1,
+          ),
         )
     | inr twin ↦
-        inr (subst (λ place. IsFirstSharedAt files place number) (sym is) (first_shared twin))
+        inr (
+          twin.twice,
+          subst (λ place. IsFirstSharedAt files place number) (sym is) (first_shared twin),
+        )
   ]
 
 -- ---- ledgers of which the first line was read
@@ -228,7 +277,14 @@ begun_counted_one : (file : List ℕ) (at : Standing) → IsBegunLedger file at 
 begun_counted_one file at begun = by_head at.token refl
   where
     by_head : (head : Option Token) → at.token ≡ head → IsCountedAt file at head
-    by_head None none = tt
+    by_head None none =
+        let end : IsAtEnd (Entries, begun.left) =
+        subst (λ head. StandsInTextAt (Entries, begun.left) at head) none begun.stands in
+        let feeds = ap line_feeds (begun.shown ∙ ap (λ left. head_text ++ left) end.shown
+        ∙ append-nil head_text) in
+        let head : line_feeds head_text ≡ 1 = refl in
+        let number = begun.number in
+        omega (arith, number, feeds, head)
     by_head (Some token) is =
         let here : IsAtLine (Entries, begun.left) at token =
         subst (λ head. StandsInTextAt (Entries, begun.left) at head) is begun.stands in
@@ -244,7 +300,7 @@ begun_counted_one file at begun = by_head at.token refl
           omega (arith, number, one, both, head),
         )
 
-begun_counted : (files : List (List ℕ)) (known : List (Option (List ℕ))) (ats : List Standing)
+pub begun_counted : (files : List (List ℕ)) (known : List (Option (List ℕ))) (ats : List Standing)
     → known ≡ map (λ file. Some file) files → AreBegunLedgers known ats
     → AllZip IsCounted files ats
 begun_counted [] [] [] same are = tt
@@ -290,40 +346,56 @@ first_other (Some file) Write other = tt
 first_other (Some file) NoMemory other = tt
 
 -- the head line is another
-pub head_wrong : (file : List ℕ) (text lines : ℕ) (fault : MergeFault) → IsOfReader text lines fault
-    → lines ≡ next_number 0 → take_through 10 file ≢ head_text → IsOfFirstLines file fault
-head_wrong file text lines (Line named number wrong) of first other = inl (of.1 ∙ first, other)
-head_wrong file text lines (Taps reports uploads) of first other = tt
-head_wrong file text lines (Unread named) of first other = tt
-head_wrong file text lines Write of first other = tt
-head_wrong file text lines NoMemory of first other = tt
+pub head_wrong : (file : List ℕ) (text lines : ℕ) (fault : MergeFault)
+    → fault ≡ Line text lines Form → lines ≡ next_number 0 → take_through 10 file ≢ head_text
+    → IsOfFirstLines file fault
+head_wrong file text lines fault is first other =
+    subst (IsOfFirstLines file) (sym is) (inl (record {
+      first = first;
+      form = refl;
+      other = other;
+    }))
 
 -- the line behind the head line is none
 pub second_wrong : (file : List ℕ) (now : Option (List ℕ)) (lines : ℕ) (fault : MergeFault)
     → now ≡ Some (drop_through 10 file) → file ≡ head_text ++ drop_through 10 file
     → lines ≡ next_number 0 → IsOfNext Entries None now lines fault → IsOfFirstLines file fault
-second_wrong file now lines (Line named number wrong) left whole first is =
+second_wrong file now lines (Line named number reason) left whole first is =
     let rest = drop_through 10 file in
     let wrong : IsWrongLine Entries None (take_through 10 rest) =
     MatchOption-at_some (Unit {0}) (λ left. IsWrongLine Entries None (take_through 10 left)) rest
     left
     is.1 in
-    inr (record {
-      lines = [];
-      ledger = ledger_from [] tt tt;
-      rest = rest;
-      more = none_empty None rest wrong;
-      shown = whole ∙ ap (λ head. head ++ rest) (sym (append-nil head_text));
-      number_is = let number_is = is.0 in omega (arith, number_is, first);
-      wrong = λ line text ledger.
-          let each = recursion_from_All IsLedgerEntryLine (line ∷ []) ledger.each in
-          subst (IsWrongLine Entries None) (sym text) wrong Entries (Some line.token) (each.0, tt)
-          tt;
-    })
+    let wrong_is : IsLineReason Entries None (take_through 10 rest) reason =
+    MatchOption-at_some (Unit {0})
+    (λ left. IsLineReason Entries None (take_through 10 left) reason) rest left is.2 in
+    inr (
+      (record {
+        lines = [];
+        ledger = ledger_from [] tt tt;
+        rest = rest;
+        more = none_empty None rest wrong;
+        shown = whole ∙ ap (λ head. head ++ rest) (sym (append-nil head_text));
+        number_is = let number_is = is.0 in omega (arith, number_is, first);
+        why = why_first (take_through 10 rest) reason wrong_is;
+      }),
+      refl,
+    )
 second_wrong file now lines (Taps reports uploads) left whole first is = tt
 second_wrong file now lines (Unread named) left whole first is = tt
 second_wrong file now lines Write left whole first is = tt
 second_wrong file now lines NoMemory left whole first is = tt
+
+none_shared_each : (some : List TokenLine)
+    → AllByRecursion (λ (a : TokenLine). All (λ (b : TokenLine). a.token ≢ b.token) []) some
+none_shared_each [] = tt
+none_shared_each (line ∷ some) =
+    (All-nil (λ (b : TokenLine). line.token ≢ b.token), none_shared_each some)
+
+nothing_shared : (some : List TokenLine) → HaveOtherTokens some []
+nothing_shared some =
+    All-from_recursion (λ (a : TokenLine). All (λ (b : TokenLine). a.token ≢ b.token) []) some
+    (none_shared_each some)
 
 pub first_lines : (front back : List (Option (List ℕ))) (file : Option (List ℕ))
     (files : List (List ℕ)) (text : ℕ) (fault : MergeFault)
@@ -332,12 +404,20 @@ pub first_lines : (front back : List (Option (List ℕ))) (file : Option (List �
     → NamesFirstWrongLine files fault
 first_lines front back file files text (Line named number wrong) are place of first =
     let (known, is, there) = file_behind front back file files are in
+    let one = MatchOption-at_some (Unit {0})
+    (λ file. IsOfFirstLines file (Line named number wrong)) known is first in
     inl (
       known,
       subst (λ text. slice_get files text ≡ Some known) (sym (of ∙ place)) there,
-      MatchOption-at_some (Unit {0}) (λ file. IsOfFirstLines file (Line named number wrong)) known
-          is
-          first,
+      elim one [
+        | inl head ↦ inl head
+        | inr goes ↦
+            inr (
+              goes.0,
+              λ other file some below there is.
+                  subst (HaveOtherTokens some) (sym goes.1) (nothing_shared some),
+            )
+      ],
     )
 first_lines front back file files text (Taps reports uploads) are place of first = absurd of
 first_lines front back file files text (Unread named) are place of first = tt
@@ -349,6 +429,11 @@ pub ok_both : {X Y : Type 0} (result : Result X Y) (P Q : X → Type 0) → IfOk
     → IfOk result Q → IfOk result (λ x. P x × Q x)
 ok_both (Ok x) P Q p q = (p, q)
 ok_both (Err y) P Q p q = tt
+
+pub some_both : {X : Type 0} (found : Option X) (P Q : X → Type 0) → IfSome found P
+    → IfSome found Q → IfSome found (λ x. P x × Q x)
+some_both None P Q p q = tt
+some_both (Some x) P Q p q = (p, q)
 
 pub err_both : {X Y : Type 0} (result : Result X Y) (P Q : Y → Type 0) → IfErr result P
     → IfErr result Q → IfErr result (λ y. P y × Q y)

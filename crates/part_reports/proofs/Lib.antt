@@ -7,6 +7,7 @@ pub mod Counted
 pub mod EndsRead
 pub mod EndsRight
 pub mod FewParts
+pub mod FirstBeside
 pub mod FirstLines
 pub mod FirstWrongs
 pub mod Firsts
@@ -15,6 +16,7 @@ pub mod FrontsRead
 pub mod FrontsRight
 pub mod JoinedTokens
 pub mod Leasts
+pub mod Leaves
 pub mod Groups
 pub mod LedgerTexts
 pub mod LedgersFirst

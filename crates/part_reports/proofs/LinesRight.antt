@@ -1,14 +1,14 @@
 -- Lines of a report that are right, read one after the other, and the first one that is not.
-use Rattle.std.proofs.Common.{◌≡◌, ◌∙◌, ◌+◌, ◌<◌, ◌^◌, ℕ, List, [], ◌∷◌, ◌++◌, Option, Some, None}
-use Rattle.std.proofs.Common.{Err, Ok, append-nil, append_assoc, arith, ap, length, refl, subst, sym}
-use Rattle.std.specs.Prelude.{IfSome, flat_map}
+use Rattle.std.proofs.Common.{◌≡◌, ◌∙◌, ℕ, List, [], ◌∷◌, ◌++◌, Option, Some}
+use Rattle.std.proofs.Common.{Err, Ok, append-nil, append_assoc, arith, ap, refl, subst, sym}
+use Rattle.std.specs.Prelude.{flat_map}
 use Rattle.std.specs.Io.BufRead.{drop_through, take_through}
 use Rattle.std.proofs.lemmas.List.{length_push}
 use Rattle.std.proofs.lemmas.List.Concat.{flat_map-append}
 use Rattle.part_reports.specs.Faults.{IsOfTexts}
-use Rattle.part_reports.specs.FirstWrongLines.{AreRightLines, IsFirstWrongLine, IsLineOf, IsNext}
+use Rattle.part_reports.specs.FirstWrongLines.{AreRightLines, IsLineOf, IsNext}
 use Rattle.part_reports.specs.FirstWrongLines.{IsRight, IsWhyAlone, OfNothing, SoFar}
-use Rattle.part_reports.specs.inside.FirstWrong.{line_feeds, up_to_64}
+use Rattle.part_reports.specs.inside.FirstWrong.{line_feeds}
 use Rattle.part_reports.specs.inside.LinesRead.{IsRead}
 use Rattle.part_reports.specs.inside.ReadTo.{IsFirstWrong, IsOfForm, IsReadTo}
 use Rattle.part_reports.specs.inside.Reported.{next_number}

@@ -218,7 +218,7 @@ each_flat P (part ∷ parts) each =
     each-append P part.done (flat_map (λ (part : Part). part.done) parts) each.0
     (each_flat P parts each.1)
 
-each_both : {X : Type 0} (P Q R : X → Type 0) (xs : List X) → ((x : X) → P x → Q x → R x)
+pub each_both : {X : Type 0} (P Q R : X → Type 0) (xs : List X) → ((x : X) → P x → Q x → R x)
     → AllByRecursion P xs → AllByRecursion Q xs → AllByRecursion R xs
 each_both P Q R [] f first second = tt
 each_both P Q R (x ∷ xs) f first second =
@@ -298,7 +298,7 @@ at_changed parts k i next p is = ⊎_elim
     (λ (other : i ≢ k). inr (other, sym (set_there parts k i next other) ∙ is)) (cases_eq i k)
 
 -- the token of another source is above
-above_others : (tokens : List (Option Token)) (k i : ℕ) (token : Token) (head : Option Token)
+pub above_others : (tokens : List (Option Token)) (k i : ℕ) (token : Token) (head : Option Token)
     → ((other : ℕ) (above : Token) → other ≢ k → StandsAt tokens other above
     → token_cmp token above ≡ Less) → i ≢ k → slice_get tokens i ≡ Some head
     → IfSome head (λ head. token_cmp token head ≡ Less)
@@ -589,8 +589,8 @@ others_all first second others =
     (λ (a : TokenLine). All (λ b. a.token ≢ b.token) second) first
     (λ a each. All-from_recursion (λ b. a.token ≢ b.token) second each) others)
 
-no_head : (ats : List Standing) (k : ℕ) (at : Standing) → IsLeast (map (λ at. at.token) ats) None
-    → slice_get ats k ≡ Some at → at.token ≡ None
+pub no_head : (ats : List Standing) (k : ℕ) (at : Standing)
+    → IsLeast (map (λ at. at.token) ats) None → slice_get ats k ≡ Some at → at.token ≡ None
 no_head ats k at none is = by_head at.token refl
   where
     by_head : (head : Option Token) → at.token ≡ head → at.token ≡ None

@@ -1,8 +1,9 @@
 -- The first wrong line of a report that is read up to the line of its first token.
-use Rattle.std.proofs.Common.{◌≡◌, ◌∙◌, ◌+◌, ◌<◌, ◌≤◌, ◌^◌, ℕ, suc, List, [], ◌∷◌, ◌++◌, Option}
-use Rattle.std.proofs.Common.{Some, None, append_assoc, arith, ap, codes, drop, false, get_or, inl}
+use Rattle.std.proofs.Common.{◌≡◌, ◌∙◌, ◌<◌, ◌^◌, ℕ, suc, List, [], ◌∷◌, ◌++◌, Option}
+use Rattle.std.proofs.Common.{Some, None, append-nil, append_assoc, arith, ap, codes, drop, false}
+use Rattle.std.proofs.Common.{get_or, inl}
 use Rattle.std.proofs.Common.{inr, length, map, Ok, refl, subst, sym, take, length-append}
-use Rattle.std.specs.Prelude.{All, IfSome, flat_map, slice_get}
+use Rattle.std.specs.Prelude.{IfSome, flat_map, slice_get}
 use Rattle.std.specs.Io.BufRead.{take_through}
 use Rattle.std.specs.List.{AllZip}
 use Rattle.std.proofs.lemmas.Bool.{cases_lt}
@@ -10,33 +11,30 @@ use Rattle.std.proofs.lemmas.List.Elements.{All-map, All-push}
 use Rattle.std.proofs.lemmas.Option.{MatchOption-at_some}
 use Rattle.tap_views.specs.declared.token.Token.{Token}
 use Rattle.fare_texts.specs.ReportLines.{number_line}
-use Rattle.report_texts.specs.declared.upload_end.UploadEnd.{UploadEnd}
 use Rattle.shard_book.specs.Shown.{validator_sum}
-use Rattle.shard_book.specs.Sums.{Sums, add_sums, sums_of}
+use Rattle.shard_book.specs.Sums.{add_sums, sums_of}
 use Rattle.shard_book.proofs.SumsLemmas.{none_add}
 use Rattle.part_reports.specs.Faults.{number_from}
-use Rattle.part_reports.specs.FirstWrongLines.{IsFirstWrongLine, IsFirstWrongOfReport, IsWhy}
-use Rattle.part_reports.specs.FirstWrongLines.{IsWhyAlone, IsWhyBeside, OfNothing, OfTokens}
-use Rattle.part_reports.specs.FirstWrongLines.{OfValidators, SoFar}
+use Rattle.part_reports.specs.FirstWrongLines.{IsWhyBeside, OfNothing, OfTokens}
+use Rattle.part_reports.specs.FirstWrongLines.{OfValidators}
 use Rattle.part_reports.specs.Reports.{added}
 use Rattle.part_reports.specs.Texts.{AreLeft}
 use Rattle.part_reports.specs.inside.FirstWrong.{IsCounted, IsCountedAt, IsLineReason}
 use Rattle.part_reports.specs.inside.FirstWrong.{IsOfNext, line_feeds}
-use Rattle.part_reports.specs.inside.Fronts.{IsFront, MayBePart, ReportedFront, reported_text}
+use Rattle.part_reports.specs.inside.Fronts.{IsFront, MayBePart, reported_text}
 use Rattle.part_reports.specs.inside.LinesRead.{IsRead}
 use Rattle.part_reports.specs.inside.Parts.{BegunReport, begun_text}
-use Rattle.part_reports.specs.inside.ReadTo.{AreSectionsRead, AreTooManyBehind, IsFirstWrong}
+use Rattle.part_reports.specs.inside.ReadTo.{AreTooManyBehind, IsFirstWrong}
 use Rattle.part_reports.specs.inside.ReadTo.{IsFirstWrongBehind, IsFrontRead, IsReadTo}
 use Rattle.part_reports.specs.inside.ReadTo.{NamesFirstWrongReport}
 use Rattle.part_reports.specs.inside.Reported.{IsOfText, next_number}
-use Rattle.part_reports.specs.inside.Standings.{IsAtLine, StandsInText, StandsInTextAt, Standing}
+use Rattle.part_reports.specs.inside.Standings.{StandsInText, StandsInTextAt, Standing}
 use Rattle.part_reports.specs.inside.Standings.{line_with}
-use Rattle.part_reports.specs.inside.Sums.{AreFew, AreFrontsCounted, WithFront}
+use Rattle.part_reports.specs.inside.Sums.{WithFront}
 use Rattle.part_reports.specs.inside.SumsLeft.{left_of, sums_left}
 use Rattle.part_reports.specs.declared.fault.MergeFault.{MergeFault}
 use Rattle.part_reports.specs.declared.fault.MergeFault.TheVariants.{Line, Taps, Unread, Write}
 use Rattle.part_reports.specs.declared.fault.MergeFault.TheVariants.{NoMemory}
-use Rattle.part_reports.specs.declared.fault.Wrong.{Wrong}
 use Rattle.part_reports.specs.declared.fault.Wrong.TheVariants.{Sums as TooManySums}
 use Rattle.part_reports.specs.declared.front.Front.{Front}
 use Rattle.part_reports.specs.declared.merging.LineKind.TheVariants.{Tokens}
@@ -185,7 +183,13 @@ begun_counted file front left number rest at read stands number_is =
         (map validator_sum front.validators.items) front.tokens []) left number)
         → (head : Option Token) → StandsInTextAt (Tokens front.tokens rest, so_far.rest) at head
         → IsCountedAt file at head
-    by_head so_far None here = tt
+    by_head so_far None here =
+        let before = flat_map (λ line. line) so_far.lines in
+        let all = so_far.feeds in
+        let was = so_far.number_is in
+        let whole = ap line_feeds (so_far.shown ∙ ap (λ text. before ++ text) here.shown
+        ∙ append-nil before) in
+        omega (arith, number_is, was, all, whole)
     by_head so_far (Some token) here =
         let before = flat_map (λ line. line) so_far.lines in
         let one = feeds_one at.line

@@ -8,7 +8,7 @@ use Rattle.std.specs.declared.cmp.Ordering.TheVariants.{Less}
 use Rattle.std.specs.Cmp.Lexicographic.{pointwise}
 use Rattle.std.specs.Prelude.{◌↔◌, All, flat_map, is_some, map}
 use Rattle.std.specs.BTreeMap.{BTreeMap, is_at}
-use Rattle.std.specs.List.{AllByRecursion}
+use Rattle.std.specs.List.{AllByRecursion, AllZip}
 use Rattle.std.specs.List.Sorted.{IsStrictlySortedBy}
 use Rattle.std.specs.Map.{keys_of, lookup}
 use Rattle.std.specs.Option.{option_map}
@@ -26,12 +26,14 @@ use Rattle.tap_views.specs.declared.token.Token.{Token}
 use Rattle.tap_views.proofs.Orderings.{less}
 use Rattle.tap_views.proofs.Lists.{each-weaker, All-front, All-back}
 use Rattle.part_reports.specs.Charges.{LineCharge}
-use Rattle.part_reports.specs.LedgersWithReports.{AddUpTo, AddUpToText, at_validator}
+use Rattle.part_reports.specs.FirstWrongBeside.{LeaveOfTokens}
+use Rattle.part_reports.specs.LedgersWithReports.{AddUpTo, AddUpToText, AreOfToken, at_validator}
 use Rattle.part_reports.specs.Reports.{IsNoReport, IsPartReport, Report, added, report_text}
 use Rattle.part_reports.specs.Reports.{sums_found, sums_of_validator}
 use Rattle.part_reports.specs.TokenLines.{TokenLine, text_of}
 use Rattle.part_reports.specs.declared.sums.WholeSums.{WholeSums}
 use Rattle.part_reports.specs.declared.sums_left.SumsLeft.{SumsLeft}
+use Rattle.part_reports.specs.inside.FirstWrong.{IsCounted}
 use Rattle.part_reports.specs.inside.Fronts.{MayBePart, ReportedFront}
 use Rattle.part_reports.specs.inside.Going.{IsGoing, Part}
 use Rattle.part_reports.specs.inside.Kinds.{HasTokenSums, IsTextOf}
@@ -46,8 +48,10 @@ use Rattle.part_reports.specs.declared.merging.LineKind.{LineKind}
 use Rattle.part_reports.specs.declared.merging.LineKind.TheVariants.{Tokens}
 use Rattle.part_reports.proofs.Added.{leave_sums, lines_stand}
 use Rattle.part_reports.proofs.FewParts.{few, one_small, same_test, reported_may, reported_of}
+use Rattle.part_reports.proofs.FirstLines.{counted_moved}
 use Rattle.part_reports.proofs.Groups.{groups_use, head_same, no_stay, no_turn, other_next}
 use Rattle.part_reports.proofs.Groups.{something_left, stays_on, turns_on, use_groups}
+use Rattle.part_reports.proofs.Leaves.{last_push, leave_stays, leave_turns}
 use Rattle.part_reports.proofs.Parts.{going_end, going_first, going_line, going_next, going_stuck}
 use Rattle.part_reports.proofs.Parts.{here, like_line, line_at}
 use Rattle.part_reports.proofs.PartsBegun.{reported_unique}
@@ -90,7 +94,7 @@ cut (sum ∷ sums) (line ∷ front) back same =
       of_back = rest.of_back;
     }
 
-none_some : {X : Type 0} (token : Token) → None ≡ Some token → X
+pub none_some : {X : Type 0} (token : Token) → None ≡ Some token → X
 none_some token is = absurd (cc)
 
 pub some_token : (a b : Token) → Some a ≡ Some b → a ≡ b
@@ -102,7 +106,7 @@ abbrev pub part_of : (file : List ℕ) (left : ReportAt) (done : List LineCharge
 part_of file left done is =
     record { text = left_text is.begun; at = left.at; done = map line_of is.reported }
 
-same_front : (file : List ℕ) (left : ReportAt) (done : List LineCharge)
+pub same_front : (file : List ℕ) (left : ReportAt) (done : List LineCharge)
     → (is : IsUsedBy file left done) → (report : Report) → IsPartReport report
     → file ≡ report_text report
     → (is.begun.0 ≡ reported_of report) × (is.begun.1 ≡ flat_map token_line report.tokens)
@@ -256,7 +260,7 @@ has_sums file left done is token sums there line =
     subst (λ sums. HasTokenSums (line_with token left.at.line) sums) sums_are
     (record { is = sum.is; shown = sum.shown })
 
-same_sums : (token : Token) (line : List ℕ) (a b : Sums) → HasTokenSums (line_with token line) a
+pub same_sums : (token : Token) (line : List ℕ) (a b : Sums) → HasTokenSums (line_with token line) a
     → IsLineOfSums line b → a ≡ b
 same_sums token line a b has is =
     ap (λ (sum : Sum). sum.1) (token_line_unique (token, a) (is.name, b) [] [] has.is is.is
@@ -265,7 +269,7 @@ same_sums token line a b has is =
 -- ---- the report is begun
 pub used_none : (file : List ℕ) (before after : WholeSums) (at : Standing)
     (used : BTreeMap ℕ Totals) (rest : Sums) → AreFrontsCounted before []
-    → IsPart before after file at → rest ≡ sums [] → AreSumsOf used []
+    → IsPart before after file at → IsCounted file at → rest ≡ sums [] → AreSumsOf used []
     → IsUsedBy file (record {
       at = at;
       token = None;
@@ -273,7 +277,7 @@ pub used_none : (file : List ℕ) (before after : WholeSums) (at : Standing)
       used = used;
       validators = after.validators;
     }) []
-used_none file before after at used rest nothing part none empty = record {
+used_none file before after at used rest nothing part counted none empty = record {
   begun = part.begun;
   may = part.may;
   shown = part.shown;
@@ -285,6 +289,9 @@ used_none file before after at used rest nothing part none empty = record {
   used = empty;
   validators = subst (λ list. AreSumsOf after.validators list)
       (append-nil part.begun.0.validators) (part.added [] nothing).validators;
+  counted = counted;
+  leave = (refl, none);
+  last = refl;
 }
 
 pub none_begun : (file : List ℕ) (before : WholeSums) → AreFrontsCounted before []
@@ -304,7 +311,7 @@ not_begun file before charges nothing no_part add =
     none_begun file before nothing no_part add.report add.is_report add.shown
 
 -- ---- one charge more
-at_more : (done : List LineCharge) (charge : LineCharge)
+pub at_more : (done : List LineCharge) (charge : LineCharge)
     → map at_validator (done ++ charge ∷ [])
     ≡ map at_validator done ++ at_validator charge ∷ []
 at_more done charge = map-append at_validator done (charge ∷ [])
@@ -370,6 +377,10 @@ used_next file old mid done token sum before more used is next add one = elim ne
           is.used) one;
       validators = subst (λ (left : ReportAt). AreSumsOf left.validators is.begun.0.validators)
           (sym same) is.validators;
+      counted = subst (λ (left : ReportAt). IsCounted file left.at) (sym same) is.counted;
+      leave = leave_stays done is.reported old.rest more charge is.leave (is.last ∙ there)
+          (sym rest ∙ add);
+      last = is.last ∙ ap (λ (left : ReportAt). left.token) (sym same);
     }
 
     turns : IsTurned token old mid before
@@ -416,6 +427,10 @@ used_next file old mid done token sum before more used is next add one = elim ne
               (subst (λ map. AreSumsOf map (map_at done)) (sym turned.used) is.used) one;
           validators = subst (λ map. AreSumsOf map is.begun.0.validators) (sym turned.validators)
               is.validators;
+          counted = counted_moved file old.at mid.at token turned.there is.counted turned.moved;
+          leave = leave_turns done is.reported charge before more
+              (subst (LeaveOfTokens done is.reported) turned.none is.leave) add;
+          last = last_push is.reported (token, before) ∙ sym turned.token_is;
         }
       where
         map_at : List LineCharge → List (ℕ × Sums)
@@ -488,6 +503,14 @@ too_much file old mid done token sum before charges is next none add =
           rest.spent)
     ]
 
+-- a token's rest leaves what was used as it was
+pub used_same : (token : Token) (old mid : ReportAt) (before : Sums)
+    → IsRestOf token old mid before → mid.used ≡ old.used
+used_same token old mid before next = elim next [
+  | inl stays ↦ ap (λ (left : ReportAt). left.used) stays.2
+  | inr turned ↦ turned.used
+]
+
 -- the validator has more taps than a report can say
 pub too_many : (file : List ℕ) (old mid : ReportAt) (done : List LineCharge) (token : Token)
     (sum : ValidatorSum) (before : Sums) (used : BTreeMap ℕ Totals) (charges : List LineCharge)
@@ -495,10 +518,7 @@ pub too_many : (file : List ℕ) (old mid : ReportAt) (done : List LineCharge) (
     → ¬ (AddUpToText (done ++ charge_with token sum ∷ charges) file)
 too_many file old mid done token sum before used charges is next over add =
     let charge = charge_with token sum in
-    let same : mid.used ≡ old.used = elim next [
-      | inl stays ↦ ap (λ (left : ReportAt). left.used) stays.2
-      | inr turned ↦ turned.used
-    ] in
+    let same = used_same token old mid before next in
     let most = over (map at_validator done)
     (subst (λ used. AreSumsOf used (map at_validator done)) (sym same) is.used) in
     let front : sums_of_validator sum.validator (map at_validator done ++ validator_sum sum ∷ [])
@@ -531,10 +551,18 @@ reported_with front count = record {
   tokens = count;
 }
 
-pub used_up : (file : List ℕ) (left : ReportAt) (done : List LineCharge) → IsUsedBy file left done
-    → left.rest ≡ sums [] → left.at.token ≡ None → AreSame left.used left.validators
-    → AddUpToText done file
-used_up file left done is none end same =
+-- the report of which all tokens were read
+pub record IsReadWhole (file : List ℕ) (left : ReportAt) (done : List LineCharge)
+    (is : IsUsedBy file left done) : Type 0 where
+  pub report : Report
+  pub is_report : IsPartReport report
+  pub shown : file ≡ report_text report
+  pub tokens_are : report.tokens ≡ is.reported
+  pub validators_are : report.validators ≡ is.begun.0.validators
+
+pub read_whole : (file : List ℕ) (left : ReportAt) (done : List LineCharge)
+    → (is : IsUsedBy file left done) → left.at.token ≡ None → IsReadWhole file left done is
+read_whole file left done is end =
     let text = going_end (part_of file left done is) is.going end in
     let front = is.begun.0 in
     let may = is.may in
@@ -554,11 +582,6 @@ used_up file left done is none end same =
     ∙ ap (λ (text : List ℕ). begun_text (reported_of report, text))
     (text.1 ∙ lines_text is.reported)
     ∙ whole_text front.ends front.totals front.validators is.reported in
-    let spent : UseUp None (sums []) is.reported done =
-    subst (λ tokens. UseUp None (sums []) tokens done) (append-nil is.reported)
-    (subst (λ charges. UseUp None (sums []) (is.reported ++ []) charges) (append-nil done)
-    ((is.spent [] []).1 (none, refl))) in
-    let groups = use_groups is.reported done spent in
     record {
       report = report;
       is_report = record {
@@ -576,12 +599,32 @@ used_up file left done is none end same =
         tokens_add = adds;
       };
       shown = is.shown ∙ shown;
+      tokens_are = refl;
+      validators_are = refl;
+    }
+
+pub used_up : (file : List ℕ) (left : ReportAt) (done : List LineCharge) → IsUsedBy file left done
+    → left.rest ≡ sums [] → left.at.token ≡ None → AreSame left.used left.validators
+    → AddUpToText done file
+used_up file left done is none end same =
+    let whole = read_whole file left done is end in
+    let spent : UseUp None (sums []) is.reported done =
+    subst (λ tokens. UseUp None (sums []) tokens done) (append-nil is.reported)
+    (subst (λ charges. UseUp None (sums []) (is.reported ++ []) charges) (append-nil done)
+    ((is.spent [] []).1 (none, refl))) in
+    let groups = use_groups is.reported done spent in
+    record {
+      report = whole.report;
+      is_report = whole.is_report;
+      shown = whole.shown;
       add = record {
         groups = groups.groups;
         grouped = groups.whole;
-        tokens = groups.of_tokens;
+        tokens = subst (λ tokens. AllZip AreOfToken groups.groups tokens) (sym whole.tokens_are)
+            groups.of_tokens;
         validators = λ validator. sym (is.used validator) ∙ same validator
-            ∙ is.validators validator;
+            ∙ is.validators validator
+            ∙ ap (λ list. sums_found list validator) (sym whole.validators_are);
       };
     }
 
@@ -618,6 +661,11 @@ some_left left some = by_head left.at.token refl some
         → IsNotUsedUp left
     by_head None is test = absurd (cc)
     by_head (Some token) is test = token_left left token is
+
+pub some_there : (head : Option Token) → is_some head ≡ true
+    → (token : Token) × (head ≡ Some token)
+some_there None test = absurd (cc)
+some_there (Some token) test = (token, refl)
 
 pub none_there : (head : Option Token) → is_some head ≡ false → head ≡ None
 none_there None test = refl

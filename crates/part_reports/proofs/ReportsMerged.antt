@@ -277,8 +277,8 @@ going_on texts files ats after lefts next old now new k so_far least taken moved
 
 -- ---- a line that cannot be taken
 -- the text of this part is at the place
-text_there : (texts : List (LineKind × List ℕ)) (ats : List Standing) (old now : Option (List ℕ))
-    (k : ℕ) (part : Part) → (merging : IsMerging texts ats old now)
+pub text_there : (texts : List (LineKind × List ℕ)) (ats : List Standing)
+    (old now : Option (List ℕ)) (k : ℕ) (part : Part) → (merging : IsMerging texts ats old now)
     → slice_get merging.parts k ≡ Some part → slice_get texts k ≡ Some part.text
 text_there texts ats old now k part merging there =
     subst (λ texts. slice_get texts k ≡ Some part.text) merging.of_texts

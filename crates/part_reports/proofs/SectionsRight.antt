@@ -1,10 +1,8 @@
 -- The lines of a report that is known are right, up to any of its tokens.
-use Rattle.std.proofs.Common.{◌≡◌, ◌∙◌, ◌+◌, ◌<◌, ◌≤◌, ◌^◌, ℕ, List, [], ◌∷◌, ◌++◌, Option, Some}
+use Rattle.std.proofs.Common.{◌≡◌, ◌∙◌, ◌+◌, ◌<◌, ◌≤◌, ℕ, List, [], ◌∷◌, ◌++◌, Some}
 use Rattle.std.proofs.Common.{append-nil, append_assoc, arith, ap, codes, inl, inr, length, refl}
 use Rattle.std.proofs.Common.{subst, sym, length-append, map}
 use Rattle.std.specs.Prelude.{All, IsTrue, flat_map}
-use Rattle.std.specs.Io.BufRead.{take_through}
-use Rattle.std.specs.List.{AllByRecursion}
 use Rattle.std.specs.List.Sorted.{IsStrictlySortedBy}
 use Rattle.std.specs.Map.{keys_of}
 use Rattle.std.specs.Ordering.{nat_cmp}
@@ -17,11 +15,11 @@ use Rattle.tap_views.specs.Token.{token_cmp}
 use Rattle.tap_views.specs.declared.token.Token.{Token}
 use Rattle.fare_texts.specs.Counts.{totals_line}
 use Rattle.fare_texts.specs.ReportLines.{number_line, token_line, validator_line}
-use Rattle.report_texts.specs.Numbers.{AreCounts, IsTokenSum, IsUploadEnd, IsValidatorSum}
+use Rattle.report_texts.specs.Numbers.{IsTokenSum, IsUploadEnd, IsValidatorSum}
 use Rattle.report_texts.specs.Report.{upload_line, upload_lines}
 use Rattle.report_texts.specs.UploadEnds.{is_posted}
 use Rattle.report_texts.specs.declared.upload_end.UploadEnd.{UploadEnd}
-use Rattle.shard_book.specs.Sums.{Sums, add_all, add_sums, sums}
+use Rattle.shard_book.specs.Sums.{Sums, add_sums}
 use Rattle.shard_book.proofs.SumsLemmas.{add_assoc, none_add}
 use Rattle.part_reports.specs.FirstWrongLines.{IsNext, IsRight, OfNothing, OfTokens, OfTotals}
 use Rattle.part_reports.specs.FirstWrongLines.{OfUploads, OfValidators, SoFar}

@@ -1,8 +1,8 @@
 -- The first wrong line among a report's lines of tokens, and why it is wrong.
-use Rattle.std.proofs.Common.{◌≡◌, ◌≢◌, ◌∙◌, ◌+◌, ◌<◌, ◌≤◌, ℕ, List, [], ◌∷◌, ◌++◌, Option, Some}
-use Rattle.std.proofs.Common.{None, append_assoc, arith, ap, get_or, inl, inr, length, map, refl}
-use Rattle.std.proofs.Common.{subst, sym, ◌⊎◌}
-use Rattle.std.specs.Prelude.{All, IfSome, flat_map, slice_get}
+use Rattle.std.proofs.Common.{◌≡◌, ◌≢◌, ◌∙◌, ◌+◌, ◌<◌, ℕ, List, [], ◌∷◌, ◌++◌, Option, Some}
+use Rattle.std.proofs.Common.{append_assoc, arith, ap, inl, inr, length, map, refl}
+use Rattle.std.proofs.Common.{subst, sym}
+use Rattle.std.specs.Prelude.{All, flat_map, slice_get}
 use Rattle.std.specs.Io.BufRead.{take_through}
 use Rattle.std.specs.List.{AllByRecursion}
 use Rattle.std.specs.List.Sorted.{IsStrictlySortedBy}
@@ -19,18 +19,19 @@ use Rattle.shard_book.proofs.SumsLemmas.{add_assoc, add_none}
 use Rattle.tap_views.proofs.Lists.{All-unmap}
 use Rattle.tap_views.specs.Token.{token_cmp}
 use Rattle.tap_views.specs.declared.token.Token.{Token}
+use Rattle.part_reports.specs.FirstWrongBeside.{IsFirstWrongOfPart}
 use Rattle.part_reports.specs.FirstWrongLines.{AreOthers, DoRise, FailsAt, IsFirstWrongLine}
-use Rattle.part_reports.specs.FirstWrongLines.{IsFirstWrongOfReport, IsNext, IsRight, IsTwiceAt}
+use Rattle.part_reports.specs.FirstWrongLines.{IsFirstWrongOfReport, IsNext}
 use Rattle.part_reports.specs.FirstWrongLines.{IsWhy, IsWhyAlone, IsWhyBeside, OfTokens, OfWhole}
 use Rattle.part_reports.specs.FirstWrongLines.{SoFar, TokensAddUp}
-use Rattle.part_reports.specs.Reports.{IsPartReport, Report, added, report_text}
+use Rattle.part_reports.specs.Reports.{added}
 use Rattle.part_reports.specs.TokenLines.{HaveOtherTokens, TokenLine, text_of}
 use Rattle.part_reports.specs.inside.FirstWrong.{DoesNotRise, HasNotForm, HasNotSums}
-use Rattle.part_reports.specs.inside.FirstWrong.{IsFirstWrongAt, IsLineReason, IsStuckBehind}
+use Rattle.part_reports.specs.inside.FirstWrong.{IsLineReason, IsStuckBehind}
 use Rattle.part_reports.specs.inside.FirstWrong.{IsTwinBehind, line_feeds, up_to_64}
 use Rattle.part_reports.specs.inside.Fronts.{MayBePart, reported_text}
 use Rattle.part_reports.specs.inside.Going.{IsBehindSo, Rise}
-use Rattle.part_reports.specs.inside.Kinds.{HasTokenSums, IsTextOf, Leave}
+use Rattle.part_reports.specs.inside.Kinds.{HasTokenSums, Leave}
 use Rattle.part_reports.specs.inside.Parts.{BegunReport, begun_text, left_text}
 use Rattle.part_reports.specs.inside.ReadTo.{IsReadTo}
 use Rattle.part_reports.specs.inside.Standings.{IsBehindOne, IsLineOfKind}
@@ -41,14 +42,14 @@ use Rattle.part_reports.specs.declared.merging.LineKind.{LineKind}
 use Rattle.part_reports.specs.declared.merging.LineKind.TheVariants.{Tokens, Entries}
 use Rattle.part_reports.specs.declared.sums_left.SumsLeft.{SumsLeft}
 use Rattle.part_reports.proofs.Added.{left_unique, one_of_token}
-use Rattle.part_reports.proofs.FirstLines.{feeds_append}
 use Rattle.part_reports.proofs.OneLine.{taken_one, token_line_is_one}
-use Rattle.part_reports.proofs.Places.{at_map, each_at, map_at, one_at}
+use Rattle.part_reports.proofs.Places.{at_map, map_at, one_at}
 use Rattle.part_reports.proofs.ReportsWrong.{report_of}
 use Rattle.part_reports.proofs.Risings.{strictly_from}
 use Rattle.part_reports.proofs.SectionsRight.{All-one, added_behind, front_read, leave_added}
 use Rattle.part_reports.proofs.SectionsRight.{tokens_read}
-use Rattle.part_reports.proofs.TokenSums.{Sum, line_of, lines_keys, lines_length, lines_text, reported}
+use Rattle.part_reports.proofs.TokenSums.{Sum, line_of, lines_keys, lines_length, lines_text}
+use Rattle.part_reports.proofs.TokenSums.{reported}
 
 -- ---- why
 added_more : (tokens : List Sum) (sum : Sum)
@@ -159,17 +160,18 @@ token_why ends totals validators count tokens left rest before line wrong behind
 
 -- ---- a report that is merged, read up to some of its tokens
 -- these tokens' lines were read
-record AreTokensRead (file : List ℕ) (ends : List UploadEnd) (totals : Sums)
+pub record AreTokensRead (file : List ℕ) (ends : List UploadEnd) (totals : Sums)
     (validators : List (ℕ × Sums)) (count : ℕ) (done : List TokenLine) (left : ℕ) (now : SumsLeft)
     (rest : List ℕ) : Type 0 where
-  tokens : List Sum
-  is : done ≡ map line_of tokens
-  count_is : count ≡ length tokens + left
-  add : totals ≡ add_sums (added tokens) (sums_left now)
-  number : ℕ
-  read : IsReadTo file (OfTokens ends totals validators count tokens) (Some rest) number
+  pub tokens : List Sum
+  pub fit : All IsTokenSum tokens
+  pub is : done ≡ map line_of tokens
+  pub count_is : count ≡ length tokens + left
+  pub add : totals ≡ add_sums (added tokens) (sums_left now)
+  pub number : ℕ
+  pub read : IsReadTo file (OfTokens ends totals validators count tokens) (Some rest) number
 
-tokens_so : (one : BegunReport) (done : List TokenLine) (left : ℕ) (now : SumsLeft)
+pub tokens_so : (one : BegunReport) (done : List TokenLine) (left : ℕ) (now : SumsLeft)
     (rest : List ℕ) → MayBePart one.0 → IsBehindSo (left_text one).0 (Tokens left now) done
     → AllByRecursion (IsLineOfKind (left_text one).0) done → Rise (left_text one).0 done
     → one.1 ≡ text_of done ++ rest
@@ -196,6 +198,7 @@ tokens_so one done left now rest may behind each rise shown =
     (shown ∙ ap (λ text. text ++ rest) (ap text_of reported.is ∙ lines_text reported.sums)) head) in
     record {
       tokens = reported.sums;
+      fit = reported.fit;
       is = reported.is;
       count_is = omega (arith, size, count_is);
       add = within;
@@ -289,42 +292,60 @@ module _ (files : List (List ℕ)) (place number : ℕ) (wrong : Wrong) (one : B
   rest_is : rest ≡ so.read.rest
   rest_is = let here : Some rest ≡ Some so.read.rest = so.read.left_is in cc
 
+  first_line : (Why : SoFar → List ℕ → Type 0)
+      → Why (OfTokens one.0.ends one.0.totals one.0.validators one.0.tokens so.tokens)
+      (take_through 10 rest) → IsFirstWrongLine Why (begun_text one) number
+  first_line Why why = record {
+    lines = so.read.lines;
+    so_far = OfTokens one.0.ends one.0.totals one.0.validators one.0.tokens so.tokens;
+    right = so.read.right;
+    rest = so.read.rest;
+    shown = so.read.shown;
+    number_is = lines_number;
+    why = subst (λ rest. Why
+        (OfTokens one.0.ends one.0.totals one.0.validators one.0.tokens so.tokens)
+        (take_through 10 rest)) rest_is why;
+  }
+
   -- the line is the first wrong one, if this is why
   named : IsWhy files place wrong
       (OfTokens one.0.ends one.0.totals one.0.validators one.0.tokens so.tokens)
       (take_through 10 rest) → IsFirstWrongOfReport files place number wrong
-  named why = (
-    begun_text one,
-    there,
-    record {
-      lines = so.read.lines;
-      so_far = OfTokens one.0.ends one.0.totals one.0.validators one.0.tokens so.tokens;
-      right = so.read.right;
-      rest = so.read.rest;
-      shown = so.read.shown;
-      number_is = lines_number;
-      why = subst (λ rest. IsWhy files place wrong
-          (OfTokens one.0.ends one.0.totals one.0.validators one.0.tokens so.tokens)
-          (take_through 10 rest)) rest_is why;
-    },
-  )
+  named why = (begun_text one, there, first_line (IsWhy files place wrong) why)
 
   last_line : (front : List TokenLine) (last : TokenLine) → done ≡ front ++ last ∷ []
       → (front : List Sum) × (sum : Sum) × (so.tokens ≡ front ++ sum ∷ []) × (sum.0 ≡ last.token)
   last_line front last is = last_sum so.tokens front last (sym so.is ∙ is)
 
-  pub stuck_named : IsStuckBehind (Tokens left now) done rest wrong
-      → IsFirstWrongOfReport files place number wrong
-  stuck_named stuck = named (inl (token_why one.0.ends one.0.totals one.0.validators one.0.tokens
-      so.tokens left now (Some stuck.last.token) (take_through 10 rest) wrong
+  why_alone : (front : List TokenLine) (last : TokenLine) → done ≡ front ++ last ∷ []
+      → IsLineReason (Tokens left now) (Some last.token) (take_through 10 rest) wrong
+      → IsWhyAlone wrong (OfTokens one.0.ends one.0.totals one.0.validators one.0.tokens so.tokens)
+      (take_through 10 rest)
+  why_alone front last is_last reason =
+      token_why one.0.ends one.0.totals one.0.validators one.0.tokens
+      so.tokens left now (Some last.token) (take_through 10 rest) wrong
       (record {
         count_is = so.count_is;
         add = so.add;
         last = λ token same.
-            let tokens : stuck.last.token ≡ token = cc in
-            let (front, sum, whole, is) = last_line stuck.front stuck.last stuck.is_last in
-            (front, sum, whole, is ∙ tokens);
-      }) stuck.reason))
+            let tokens : last.token ≡ token = cc in
+            let (some, sum, whole, is) = last_line front last is_last in
+            (some, sum, whole, is ∙ tokens);
+      }) reason
+
+  pub stuck_named : IsStuckBehind (Tokens left now) done rest wrong
+      → IsFirstWrongOfReport files place number wrong
+  stuck_named stuck = named (inl (why_alone stuck.front stuck.last stuck.is_last stuck.reason))
+
+  -- the same whatever other reports there are
+  pub alone_named : (front : List TokenLine) (last : TokenLine) → done ≡ front ++ last ∷ []
+      → IsLineReason (Tokens left now) (Some last.token) (take_through 10 rest) wrong
+      → IsFirstWrongOfPart files place number wrong
+  alone_named front last is_last reason = (
+    begun_text one,
+    there,
+    first_line (IsWhyAlone wrong) (why_alone front last is_last reason),
+  )
 
   -- a line that shares its token with an earlier report
   pub twin_named : (begun : List BegunReport) → All (λ one. MayBePart one.0) begun

@@ -1,5 +1,6 @@
 pub mod Charges
 pub mod Faults
+pub mod FirstWrongBeside
 pub mod FirstWrongLines
 pub mod Ledgers
 pub mod LedgersWithReports

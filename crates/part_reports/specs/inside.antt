@@ -1,6 +1,7 @@
 -- What only private functions cite. Who reads the contracts of public calls need not read it.
 pub mod BegunLedgers
 pub mod FirstWrong
+pub mod FirstWrongBeside
 pub mod Fronts
 pub mod Going
 pub mod Kinds

@@ -100,7 +100,7 @@ pub fn merge_ledgers<R: BufRead + Drop, W: Write>(
         (λ text. text < length ledgers.items)) }
     ensures wrong { IfErr result (λ fault. (files : List (List ℕ))
         → AreLeft R.remaining ledgers.items files → NamesWrongLedger files fault) }
-    // The line that is refused is the first wrong one of its text.
+    // The line that it names is the first wrong one of its text, for the reason that it has.
     ensures first { IfErr result (λ fault. (files : List (List ℕ))
         → AreLeft R.remaining ledgers.items files → NamesFirstWrongLine files fault) }
 {

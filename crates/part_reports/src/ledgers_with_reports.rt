@@ -6,6 +6,7 @@ ghost use Rattle.std.specs.List.{AllZip};
 ghost use Rattle.part_reports.specs.Charges.{LineCharge};
 ghost use Rattle.part_reports.specs.Faults.{IsOfTaps, IsOfTexts, NamesAmong, number_from};
 ghost use Rattle.part_reports.specs.LedgersWithReports.{AddUpToText, IsMergedWithReports};
+ghost use Rattle.part_reports.specs.FirstWrongBeside.{NamesFirstWrongBeside};
 ghost use Rattle.part_reports.specs.LedgersWithReports.{NamesWrongBeside};
 ghost use Rattle.fare_texts.specs.WrittenOut.{Begins};
 ghost use Rattle.part_reports.specs.Texts.{AreLeft};
@@ -14,6 +15,10 @@ ghost use Rattle.part_reports.specs.inside.Kinds.{AreTexts};
 ghost use Rattle.part_reports.specs.inside.ReportsLeft.{AreBegunReports, AreSummed, AreUnused};
 ghost use Rattle.part_reports.specs.inside.ReportsLeft.{AreUsedUp, HasLeft, IsNotTakenAt};
 ghost use Rattle.part_reports.specs.inside.ReportsLeft.{IsTakenAt, report_at};
+ghost use Rattle.part_reports.specs.inside.BegunLedgers.{IsBehindHead, entries_of};
+ghost use Rattle.part_reports.specs.inside.FirstWrong.{IsCounted};
+ghost use Rattle.part_reports.specs.inside.FirstWrongBeside.{IsFirstWrongOfBoth, IsLineOfEnd};
+ghost use Rattle.part_reports.specs.inside.FirstWrongBeside.{IsLineOfPlace, NamesFirstWrongPart};
 ghost use Rattle.part_reports.specs.inside.Standings.{StandsInText, standing};
 ghost use Rattle.part_reports.specs.inside.Reported.{AreNumbered, NamesOneOf, text_number};
 ghost use Rattle.part_reports.specs.inside.WrongBeside.{IsOfLeft, IsOfPlace, IsWrongOfBoth};
@@ -47,6 +52,8 @@ fn begin_reports<R: BufRead + Drop>(
     ensures named { IfErr result (NamesAmong first (length reports.items)) }
     ensures wrong { IfErr result (λ fault. (files : List (List ℕ))
         → AreLeft R.remaining reports.items files → NamesNoReport first files fault) }
+    ensures first_wrong { IfErr result (λ fault. (files : List (List ℕ))
+        → AreLeft R.remaining reports.items files → NamesFirstWrongPart first files fault) }
 {
     let mut lefts = Vec::new(alloc);
     for from in reports {
@@ -72,6 +79,9 @@ fn take_at<R: BufRead + Drop>(
     ensures reported { IfErr result (IsOfPlace at (map text_number sources.now)
         (map left_number lefts.old) (map (standing R.remaining) sources.now)
         (map (report_at R.remaining) lefts.old)) }
+    ensures first { IfErr result (IsLineOfPlace at (map text_number sources.now)
+        (map left_number lefts.old) (map (standing R.remaining) sources.now)
+        (map (report_at R.remaining) lefts.old)) }
 {
     if at >= sources.len() || at >= lefts.len() {
         return Err(MergeFault::NoMemory);
@@ -94,6 +104,8 @@ fn finish_all<R: BufRead + Drop>(
     ensures no_taps { IfErr result (λ fault. ¬ (IsOfTaps fault)) }
     ensures reported { IfErr result (IsOfLeft (map text_number sources.now)
         (map (report_at R.remaining) lefts.now)) }
+    ensures first { IfErr result (IsLineOfEnd (map text_number sources.now)
+        (map (standing R.remaining) sources.now) (map (report_at R.remaining) lefts.now)) }
 {
     for at in 0..lefts.len() {
         match sources.get(at) {
@@ -141,6 +153,14 @@ fn write_all_taken<R: BufRead + Drop, W: Write>(
         → AreUnused files (map (report_at R.remaining) lefts.old)
         → IsWrongOfBoth texts files (map text_number sources.old) (map left_number lefts.old)
         fault) }
+    // The line that is refused is the first wrong one of its text, and this is why.
+    ensures first { IfErr result (λ fault. (behind files report_files : List (List ℕ))
+        → AllZip StandsInText (map entries_of behind) (map (standing R.remaining) sources.old)
+        → AllZip IsBehindHead files behind
+        → AllZip IsCounted files (map (standing R.remaining) sources.old)
+        → AreUnused report_files (map (report_at R.remaining) lefts.old)
+        → IsFirstWrongOfBoth files report_files (map text_number sources.old)
+        (map left_number lefts.old) fault) }
 {
     let mut tokens = tokens_at(alloc, sources)?;
     for _ in 0..u64::MAX {
@@ -192,6 +212,11 @@ pub fn merge_ledgers_with_reports<R: BufRead + Drop, W: Write>(
         → AreLeft R.remaining ledgers.items files
         → AreLeft R.remaining reports.items report_files
         → NamesWrongBeside files report_files fault) }
+    // The line that it names is the first wrong one of its text, for the reason that it has.
+    ensures first { IfErr result (λ fault. (files report_files : List (List ℕ))
+        → AreLeft R.remaining ledgers.items files
+        → AreLeft R.remaining reports.items report_files
+        → NamesFirstWrongBeside files report_files fault) }
 {
     let first = ledgers.len();
     let mut sources = begin_ledgers(alloc, ledgers)?;

@@ -2,6 +2,10 @@
 
 ghost use Rattle.std.specs.Prelude.{◌≡◌, [], List, Some, IfErr, IfOk, IfSome};
 ghost use Rattle.std.specs.Prelude.{IsTrue, OnOk, ◌↔◌};
+ghost use Rattle.part_reports.specs.inside.FirstWrongBeside.{IsEndReason, IsLineOfEither};
+ghost use Rattle.part_reports.specs.inside.FirstWrongBeside.{IsLineOfThis, IsNextReason};
+ghost use Rattle.part_reports.specs.inside.FirstWrongBeside.{IsTakeReason, IsTurnReason};
+ghost use Rattle.part_reports.specs.inside.ReadTo.{IsFirstWrong};
 ghost use Rattle.part_reports.specs.Charges.{LineCharge};
 ghost use Rattle.part_reports.specs.Faults.{IsOfTaps, IsOfTexts};
 ghost use Rattle.part_reports.specs.LedgersWithReports.{AddUpToText};
@@ -73,6 +77,8 @@ impl<R: BufRead + Drop> ReportLeft<R> {
         ensures no_taps { IfErr result (λ fault. ¬ (IsOfTaps fault)) }
         ensures number { IfOk result (λ left. left_number left ≡ text) }
         ensures reported { IfErr result (IsOfText text) }
+        ensures first { IfErr result (λ fault. IfSome (R.remaining from)
+            (λ file. IsFirstWrong file fault)) }
     {
         let mut sums = no_sums(alloc);
         let report = read_part(alloc, &mut sums, from, text)?;
@@ -97,6 +103,10 @@ impl<R: BufRead + Drop> ReportLeft<R> {
         ensures reported { IfErr result (IsOfEither ledger.now.text (left_number self.old)
             (IsNoRest token (report_at R.remaining self.old))
             (HasNoReport (report_at R.remaining self.old))) }
+        ensures first { IfErr result (IsLineOfEither ledger.now.text (left_number self.old)
+            (λ number wrong. (number ≡ ledger.now.lines)
+            × IsTurnReason wrong token (report_at R.remaining self.old))
+            (IsNextReason (report_at R.remaining self.old))) }
     {
         if !self.rest.is_nothing() {
             return Err(ledger.fault(Wrong::LessThanReport));
@@ -124,6 +134,10 @@ impl<R: BufRead + Drop> ReportLeft<R> {
         ensures reported { IfErr result (IsOfEither ledger.now.text (left_number self.old)
             (IsNoRest token (report_at R.remaining self.old))
             (HasNoReport (report_at R.remaining self.old))) }
+        ensures first { IfErr result (IsLineOfEither ledger.now.text (left_number self.old)
+            (λ number wrong. (number ≡ ledger.now.lines)
+            × IsTurnReason wrong token (report_at R.remaining self.old))
+            (IsNextReason (report_at R.remaining self.old))) }
     {
         if is_token(self.token, token) {
             Ok(self.rest)
@@ -145,6 +159,12 @@ impl<R: BufRead + Drop> ReportLeft<R> {
         ensures reported { IfErr result (IsOfEither ledger.now.text (left_number self.old)
             (IsNotTaken (line_with token ledger.now.line.items) (report_at R.remaining self.old))
             (HasNoReport (report_at R.remaining self.old))) }
+        // And this is why.
+        ensures first { IfErr result (IsLineOfEither ledger.now.text (left_number self.old)
+            (λ number wrong. (number ≡ ledger.now.lines)
+            × IsTakeReason wrong (line_with token ledger.now.line.items)
+            (report_at R.remaining self.old))
+            (IsNextReason (report_at R.remaining self.old))) }
     {
         let charge = ledger.reported(charge_of(ledger.line()))?;
         let before = self.rest_of(token, ledger)?;
@@ -166,6 +186,9 @@ impl<R: BufRead + Drop> ReportLeft<R> {
             → IsNotUsedUp (report_at R.remaining self.now)) }
         ensures no_taps { IfErr result (λ fault. ¬ (IsOfTaps fault)) }
         ensures reported { IfErr result (IsOfReader ledger.now.text ledger.now.lines) }
+        ensures first { IfErr result (IsLineOfThis ledger.now.text
+            (λ number wrong. (number ≡ ledger.now.lines)
+            × IsEndReason wrong (report_at R.remaining self.now))) }
     {
         if !self.rest.is_nothing() {
             return Err(ledger.fault(Wrong::LessThanReport));

@@ -7,11 +7,12 @@ use Rattle.std.specs.declared.cmp.Ordering.TheVariants.{Less}
 use Rattle.shard_book.specs.Sums.{Sums, add_sums, sums}
 use Rattle.tap_views.specs.Token.{token_cmp}
 use Rattle.tap_views.specs.declared.token.Token.{Token}
+use Rattle.part_reports.specs.Ledgers.{IsLedgerEntryLine}
 use Rattle.part_reports.specs.TokenLines.{HaveOtherTokens, TokenLine, text_of}
 use Rattle.part_reports.specs.inside.Going.{IsBehindSo, Rise}
 use Rattle.part_reports.specs.inside.Kinds.{HasTokenSums, IsTextOf}
 use Rattle.part_reports.specs.inside.Standings.{IsBehindOne, IsFirstLine, IsLineOfKind}
-use Rattle.part_reports.specs.inside.Standings.{MayFollowToken, Standing, line_with}
+use Rattle.part_reports.specs.inside.Standings.{MayFollow, MayFollowToken, Standing, line_with}
 use Rattle.part_reports.specs.inside.SumsLeft.{sums_left}
 use Rattle.part_reports.specs.inside.Reported.{next_number}
 use Rattle.part_reports.specs.declared.fault.MergeFault.{MergeFault}
@@ -54,13 +55,23 @@ DoesNotRise left before line = (last : Token) × (token : Token) × (its : Sums)
     × (before ≡ Some last) × (left ≢ 0) × HasTokenSums (line_with token line) its
     × ¬ (token_cmp last token ≡ Less)
 
--- why the line is wrong among a report's lines of tokens, behind one of this token
+-- the line is no ledger's
+abbrev pub HasNotEntryForm : List ℕ → Type 0
+HasNotEntryForm line = (token : Token) → ¬ (IsLedgerEntryLine (line_with token line))
+
+-- the line is a ledger's, and its token is below the one before it
+abbrev pub Falls : Option Token → List ℕ → Type 0
+Falls before line = (last : Token) × (token : Token) × (before ≡ Some last)
+    × IsLedgerEntryLine (line_with token line) × ¬ (MayFollow Entries last token)
+
+-- why the line is wrong among those of its kind, behind one of this token
 abbrev pub IsLineReason : LineKind → Option Token → List ℕ → Wrong → Type 0
 IsLineReason (Tokens left rest) before line wrong =
     ((wrong ≡ Form) × HasNotForm left line)
     ⊎ (((wrong ≡ TooManyOfTokens) × HasNotSums left rest line)
     ⊎ ((wrong ≡ Order) × DoesNotRise left before line))
-IsLineReason Entries before line wrong = Unit {0}
+IsLineReason Entries before line wrong =
+    ((wrong ≡ Form) × HasNotEntryForm line) ⊎ ((wrong ≡ Order) × Falls before line)
 
 -- a line that is refused is the next of what is left, behind so many, and it is wrong there, and
 -- this is why
@@ -75,15 +86,22 @@ abbrev pub IsOfNumber : ℕ → Wrong → MergeFault → Type 0
 IsOfNumber number why (Line named at wrong) = (at ≡ number) × (wrong ≡ why)
 IsOfNumber number why fault = Unit {0}
 
--- the line at which it stands has as many line feeds before what is left as its number says
+-- the line at which it stands has as many line feeds before what is left as its number says; the
+-- end of the text counts as a line
 abbrev pub IsCountedAt : List ℕ → Standing → Option Token → Type 0
-IsCountedAt file at None = Unit {0}
+IsCountedAt file at None = at.number ≡ up_to_64 (line_feeds file + 1)
 IsCountedAt file at (Some token) = (before : List ℕ) × (left : List ℕ) × (at.left ≡ Some left)
     × (file ≡ before ++ left) × (at.number ≡ up_to_64 (line_feeds before))
 
 -- the same of the text at its place
 abbrev pub IsCounted : List ℕ → Standing → Type 0
 IsCounted file at = IsCountedAt file at at.token
+
+-- no text before this place has a token of these lines
+abbrev pub SharesNone : List (LineKind × List ℕ) → ℕ → List TokenLine → Type 0
+SharesNone texts place done =
+    (other : ℕ) (one : LineKind × List ℕ) (some : List TokenLine) → other < place
+    → slice_get texts other ≡ Some one → IsTextOf one some → HaveOtherTokens some done
 
 -- the line of this token and bytes shares its token with an earlier text, and none before it does
 pub record SharesFirst (texts : List (LineKind × List ℕ)) (place : ℕ) (done : List TokenLine)
@@ -93,8 +111,13 @@ pub record SharesFirst (texts : List (LineKind × List ℕ)) (place : ℕ) (done
   pub first : LineKind × List ℕ
   pub first_there : slice_get texts earlier ≡ Some first
   pub shared : (some : List TokenLine) → IsTextOf first some → ¬ (HaveOtherTokens some (line ∷ []))
-  pub none_before : (other : ℕ) (one : LineKind × List ℕ) (some : List TokenLine) → other < place
-      → slice_get texts other ≡ Some one → IsTextOf one some → HaveOtherTokens some done
+  pub some : List TokenLine
+  pub each : AllByRecursion (IsLineOfKind first.0) some
+  pub rise : Rise first.0 some
+  pub behind : List ℕ
+  pub shown : first.1 ≡ text_of some ++ behind
+  pub has : ¬ (HaveOtherTokens some (line ∷ []))
+  pub none_before : SharesNone texts place done
 
 -- behind these lines, of which this one is the last, the next of what is left is wrong
 pub record IsStuckBehind (kind : LineKind) (done : List TokenLine) (rest : List ℕ) (why : Wrong)
@@ -130,6 +153,7 @@ pub record IsFirstWrongAt (texts : List (LineKind × List ℕ)) (files : List (L
   pub behind : IsBehindSo text.0 kind done
   pub each : AllByRecursion (IsLineOfKind text.0) done
   pub rise : Rise text.0 done
+  pub none_before : SharesNone texts place done
   pub rest : List ℕ
   pub shown : text.1 ≡ text_of done ++ rest
   pub number_is : (front : List ℕ) → file ≡ front ++ text.1

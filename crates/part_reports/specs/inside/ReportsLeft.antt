@@ -12,9 +12,11 @@ use Rattle.shard_book.specs.declared.sums.ValidatorSum.{ValidatorSum}
 use Rattle.shard_book.specs.declared.sums.totals.Totals.{Totals}
 use Rattle.tap_views.specs.declared.token.Token.{Token}
 use Rattle.part_reports.specs.Charges.{IsChargeOf, LineCharge}
+use Rattle.part_reports.specs.FirstWrongBeside.{LeaveOfTokens, last_token}
 use Rattle.part_reports.specs.LedgersWithReports.{AddUpToText, HaveReport, at_validator}
 use Rattle.part_reports.specs.TokenLines.{TokenLine}
 use Rattle.part_reports.specs.declared.report_left.ReportLeft.{ReportLeft}
+use Rattle.part_reports.specs.inside.FirstWrong.{IsCounted}
 use Rattle.part_reports.specs.inside.Fronts.{MayBePart}
 use Rattle.part_reports.specs.inside.Going.{IsGoing}
 use Rattle.part_reports.specs.inside.Parts.{BegunReport, begun_text, left_text}
@@ -83,6 +85,9 @@ pub record IsUsedBy (file : List ℕ) (left : ReportAt) (done : List LineCharge)
       ↔ UseUp left.token left.rest tokens charges
   pub used : AreSumsOf left.used (map at_validator done)
   pub validators : AreSumsOf left.validators begun.0.validators
+  pub counted : IsCounted file left.at
+  pub leave : LeaveOfTokens done reported left.rest
+  pub last : last_token reported ≡ left.token
 
 -- the line is that of some token, with these sums
 pub record IsLineOfSums (line : List ℕ) (sums : Sums) : Type 0 where

@@ -1,6 +1,9 @@
 use Rattle.std.proofs.Common.{Some, sym, ap, subst, ◌∙◌}
 use Rattle.std.proofs.KnownBytes.{Appends-nil}
 use Rattle.std.specs.Io.KnownBytes.{Appends}
+use Rattle.std.proofs.lemmas.Result.{err_from_is_err_and}
+use Rattle.fare_texts.specs.WrittenOut.{Begins}
+use Rattle.fare_texts.proofs.Beginnings.{begins_whole}
 use Rattle.ledger_changes.specs.inside.Sums.{TokenSum, add_changes, ended_lines, sum_in, sums_after}
 use Rattle.ledger_changes.proofs.Summing.{IsOne, Pairs, ended_one, first_is_one, no_change}
 use Rattle.ledger_changes.proofs.Summing.{nones_change, one_change, second_is_one, sums_one}
@@ -67,3 +70,41 @@ returns-in-Some-clause-sums g c =
     ∙ ap (λ (sum : TokenSum). add_changes sum (Pairs before after)) c.in_ok-sums.ensures.sums)
     ∙ sym (ap (sums_after last) (one_change before after (sym c.agree.ensures ∙ c.if-agree.false))
     ∙ sums_one last row before after one)
+
+-- ---- what was written before a fault
+pub returns-in_err-sums-clause-begun : goal.returns-in_err-sums-clause-begun
+returns-in_err-sums-clause-begun g c =
+    let row = c.match-before.row.now in
+    let last = sum_in c.args.last in
+    let one : IsOne row c.args.before.now c.args.after.now = elim c.match-before.branch [
+      | in-Some-default w ↦ first_is_one row w.in-Some-default.row c.args.before.now
+          c.args.after.now
+          w.in-Some-default.is-0 (ap (λ r. r.now) w.row-is)
+      | in-None-Some w ↦ second_is_one row w.in-None-Some.row c.args.before.now c.args.after.now
+          w.in-None-Some.is-0 w.in-None-Some.is-1 (ap (λ r. r.now) w.row-is)
+    ] in
+    let same = ap (ended_lines last)
+    (one_change c.args.before.now c.args.after.now (sym c.agree.ensures ∙ c.if-agree.false))
+    ∙ ended_one last row c.args.before.now c.args.after.now one in
+    let p = err_from_is_err_and c.from_residual.result c.from_residual.ensures.1 in
+    rw p.1 (subst
+    (Begins (g.W.Write.contents c.args.out.now) (g.W.Write.contents c.sums_for.new.out))
+    (sym same) c.in_err-sums.ensures.begun)
+
+pub returns-in-None-clause-begun : goal.returns-in-None-clause-begun
+returns-in-None-clause-begun g c =
+    let row = c.match-before.row.now in
+    let last = sum_in c.args.last in
+    let one : IsOne row c.args.before.now c.args.after.now = elim c.match-before.branch [
+      | in-Some-default w ↦ first_is_one row w.in-Some-default.row c.args.before.now
+          c.args.after.now
+          w.in-Some-default.is-0 (ap (λ r. r.now) w.row-is)
+      | in-None-Some w ↦ second_is_one row w.in-None-Some.row c.args.before.now c.args.after.now
+          w.in-None-Some.is-0 w.in-None-Some.is-1 (ap (λ r. r.now) w.row-is)
+    ] in
+    let same = ap (ended_lines last)
+    (one_change c.args.before.now c.args.after.now (sym c.agree.ensures ∙ c.if-agree.false))
+    ∙ ended_one last row c.args.before.now c.args.after.now one in
+    begins_whole (g.W.Write.contents c.args.out.now) (g.W.Write.contents c.sums_for.new.out) _
+    (subst (Appends (g.W.Write.contents c.args.out.now) (g.W.Write.contents c.sums_for.new.out))
+    (sym same) c.in_ok-sums.ensures.written)

@@ -84,8 +84,7 @@ returns-else-eq-clause-first g c =
     subst (λ known. IfSome known (λ file. IsOfFirstLines file c.fault.result))
     (ap remaining c.new-reader.ensures.from)
     (IfSome_then (remaining c.new-reader.result.from) c.in_ok-next.ensures.line (λ file read.
-    head_wrong file c.next.new.self.text c.next.new.self.lines c.fault.result
-    c.fault.ensures.reported
+    head_wrong file c.next.new.self.text c.next.new.self.lines c.fault.result c.fault.ensures.line
     lines (λ e. other (c.line.ensures ∙ read.0 ∙ e ∙ sym c.head_line.ensures
     ∙ sym c.as_bytes.ensures.value))))
 

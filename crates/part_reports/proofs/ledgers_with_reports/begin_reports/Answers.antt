@@ -8,6 +8,7 @@ use Rattle.part_reports.specs.Faults.{number_from}
 use Rattle.part_reports.specs.inside.Reported.{AreNumbered}
 use Rattle.part_reports.specs.inside.WrongBeside.{left_number}
 use Rattle.part_reports.proofs.BesideWrong.{report_none}
+use Rattle.part_reports.proofs.FirstBeside.{report_first}
 use Rattle.part_reports.proofs.FewParts.{map_length}
 use Rattle.part_reports.proofs.ReportedOf.{among_of, numbered_none, numbered_push}
 use Rattle.part_reports.proofs.ReportsMerged.{no_reports, reports_push}
@@ -137,3 +138,22 @@ returns-clause-begun g c =
     ∙ c.loop-from.invariant.all in
     subst (λ items. AreBegunReports (map g.R.Read.remaining items)
     (map (report_at g.R.Read.remaining) c.loop-from.lefts.items)) all c.loop-from.invariant.begun
+
+pub returns-in_err-begin-clause-first_wrong : goal.returns-in_err-begin-clause-first_wrong
+returns-in_err-begin-clause-first_wrong g c =
+    let remaining = g.R.Read.remaining in
+    let size : c.len.result ≡ length c.loop-from.lefts.items =
+    omega (arith, c.len.ensures, c.loop-from.lefts.ok.0) in
+    let place : c.saturating_add-text.result
+    ≡ number_from c.args.first (length c.loop-from.lefts.items) =
+    omega (arith, c.saturating_add-text.ensures, size) in
+    let p = err_from_is_err_and c.from_residual.result c.from_residual.ensures.1 in
+    rw (p.1, p.2) (λ files same.
+    report_first (map remaining c.loop-from.yielded) (map remaining c.next.new.self.rest.items)
+    (remaining c.in-Some.from) files c.args.first c.saturating_add-text.result _
+    (sym (map-append remaining c.loop-from.yielded (c.in-Some.from ∷ c.next.new.self.rest.items))
+    ∙ ap (map remaining) (ap (λ left. c.loop-from.yielded ++ left) (sym c.in-Some.ensures.steps.0)
+    ∙ c.loop-from.invariant.all) ∙ same)
+    (place ∙ ap (number_from c.args.first) (c.loop-from.invariant.count
+    ∙ sym (map_length remaining c.loop-from.yielded)))
+    c.in_err-begin.ensures.reported c.in_err-begin.ensures.first)

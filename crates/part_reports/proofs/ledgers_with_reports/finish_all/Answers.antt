@@ -6,7 +6,9 @@ use Rattle.part_reports.specs.inside.ReportsLeft.{report_at}
 use Rattle.part_reports.proofs.Places.{map_at}
 use Rattle.part_reports.proofs.ReportsMerged.{all_up, up_more}
 use Rattle.part_reports.specs.inside.Reported.{text_number}
+use Rattle.part_reports.specs.inside.Standings.{standing}
 use Rattle.part_reports.proofs.BesideWrong.{at_item, of_left}
+use Rattle.part_reports.proofs.FirstBeside.{end_line}
 use Rattle.part_reports.proofs.ledgers_with_reports.finish_all.Goals as goal
 
 pub loop-at-init : goal.loop-at-init
@@ -73,3 +75,30 @@ returns-in_err-finish-in-Some-clause-reported g c =
           ∙ ap (λ left. Some left) (sym c.index-lefts-at.is));
       some = c.in_err-finish-in-Some.ensures.refused of_texts;
     }))
+
+-- ---- why the end is wrong
+pub returns-in_err-finish-in-Some-clause-first : goal.returns-in_err-finish-in-Some-clause-first
+returns-in_err-finish-in-Some-clause-first g c =
+    let remaining = g.R.Read.remaining in
+    let sources = c.args.sources.now in
+    let lefts = c.args.lefts.now in
+    let at = c.loop-at.at in
+    let left = c.index-lefts-at.result in
+    let source = c.in-Some.source.now in
+    let there = at_item sources at c.get.result c.in-Some.source c.in-Some.is c.get.ensures.lookup
+    in
+    let p = err_from_is_err_and c.from_residual.result
+    c.from_residual.ensures.1 in
+    rw (p.1, p.2) (end_line (map text_number sources) (map (standing remaining) sources)
+    (map (report_at remaining) lefts) at (text_number source) _ _
+    (map_at text_number sources at source there)
+    (λ number wrong why. record {
+      source = standing remaining source;
+      source_there = map_at (standing remaining) sources at source there;
+      number_is = why.0;
+      left = report_at remaining left;
+      there = map_at (report_at remaining) lefts at left
+          (slice_get-get_or lefts at left c.loop-at-test.true
+          ∙ ap (λ left. Some left) (sym c.index-lefts-at.is));
+      reason = why.1;
+    }) c.in_err-finish-in-Some.ensures.first)

@@ -8,12 +8,15 @@ use Rattle.part_reports.specs.inside.BegunLedgers.{AreBegunLedgers}
 use Rattle.part_reports.specs.inside.ReportsLeft.{AreBegunReports, report_at}
 use Rattle.part_reports.specs.inside.Standings.{standing}
 use Rattle.part_reports.specs.Faults.{NamesAmong, number_from}
+use Rattle.part_reports.specs.FirstWrongBeside.{NamesFirstWrongBeside}
 use Rattle.part_reports.specs.LedgersWithReports.{NamesWrongBeside}
 use Rattle.part_reports.specs.inside.Reported.{AreNumbered, text_number}
 use Rattle.part_reports.specs.inside.WrongBeside.{left_number}
 use Rattle.part_reports.proofs.BesideWrong.{among_below, counted_files, ledger_beside}
 use Rattle.part_reports.proofs.BesideWrong.{merged_beside, report_beside}
 use Rattle.part_reports.proofs.FewParts.{map_length}
+use Rattle.part_reports.proofs.FirstBeside.{both_named, ledger_named, report_named}
+use Rattle.part_reports.proofs.LedgersFirst.{err_both}
 use Rattle.part_reports.proofs.ReportedOf.{among_numbered, below_numbered}
 use Rattle.part_reports.proofs.ReportsMerged.{ledgers_number, no_charges, no_whole, reports_number}
 use Rattle.part_reports.proofs.LedgersWrong.{head_begun, merged_begun}
@@ -253,3 +256,60 @@ returns-clause-wrong g c =
     fault same same_reports are begun numbered left_numbered
     (counted_files remaining c.args.ledgers.items files c.len-first.result same first) wrong)
     c.write_all_taken.ensures.wrong
+
+-- ---- which line is the first wrong one, and why
+pub returns-in_err-sources-clause-first : goal.returns-in_err-sources-clause-first
+returns-in_err-sources-clause-first g c =
+    let p = err_from_is_err_and c.from_residual.result c.from_residual.ensures.1 in
+    rw (p.1, p.2) (λ files report_files same same_reports.
+    ledger_named files report_files _ (c.in_err-sources.ensures.first files same))
+
+pub returns-in_err-lefts-clause-first : goal.returns-in_err-lefts-clause-first
+returns-in_err-lefts-clause-first g c =
+    let remaining = g.R.Read.remaining in
+    let p = err_from_is_err_and c.from_residual-in_err-lefts.result
+    c.from_residual-in_err-lefts.ensures.1 in
+    let size : c.len-first.result ≡ length c.args.ledgers.items =
+    omega (arith, c.len-first.ensures, c.args.ledgers.ok.0) in
+    rw (p.1, p.2) (λ files report_files same same_reports.
+    report_named files report_files c.len-first.result _
+    (counted_files remaining c.args.ledgers.items files c.len-first.result same size)
+    c.in_err-lefts.ensures.no_taps (c.in_err-lefts.ensures.first_wrong report_files same_reports))
+
+pub returns-in_err-write_text-clause-first : goal.returns-in_err-write_text-clause-first
+returns-in_err-write_text-clause-first g c =
+    let p = err_from_is_err_and c.from_residual-in_err-write_text.result
+    c.from_residual-in_err-write_text.ensures.1 in
+    rw (p.1, p.2) (λ files report_files same same_reports.
+    subst (NamesFirstWrongBeside files report_files) (sym c.in_err-write_text.ensures.write) tt)
+
+pub returns-clause-first : goal.returns-clause-first
+returns-clause-first g c =
+    let remaining = g.R.Read.remaining in
+    let ledgers = map remaining c.args.ledgers.items in
+    let reports = map remaining c.args.reports.items in
+    let numbers = map text_number c.deref_mut.result.now in
+    let left_numbers = map left_number c.deref_mut-2.result.now in
+    let first : c.len-first.result ≡ length c.args.ledgers.items =
+    omega (arith, c.len-first.ensures, c.args.ledgers.ok.0) in
+    let numbered : AreNumbered (λ place. place) numbers =
+    subst (λ sources. AreNumbered (λ place. place) (map text_number sources))
+    (sym c.deref_mut.ensures.value) c.in_ok-sources.ensures.numbered in
+    let left_numbered : AreNumbered (number_from c.len-first.result) left_numbers =
+    subst (λ lefts. AreNumbered (number_from c.len-first.result) (map left_number lefts))
+    (sym c.deref_mut-2.ensures.value) c.in_ok-lefts.ensures.numbered in
+    let are : AreBegunLedgers ledgers (map (standing remaining) c.deref_mut.result.now) =
+    subst (λ sources. AreBegunLedgers ledgers (map (standing remaining) sources))
+    (sym c.deref_mut.ensures.value) c.in_ok-sources.ensures.begun in
+    let begun : AreBegunReports reports (map (report_at remaining) c.deref_mut-2.result.now) =
+    subst (λ lefts. AreBegunReports reports (map (report_at remaining) lefts))
+    (sym c.deref_mut-2.ensures.value) c.in_ok-lefts.ensures.begun in
+    IfErr-weaker c.write_all_taken.result _ _ (λ fault both files report_files same same_reports.
+    both_named files report_files ledgers reports
+    (map (standing remaining) c.deref_mut.result.now)
+    (map (report_at remaining) c.deref_mut-2.result.now) numbers left_numbers c.len-first.result
+    fault same same_reports are begun numbered left_numbered
+    (counted_files remaining c.args.ledgers.items files c.len-first.result same first) both.1
+    both.0)
+    (err_both c.write_all_taken.result _ _ c.write_all_taken.ensures.first
+    c.write_all_taken.ensures.no_taps)

@@ -7,6 +7,7 @@ use Rattle.part_reports.proofs.Places.{map_at, map_kept, map_of_set}
 use Rattle.part_reports.specs.inside.Reported.{text_number}
 use Rattle.part_reports.specs.inside.WrongBeside.{left_number}
 use Rattle.part_reports.proofs.BesideWrong.{of_place}
+use Rattle.part_reports.proofs.FirstBeside.{place_line}
 use Rattle.part_reports.proofs.ledgers_with_reports.take_at.Goals as goal
 
 pub returns-in-Some-clause-taken : goal.returns-in-Some-clause-taken
@@ -91,3 +92,36 @@ returns-in-Some-clause-reported g c =
       there = map_at (report_at remaining) lefts at left left_there;
       none = none;
     })) c.take.ensures.reported
+
+-- ---- which line is wrong, and why
+pub returns-in-Some-clause-first : goal.returns-in-Some-clause-first
+returns-in-Some-clause-first g c =
+    let remaining = g.R.Read.remaining in
+    let sources = c.args.sources.now in
+    let lefts = c.args.lefts.now in
+    let at = c.args.at in
+    let source = c.index-sources-at.result in
+    let left = get_or lefts at c.index-lefts-at.result in
+    let there = slice_get-get_or sources at source (omega arith)
+    ∙ ap (λ source. Some source) (sym c.index-sources-at.is) in
+    let left_there = slice_get-get_or lefts at c.index-lefts-at.result (omega arith) in
+    IfErr-weaker c.take.result _ _ (λ fault.
+    place_line at (map text_number sources) (map left_number lefts)
+    (map (standing remaining) sources) (map (report_at remaining) lefts) source.reader.text
+    (left_number left) _ _ fault (map_at text_number sources at source there)
+    (map_at left_number lefts at left left_there)
+    (λ number wrong why. record {
+      source = standing remaining source;
+      source_there = map_at (standing remaining) sources at source there;
+      token = c.in-Some.token;
+      token_is = c.in-Some.is;
+      number_is = why.0;
+      was = report_at remaining left;
+      there = map_at (report_at remaining) lefts at left left_there;
+      reason = why.1;
+    })
+    (λ number wrong why. record {
+      was = report_at remaining left;
+      there = map_at (report_at remaining) lefts at left left_there;
+      reason = why;
+    })) c.take.ensures.first

@@ -10,7 +10,12 @@ use Rattle.part_reports.specs.inside.Reported.{NamesOneOf, NamesOnly, text_numbe
 use Rattle.part_reports.specs.inside.WrongBeside.{IsOfLeft, IsOfPlace, left_number}
 use Rattle.fare_texts.proofs.Beginnings.{begins_nothing}
 use Rattle.part_reports.proofs.MergedBefore.{begun_least, begun_so_far}
-use Rattle.part_reports.proofs.Merges.{least_of, merging_stuck, merging_twin, twin_of}
+use Rattle.part_reports.specs.inside.BegunLedgers.{entries_of}
+use Rattle.part_reports.specs.inside.FirstWrongBeside.{IsLineOfEnd, IsLineOfPlace}
+use Rattle.part_reports.proofs.FirstBeside.{ends_first, place_first, texts_first}
+use Rattle.part_reports.proofs.FirstLines.{counted_on}
+use Rattle.part_reports.proofs.FirstWrongs.{stuck_first, twin_first}
+use Rattle.part_reports.proofs.Merges.{least_of, merging_stuck, merging_twin, no_head, twin_of}
 use Rattle.part_reports.proofs.ReportsMerged.{at_end, beginning, going_on, not_taken}
 use Rattle.part_reports.proofs.ReportsMerged.{something_left}
 use Rattle.part_reports.proofs.BesideWrong.{left_named, left_wrong, place_named, place_wrong}
@@ -36,6 +41,7 @@ loop-init g c =
       merging = λ texts files are unused. beginning texts files
           (map (standing g.R.Read.remaining) sources) (map (report_at g.R.Read.remaining) lefts)
           (g.W.Write.contents c.args.out.now) size are unused;
+      counted = λ files are. are;
       same = c.in_ok-tokens.ensures;
       texts = refl;
       lefts = refl;
@@ -129,6 +135,10 @@ loop-preserved g c =
           (g.W.Write.contents c.loop.out) (g.W.Write.contents c.write_at.new.out)
           c.in-Ok-Some.at (c.loop.invariant.merging texts files are unused) least
           c.in_ok-take_at-in-Ok-Some.ensures.taken c.in_ok-write_at-in-Ok-Some.ensures.moved;
+      counted = λ files are. counted_on files (map (standing remaining) sources)
+          (map (standing remaining) c.write_at.new.sources) (g.W.Write.contents c.loop.out)
+          (g.W.Write.contents c.write_at.new.out) c.in-Ok-Some.at least
+          c.in_ok-write_at-in-Ok-Some.ensures.moved (c.loop.invariant.counted files are);
       same = take_at tokens (drop (length tokens) c.loop.tokens.items) c.loop.tokens.len size
           ∙ c.in_ok-write_at-in-Ok-Some.ensures.tokens;
       texts = c.in_ok-write_at-in-Ok-Some.ensures.texts ∙ c.loop.invariant.texts;
@@ -307,3 +317,82 @@ returns-in-Err-clause-wrong g c = λ texts files are unused.
     c.in-Err.at twin (map text_number c.args.sources.now) c.fault_in.result
     (subst (λ numbers. NamesOnly c.fault_in.result (slice_get numbers c.in-Err.at))
     c.loop.invariant.texts c.fault_in.ensures.named) c.fault_in.ensures.no_taps)
+
+-- ---- which line is the first wrong one, and why
+pub returns-in_err-take_at-in-Ok-Some-clause-first :
+    goal.returns-in_err-take_at-in-Ok-Some-clause-first
+returns-in_err-take_at-in-Ok-Some-clause-first g c =
+    let remaining = g.R.Read.remaining in
+    let ats = map (standing remaining) c.loop.sources in
+    let lefts = map (report_at remaining) c.loop.lefts in
+    let fault = c.in_err-take_at-in-Ok-Some.field-0.0 in
+    let p = err_from_is_err_and c.from_residual-in_err-take_at-in-Ok-Some.result
+    c.from_residual-in_err-take_at-in-Ok-Some.ensures.1 in
+    rw (p.1, p.2) (λ behind files report_files are shown counted unused.
+    place_first behind files report_files ats lefts (g.W.Write.contents c.args.out.now)
+    (g.W.Write.contents c.loop.out)
+    (c.loop.invariant.merging (map entries_of behind) report_files are unused) shown
+    (c.loop.invariant.counted files counted) c.in-Ok-Some.at (map text_number c.args.sources.now)
+    (map left_number c.args.lefts.now) fault
+    (subst (λ numbers. IsLineOfPlace c.in-Ok-Some.at numbers (map left_number c.args.lefts.now)
+    ats lefts fault) c.loop.invariant.texts
+    (subst (λ numbers. IsLineOfPlace c.in-Ok-Some.at (map text_number c.loop.sources) numbers
+    ats lefts fault) c.loop.invariant.lefts c.in_err-take_at-in-Ok-Some.ensures.first)))
+
+pub returns-in_err-write_at-in-Ok-Some-clause-first :
+    goal.returns-in_err-write_at-in-Ok-Some-clause-first
+returns-in_err-write_at-in-Ok-Some-clause-first g c =
+    let remaining = g.R.Read.remaining in
+    let sources = c.loop.sources in
+    let ats = map (standing remaining) sources in
+    let fault = c.in_err-write_at-in-Ok-Some.field-0.0 in
+    let least = least_of remaining sources c.deref.result.now c.loop.tokens.items
+    c.in-Ok-Some.field-0 (Some c.in-Ok-Some.at) c.deref.ensures.value c.loop.invariant.same
+    c.in-Ok-Some.ensures c.in-Ok-Some.field-0-is in
+    let p = err_from_is_err_and c.from_residual-in_err-write_at-in-Ok-Some.result
+    c.from_residual-in_err-write_at-in-Ok-Some.ensures.1 in
+    rw (p.1, p.2) (λ behind files report_files are shown counted unused.
+    texts_first behind files report_files (map text_number c.args.sources.now)
+    (map left_number c.args.lefts.now) fault shown
+    (stuck_first (map entries_of behind) files ats (g.W.Write.contents c.args.out.now)
+    (g.W.Write.contents c.loop.out)
+    (c.loop.invariant.merging (map entries_of behind) report_files are unused).merging
+    c.in-Ok-Some.at least (c.loop.invariant.counted files counted)
+    (map text_number c.args.sources.now) fault
+    (subst (λ numbers. NamesOnly fault (slice_get numbers c.in-Ok-Some.at)) c.loop.invariant.texts
+    c.in_err-write_at-in-Ok-Some.ensures.named) c.in_err-write_at-in-Ok-Some.ensures.next))
+
+pub returns-in-Ok-None-clause-first : goal.returns-in-Ok-None-clause-first
+returns-in-Ok-None-clause-first g c =
+    let remaining = g.R.Read.remaining in
+    let sources = c.loop.sources in
+    let ats = map (standing remaining) sources in
+    let lefts = map (report_at remaining) c.loop.lefts in
+    let none = least_of remaining sources c.deref.result.now c.loop.tokens.items
+    c.in-Ok-None.field-0 None c.deref.ensures.value c.loop.invariant.same
+    c.in-Ok-None.ensures c.in-Ok-None.field-0-is in
+    IfErr-weaker c.finish_all.result _ _
+    (λ fault ends behind files report_files are shown counted unused.
+    ends_first behind files report_files ats lefts (g.W.Write.contents c.args.out.now)
+    (g.W.Write.contents c.loop.out)
+    (c.loop.invariant.merging (map entries_of behind) report_files are unused) shown
+    (c.loop.invariant.counted files counted) (map text_number c.args.sources.now)
+    (map left_number c.args.lefts.now) fault (λ k at there. no_head ats k at none there)
+    (subst (λ numbers. IsLineOfEnd numbers ats lefts fault) c.loop.invariant.texts ends))
+    c.finish_all.ensures.first
+
+pub returns-in-Err-clause-first : goal.returns-in-Err-clause-first
+returns-in-Err-clause-first g c = λ behind files report_files are shown counted unused.
+    let remaining = g.R.Read.remaining in
+    let sources = c.loop.sources in
+    let twin = twin_of remaining sources c.deref.result.now c.loop.tokens.items c.in-Err.at
+    c.deref.ensures.value c.loop.invariant.same c.in-Err.ensures in
+    texts_first behind files report_files (map text_number c.args.sources.now)
+    (map left_number c.args.lefts.now) c.fault_in.result shown
+    (twin_first (map entries_of behind) files (map (standing remaining) sources)
+    (g.W.Write.contents c.args.out.now) (g.W.Write.contents c.loop.out)
+    (c.loop.invariant.merging (map entries_of behind) report_files are unused).merging c.in-Err.at
+    twin (c.loop.invariant.counted files counted) (map text_number c.args.sources.now)
+    c.fault_in.result
+    (subst (λ numbers. NamesOnly c.fault_in.result (slice_get numbers c.in-Err.at))
+    c.loop.invariant.texts c.fault_in.ensures.named) c.fault_in.ensures.number)

@@ -1,5 +1,6 @@
 use Rattle.std.proofs.Common.{◌≡◌, ℕ, List, map}
 use Rattle.std.specs.List.{AllZip}
+use Rattle.part_reports.specs.inside.FirstWrong.{IsCounted}
 use Rattle.part_reports.specs.inside.ReportsLeft.{AreUnused, report_at}
 use Rattle.part_reports.specs.inside.Standings.{StandsInText, standing}
 use Rattle.part_reports.specs.inside.Reported.{text_number}
@@ -16,6 +17,9 @@ invariant-loop g l = record {
       → IsMergingBeside texts files (map (standing g.R.Read.remaining) l.sources)
       (map (report_at g.R.Read.remaining) l.lefts)
       (g.W.Write.contents l.fn.out) (g.W.Write.contents l.out);
+  counted : (files : List (List ℕ))
+      → AllZip IsCounted files (map (standing g.R.Read.remaining) l.fn.sources)
+      → AllZip IsCounted files (map (standing g.R.Read.remaining) l.sources);
   same : l.tokens.items ≡ map (λ source. source.token) l.sources;
   texts : map text_number l.sources ≡ map text_number l.fn.sources;
   lefts : map left_number l.lefts ≡ map left_number l.fn.lefts;

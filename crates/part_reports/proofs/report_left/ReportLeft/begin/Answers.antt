@@ -10,6 +10,8 @@ use Rattle.part_reports.specs.inside.Standings.{standing}
 use Rattle.part_reports.specs.inside.SumsLeft.{sums_left}
 use Rattle.part_reports.proofs.ReportsLeft.{not_begun, used_none}
 use Rattle.part_reports.proofs.ReportsLeft.{none_begun}
+use Rattle.part_reports.proofs.FirstBeside.{first_alone}
+use Rattle.part_reports.proofs.LedgersFirst.{some_both}
 use Rattle.part_reports.proofs.report_left.ReportLeft.begin.Goals as goal
 
 pub returns-in_err-report-clause-refused : goal.returns-in_err-report-clause-refused
@@ -24,10 +26,11 @@ returns-in_err-report-clause-refused g c =
 pub returns-clause-begun : goal.returns-clause-begun
 returns-clause-begun g c =
     let remaining = g.R.Read.remaining in
-    IfSome_then (remaining c.args.from) c.in_ok-report.ensures.read (λ file part.
+    IfSome_then (remaining c.args.from) (some_both (remaining c.args.from) _ _
+    c.in_ok-report.ensures.read c.in_ok-report.ensures.first) (λ file both.
     used_none file c.no_sums-sums.result c.read_part.new.sums
     (standing remaining c.in_ok-report.report) c.new-2.result (sums_left c.of.result)
-    c.no_sums-sums.ensures part (ap sums_left c.of.ensures ∙ c.new.ensures)
+    c.no_sums-sums.ensures both.0 both.1 (ap sums_left c.of.ensures ∙ c.new.ensures)
     (λ q. ap (λ entries. option_map sums_of (lookup (is_at (nat_cmp q)) entries))
     c.new-2.ensures.empty))
 
@@ -44,3 +47,10 @@ pub returns-in_err-report-clause-reported : goal.returns-in_err-report-clause-re
 returns-in_err-report-clause-reported g c =
     let p = err_from_is_err_and c.from_residual.result c.from_residual.ensures.1 in
     rw (p.1, p.2) c.in_err-report.ensures.reported
+
+-- ---- which line is wrong
+pub returns-in_err-report-clause-first : goal.returns-in_err-report-clause-first
+returns-in_err-report-clause-first g c =
+    let p = err_from_is_err_and c.from_residual.result c.from_residual.ensures.1 in
+    rw (p.1, p.2) (IfSome_then (g.R.Read.remaining c.args.from) c.in_err-report.ensures.first
+    (λ file wrong. first_alone c.no_sums-sums.result file _ c.no_sums-sums.ensures wrong))

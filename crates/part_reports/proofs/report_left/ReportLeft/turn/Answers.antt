@@ -8,7 +8,9 @@ use Rattle.part_reports.specs.inside.Standings.{MayFollowToken}
 use Rattle.part_reports.specs.inside.SumsLeft.{sums_left}
 use Rattle.part_reports.specs.inside.ReportsLeft.{IsNoRest, report_at}
 use Rattle.part_reports.specs.inside.WrongBeside.{HasNoReport, IsOfEither, left_number}
+use Rattle.part_reports.specs.declared.fault.Wrong.TheVariants.{Form, LessThanReport, OtherToken}
 use Rattle.part_reports.proofs.BesideWrong.{none_by_turn, of_first, of_second}
+use Rattle.part_reports.proofs.FirstBeside.{first_line, next_line, second_line}
 use Rattle.part_reports.proofs.report_left.ReportLeft.turn.Goals as goal
 
 pub returns-then-not-is_nothing-clause-refused : goal.returns-then-not-is_nothing-clause-refused
@@ -109,3 +111,42 @@ returns-in_err-advance-clause-reported g c =
     c.in_err-advance.ensures.reported
     (λ of_texts. none_by_turn left c.args.token there
     (inr (c.in_err-advance.ensures.refused of_texts)))))
+
+-- ---- which line is wrong, and why
+pub returns-then-not-is_nothing-clause-first : goal.returns-then-not-is_nothing-clause-first
+returns-then-not-is_nothing-clause-first g c =
+    let some : ¬ (sums_left c.args.self.now.rest ≡ sums []) = search rules in
+    first_line c.args.ledger.now.text (left_number c.args.self.now) c.args.ledger.now.lines _ _
+    LessThanReport c.fault.result c.fault.ensures.line (refl, (c.requires.other, some))
+
+pub returns-then-not-is_token-clause-first : goal.returns-then-not-is_token-clause-first
+returns-then-not-is_token-clause-first g c =
+    let none : sums_left c.args.self.now.rest ≡ sums [] = search rules in
+    let elsewhere : c.args.self.now.report.token ≢ Some c.args.token = search rules in
+    first_line c.args.ledger.now.text (left_number c.args.self.now) c.args.ledger.now.lines _ _
+    OtherToken c.fault-then-not-is_token.result c.fault-then-not-is_token.ensures.line
+    (refl, (c.requires.other, none, elsewhere))
+
+pub returns-in_err-sum-clause-first : goal.returns-in_err-sum-clause-first
+returns-in_err-sum-clause-first g c =
+    let p = err_from_is_err_and c.from_residual.result
+    c.from_residual.ensures.1 in
+    let there : c.args.self.now.report.token ≡ Some c.args.token = search rules in
+    let none = MatchOption-at_none _ _ c.in_err-sum.ensures.none c.token_sum_of.ensures in
+    rw (p.1, p.2) (second_line c.args.ledger.now.text (left_number c.args.self.now)
+    c.args.self.now.report.reader.lines _ _ Form c.in_err-sum.field-0.0 c.in_err-sum.ensures.line (
+      c.args.token,
+      there,
+      inl (λ before line. none (line.name, before) line.is (c.line.ensures ∙ line.shown)),
+    ))
+
+pub returns-in_err-advance-clause-first : goal.returns-in_err-advance-clause-first
+returns-in_err-advance-clause-first g c =
+    let p = err_from_is_err_and c.from_residual-in_err-advance.result
+    c.from_residual-in_err-advance.ensures.1 in
+    let there : c.args.self.now.report.token ≡ Some c.args.token = search rules in
+    let left = report_at g.R.Read.remaining c.args.self.now in
+    rw (p.1, p.2) (next_line c.args.ledger.now.text (left_number c.args.self.now)
+    c.advance.new.self.reader.text c.advance.new.self.reader.lines _ left c.args.token
+    c.in_err-advance.field-0.0 there c.in_err-advance.ensures.reported c.advance.ensures.text
+    c.in_err-advance.ensures.next)
