@@ -1,12 +1,15 @@
 //! A fare table's text as it was understood, or why it is none.
 
-ghost use Rattle.std.specs.Prelude.{◌≡◌, ◌≢◌, true, false, IfErr, IfOk, IsUtf8, Ok, OnOk};
+ghost use Rattle.std.specs.Prelude.{◌≡◌, ◌≢◌, ◌↔◌, true, false, IfErr, IfOk, IsUtf8, Ok, OnOk};
+ghost use Rattle.std.specs.Prelude.{option_map};
 ghost use Rattle.std.specs.Io.KnownBytes.{Appends};
-ghost use Rattle.fare_table.specs.Meaning.{Means};
 ghost use Rattle.fare_table.specs.TableMeaning.{TableMeaning, meaning_in};
+ghost use Rattle.table_report.specs.ReadTable.{IsReadFrom, IsRightRefusal};
 ghost use Rattle.table_report.specs.SqlText.{has_names_in_line, sql_text};
+ghost use Rattle.table_report.specs.Warned.{warned_count};
 ghost use Rattle.table_report.specs.declared.report.Refusal.{Refusal};
 ghost use Rattle.table_report.specs.declared.sql.ReportFault.{ReportFault};
+ghost use Rattle.table_report.specs.inside.Refusals.{IsNoToml, IsOfFault};
 
 use crate::lines::lines_of;
 use crate::places::Places;
@@ -84,26 +87,35 @@ pub struct TableText<'t> {
 }
 
 impl<'t> Model for TableText<'t> {
-    ghost use Rattle.fare_table.specs.Fares.{Fares};
+    ghost use Rattle.std.specs.Prelude.{◌≡◌, Some};
+    ghost use Rattle.toml.specs.Parse.{parse_document};
+    ghost use Rattle.toml.specs.View.{table_view};
+    ghost use Rattle.table_report.specs.ReadTable.{ReadTable};
 
-    ghost Value = { Fares };
+    ghost Value = { ReadTable };
 
-    ghost view = { λ t. t.fares };
+    ghost view = { λ t. record { text = t.text.now; fares = t.fares } };
+
+    ghost invariant = { λ t. parse_document t.text.now ≡ Some (table_view t.tree) };
 }
 
 impl<'t> TableText<'t> {
-    ghost use Rattle.std.specs.Prelude.{◌≡◌, ◌≢◌, true, false, IfErr, IfOk, IsUtf8, Ok, OnOk};
+    ghost use Rattle.std.specs.Prelude.{◌≡◌, ◌≢◌, ◌↔◌, true, false, IfErr, IfOk, IsUtf8, Ok, OnOk};
+    ghost use Rattle.std.specs.Prelude.{option_map};
     ghost use Rattle.std.specs.Io.KnownBytes.{Appends};
-    ghost use Rattle.fare_table.specs.Meaning.{Means};
     ghost use Rattle.fare_table.specs.TableMeaning.{TableMeaning, meaning_in};
+    ghost use Rattle.table_report.specs.ReadTable.{IsReadFrom, IsRightRefusal};
     ghost use Rattle.table_report.specs.SqlText.{has_names_in_line, sql_text};
+    ghost use Rattle.table_report.specs.Warned.{warned_count};
 
     /// Reads the bytes of a file of this name, as lines show it. A text is refused only if it means
     /// no fare table, or for want of memory.
     pub fn read(alloc: Global, name: &str, bytes: &'t [u8]) -> Result<TableText<'t>, Refusal>
-        ensures means { IfOk result (λ t. IsUtf8 bytes.now × Means bytes.now t) }
+        ensures means { IfOk result (IsReadFrom bytes.now) }
         ensures refused { IfErr result (λ e. e ≢ Refusal.NoMemory → IsUtf8 bytes.now
             → (meaning : TableMeaning) → ¬ (meaning_in bytes.now ≡ Ok meaning)) }
+        // The reason is the right one.
+        ensures reason { IfErr result (IsRightRefusal bytes.now) }
     {
         let Ok(text) = str::from_utf8(bytes) else {
             return Err(Refusal::NotUtf8);
@@ -126,7 +138,7 @@ impl<'t> TableText<'t> {
 
     /// What it means.
     pub fn fares(&self, alloc: Global) -> Result<FareTable, NoMemory>
-        ensures { IfOk result (λ fares. fares ≡ self.now) }
+        ensures { IfOk result (λ fares. fares ≡ self.now.fares) }
     {
         self.fares.try_clone(alloc)
     }
@@ -141,10 +153,13 @@ impl<'t> TableText<'t> {
         out: &mut W,
     ) -> Result<Warnings, ReportFault>
         ensures sql { OnOk result (wanted.now.is_sql ≡ true
-            → Appends (W.contents out.old) (W.contents out.new) (sql_text self.now)) }
+            → Appends (W.contents out.old) (W.contents out.new) (sql_text self.now.fares)) }
         ensures kept { IfErr result (λ fault. fault ≢ ReportFault.Write → out.new ≡ out.old) }
         ensures named { IfErr result (λ fault. fault ≡ ReportFault.Name
-            → (wanted.now.is_sql ≡ true) × (has_names_in_line self.now ≡ false)) }
+            → (wanted.now.is_sql ≡ true) × (has_names_in_line self.now.fares ≡ false)) }
+        // There is no warning exactly if the rules ignore nothing.
+        ensures warned { IfOk result (λ warnings. (warnings.count ≡ 0)
+            ↔ (warned_count self.now (option_map (λ s. s.now) seen.entry) ≡ 0)) }
     {
         let read = ReadText {
             name: wanted.name,
@@ -166,7 +181,9 @@ impl<'t> TableText<'t> {
 }
 
 /// Why the text is no TOML, with the line and the column.
-fn not_toml(alloc: Global, text: &str, error: TomlError) -> Result<Refusal, AllocError> {
+fn not_toml(alloc: Global, text: &str, error: TomlError) -> Result<Refusal, AllocError>
+    ensures { IfOk result IsNoToml }
+{
     let start = match error.span() {
         Some(span) => span.start,
         None => 0,
@@ -183,7 +200,9 @@ fn refusal_of(
     text: &str,
     tree: &Table,
     fault: TableFault,
-) -> Result<Refusal, AllocError> {
+) -> Result<Refusal, AllocError>
+    ensures { IfOk result (IsOfFault fault) }
+{
     let lines = wrong_lines(alloc, name, text, tree)?;
     if lines.is_empty() {
         return Ok(Refusal::Fault(fault));

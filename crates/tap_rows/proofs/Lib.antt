@@ -1,3 +1,4 @@
+pub mod AgencyBegunLemmas
 mod AgencyLemmas
 mod AgencyMomentLemmas
 mod AgencyRowLemmas
@@ -8,6 +9,7 @@ mod GoingLemmas
 pub mod MomentLemmas
 mod OneDeviceTable
 mod OneReading
+mod OneSummary
 mod RowLemmas
 mod TableLemmas
 pub mod UtcLemmas

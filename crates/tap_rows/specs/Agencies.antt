@@ -1,15 +1,17 @@
 -- An agency's CSV as a whole: what its rows are read as, the upload of their taps, the rows that
 -- are refused, and their summary.
-use Rattle.std.specs.Prelude.{◌≡◌, ℕ, ◌+◌, List, [], ◌∷◌, ◌++◌, Option, Some, None, length, map}
-use Rattle.std.specs.Prelude.{codes, slice_get, IsSomeAnd, flat_map}
+use Rattle.std.specs.Prelude.{◌≡◌, ◌⊎◌, ℕ, ◌+◌, List, [], ◌∷◌, ◌++◌, Option, Some, None, length}
+use Rattle.std.specs.Prelude.{codes, slice_get, IsSomeAnd, flat_map, map}
 use Rattle.std.specs.Fmt.{decimal}
-use Rattle.std.specs.Io.KnownBytes.{Appends}
+use Rattle.std.specs.Io.KnownBytes.{Appends, Keeps}
 use Rattle.std.specs.List.{AllZip, sum_by}
+use Rattle.fare_texts.specs.WrittenOut.{Begins}
 use Rattle.tap_views.specs.declared.encoder.TapFields.{TapFields}
 use Rattle.tap_views.specs.Facts.{IsSpan}
 use Rattle.tap_views.specs.Files.{IsFileOf}
 use Rattle.tap_rows.specs.AgencyRows.{IsColumn, IsReadingOf}
-use Rattle.tap_rows.specs.AgencyTexts.{HasRecords, first_record, record_text, separator_byte}
+use Rattle.tap_rows.specs.AgencyTexts.{BeginsWith, HasRecords, first_record, record_text}
+use Rattle.tap_rows.specs.AgencyTexts.{separator_byte}
 use Rattle.tap_rows.specs.declared.agency.choice.Choice.{Choice}
 use Rattle.tap_rows.specs.declared.agency.choice.Separator.{Separator}
 use Rattle.tap_rows.specs.declared.agency.fault.AgencyFault.{AgencyFault}
@@ -142,6 +144,31 @@ pub record IsRowsEncoded (choice : Choice) (text : List ℕ)
       (refusals_text choice.separator head (refusals rows readings))
   pub summary_is : IsSummary rows readings summary
 
+-- what was written behind the old bytes is a beginning of an upload with no fault, of the first of
+-- these taps
+pub record AreBegun (taps : List TapFields) (old new : Option (List ℕ)) : Type 0 where
+  pub done : List TapFields
+  pub later : List TapFields
+  pub all : taps ≡ done ++ later
+  pub file : List ℕ
+  pub upload : IsFileOf file done
+  pub begun : Begins old new file
+
+-- the text begins with a head and these rows, and a beginning of an upload was written, of the
+-- first taps of the rows that are kept
+pub record BeginsUpload (choice : Choice) (text : List ℕ) (old new : Option (List ℕ))
+    : Type 0 where
+  pub head : List (List ℕ)
+  pub rows : List (List (List ℕ))
+  pub readings : List Reading
+  pub records : BeginsWith choice.separator text (head ∷ rows)
+  pub each : AllZip (IsReadingOf choice head) rows readings
+  pub begun : AreBegun (taps_in readings) old new
+
+-- behind the old bytes nothing was written, or a beginning of an upload of the text's first taps
+abbrev pub IsUploadBegun : Choice → List ℕ → Option (List ℕ) → Option (List ℕ) → Type 0
+IsUploadBegun choice text old new = Keeps old new ⊎ BeginsUpload choice text old new
+
 -- the row of this number is the first that is refused, for this reason
 pub record IsFirstRefused (choice : Choice) (text : List ℕ) (number : ℕ) (reason : Reason)
     : Type 0 where
@@ -172,3 +199,13 @@ IsOfRows fault.Unread = ⊥
 IsOfRows fault.Write = ⊥
 IsOfRows fault.RefusedWrite = ⊥
 IsOfRows fault.NoMemory = ⊥
+
+-- the fault may end an encoding that reads the text once and goes on after a refused row
+abbrev pub MayEndOnce : AgencyFault → Type 0
+MayEndOnce (fault.Column wanted) = Unit {0}
+MayEndOnce (fault.Row number reason) = ⊥
+MayEndOnce fault.Changed = ⊥
+MayEndOnce fault.Unread = Unit {0}
+MayEndOnce fault.Write = Unit {0}
+MayEndOnce fault.RefusedWrite = Unit {0}
+MayEndOnce fault.NoMemory = Unit {0}

@@ -2,9 +2,10 @@
 -- mark before the first is none of them.
 use Rattle.std.specs.Prelude.{ℕ, List, [], Option, Some, None}
 use Rattle.csv.specs.Machine.{Read, next_record}
-use Rattle.csv.specs.Reading.{AreRecords, default_config, strip_bom}
+use Rattle.csv.specs.Reading.{AreRecords, Reached, default_config, strip_bom}
 use Rattle.csv.specs.Writing.{default_writer, row_text}
 use Rattle.csv.specs.declared.parser.Config.{Config}
+use Rattle.csv.specs.declared.parser.State.{State}
 use Rattle.csv.specs.declared.parser.State.TheVariants.{StartRecord}
 use Rattle.tap_rows.specs.declared.agency.choice.Separator.{Separator}
 use Rattle.tap_rows.specs.declared.agency.choice.Separator.TheVariants.{Comma, Semicolon, Tab}
@@ -23,6 +24,13 @@ config_of separator = record default_config { delimiter = separator_byte separat
 abbrev pub HasRecords : Separator → List ℕ → List (List (List ℕ)) → Type 0
 HasRecords separator text rows =
     AreRecords (config_of separator) StartRecord (strip_bom text) rows
+
+-- the text begins with these records
+pub record BeginsWith (separator : Separator) (text : List ℕ) (rows : List (List (List ℕ)))
+    : Type 0 where
+  pub state : State
+  pub left : List ℕ
+  pub reached : Reached (config_of separator) StartRecord (strip_bom text) rows state left
 
 -- the fields of a record that was read, and none if there was no record
 abbrev pub fields_read : Option Read → List (List ℕ)

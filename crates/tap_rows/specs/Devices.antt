@@ -4,10 +4,7 @@ use Rattle.std.specs.Prelude.{codes}
 use Rattle.std.specs.List.{AllZip, IsDistinct}
 use Rattle.std.specs.Map.{keys_of, lookup}
 use Rattle.std.specs.Str.{bytes_eq}
-use Rattle.csv.specs.Reading.{Reached, strip_bom}
-use Rattle.csv.specs.declared.parser.State.{State}
-use Rattle.csv.specs.declared.parser.State.TheVariants.{StartRecord}
-use Rattle.tap_rows.specs.AgencyTexts.{HasRecords, config_of, first_record}
+use Rattle.tap_rows.specs.AgencyTexts.{BeginsWith, HasRecords, first_record}
 use Rattle.tap_rows.specs.Rows.{IsNoValidator, IsValidator}
 use Rattle.tap_rows.specs.declared.agency.choice.Separator.{Separator}
 use Rattle.tap_rows.specs.declared.agency.choice.Separator.TheVariants.{Comma}
@@ -65,13 +62,6 @@ pub record AreDevices (separator : Separator) (text : List ℕ) (devices : List 
   pub its : Separator
   pub is_its : IsItsSeparator separator text its
   pub are : AreDevicesBy its text devices
-
--- the text begins with these records
-pub record BeginsWith (separator : Separator) (text : List ℕ) (rows : List (List (List ℕ)))
-    : Type 0 where
-  pub state : State
-  pub left : List ℕ
-  pub reached : Reached (config_of separator) StartRecord (strip_bom text) rows state left
 
 -- what is wrong with a row behind those of these devices
 abbrev pub IsWrongDevice : List Device → List (List ℕ) → WrongDevice → Type 0

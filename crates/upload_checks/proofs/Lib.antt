@@ -1,5 +1,8 @@
+mod AddedTokens
+mod CommonLemmas
 mod DayLemmas
 mod KeptLemmas
+mod KeptTokens
 mod LastLemmas
 mod ListLemmas
 mod NearLemmas

@@ -1,3 +1,4 @@
+pub mod CommonTokens
 pub mod Findings
 pub mod NearDoubles
 pub mod Outside

@@ -28,8 +28,8 @@ impl Separator {
 /// What a row's field must be, so that the row is kept.
 #[derive(Clone, Copy, Debug)]
 pub struct Condition<'a> {
-    pub column: &'a [u8],
-    pub value: &'a [u8],
+    pub column: &'a str,
+    pub value: &'a str,
 }
 
 /// How an agency's CSV is read.

@@ -73,7 +73,7 @@ fn places_of_conditions(
     let mut places = Vec::with_capacity(alloc, only.len())?;
     for index in 0..only.len() {
         let condition = &only[index];
-        let place = wanted_place(head, condition.column, Wanted::Only(index))?;
+        let place = wanted_place(head, condition.column.as_bytes(), Wanted::Only(index))?;
         places.push(place)?;
     }
     Ok(places)

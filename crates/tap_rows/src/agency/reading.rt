@@ -68,7 +68,7 @@ fn is_kept(only: &[Condition<'_>], places: &[usize], row: &ByteRecord) -> bool
 {
     for index in 0..only.len().min(places.len()) {
         let condition = &only[index];
-        if !has_at(row, places[index], condition.value) {
+        if !has_at(row, places[index], condition.value.as_bytes()) {
             return false;
         }
     }

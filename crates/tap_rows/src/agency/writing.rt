@@ -1,12 +1,13 @@
 //! The rows of an agency's CSV, written as an upload.
 
 ghost use Rattle.std.specs.Prelude.{◌≡◌, ◌<◌, ◌++◌, ℕ, List, None, Option, All, IfErr, IfOk};
-ghost use Rattle.std.specs.Prelude.{IfSome, OnOk};
+ghost use Rattle.std.specs.Prelude.{IfSome, IsErrOf, IsSome, OnErr, OnOk, true};
 ghost use Rattle.std.specs.Prelude.{flat_map};
 ghost use Rattle.std.specs.Io.KnownBytes.{Appends};
 ghost use Rattle.csv.specs.Records.{fields_of};
-ghost use Rattle.tap_rows.specs.Agencies.{IsAgencyFault, IsOfRows, IsRowsEncoded, refusal_of};
-ghost use Rattle.tap_rows.specs.Agencies.{refusal_text, tap_of};
+ghost use Rattle.tap_rows.specs.Agencies.{AreBegun, IsAgencyFault, IsOfRows, IsRowsEncoded};
+ghost use Rattle.tap_rows.specs.Agencies.{IsUploadBegun, MayEndOnce, refusal_of, refusal_text};
+ghost use Rattle.tap_rows.specs.Agencies.{tap_of};
 ghost use Rattle.tap_rows.specs.inside.Goings.{IsOfSystem};
 ghost use Rattle.tap_rows.specs.inside.WaitingTaps.{AreWritten};
 ghost use Rattle.tap_views.specs.Encoding.{AreEncodable};
@@ -47,6 +48,9 @@ fn put_row<W: Write, X: Write>(
         → Appends old (X.contents refused.old) text
         → Appends old (X.contents refused.new) (text ++ flat_map (refusal_text separator)
         (refusal_of number (fields_of row.now) reading.now))) }
+    ensures begun { OnErr result ((old : Option (List ℕ)) (taps : List TapFields)
+        → AreWritten old (W.contents out.old) waiting.old.items taps
+        → AreBegun taps old (W.contents out.new)) }
     ensures fault { IfErr result IsOfSystem }
 {
     match reading {
@@ -60,7 +64,7 @@ fn put_row<W: Write, X: Write>(
 
 /// Writes the upload of the rows that a choice keeps, `TAP1` batches of 4,096 taps, the last of
 /// fewer, and the rows that are no taps to `refused`. If the head lacks a column of the choice,
-/// nothing is written.
+/// nothing is written. After another error a beginning of an upload of the first taps is written.
 pub fn encode_some_rows<R: Read + Drop, W: Write, X: Write>(
     alloc: Global,
     choice: &Choice<'_>,
@@ -75,6 +79,9 @@ pub fn encode_some_rows<R: Read + Drop, W: Write, X: Write>(
         (λ fault. IfSome (R.remaining text) (λ bytes. IsAgencyFault choice.now bytes fault)) }
     ensures nothing { IfErr result
         (λ fault. IsOfRows fault → (out.new ≡ out.old) × (refused.new ≡ refused.old)) }
+    ensures begun { OnErr result (IfSome (R.remaining text)
+        (λ bytes. IsUploadBegun choice.now bytes (W.contents out.old) (W.contents out.new))) }
+    ensures once { IfErr result MayEndOnce }
 {
     let mut reader = records_of(alloc, choice.separator, text);
     let mut row = ByteRecord::new(alloc);
@@ -109,6 +116,13 @@ pub fn encode_some_rows<R: Read + Drop, W: Write, X: Write>(
     Err(AgencyFault::Unread)
 }
 
+fn is_same(summary: &Summary, found: &Summary) -> bool
+    ensures same { result ≡ true → summary.now ≡ found.now }
+    ensures yes { summary.now ≡ found.now → result ≡ true }
+{
+    *summary == *found
+}
+
 /// The fault of a text that had none when it was read first: then its rows have changed.
 fn when_read_again(fault: AgencyFault) -> AgencyFault
     ensures changed { IsOfRows fault → result ≡ AgencyFault.Changed }
@@ -122,7 +136,8 @@ fn when_read_again(fault: AgencyFault) -> AgencyFault
 }
 
 /// Writes the upload of the rows that a choice keeps, if each of them is a tap. The text is read
-/// twice, from two readers of it, so that nothing is written if a row is refused.
+/// twice, from two readers of it, so that nothing is written if a row is refused. After another
+/// error a beginning of an upload of the first taps is written.
 pub fn encode_rows<R: Read + Drop, S: Read + Drop, W: Write>(
     alloc: Global,
     choice: &Choice<'_>,
@@ -137,13 +152,17 @@ pub fn encode_rows<R: Read + Drop, S: Read + Drop, W: Write>(
     ensures refused { IfErr result (λ fault. IsOfRows fault
         → IfSome (R.remaining text) (λ bytes. IsAgencyFault choice.now bytes fault)) }
     ensures nothing { IfErr result (λ fault. IsOfRows fault → out.new ≡ out.old) }
+    ensures begun { OnErr result (IfSome (S.remaining again)
+        (λ bytes. IsUploadBegun choice.now bytes (W.contents out.old) (W.contents out.new))) }
+    ensures same { IsErrOf result AgencyFault.Changed → IsSome (R.remaining text)
+        → R.remaining text ≡ S.remaining again → ⊥ }
 {
     let found = encode_some_rows(alloc, choice, text, &mut sink(), &mut sink())?;
     if let Some((number, reason)) = found.first_refused {
         return Err(AgencyFault::Row { number, reason });
     }
     match encode_some_rows(alloc, choice, again, out, &mut sink()) {
-        Ok(summary) => if summary == found {
+        Ok(summary) => if is_same(&summary, &found) {
             Ok(summary)
         } else {
             Err(AgencyFault::Changed)

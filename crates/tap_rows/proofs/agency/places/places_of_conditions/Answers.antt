@@ -1,5 +1,6 @@
-use Rattle.std.proofs.Common.{arith}
+use Rattle.std.proofs.Common.{arith, subst, ℕ, List}
 use Rattle.csv.specs.Records.{fields_of}
+use Rattle.tap_rows.specs.AgencyRows.{IsColumn}
 use Rattle.tap_rows.proofs.AgencyRowLemmas.{places_more}
 use Rattle.tap_rows.proofs.agency.places.places_of_conditions.Goals as goal
 
@@ -8,4 +9,6 @@ loop-index-preserved c =
     places_more (fields_of c.args.head.now) c.args.choice.now.only.now c.loop-index.places.items
     c.push.new.self.items c.loop-index.index _ c.in_ok-place.place c.loop-index.invariant
     (omega arith)
-    c.in_ok-push.ensures.items c.in_ok-place.ensures.place
+    c.in_ok-push.ensures.items
+    (subst (λ (name : List ℕ). IsColumn (fields_of c.args.head.now) name c.in_ok-place.place)
+    c.as_bytes.ensures.value c.in_ok-place.ensures.place)

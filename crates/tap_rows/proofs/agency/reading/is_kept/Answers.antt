@@ -1,4 +1,4 @@
-use Rattle.std.proofs.Common.{◌<◌, length, arith, refl}
+use Rattle.std.proofs.Common.{◌∙◌, ◌<◌, ℕ, List, Some, ap, length, arith, refl, sym}
 use Rattle.std.proofs.lemmas.Slice.Zip.{AllZip-long}
 use Rattle.csv.specs.Records.{fields_of}
 use Rattle.tap_rows.specs.inside.Places.{IsPlaceOf}
@@ -15,7 +15,9 @@ returns-then-not-has_at c = λ head all.
       λ kept. absurd
           (unmet_there head (fields_of c.args.row.now) c.args.only.now c.args.places.now
           c.loop-index.index _ 0 all within
-          (λ e. let yes = c.has_at.ensures.1 e in absurd (cc (yes, no))) kept),
+          (λ e. let yes = c.has_at.ensures.1
+          (e ∙ ap (λ (v : List ℕ). Some v) (sym c.as_bytes.ensures.value)) in
+          absurd (cc (yes, no))) kept),
     )
 
 pub loop-index-preserved : goal.loop-index-preserved
@@ -24,7 +26,9 @@ loop-index-preserved c = λ head all.
     let end = c.min-index-end.ensures in
     let within : c.loop-index.index < length c.args.only.now = grind (arith, test, end) in
     met_more head (fields_of c.args.row.now) c.args.only.now c.args.places.now c.loop-index.index _
-    0 all within (c.has_at.ensures.0 c.if-not-has_at.false) (c.loop-index.invariant head all)
+    0 all within
+    (c.has_at.ensures.0 c.if-not-has_at.false
+    ∙ ap (λ (v : List ℕ). Some v) c.as_bytes.ensures.value) (c.loop-index.invariant head all)
 
 pub returns : goal.returns
 returns c = λ head all.

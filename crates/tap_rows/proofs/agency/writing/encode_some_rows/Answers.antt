@@ -4,6 +4,7 @@ use Rattle.csv.specs.Records.{fields_of}
 use Rattle.tap_rows.specs.Agencies.{IsAgencyFault}
 use Rattle.tap_rows.specs.declared.agency.fault.AgencyFault.TheVariants as fault
 use Rattle.tap_rows.specs.declared.agency.fault.Wanted.TheVariants as wanted
+use Rattle.tap_rows.proofs.AgencyBegunLemmas.{going_begun, going_kept}
 use Rattle.tap_rows.proofs.GoingLemmas.{going_end, going_first, going_more, head_fault, head_is}
 use Rattle.tap_rows.proofs.GoingLemmas.{if_known, no_head}
 use Rattle.tap_rows.proofs.agency.writing.encode_some_rows.Goals as goal
@@ -76,3 +77,45 @@ loop-count-preserved g c =
     (λ taps is. c.in_ok-put_row.ensures.taps (g.W.Write.contents c.args.out.now) taps is)
     (λ bytes is. c.in_ok-put_row.ensures.refused (g.X.Write.contents c.args.refused.now) bytes is)
     (λ rows readings place long is. c.with_row-summary.ensures rows row readings place long is)
+
+pub returns-in_err-has_row-clause-begun : goal.returns-in_err-has_row-clause-begun
+returns-in_err-has_row-clause-begun g c =
+    let p = err_from_is_err_and c.from_residual-in_err-has_row.result
+    c.from_residual-in_err-has_row.ensures.1 in
+    rw p.1 (going_kept g.R.Read.remaining c.args.choice.now c.in_ok-places.places (g.R.Read.remaining c.args.text)
+    c.loop-count.count c.loop-count.reader c.loop-count.waiting.items c.loop-count.summary
+    (g.W.Write.contents c.args.out.now) (g.W.Write.contents c.loop-count.out)
+    (g.X.Write.contents c.args.refused.now) (g.X.Write.contents c.loop-count.refused)
+    c.loop-count.invariant)
+
+pub returns-in_err-write_waiting-clause-begun : goal.returns-in_err-write_waiting-clause-begun
+returns-in_err-write_waiting-clause-begun g c =
+    let p = err_from_is_err_and c.from_residual-in_err-write_waiting.result
+    c.from_residual-in_err-write_waiting.ensures.1 in
+    rw p.1 (going_begun g.R.Read.remaining c.args.choice.now c.in_ok-places.places (g.R.Read.remaining c.args.text)
+    c.loop-count.count c.loop-count.reader c.loop-count.waiting.items c.loop-count.summary
+    (g.W.Write.contents c.args.out.now) (g.W.Write.contents c.loop-count.out)
+    (g.W.Write.contents c.write_waiting.new.out)
+    (g.X.Write.contents c.args.refused.now) (g.X.Write.contents c.loop-count.refused)
+    c.loop-count.invariant
+    (λ taps is. c.in_err-write_waiting.ensures.begun (g.W.Write.contents c.args.out.now) taps is))
+
+pub returns-in_err-put_row-clause-begun : goal.returns-in_err-put_row-clause-begun
+returns-in_err-put_row-clause-begun g c =
+    let p = err_from_is_err_and c.from_residual-in_err-put_row.result
+    c.from_residual-in_err-put_row.ensures.1 in
+    rw p.1 (going_begun g.R.Read.remaining c.args.choice.now c.in_ok-places.places (g.R.Read.remaining c.args.text)
+    c.loop-count.count c.loop-count.reader c.loop-count.waiting.items c.loop-count.summary
+    (g.W.Write.contents c.args.out.now) (g.W.Write.contents c.loop-count.out)
+    (g.W.Write.contents c.put_row.new.out)
+    (g.X.Write.contents c.args.refused.now) (g.X.Write.contents c.loop-count.refused)
+    c.loop-count.invariant
+    (λ taps is. c.in_err-put_row.ensures.begun (g.W.Write.contents c.args.out.now) taps is))
+
+pub returns-clause-begun : goal.returns-clause-begun
+returns-clause-begun g c =
+    going_kept g.R.Read.remaining c.args.choice.now c.in_ok-places.places (g.R.Read.remaining c.args.text)
+    c.loop-count.count c.loop-count.reader c.loop-count.waiting.items c.loop-count.summary
+    (g.W.Write.contents c.args.out.now) (g.W.Write.contents c.loop-count.out)
+    (g.X.Write.contents c.args.refused.now) (g.X.Write.contents c.loop-count.refused)
+    c.loop-count.invariant

@@ -1,0 +1,132 @@
+-- What is written of an agency's CSV that is not written whole.
+use Rattle.std.proofs.Common.{◌≡◌, ◌∙◌, ℕ, List, [], ◌∷◌, ◌++◌, append-nil, inl, inr, refl, sym}
+use Rattle.std.proofs.Common.{None, Option, Some}
+use Rattle.std.specs.Prelude.{IfSome}
+use Rattle.std.specs.Io.KnownBytes.{Appends}
+use Rattle.std.proofs.KnownBytes.{Keeps-refl}
+use Rattle.csv.specs.declared.reader.Reader.{Reader}
+use Rattle.fare_texts.proofs.Beginnings.{begins_behind, begins_kept, begins_whole}
+use Rattle.tap_views.specs.declared.encoder.TapFields.{TapFields}
+use Rattle.tap_rows.specs.Agencies.{AreBegun, BeginsUpload, IsRowsEncoded, IsUploadBegun}
+use Rattle.tap_rows.specs.Agencies.{MayEndOnce, taps_in}
+use Rattle.tap_rows.specs.declared.agency.choice.Choice.{Choice}
+use Rattle.tap_rows.specs.declared.agency.fault.AgencyFault.{AgencyFault}
+use Rattle.tap_rows.specs.declared.agency.fault.AgencyFault.TheVariants as fault
+use Rattle.tap_rows.specs.declared.agency.places.Places.{Places}
+use Rattle.tap_rows.specs.declared.agency.summary.Summary.{Summary}
+use Rattle.tap_rows.specs.inside.Goings.{IsGoing, IsOfSystem}
+use Rattle.tap_rows.specs.inside.Places.{IsHeadFault}
+use Rattle.tap_rows.specs.inside.TapTables.{IsBegunAs}
+use Rattle.tap_rows.specs.inside.WaitingTaps.{AreWritten}
+use Rattle.tap_rows.proofs.TableLemmas.{two_files}
+
+-- a beginning of the batch of the taps that wait was written, or nothing of it
+pub begun_waiting : (old here there : Option (List ℕ)) (waiting taps : List TapFields)
+    → AreWritten old here waiting taps → IsBegunAs waiting here there → AreBegun taps old there
+begun_waiting old here there waiting taps is (inl kept) = record {
+  done = is.done;
+  later = waiting;
+  all = is.all;
+  file = is.file;
+  upload = is.upload;
+  begun = begins_kept old here there is.file (begins_whole old here is.file is.written) kept;
+}
+begun_waiting old here there waiting taps is (inr (more, upload, begun)) = record {
+  done = is.done ++ waiting;
+  later = [];
+  all = is.all ∙ sym (append-nil (is.done ++ waiting));
+  file = is.file ++ more;
+  upload = two_files is.file more is.done waiting is.upload upload;
+  begun = begins_behind old here there is.file more is.written begun;
+}
+
+-- the taps that wait are not written
+pub still_waiting : (old here : Option (List ℕ)) (waiting taps : List TapFields)
+    → AreWritten old here waiting taps → AreBegun taps old here
+still_waiting old here waiting taps is =
+    begun_waiting old here here waiting taps is (inl (Keeps-refl here))
+
+-- nothing was written of a text that may be known
+pub none_begun : (choice : Choice) (text out : Option (List ℕ))
+    → IfSome text (λ bytes. IsUploadBegun choice bytes out out)
+none_begun choice None out = tt
+none_begun choice (Some bytes) out = inl (Keeps-refl out)
+
+-- some rows were read, and a beginning of the upload of their taps was written
+pub going_begun : {R : Type 0} (remaining : R → Option (List ℕ)) (choice : Choice)
+    (places : Places) (text : Option (List ℕ)) (count : ℕ) (reader : Reader R)
+    (waiting : List TapFields) (summary : Summary)
+    (old here there old_refused new_refused : Option (List ℕ))
+    → IsGoing remaining choice places text count reader waiting summary old here old_refused
+    new_refused
+    → ((taps : List TapFields) → AreWritten old here waiting taps → AreBegun taps old there)
+    → IfSome text (λ bytes. IsUploadBegun choice bytes old there)
+going_begun remaining choice places None count reader waiting summary old here there old_refused
+    new_refused going begun = tt
+going_begun remaining choice places (Some bytes) count reader waiting summary old here there
+    old_refused new_refused going begun =
+    let come = going.come bytes refl in
+    inr (record {
+      head = going.head;
+      rows = going.rows;
+      readings = going.readings;
+      records = record { state = reader.state; left = come.left; reached = come.reached };
+      each = going.each;
+      begun = begun (taps_in going.readings) going.written;
+    })
+
+-- the same, if nothing more was written
+pub going_kept : {R : Type 0} (remaining : R → Option (List ℕ)) (choice : Choice)
+    (places : Places) (text : Option (List ℕ)) (count : ℕ) (reader : Reader R)
+    (waiting : List TapFields) (summary : Summary)
+    (old here old_refused new_refused : Option (List ℕ))
+    → IsGoing remaining choice places text count reader waiting summary old here old_refused
+    new_refused
+    → IfSome text (λ bytes. IsUploadBegun choice bytes old here)
+going_kept remaining choice places text count reader waiting summary old here old_refused
+    new_refused going =
+    going_begun remaining choice places text count reader waiting summary old here here old_refused
+    new_refused going (λ taps is. still_waiting old here waiting taps is)
+
+-- an upload that was written whole
+pub whole_begun : (choice : Choice) (bytes : List ℕ)
+    (old new old_refused new_refused : Option (List ℕ)) (summary : Summary)
+    → IsRowsEncoded choice bytes old new old_refused new_refused summary
+    → IsUploadBegun choice bytes old new
+whole_begun choice bytes old new old_refused new_refused summary encoded =
+    let records = encoded.is_read.records in
+    inr (record {
+      head = encoded.head;
+      rows = encoded.rows;
+      readings = encoded.readings;
+      records = record { state = records.0; left = records.1; reached = records.2 };
+      each = encoded.is_read.each;
+      begun = record {
+        done = taps_in encoded.readings;
+        later = [];
+        all = sym (append-nil (taps_in encoded.readings));
+        file = encoded.file;
+        upload = encoded.upload;
+        begun = begins_whole old new encoded.file encoded.written;
+      };
+    })
+
+-- ---- which faults end it
+pub system_may_end : (f : AgencyFault) → IsOfSystem f → MayEndOnce f
+system_may_end (fault.Column wanted) is = tt
+system_may_end (fault.Row number reason) is = absurd is
+system_may_end fault.Changed is = absurd is
+system_may_end fault.Unread is = tt
+system_may_end fault.Write is = tt
+system_may_end fault.RefusedWrite is = tt
+system_may_end fault.NoMemory is = tt
+
+pub head_may_end : (choice : Choice) (head : List (List ℕ)) (f : AgencyFault)
+    → IsHeadFault choice head f → MayEndOnce f
+head_may_end choice head (fault.Column wanted) is = tt
+head_may_end choice head (fault.Row number reason) is = absurd is
+head_may_end choice head fault.Changed is = absurd is
+head_may_end choice head fault.Unread is = tt
+head_may_end choice head fault.Write is = tt
+head_may_end choice head fault.RefusedWrite is = tt
+head_may_end choice head fault.NoMemory is = tt
