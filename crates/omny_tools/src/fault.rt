@@ -1,13 +1,10 @@
 //! Why a task is given up.
 
-use fare_table::TableFault;
 use program_manners::{Complaints, LoadFault};
 use std::alloc::{AllocError, AllocFailed};
 use std::fmt;
 use std::io::Write;
-use table_report::ReportFault;
 use tap_views::{LayoutFault, NoMemory};
-use toml::de::Error as TomlError;
 use tool_program::{Fault as Common, Name};
 
 /// Why a task is given up. Its `Display` is the line on the standard error without its line feed.
@@ -15,22 +12,9 @@ use tool_program::{Fault as Common, Name};
 pub(crate) enum Fault<'a> {
     /// Why a subcommand of `tool_program` may be given up, too.
     Common(Common<'a>),
-    /// The text of a fare table is not UTF-8.
-    NotUtf8(Name<'a>),
-    /// The text of a fare table is not TOML, at this line and column, for this reason.
-    NotToml(Name<'a>, usize, usize, TomlError),
-    /// The text is no fare table, and no value was found to be wrong.
-    Table(Name<'a>, TableFault),
-    /// The fare table cannot be written as SQL.
-    Sql(Name<'a>, ReportFault),
 }
 
 impl<'a> Fault<'a> {
-    /// The file could not be read.
-    pub(crate) fn unread(name: Name<'a>) -> Fault<'a> {
-        Fault::Common(Common::Unread(name.0))
-    }
-
     /// A growth of memory was refused.
     pub(crate) fn no_memory() -> Fault<'a> {
         Fault::Common(Common::NoMemory)
@@ -44,11 +28,6 @@ impl<'a> Fault<'a> {
     /// The upload has this layout fault, in the batch at this offset.
     pub(crate) fn layout(name: Name<'a>, offset: u64, fault: LayoutFault) -> Fault<'a> {
         Fault::Common(Common::Layout(name.0, offset, fault))
-    }
-
-    /// A file changed while it was read.
-    pub(crate) fn changed() -> Fault<'a> {
-        Fault::Common(Common::SomeChanged)
     }
 
     /// The file that was to be made is there already.
@@ -95,7 +74,6 @@ impl From<NoMemory> for Fault<'_> {
 pub(crate) fn say<E: Write>(err: &mut Complaints<E>, fault: &Fault<'_>) {
     match fault {
         Fault::Common(fault) => tool_program::say(err, fault),
-        fault => err.report_line(*fault),
     }
 }
 
@@ -103,13 +81,6 @@ impl fmt::Display for Fault<'_> {
     fn fmt<W: fmt::Write>(&self, f: &mut fmt::Formatter<W>) -> fmt::Result {
         match self {
             Fault::Common(fault) => fault.fmt(f),
-            Fault::NotUtf8(name) => write!(f, "fault: {name} is not UTF-8"),
-            Fault::NotToml(name, line, column, error) => {
-                let why = error.message();
-                write!(f, "fault: {name} line {line} column {column}: {why}")
-            }
-            Fault::Table(name, fault) => write!(f, "fault: {name}: {fault}"),
-            Fault::Sql(name, fault) => write!(f, "fault: {name}: {fault}"),
         }
     }
 }

@@ -1,9 +1,15 @@
 //! Files of the system that are made.
 
 use std::alloc::{AllocError, Global};
-use std::io::Write;
+use std::io::{BufWriter, ErrorKind, Write};
 use std::{fs, io, process};
-use tool_program::{MakeFault, Output, Sink};
+use tool_program::{MakeFault, NewFault, Output, Sink};
+
+/// How many bytes of a new file are collected before they are written: its lines are short.
+const NEW_WRITE_BYTES: usize = 65_536;
+
+/// Of a file that is begun under another name none are collected: its texts are long.
+const WRITE_BYTES: usize = 0;
 
 /// Under which other name a file is begun.
 #[derive(Clone, Copy, Debug, PartialEq, Eq)]
@@ -16,7 +22,7 @@ pub(crate) enum BegunName {
 }
 
 /// Files of the system that are made under another name, so that a file of its own name is whole.
-/// It does not keep what it made.
+/// New files have their own names. It does not keep what it made.
 #[derive(Drop)]
 pub(crate) struct FilesMade<'r> {
     /// The runtime that makes them.
@@ -57,7 +63,7 @@ pub(crate) struct BegunFile {
     /// The name under which it was begun.
     begun: String,
     /// What is written.
-    file: fs::File,
+    file: BufWriter<fs::File>,
 }
 
 impl Write for BegunFile {
@@ -68,6 +74,16 @@ impl Write for BegunFile {
     fn flush(&mut self) -> io::Result<()> {
         self.file.flush()
     }
+}
+
+/// Lets all that was written go out, to the device, and gives the file its name.
+fn finish_begun(rt: &HostRuntime, name: &str, file: &mut BegunFile) -> io::Result<()> {
+    file.file.flush()?;
+    file.file.get_ref().sync_all()?;
+    if file.begun.as_str() == name {
+        return Ok(());
+    }
+    fs::rename(rt, file.begun.as_str(), name)
 }
 
 /// Removes what was written.
@@ -87,9 +103,32 @@ impl Sink for FilesMade<'_> {
             return Err(MakeFault::Unmade);
         }
         let begun = self.begun_name(alloc, name)?;
-        match fs::File::create(self.rt, begun.as_str()) {
+        let Ok(file) = fs::File::create(self.rt, begun.as_str()) else {
+            return Err(MakeFault::Unmade);
+        };
+        match BufWriter::with_capacity(alloc, WRITE_BYTES, file) {
             Ok(file) => Ok(Output::new(BegunFile { begun, file })),
-            Err(_) => Err(MakeFault::Unmade),
+            Err(_) => Err(MakeFault::NoMemory),
+        }
+    }
+
+    fn begin_new(&mut self, alloc: Global, name: &str) -> Result<Output<BegunFile>, NewFault> {
+        let Ok(begun) = String::from_str(alloc, name) else {
+            return Err(NewFault::NoMemory);
+        };
+        let file = match fs::File::create_new(self.rt, name) {
+            Ok(file) => file,
+            Err(error) if error.kind() == ErrorKind::AlreadyExists => {
+                return Err(NewFault::Exists);
+            }
+            Err(_) => return Err(NewFault::Unmade),
+        };
+        match BufWriter::with_capacity(alloc, NEW_WRITE_BYTES, file) {
+            Ok(file) => Ok(Output::new(BegunFile { begun, file })),
+            Err(_) => {
+                let _ = fs::remove_file(self.rt, name);
+                Err(NewFault::NoMemory)
+            }
         }
     }
 
@@ -99,12 +138,8 @@ impl Sink for FilesMade<'_> {
         ensures kept { IfErr result (λ _. (λ (kept : Option (List Made)). kept ≡ kept) None) }
         ensures failed { IfErr result (λ fault. fault ≡ Unmade → IsNotMade None name.now) }
     {
-        let file = file.into_inner();
-        let made = match file.file.sync_all() {
-            Ok(()) => fs::rename(self.rt, file.begun.as_str(), name),
-            Err(error) => Err(error),
-        };
-        match made {
+        let mut file = file.into_inner();
+        match finish_begun(self.rt, name, &mut file) {
             Ok(()) => Ok(()),
             Err(_) => {
                 remove_begun(self.rt, file);

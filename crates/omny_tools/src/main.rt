@@ -3,50 +3,30 @@
 //!
 //! | module | what it does |
 //! |---|---|
-//! | `words` | the command line, as `clap` reads it |
+//! | `words`, `encode`, `look_words` | what the words ask for, of what `main_over` has not |
 //! | `list_words` | the list of files that the words name |
-//! | `arguments` | the arguments of a subcommand, as rows of a table |
 //! | `input`, `output` | files and standard input; standard output |
 //! | `progress` | how far a long run is, on a terminal |
 //! | `fault` | why a task is given up, and the line that says so |
-//! | `encode`, `decode` | the command lines of `encode` and of `decode` |
-//! | `agency_csv` | `encode` of an agency's own CSV |
-//! | `upload_lines`, `common_tokens` | `uploads` |
-//! | `look_words`, `look` | the words of `uploads`, and what it looks for |
-//! | `sort`, `split` | `sort` and `split`, from their command lines |
-//! | `merge`, `merge_ledgers` | the command lines of `merge` and `merge-ledgers` |
-//! | `corrections` | the command line of `corrections` |
+//! | `encode_rows` | `encode` of an agency's own CSV, over the files of the system |
 //! | `texts` | texts of the system, for the subcommands of `tool_program` |
 //! | `placed` | files of the system that are read at any offset |
 //! | `files_made` | files of the system that are made |
-//! | `table`, `later_tables` | `table`, and the tables that follow the first one |
-//! | `tasks` | the whole, from the words to the status |
+//! | `tasks` | the tasks that `main_over` has not, and the whole, over the system |
 #![tactic(auto)]
 
-mod agency_csv;
-mod arguments;
-mod common_tokens;
-mod corrections;
-mod decode;
 mod encode;
+mod encode_rows;
 mod fault;
 mod files_made;
 mod input;
-mod later_tables;
 mod list_words;
-mod look;
 mod look_words;
-mod merge;
-mod merge_ledgers;
 mod output;
 mod placed;
 mod progress;
-mod sort;
-mod split;
-mod table;
 mod tasks;
 mod texts;
-mod upload_lines;
 mod words;
 
 use list_words::words_with_list;

@@ -165,7 +165,7 @@ stops_again words loaded refused end end' fault unwritten out mid out' said said
     }
 
 -- ---- the line of the fault
-line_of_report : (quiet failed : Bool) (said said' : Option (List ℕ)) (text : List ℕ)
+pub line_of_report : (quiet failed : Bool) (said said' : Option (List ℕ)) (text : List ℕ)
     → MatchBool quiet (said' ≡ said) (LineWritten said said' failed text) → failed ≡ false
     → Appends said said' (if quiet then [] else text ++ codes "\n")
 line_of_report true failed said said' text same well =

@@ -1,7 +1,7 @@
 -- Uploads whose lines are written one after the other.
-use Rattle.std.proofs.Common.{◌≡◌, ◌∙◌, ◌+◌, ◌≤◌, ℕ, Bool, true, false, List, [], ◌∷◌, ◌++◌}
-use Rattle.std.proofs.Common.{None, Option, Some, ap, append-nil, append_assoc, arith, flat_map}
-use Rattle.std.proofs.Common.{inl, inr, length, length-append, map, refl, subst, sym, zero-add}
+use Rattle.std.proofs.Common.{◌≡◌, ◌∙◌, ◌+◌, ℕ, Bool, true, false, List, [], ◌∷◌, ◌++◌}
+use Rattle.std.proofs.Common.{None, Option, Some, ap, append-nil, append_assoc, arith}
+use Rattle.std.proofs.Common.{inl, inr, length, length-append, refl, subst, sym, zero-add}
 use Rattle.std.specs.Prelude.{◌&&◌, is_none, not}
 use Rattle.std.specs.Option.{is_some}
 use Rattle.std.specs.Io.KnownBytes.{Appends, Keeps}
@@ -13,7 +13,7 @@ use Rattle.fare_texts.proofs.Beginnings.{begins_behind, begins_kept, begins_whol
 use Rattle.program_manners.specs.Loads.{Loaded, LoadsOne}
 use Rattle.program_manners.specs.declared.loading.LoadFault.{LoadFault}
 use Rattle.tap_views.specs.declared.fault.LayoutFault.{LayoutFault}
-use Rattle.tool_program.specs.Decode.{IsRightDecodeFault, IsWrittenUpTo}
+use Rattle.tool_program.specs.Decode.{IsRightDecodeFault}
 use Rattle.tool_program.specs.Fault.{failed_as}
 use Rattle.tool_program.specs.Names.{file_named}
 use Rattle.tool_program.specs.Source.{HasOpened}
@@ -21,15 +21,16 @@ use Rattle.tool_program.specs.Uploads.{AreUploadTexts, GivesUpUploads, IsUploadT
 use Rattle.tool_program.specs.Uploads.{ListsUploads, are_sound, listed_text, listed_uploads}
 use Rattle.tool_program.specs.Uploads.{listed_words}
 use Rattle.tool_program.specs.declared.fault.Fault.{Fault}
+use Rattle.tool_program.specs.declared.fault.Fault.TheVariants.{NoMemory}
 use Rattle.tool_program.specs.declared.output.WriteEnd.{WriteEnd}
-use Rattle.tool_program.specs.inside.Uploads.{BreaksOffListing, ListsOne, StopsListing}
+use Rattle.tool_program.specs.inside.Uploads.{ListsOne, StopsListing}
 use Rattle.tool_program.proofs.Decoding.{loaded_push, right_of_refusal, right_of_writing}
 use Rattle.tool_program.proofs.Decoding.{written_begun, written_kept, written_of_writing}
 use Rattle.tool_program.proofs.Decoding.{written_whole}
 use Rattle.tool_program.proofs.Opened.{opened_none}
 
 -- the words of one upload more
-listed_push : (words : List (List ℕ)) (word : List ℕ) (listed : List Listed) (one : Listed)
+pub listed_push : (words : List (List ℕ)) (word : List ℕ) (listed : List Listed) (one : Listed)
     → listed_words listed ≡ words → one.word ≡ word
     → listed_words (listed ++ one ∷ []) ≡ words ++ word ∷ []
 listed_push words word listed one named is =
@@ -38,7 +39,7 @@ listed_push words word listed one named is =
     ∙ ap (λ (w : List ℕ). words ++ w ∷ []) is
 
 -- what was loaded, with one upload more
-listed_opened : (words : List (List ℕ)) (word : List ℕ) (loaded loaded' loaded'' : Option (List Loaded))
+pub listed_opened : (words : List (List ℕ)) (word : List ℕ) (loaded loaded' loaded'' : Option (List Loaded))
     (listed : List Listed) (one : Listed)
     → HasOpened words loaded loaded' (listed_uploads listed)
     → LoadsOne loaded' loaded'' (file_named word) one.upload
@@ -50,7 +51,7 @@ listed_opened words word loaded loaded' loaded'' listed one all is_loaded =
     is_loaded)
 
 -- the text of one upload more
-text_push : (listed : List Listed) (one : Listed)
+pub text_push : (listed : List Listed) (one : Listed)
     → listed_text (listed ++ one ∷ []) ≡ listed_text listed ++ one.text
 text_push listed one =
     flat_map-append (λ (d : Listed). d.text) listed (one ∷ [])
@@ -87,11 +88,11 @@ lists_none loaded out = record {
 
 pub lists_more : (words : List (List ℕ)) (number : ℕ) (word : List ℕ)
     (loaded loaded' loaded'' : Option (List Loaded)) (out out' out'' : Option (List ℕ))
-    (listed : List Listed) (well : Bool)
+    (listed : List Listed) (bytes : List ℕ) (well : Bool)
     → ListsUploads words loaded loaded' out out' listed → length listed ≡ number
-    → (one : ListsOne number word loaded' loaded'' out' out'' well)
+    → (one : ListsOne number word loaded' loaded'' out' out'' bytes well)
     → ListsUploads (words ++ word ∷ []) loaded loaded'' out out'' (listed ++ one.one ∷ [])
-lists_more words number word loaded loaded' loaded'' out out' out'' listed well all count one =
+lists_more words number word loaded loaded' loaded'' out out' out'' listed bytes well all count one =
     record {
       named = listed_push words word listed one.one all.named one.named;
       opened = listed_opened words word loaded loaded' loaded'' listed one.one all.opened
@@ -170,6 +171,31 @@ lists_stop words front behind number word loaded loaded' loaded'' refused end fa
   where
     more : listed_words (listed ++ breaks.one ∷ []) ≡ front ++ word ∷ []
     more = listed_push front word listed breaks.one all.named breaks.named
+
+-- the uploads with one more
+pub uploads_push : (listed : List Listed) (one : Listed)
+    → listed_uploads (listed ++ one ∷ []) ≡ listed_uploads listed ++ one.upload ∷ []
+uploads_push listed one = map-append (λ (d : Listed). d.upload) listed (one ∷ [])
+
+-- the lines of these uploads were written, and then memory was refused
+pub lists_refused : (words front behind : List (List ℕ)) (loaded loaded' : Option (List Loaded))
+    (refused : Option (Option (List ℕ) × LoadFault)) (end : Option WriteEnd) (fault : Fault)
+    (out out' : Option (List ℕ)) (listed : List Listed) → words ≡ front ++ behind
+    → ListsUploads front loaded loaded' out out' listed → fault ≡ NoMemory
+    → GivesUpUploads words loaded refused end fault out out'
+lists_refused words front behind loaded loaded' refused end fault out out' listed parts all is =
+    record {
+      listed = listed;
+      rest = behind;
+      between = loaded';
+      named = parts ∙ ap (λ (ws : List (List ℕ)). ws ++ behind) (sym all.named);
+      opened = subst (λ (ws : List (List ℕ)). HasOpened ws loaded loaded' (listed_uploads listed))
+          (sym all.named) all.opened;
+      texts = all.texts;
+      written = written_of_writing end fault out out' (listed_text listed) (inr is)
+          (begins_whole out out' (listed_text listed) all.written);
+      right = right_of_writing refused behind end fault (inr is);
+    }
 
 -- ---- what was written goes out
 pub lists_kept : (words : List (List ℕ)) (loaded loaded' loaded'' : Option (List Loaded))

@@ -83,7 +83,7 @@ posted_more (one ∷ ends) end =
     ∙ test_swap (is_posted one) (is_posted end) (are_posted ends)
 
 -- two tests that hold
-both_true : (x y : Bool) → (x && y) ≡ true → (x ≡ true) × (y ≡ true)
+pub both_true : (x y : Bool) → (x && y) ≡ true → (x ≡ true) × (y ≡ true)
 both_true true y is = (refl, is)
 both_true false y is = cc
 

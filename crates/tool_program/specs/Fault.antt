@@ -10,9 +10,11 @@ use Rattle.program_manners.specs.declared.loading.LoadFault.TheVariants as load
 use Rattle.tap_views.specs.declared.fault.LayoutFault.{LayoutFault}
 use Rattle.tool_program.specs.Layout.{cause_text, remedy_text}
 use Rattle.tool_program.specs.Names.{called, file_named}
-use Rattle.tool_program.specs.WrongTables.{devices_text, rows_text, tap_table_text}
+use Rattle.tool_program.specs.WrongTables.{devices_text, fare_table_text, rows_text}
+use Rattle.tool_program.specs.WrongTables.{tap_table_text}
 use Rattle.tool_program.specs.declared.fault.Fault.{Fault}
 use Rattle.tool_program.specs.declared.fault.Fault.TheVariants.{Changed, Closed, Devices, Exists}
+use Rattle.tool_program.specs.declared.fault.Fault.TheVariants.{FareTable}
 use Rattle.tool_program.specs.declared.fault.Fault.TheVariants.{Layout, Line, NoMemory, OutOfOrder}
 use Rattle.tool_program.specs.declared.fault.Fault.TheVariants.{Rows, SomeChanged, TapTable, Taps}
 use Rattle.tool_program.specs.declared.fault.Fault.TheVariants.{TooLong, TooManyOpen, Unmade}
@@ -60,6 +62,8 @@ fault_text (Rows word wrong) =
     codes "fault: " ++ (called word.now ++ (codes " " ++ rows_text wrong))
 fault_text (Devices word wrong) =
     codes "fault: " ++ (called word.now ++ (codes " " ++ devices_text wrong))
+fault_text (FareTable word fault) =
+    codes "fault: " ++ (called word.now ++ (codes ": " ++ fare_table_text fault))
 fault_text (Changed word) = codes "fault: " ++ (called word.now
     ++ codes " changed while it was read")
 fault_text SomeChanged = codes "fault: a file changed while it was read"

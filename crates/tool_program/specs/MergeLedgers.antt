@@ -3,8 +3,12 @@ use Rattle.std.specs.Prelude.{◌≡◌, ◌⊎◌, ⊤, ℕ, Bool, true, false,
 use Rattle.std.specs.Prelude.{MatchBool, length, nat_eq, slice_get}
 use Rattle.std.specs.Io.KnownBytes.{Appends, Keeps}
 use Rattle.fare_texts.specs.WrittenOut.{Begins}
-use Rattle.part_reports.specs.Ledgers.{IsMergedLedger, IsWrongLedgerAt}
-use Rattle.part_reports.specs.LedgersWithReports.{IsMergedWithReports}
+use Rattle.part_reports.specs.Faults.{number_from}
+use Rattle.part_reports.specs.FirstWrongBeside.{IsFirstWrongOfPart, IsWrongBesideReport}
+use Rattle.part_reports.specs.Ledgers.{IsFirstWrongOfLedger, IsMergedLedger, IsWrongLedgerAt}
+use Rattle.part_reports.specs.LedgersWithReports.{AddsUpToNoReportAt, IsMergedWithReports}
+use Rattle.part_reports.specs.LedgersWithReports.{IsNoReportAt}
+use Rattle.part_reports.specs.declared.fault.Wrong.{Wrong}
 use Rattle.program_manners.specs.Loads.{Loaded}
 use Rattle.program_manners.specs.declared.loading.LoadFault.{LoadFault}
 use Rattle.tool_program.specs.Fault.{IsRefusal}
@@ -36,23 +40,43 @@ pub record MergesLedgers (ledgers reports : List (List ℕ)) (loaded loaded' : O
   pub opened : OpensBoth ledgers reports loaded loaded' ledger_texts report_texts
   pub writes : WritesLedger ledger_texts report_texts out out'
 
--- The text of a line that is refused is wrong, at the place of the word that is named. Beside
--- reports it is only known that the word is one of them.
-abbrev pub NamesWrongText : Bool → List (List ℕ) → List (List ℕ) → List ℕ → Type 0
-NamesWrongText true words ledger_texts word = (place : ℕ) × (slice_get words place ≡ Some word)
-NamesWrongText false words ledger_texts word =
+-- The text of a line that is refused is wrong, at the place of the word that is named: a ledger;
+-- or, if each is compared with its report, a ledger that adds up to no such report, or a report.
+-- Reports come behind the ledgers. Places are numbered as far as 64 bits go.
+abbrev pub NamesWrongText : Bool → List (List ℕ) → List (List ℕ) → List (List ℕ) → List ℕ → Type 0
+NamesWrongText true words ledger_texts report_texts word =
+    ((place : ℕ) × (slice_get words place ≡ Some word) × (IsWrongLedgerAt ledger_texts place
+    ⊎ AddsUpToNoReportAt ledger_texts report_texts place))
+    ⊎ ((place : ℕ) × (slice_get words (number_from (length ledger_texts) place) ≡ Some word)
+    × IsNoReportAt report_texts place)
+NamesWrongText false words ledger_texts report_texts word =
     (place : ℕ) × (slice_get words place ≡ Some word) × IsWrongLedgerAt ledger_texts place
 
+-- the line of this number is the first wrong one of the text under the word, and this is why
+abbrev pub NamesFirstWrong : Bool → List (List ℕ) → List (List ℕ) → List (List ℕ) → List ℕ → ℕ
+    → Wrong → Type 0
+NamesFirstWrong true words ledger_texts report_texts word number why =
+    ((place : ℕ) × (slice_get words place ≡ Some word)
+    × (IsFirstWrongOfLedger ledger_texts place number why
+    ⊎ IsWrongBesideReport ledger_texts report_texts place number why))
+    ⊎ ((place : ℕ) × (slice_get words (number_from (length ledger_texts) place) ≡ Some word)
+    × IsFirstWrongOfPart report_texts place number why)
+NamesFirstWrong false words ledger_texts report_texts word number why =
+    (place : ℕ) × (slice_get words place ≡ Some word)
+    × IsFirstWrongOfLedger ledger_texts place number why
+
 -- The fault is the right one of texts that were opened under these words, those of the ledgers
--- first: a line is refused only if no text is the ledger of the whole; a text that could not be
--- read to its end; a write that failed, as the writer remembers it. Memory may be refused at any
--- time.
+-- first: a line is refused only if no text is the ledger of the whole, and it is the first wrong
+-- one of its text, for the reason that is named; a text that could not be read to its end; a write
+-- that failed, as the writer remembers it. Memory may be refused at any time.
 abbrev pub IsRightLedgersFault : List (List ℕ) → List (List ℕ) → List (List ℕ)
     → Option WriteEnd → Fault → Type 0
 IsRightLedgersFault words ledger_texts report_texts end (Line word number why) =
     ((text : List ℕ) → ¬ (IsWholeLedger ledger_texts report_texts text))
     × NamesWrongText (nat_eq (length report_texts) (length ledger_texts)) words ledger_texts
-    word.now
+    report_texts word.now
+    × NamesFirstWrong (nat_eq (length report_texts) (length ledger_texts)) words ledger_texts
+    report_texts word.now number why
 IsRightLedgersFault words ledger_texts report_texts end (Unread word) =
     (place : ℕ) × (slice_get words place ≡ Some word.now)
 IsRightLedgersFault words ledger_texts report_texts end Write = end ≡ Some writes.Refused

@@ -1,6 +1,7 @@
 -- What a sink keeps of the files that it made.
-use Rattle.std.specs.Prelude.{◌≡◌, ⊤, ℕ, List, [], ◌∷◌, ◌++◌, Option, None, Some}
+use Rattle.std.specs.Prelude.{◌≡◌, ◌≢◌, ⊤, ℕ, List, [], ◌∷◌, ◌++◌, All, Option, None, Some}
 use Rattle.tool_program.specs.declared.output.WriteEnd.{WriteEnd}
+use Rattle.tool_program.specs.declared.sink.NewFault.{NewFault}
 
 -- a file that was made: its name and its bytes
 pub record Made : Type 0 where
@@ -38,3 +39,14 @@ IsNotMade (Some failed) name = failed ≡ name
 abbrev pub StopsFile : List ℕ → Option WriteEnd → Option (List ℕ) → Option (List ℕ) → Type 0
 StopsFile name None failed failed' = failed' ≡ failed
 StopsFile name (Some end) failed failed' = IsNotMade failed' name
+
+-- No file of this name was made. Of a sink that keeps no list nothing is known.
+abbrev pub IsNewName : Option (List Made) → List ℕ → Type 0
+IsNewName None name = ⊤
+IsNewName (Some files) name = All (λ file. file.name ≢ name) files
+
+-- The last new file that the sink did not begin was to have this name, and this is why. Of a sink
+-- that does not keep it nothing is known.
+abbrev pub RefusesNew : Option (List ℕ × NewFault) → List ℕ → NewFault → Type 0
+RefusesNew None name fault = ⊤
+RefusesNew (Some unbegun) name fault = (unbegun.0 ≡ name) × (unbegun.1 ≡ fault)

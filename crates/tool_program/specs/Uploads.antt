@@ -1,6 +1,6 @@
 -- What `uploads` writes: of the words of its uploads.
-use Rattle.std.specs.Prelude.{◌≡◌, ⊤, ℕ, ◌+◌, Bool, true, false, List, [], ◌∷◌, ◌++◌, ◌&&◌, codes}
-use Rattle.std.specs.Prelude.{Option, None, Some, decimal, flat_map, is_none, map, option_map}
+use Rattle.std.specs.Prelude.{◌≡◌, ◌⊎◌, ⊤, ℕ, ◌+◌, Bool, true, false, List, [], ◌∷◌, ◌++◌, ◌&&◌}
+use Rattle.std.specs.Prelude.{Option, None, Some, codes, decimal, flat_map, is_none, map, option_map}
 use Rattle.std.specs.Io.KnownBytes.{Appends}
 use Rattle.fare_texts.specs.Moments.{IsMomentText}
 use Rattle.program_manners.specs.Loads.{Loaded}
@@ -12,6 +12,7 @@ use Rattle.tool_program.specs.Decode.{IsRightDecodeFault, IsWrittenUpTo}
 use Rattle.tool_program.specs.Layout.{cause_text, remedy_text, tap_named}
 use Rattle.tool_program.specs.Names.{called}
 use Rattle.tool_program.specs.Source.{HasOpened}
+use Rattle.tool_program.specs.UploadTokens.{BreaksOffTokens, WritesTokens}
 use Rattle.tool_program.specs.declared.fault.Fault.{Fault}
 use Rattle.tool_program.specs.declared.output.WriteEnd.{WriteEnd}
 
@@ -85,11 +86,26 @@ pub record ListsUploads (words : List (List ℕ)) (loaded loaded' : Option (List
   pub texts : AreUploadTexts 0 listed
   pub written : Appends out out' (listed_text listed)
 
+-- The same, and then the lines of the uploads' tokens.
+pub record ListsTokens (words : List (List ℕ)) (loaded loaded' : Option (List Loaded))
+    (out out' : Option (List ℕ)) (listed : List Listed) : Type 0 where
+  pub between : Option (List ℕ)
+  pub lists : ListsUploads words loaded loaded' out between listed
+  pub tokens : WritesTokens (listed_uploads listed) between out'
+
+-- the lines of the uploads were written and, if tokens are counted, then those of these
+abbrev pub ListsWith : Bool → List (List ℕ) → Option (List Loaded) → Option (List Loaded)
+    → Option (List ℕ) → Option (List ℕ) → List Listed → Type 0
+ListsWith false words loaded loaded' out out' listed =
+    ListsUploads words loaded loaded' out out' listed
+ListsWith true words loaded loaded' out out' listed =
+    ListsTokens words loaded loaded' out out' listed
+
 -- The same, and an upload has a layout fault.
-pub record ListsFaulty (words : List (List ℕ)) (loaded loaded' : Option (List Loaded))
-    (out out' : Option (List ℕ)) : Type 0 where
+pub record ListsFaulty (has_tokens : Bool) (words : List (List ℕ))
+    (loaded loaded' : Option (List Loaded)) (out out' : Option (List ℕ)) : Type 0 where
   pub listed : List Listed
-  pub lists : ListsUploads words loaded loaded' out out' listed
+  pub lists : ListsWith has_tokens words loaded loaded' out out' listed
   pub faulty : are_sound listed ≡ false
 
 -- It was given up after these uploads were loaded. Of their lines a beginning was written, and all
@@ -105,3 +121,23 @@ pub record GivesUpUploads (words : List (List ℕ)) (loaded : Option (List Loade
   pub texts : AreUploadTexts 0 listed
   pub written : IsWrittenUpTo fault out out' (listed_text listed)
   pub right : IsRightDecodeFault refused rest end fault
+
+-- It was given up behind the lines of all uploads, which were loaded. Of those of their tokens a
+-- beginning was written.
+pub record GivesUpTokens (words : List (List ℕ)) (loaded : Option (List Loaded))
+    (end : Option WriteEnd) (fault : Fault) (out out' : Option (List ℕ)) : Type 0 where
+  pub listed : List Listed
+  pub loaded' : Option (List Loaded)
+  pub between : Option (List ℕ)
+  pub lists : ListsUploads words loaded loaded' out between listed
+  pub stops : BreaksOffTokens (listed_uploads listed) end fault between out'
+
+-- it was given up in the lines of the uploads or, if tokens are counted, in those of these
+abbrev pub GivesUpWith : Bool → List (List ℕ) → Option (List Loaded)
+    → Option (Option (List ℕ) × LoadFault) → Option WriteEnd → Fault → Option (List ℕ)
+    → Option (List ℕ) → Type 0
+GivesUpWith false words loaded refused end fault out out' =
+    GivesUpUploads words loaded refused end fault out out'
+GivesUpWith true words loaded refused end fault out out' =
+    GivesUpUploads words loaded refused end fault out out'
+    ⊎ GivesUpTokens words loaded end fault out out'

@@ -1,5 +1,9 @@
--- What is wrong with a tap table, with an agency's CSV or with a device table, in words.
+-- What is wrong with a tap table, with an agency's CSV, with a device table or with a fare table, in
+-- words.
 use Rattle.std.specs.Prelude.{ℕ, List, ◌++◌, codes, decimal}
+use Rattle.fare_table.specs.Key.{key_name}
+use Rattle.fare_table.specs.declared.fault.TableFault.{TableFault}
+use Rattle.fare_table.specs.declared.fault.TableFault.TheVariants as fare
 use Rattle.tap_rows.specs.declared.agency.reading.Reason.{Reason}
 use Rattle.tap_rows.specs.declared.agency.reading.Reason.TheVariants as reason
 use Rattle.tap_rows.specs.declared.column.Column.{Column}
@@ -55,3 +59,15 @@ abbrev pub devices_text : WrongDevices → List ℕ
 devices_text devices.Head = codes "row 1: it is not device,validator"
 devices_text (devices.Row number wrong) =
     codes "row " ++ (decimal number ++ (codes ": " ++ device_text wrong))
+
+-- what is wrong with a fare table, of which a fault names the key
+abbrev pub fare_table_text : TableFault → List ℕ
+fare_table_text fare.Text = codes "the text is not TOML"
+fare_table_text (fare.Missing key) = key_name key ++ codes " is missing"
+fare_table_text (fare.Kind key) = key_name key ++ codes " is of another kind"
+fare_table_text (fare.Range key) = key_name key ++ codes " is out of range"
+fare_table_text fare.Mode = codes "a name is no mode of the table"
+fare_table_text fare.Overlap = codes "two ranges share a validator"
+fare_table_text fare.Rider = codes "a rider or a class is not one of the table"
+fare_table_text fare.NoMemory = codes "out of memory"
+fare_table_text fare.Zone = codes "the zone is no POSIX rule"

@@ -1,12 +1,14 @@
 //! `corrections`.
-ghost use Rattle.std.specs.Prelude.{◌≡◌, ◌≤◌, ℕ, List, IfErr, IfOk, Some};
+ghost use Rattle.std.specs.Prelude.{◌≡◌, ◌≤◌, ℕ, List, IfErr, IfOk, OnErr, OnOk, Some, true};
 ghost use Rattle.std.specs.Io.KnownBytes.{Appends};
+ghost use Rattle.fare_texts.specs.WrittenOut.{Begins};
 ghost use Rattle.ledger_changes.specs.Faults.{IsOfLedger};
+ghost use Rattle.ledger_changes.specs.FirstWrongLines.{NamesFirstWrong};
 ghost use Rattle.ledger_changes.specs.declared.fault.Bill.TheVariants.{New, Old};
 ghost use Rattle.program_manners.specs.Loads.{Loaded};
 ghost use Rattle.tool_program.specs.Corrections.{Corrects, GivesUpCorrections};
-ghost use Rattle.tool_program.specs.Corrections.{IsRightCorrectionsFault, IsTextOfCorrections};
-ghost use Rattle.tool_program.specs.Corrections.{IsUnsettled, IsWarned};
+ghost use Rattle.tool_program.specs.Corrections.{IsTextOfCorrections, IsUnsettled, IsWarned};
+ghost use Rattle.tool_program.specs.Corrections.{StopsCorrections};
 ghost use Rattle.tool_program.specs.Fault.{IsFaultReported};
 ghost use Rattle.tool_program.specs.declared.fault.Fault.{Fault as AFault};
 ghost use Rattle.tool_program.specs.inside.Fault.{IsCorrectionsFault, word_of};
@@ -79,6 +81,17 @@ fn write_corrections<R: BufRead + Drop, W: Write>(
         → R.remaining old ≡ Some text → IsUnsettled text) }
     ensures refused_new { IfErr result (λ fault. IsOfLedger New fault → (text : List ℕ)
         → R.remaining new ≡ Some text → IsUnsettled text) }
+    ensures begun { OnErr result ((old_text new_text : List ℕ)
+        → R.remaining old ≡ Some old_text → R.remaining new ≡ Some new_text
+        → (some : List ℕ) (count : ℕ)
+        → IsTextOfCorrections is_by_token old_text new_text some count
+        → (text : List ℕ) × (removed : ℕ)
+        × IsTextOfCorrections is_by_token old_text new_text text removed
+        × Begins (W.contents out.old) (W.contents out.new) text) }
+    ensures first_old { IfErr result (λ fault. IsOfLedger Old fault → (text : List ℕ)
+        → R.remaining old ≡ Some text → NamesFirstWrong text fault) }
+    ensures first_new { IfErr result (λ fault. IsOfLedger New fault → (text : List ℕ)
+        → R.remaining new ≡ Some text → NamesFirstWrong text fault) }
 {
     if is_by_token {
         return ledger_changes::corrections_by_token(alloc, old, new, out);
@@ -100,10 +113,11 @@ fn correct_texts<'a, R: BufRead + Drop, W: Write + Drop>(
         → (text : List ℕ)
         × IsTextOfCorrections ledgers.now.is_by_token old_text new_text text removed
         × Appends (W.contents out.old.inner) (W.contents out.new.inner) text) }
-    ensures right { IfErr result (λ fault. (old_text new_text : List ℕ)
+    ensures fault { IfErr result (λ fault. (old_text new_text : List ℕ)
         → R.remaining old ≡ Some old_text → R.remaining new ≡ Some new_text
-        → IsRightCorrectionsFault ledgers.now.old.now ledgers.now.new.now old_text new_text
-        out.new.end fault) }
+        → StopsCorrections ledgers.now.is_by_token ledgers.now.old.now ledgers.now.new.now old_text
+        new_text out.new.end fault (W.contents out.old.inner) (W.contents out.new.inner)) }
+    ensures flushed { OnOk result (out.new.is_flushed ≡ true) }
 {
     match write_corrections(alloc, ledgers.is_by_token, old, new, out) {
         Ok(removed) => match finish(out) {
@@ -132,9 +146,10 @@ fn correct<'a, S: Source, W: Write + Drop>(
         (W.contents out.new.inner) removed) }
     ensures fault { IfErr result (λ fault. (kept : List Loaded)
         → S.loaded source.old ≡ Some kept
-        → GivesUpCorrections ledgers.now.old.now ledgers.now.new.now (S.loaded source.old)
-        (S.loaded source.new) (S.refused source.new) out.new.end fault
+        → GivesUpCorrections ledgers.now.is_by_token ledgers.now.old.now ledgers.now.new.now
+        (S.loaded source.old) (S.loaded source.new) (S.refused source.new) out.new.end fault
         (W.contents out.old.inner) (W.contents out.new.inner)) }
+    ensures flushed { OnOk result (out.new.is_flushed ≡ true) }
 {
     let old = open_text(source, ledgers.old)?;
     let new = open_text(source, ledgers.new)?;
@@ -173,12 +188,15 @@ pub fn corrections_over<S: Source, W: Write + Drop, E: Write>(
         (W.contents out.old.inner) (W.contents out.new.inner) removed
         × IsWarned ledgers.now.old.now ledgers.now.new.now removed (E.contents err.old.writer)
         (E.contents err.new.writer) err.new.failed (err.new ≡ err.old) }
-    // With status 1 the line of a fault was reported, which is the right one.
+    // And all that was written was flushed.
+    ensures flushed { result ≡ 0 → out.new.is_flushed ≡ true }
+    // With status 1 the line of a fault was reported, which is the right one. What was written is a
+    // beginning of the right text, if there is one.
     ensures faults { result ≡ 1 → (fault : AFault) × IsFaultReported fault
         (E.contents err.old.writer) (E.contents err.new.writer) err.new.failed
         × ((kept : List Loaded) → S.loaded source.old ≡ Some kept
-        → GivesUpCorrections ledgers.now.old.now ledgers.now.new.now (S.loaded source.old)
-        (S.loaded source.new) (S.refused source.new) out.new.end fault
+        → GivesUpCorrections ledgers.now.is_by_token ledgers.now.old.now ledgers.now.new.now
+        (S.loaded source.old) (S.loaded source.new) (S.refused source.new) out.new.end fault
         (W.contents out.old.inner) (W.contents out.new.inner)) }
     ensures status { result ≤ 1 }
 {

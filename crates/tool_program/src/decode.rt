@@ -1,5 +1,6 @@
 //! `decode`.
-ghost use Rattle.std.specs.Prelude.{◌≡◌, ◌≤◌, ◌⊎◌, IfErr, IfOk, List, false, is_none, map, true};
+ghost use Rattle.std.specs.Prelude.{◌≡◌, ◌≤◌, ◌⊎◌, IfErr, IfOk, List, OnOk, false, is_none, map};
+ghost use Rattle.std.specs.Prelude.{true};
 ghost use Rattle.tool_program.specs.Decode.{AreReported, Decoded, Decodes, DecodesFaulty};
 ghost use Rattle.tool_program.specs.Decode.{GivesUpDecode, are_whole, layout_line, layout_lines};
 ghost use Rattle.tool_program.specs.declared.fault.Fault.{Fault as AFault};
@@ -48,7 +49,7 @@ fn decode_one<'a, S: Source, W: Write + Drop>(
 
 /// Reports the layout fault of the upload that the word names, if it has one, and takes away what
 /// is shown of a count before. Says whether it has none.
-fn report_layout<S: Source, E: Write>(
+pub(crate) fn report_layout<S: Source, E: Write>(
     word: &str,
     fault: Option<(u64, LayoutFault)>,
     source: &mut S,
@@ -147,6 +148,7 @@ fn decode<'a, S: Source, W: Write + Drop, E: Write>(
         (S.loaded source.old) (S.refused source.new) out.new.end fault
         (W.contents out.old.inner) (W.contents out.new.inner) (E.contents err.old.writer)
         (E.contents err.new.writer) err.new.failed) }
+    ensures flushed { OnOk result (out.new.is_flushed ≡ true) }
 {
     match decode_table(alloc, words, source, out, err) {
         Ok(well) => match finish(out) {
@@ -176,15 +178,18 @@ pub fn decode_over<S: Source, W: Write + Drop, E: Write>(
     ensures done { result ≡ 0 → (decoded : List Decoded) × Decodes (map (λ w. w.now) words.now)
         (S.loaded source.old) (S.loaded source.new) (W.contents out.old.inner)
         (W.contents out.new.inner) decoded × (are_whole decoded ≡ true) }
+    // And all that was written was flushed.
+    ensures flushed { result ≡ 0 → out.new.is_flushed ≡ true }
     // Nothing is reported beside the table of uploads without a fault.
     ensures quiet { result ≡ 0 → err.new ≡ err.old }
-    // With status 1 the whole table was written and the layout faults were reported; or a fault
-    // ended it, which was reported behind them and is the right one.
-    ensures faults { result ≡ 1 → DecodesFaulty (map (λ w. w.now) words.now)
+    // With status 1 the whole table was written and flushed, and the layout faults were reported; or
+    // a fault ended it, which was reported behind them and is the right one.
+    ensures faults { result ≡ 1 → (DecodesFaulty (map (λ w. w.now) words.now)
         (S.loaded source.old) (S.loaded source.new) (W.contents out.old.inner)
         (W.contents out.new.inner) (E.contents err.old.writer) (E.contents err.new.writer)
-        err.new.failed ⊎ ((fault : AFault) × GivesUpDecode (map (λ w. w.now) words.now)
-        (S.loaded source.old) (S.refused source.new) out.new.end fault
+        err.new.failed × (out.new.is_flushed ≡ true)) ⊎ ((fault : AFault)
+        × GivesUpDecode (map (λ w. w.now) words.now) (S.loaded source.old)
+        (S.refused source.new) out.new.end fault
         (W.contents out.old.inner) (W.contents out.new.inner) (E.contents err.old.writer)
         (E.contents err.new.writer) err.new.failed) }
     ensures status { result ≤ 1 }

@@ -1,5 +1,5 @@
 //! `encode` of a tap table.
-ghost use Rattle.std.specs.Prelude.{◌≡◌, ◌≤◌, ℕ, List, IfErr, OnOk, Some};
+ghost use Rattle.std.specs.Prelude.{◌≡◌, ◌≤◌, ℕ, List, IfErr, OnOk, Some, true};
 ghost use Rattle.program_manners.specs.Loads.{Loaded};
 ghost use Rattle.tap_rows.specs.TapTables.{IsEncoded};
 ghost use Rattle.tool_program.specs.Encode.{EncodesTable, GivesUpEncode, StopsEncode};
@@ -48,6 +48,7 @@ fn encode_texts<'a, R: BufRead, T: BufRead, W: Write + Drop>(
         → R.remaining table.old ≡ Some text → T.remaining again.old ≡ Some again_text
         → StopsEncode word.entry.now text again_text out.new.end fault
         (W.contents out.old.inner) (W.contents out.new.inner)) }
+    ensures flushed { OnOk result (out.new.is_flushed ≡ true) }
 {
     match tap_rows::encode(alloc, table, again, out) {
         Ok(_) => match finish(out) {
@@ -77,6 +78,7 @@ fn encode_file<'a, S: Source, W: Write + Drop>(
         → GivesUpEncode word.entry.now (S.loaded source.old) (S.loaded source.new)
         (S.refused source.new) out.new.end fault (W.contents out.old.inner)
         (W.contents out.new.inner)) }
+    ensures flushed { OnOk result (out.new.is_flushed ≡ true) }
 {
     let checked = Shown {
         bytes,
@@ -109,6 +111,7 @@ fn encode_loaded<'a, S: Source, W: Write + Drop>(
         → GivesUpEncode word.entry.now (S.loaded source.old) (S.loaded source.new)
         (S.refused source.new) out.new.end fault (W.contents out.old.inner)
         (W.contents out.new.inner)) }
+    ensures flushed { OnOk result (out.new.is_flushed ≡ true) }
 {
     let text = load_text(alloc, source, word)?;
     let mut table = text.as_slice();
@@ -131,6 +134,7 @@ fn encode<'a, S: Source, W: Write + Drop>(
         → GivesUpEncode word.entry.now (S.loaded source.old) (S.loaded source.new)
         (S.refused source.new) out.new.end fault (W.contents out.old.inner)
         (W.contents out.new.inner)) }
+    ensures flushed { OnOk result (out.new.is_flushed ≡ true) }
 {
     match source.plain_bytes(file_of(word)) {
         Some(bytes) => encode_file(alloc, word, bytes, source, out),
@@ -152,6 +156,8 @@ pub fn encode_over<S: Source, W: Write + Drop, E: Write>(
     ensures done { (kept : List Loaded) → S.loaded source.old ≡ Some kept → result ≡ 0
         → EncodesTable word.entry.now (S.loaded source.old) (S.loaded source.new)
         (W.contents out.old.inner) (W.contents out.new.inner) }
+    // And all that was written was flushed.
+    ensures flushed { result ≡ 0 → out.new.is_flushed ≡ true }
     // With status 1 the line of a fault was reported, which is the right one.
     ensures faults { result ≡ 1 → (fault : AFault) × IsFaultReported fault
         (E.contents err.old.writer) (E.contents err.new.writer) err.new.failed

@@ -1,5 +1,6 @@
 //! Why a subcommand is given up, and the line that says so.
-ghost use Rattle.std.specs.Prelude.{◌≡◌, ℕ, IfErr, List, OnOk, Option, Some, false};
+ghost use Rattle.std.specs.Prelude.{◌≡◌, ◌≢◌, ℕ, IfErr, List, None, OnErr, OnOk, Option, Some};
+ghost use Rattle.std.specs.Prelude.{false, true};
 ghost use Rattle.std.specs.Io.KnownBytes.{Keeps};
 ghost use Rattle.program_manners.specs.Refusals.{IsOneOf, Refuses};
 ghost use Rattle.program_manners.specs.declared.loading.LoadFault.{LoadFault as ALoadFault};
@@ -10,13 +11,14 @@ ghost use Rattle.tool_program.specs.Names.{file_named};
 use crate::layout::{Cause, Remedy};
 use crate::names::Name;
 use crate::output::{Output, WriteEnd};
-use crate::wrong_tables::{WrongDevices, WrongRows, WrongTapTable};
+use crate::wrong_tables::{WrongDevices, WrongFareTable, WrongRows, WrongTapTable};
+use fare_table::TableFault;
 use part_reports::Wrong;
 use program_manners::{Complaints, LoadFault};
 use std::alloc::{AllocError, AllocFailed};
 use std::fmt;
 use std::io::Write;
-use tap_views::LayoutFault;
+use tap_views::{LayoutFault, NoMemory};
 
 /// Why a subcommand is given up. A file is named by its word of the command line. Its `Display` is
 /// the fault line without its line feed.
@@ -44,6 +46,8 @@ pub enum Fault<'a> {
     Rows(&'a str, WrongRows<'a>),
     /// The file is no device table.
     Devices(&'a str, WrongDevices),
+    /// The file is no fare table.
+    FareTable(&'a str, TableFault),
     /// The file was another one when it was read again.
     Changed(&'a str),
     /// A file was another one when it was read again.
@@ -116,6 +120,16 @@ impl<T: Drop> From<AllocFailed<T>> for Fault<'_> {
     }
 }
 
+impl From<NoMemory> for Fault<'_> {
+    ghost use Rattle.tool_program.specs.declared.fault.Fault.TheVariants.{NoMemory};
+
+    ghost from_gives = { λ _ fault. fault ≡ NoMemory };
+
+    fn from(_refused: NoMemory) -> Self {
+        Fault::NoMemory
+    }
+}
+
 /// What is wrong with a line of a part's text.
 fn wrong_text(wrong: Wrong) -> &'static str
     ensures { result.now ≡ wrong_text wrong }
@@ -165,6 +179,10 @@ impl fmt::Display for Fault<'_> {
             Fault::TapTable(word, wrong) => write!(f, "fault: {} {wrong}", Name(word)),
             Fault::Rows(word, wrong) => write!(f, "fault: {} {wrong}", Name(word)),
             Fault::Devices(word, wrong) => write!(f, "fault: {} {wrong}", Name(word)),
+            Fault::FareTable(word, fault) => {
+                let why = WrongFareTable(*fault);
+                write!(f, "fault: {}: {why}", Name(word))
+            }
             Fault::Changed(word) => write!(f, "fault: {} changed while it was read", Name(word)),
             Fault::SomeChanged => f.write_str("fault: a file changed while it was read"),
             Fault::Line(word, number, wrong) => {
@@ -209,7 +227,10 @@ pub fn say<E: Write>(err: &mut Complaints<E>, fault: &Fault<'_>)
 pub fn finish<'a, W: Write + Drop>(out: &mut Output<W>) -> Result<(), Fault<'a>>
     ensures kept { Keeps (W.contents out.old.inner) (W.contents out.new.inner) }
     ensures well { OnOk result (out.new.end ≡ out.old.end) }
+    ensures flushed { OnOk result (out.new.is_flushed ≡ true) }
     ensures fault { IfErr result (λ fault. fault ≡ failed_as out.new.end) }
+    // It is not said that memory was refused.
+    ensures noted { OnErr result (out.new.end ≢ None) }
 {
     match out.flush() {
         Ok(()) => Ok(()),

@@ -1,6 +1,6 @@
 //! `merge`, and the texts of parts.
 ghost use Rattle.std.specs.Prelude.{◌≡◌, ◌≢◌, ◌⊎◌, ◌++◌, ℕ, List, IfErr, IfOk, Some, false, map};
-ghost use Rattle.std.specs.Prelude.{option_map, slice_get, true};
+ghost use Rattle.std.specs.Prelude.{OnOk, option_map, slice_get, true};
 ghost use Rattle.part_reports.specs.Texts.{AreLeft};
 ghost use Rattle.program_manners.specs.Loads.{Loaded};
 ghost use Rattle.tool_program.specs.Fault.{IsFaultReported};
@@ -81,6 +81,7 @@ fn merge_texts<'a, R: BufRead + Drop, W: Write + Drop>(
         → AreLeft R.remaining report_texts.items report_files
         → StopsMerge (map (λ w. w.now) ends.now ++ map (λ w. w.now) reports.now) end_files
         report_files out.new.end fault (W.contents out.old.inner) (W.contents out.new.inner)) }
+    ensures flushed { OnOk result (out.new.is_flushed ≡ true) }
 {
     match part_reports::merge(alloc, end_texts, report_texts, out) {
         Ok(are_posted) => match finish(out) {
@@ -112,6 +113,7 @@ fn merge<'a, S: Source, W: Write + Drop>(
         → GivesUpMerge (map (λ w. w.now) ends.now) (map (λ w. w.now) reports.now)
         (S.loaded source.old) (S.loaded source.new) (S.refused source.new) out.new.end fault
         (W.contents out.old.inner) (W.contents out.new.inner)) }
+    ensures flushed { OnOk result (out.new.is_flushed ≡ true) }
 {
     match open_both(alloc, source, ends, reports) {
         Ok(Both { first, second }) => merge_texts(alloc, ends, reports, first, second, out),
@@ -141,6 +143,8 @@ pub fn merge_over<S: Source, W: Write + Drop, E: Write>(
         → MergesReports (map (λ w. w.now) ends.now) (map (λ w. w.now) reports.now)
         (S.loaded source.old) (S.loaded source.new) (W.contents out.old.inner)
         (W.contents out.new.inner) false }
+    // With both all that was written was flushed.
+    ensures flushed { result ≢ 1 → out.new.is_flushed ≡ true }
     // With status 1 the line of a fault was reported, which is the right one.
     ensures faults { result ≡ 1 → (fault : AFault) × IsFaultReported fault
         (E.contents err.old.writer) (E.contents err.new.writer) err.new.failed

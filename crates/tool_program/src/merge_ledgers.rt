@@ -1,9 +1,11 @@
 //! `merge-ledgers`.
 ghost use Rattle.std.specs.Prelude.{◌≡◌, ◌≤◌, ◌++◌, ℕ, List, IfErr, OnOk, Some, false, length};
-ghost use Rattle.std.specs.Prelude.{map, nat_eq};
+ghost use Rattle.std.specs.Prelude.{map, nat_eq, true};
 ghost use Rattle.fare_texts.specs.WrittenOut.{Begins};
 ghost use Rattle.part_reports.specs.Faults.{IsOfTaps, IsOfTexts};
-ghost use Rattle.part_reports.specs.Ledgers.{NamesWrongLedger};
+ghost use Rattle.part_reports.specs.FirstWrongBeside.{NamesFirstWrongBeside};
+ghost use Rattle.part_reports.specs.Ledgers.{NamesFirstWrongLine, NamesWrongLedger};
+ghost use Rattle.part_reports.specs.LedgersWithReports.{NamesWrongBeside};
 ghost use Rattle.part_reports.specs.Texts.{AreLeft};
 ghost use Rattle.program_manners.specs.Loads.{Loaded};
 ghost use Rattle.tool_program.specs.Fault.{IsFaultReported};
@@ -48,6 +50,21 @@ fn write_ledger<R: BufRead + Drop, W: Write>(
         → AreLeft R.remaining reports.items report_files
         → nat_eq (length report_files) (length ledger_files) ≡ false
         → NamesWrongLedger ledger_files fault) }
+    ensures first { IfErr result (λ fault. (ledger_files report_files : List (List ℕ))
+        → AreLeft R.remaining ledgers.items ledger_files
+        → AreLeft R.remaining reports.items report_files
+        → nat_eq (length report_files) (length ledger_files) ≡ false
+        → NamesFirstWrongLine ledger_files fault) }
+    ensures wrong_beside { IfErr result (λ fault. (ledger_files report_files : List (List ℕ))
+        → AreLeft R.remaining ledgers.items ledger_files
+        → AreLeft R.remaining reports.items report_files
+        → nat_eq (length report_files) (length ledger_files) ≡ true
+        → NamesWrongBeside ledger_files report_files fault) }
+    ensures first_beside { IfErr result (λ fault. (ledger_files report_files : List (List ℕ))
+        → AreLeft R.remaining ledgers.items ledger_files
+        → AreLeft R.remaining reports.items report_files
+        → nat_eq (length report_files) (length ledger_files) ≡ true
+        → NamesFirstWrongBeside ledger_files report_files fault) }
 {
     if reports.len() == ledgers.len() {
         return part_reports::merge_ledgers_with_reports(alloc, ledgers, reports, out);
@@ -75,6 +92,7 @@ fn merge_texts<'a, R: BufRead + Drop, W: Write + Drop>(
         → StopsLedgers (map (λ w. w.now) ledgers.now ++ map (λ w. w.now) reports.now)
         ledger_files report_files out.new.end fault (W.contents out.old.inner)
         (W.contents out.new.inner)) }
+    ensures flushed { OnOk result (out.new.is_flushed ≡ true) }
 {
     match write_ledger(alloc, ledger_texts, report_texts, out) {
         Ok(()) => match finish(out) {
@@ -105,6 +123,7 @@ fn merge_ledgers<'a, S: Source, W: Write + Drop>(
         → GivesUpLedgers (map (λ w. w.now) ledgers.now) (map (λ w. w.now) reports.now)
         (S.loaded source.old) (S.loaded source.new) (S.refused source.new) out.new.end fault
         (W.contents out.old.inner) (W.contents out.new.inner)) }
+    ensures flushed { OnOk result (out.new.is_flushed ≡ true) }
 {
     match open_both(alloc, source, ledgers, reports) {
         Ok(Both { first, second }) => merge_texts(alloc, ledgers, reports, first, second, out),
@@ -129,6 +148,8 @@ pub fn merge_ledgers_over<S: Source, W: Write + Drop, E: Write>(
         → MergesLedgers (map (λ w. w.now) ledgers.now) (map (λ w. w.now) reports.now)
         (S.loaded source.old) (S.loaded source.new) (W.contents out.old.inner)
         (W.contents out.new.inner) }
+    // And all that was written was flushed.
+    ensures flushed { result ≡ 0 → out.new.is_flushed ≡ true }
     // With status 1 the line of a fault was reported, which is the right one.
     ensures faults { result ≡ 1 → (fault : AFault) × IsFaultReported fault
         (E.contents err.old.writer) (E.contents err.new.writer) err.new.failed

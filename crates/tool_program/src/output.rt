@@ -1,5 +1,5 @@
 //! Where a text goes, and why it cannot go there.
-ghost use Rattle.std.specs.Prelude.{◌≡◌, ◌↔◌, None, Some};
+ghost use Rattle.std.specs.Prelude.{◌≡◌, ◌↔◌, None, Some, false};
 ghost use Rattle.std.specs.IoError.{error_kind};
 
 use std::io;
@@ -28,21 +28,27 @@ impl WriteEnd {
     }
 }
 
-/// A writer that remembers why a write to it failed.
+/// A writer that remembers why a write to it failed, and knows whether all that it took was flushed.
 #[derive(Drop)]
 pub struct Output<W: Write + Drop> {
     /// Where the bytes go.
     inner: W,
     /// Why the last write that failed did so; none if no write failed.
     end: Option<WriteEnd>,
+    /// Whether nothing was written after the last flush, which ended well.
+    is_flushed: bool,
 }
 
 impl<W: Write + Drop> Output<W> {
     /// A writer to which nothing was written.
     pub fn new(inner: W) -> Output<W>
-        ensures { result ≡ record { inner = inner; end = None } }
+        ensures { result ≡ record { inner = inner; end = None; is_flushed = false } }
     {
-        Output { inner, end: None }
+        Output {
+            inner,
+            end: None,
+            is_flushed: false,
+        }
     }
 
     /// Where the bytes went.
@@ -61,7 +67,8 @@ impl<W: Write + Drop> Output<W> {
 }
 
 impl<W: Write + Drop> Write for Output<W> {
-    ghost use Rattle.std.specs.Prelude.{◌≡◌, ◌≢◌, ◌↔◌, IfErr, IfOk, None, Some};
+    ghost use Rattle.std.specs.Prelude.{◌≡◌, ◌≢◌, ◌↔◌, IfErr, IfOk, None, OnErr, OnOk, Some};
+    ghost use Rattle.std.specs.Prelude.{false, true};
     ghost use Rattle.std.specs.Io.KnownBytes.{Keeps, WriteAppends};
     ghost use Rattle.std.specs.Io.{WritesAtMost};
     ghost use Rattle.std.specs.IoError.{error_kind};
@@ -77,7 +84,9 @@ impl<W: Write + Drop> Write for Output<W> {
         ensures noted { IfErr result (λ _. self.new.end ≢ None) }
         ensures failed { IfErr result (λ error. (error_kind error ≡ ErrorKind.BrokenPipe)
             ↔ (self.new.end ≡ Some WriteEnd.Closed)) }
+        ensures unflushed { self.new.is_flushed ≡ false }
     {
+        self.is_flushed = false;
         match self.inner.write(bytes) {
             Ok(count) => Ok(count),
             Err(error) => {
@@ -93,9 +102,16 @@ impl<W: Write + Drop> Write for Output<W> {
         ensures noted { IfErr result (λ _. self.new.end ≢ None) }
         ensures failed { IfErr result (λ error. (error_kind error ≡ ErrorKind.BrokenPipe)
             ↔ (self.new.end ≡ Some WriteEnd.Closed)) }
+        // Only a flush that ends well leaves the output flushed.
+        ensures flushed { OnOk result (self.new.is_flushed ≡ true) }
+        ensures unflushed { OnErr result (self.new.is_flushed ≡ false) }
     {
+        self.is_flushed = false;
         match self.inner.flush() {
-            Ok(()) => Ok(()),
+            Ok(()) => {
+                self.is_flushed = true;
+                Ok(())
+            }
             Err(error) => {
                 self.end = Some(WriteEnd::of(&error));
                 Err(error)

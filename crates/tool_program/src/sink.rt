@@ -41,12 +41,25 @@ impl From<AllocError> for MakeFault {
     }
 }
 
+/// Why a new file was not begun.
+#[derive(Clone, Copy, Debug, PartialEq, Eq)]
+pub enum NewFault {
+    /// There is a file of this name.
+    Exists,
+    /// The system refuses it.
+    Unmade,
+    /// A growth of memory was refused.
+    NoMemory,
+}
+
 /// Where files are made. A file is written under another name, and has its own name once it is
-/// whole.
+/// whole. A new file has its own name from the beginning, so that no other run takes it.
 pub trait Sink {
-    ghost use Rattle.std.specs.Prelude.{◌≡◌, ℕ, List, IfErr, IfOk, OnOk, Option, None};
-    ghost use Rattle.tool_program.specs.Sink.{IsEmptyFile, IsNotMade, Made, MakesOne, StopsFile};
+    ghost use Rattle.std.specs.Prelude.{◌≡◌, ◌≢◌, ℕ, List, IfErr, IfOk, OnOk, Option, None};
+    ghost use Rattle.tool_program.specs.Sink.{IsEmptyFile, IsNewName, IsNotMade, Made, MakesOne};
+    ghost use Rattle.tool_program.specs.Sink.{RefusesNew, StopsFile};
     ghost use Rattle.tool_program.specs.declared.sink.MakeFault.TheVariants.{Unmade};
+    ghost use Rattle.tool_program.specs.declared.sink.NewFault.{NewFault as ANewFault};
 
     /// A file that is being made.
     type File: Write + Drop;
@@ -57,6 +70,9 @@ pub trait Sink {
     // The name of the last file that could not be made, of a sink that keeps it.
     ghost failed: { Self → Option (List ℕ) } = { λ _. None };
 
+    // The last new file that was not begun: its name, and why; of a sink that keeps it.
+    ghost unbegun: { Self → Option (List ℕ × ANewFault) } = { λ _. None };
+
     /// An empty file, which is to have this name.
     fn begin(&mut self, alloc: Global, name: &str) -> Result<Output<Self::File>, MakeFault>
         ensures made { made self.new ≡ made self.old }
@@ -64,6 +80,15 @@ pub trait Sink {
             (λ file. IsEmptyFile (made self.old) (Self.File.contents file.inner)) }
         ensures failed { IfErr result
             (λ fault. fault ≡ Unmade → IsNotMade (failed self.new) name.now) };
+
+    /// An empty file of this name, which no file has.
+    fn begin_new(&mut self, alloc: Global, name: &str) -> Result<Output<Self::File>, NewFault>
+        ensures made { made self.new ≡ made self.old }
+        ensures empty { IfOk result
+            (λ file. IsEmptyFile (made self.old) (Self.File.contents file.inner)) }
+        ensures is_new { OnOk result (IsNewName (made self.old) name.now) }
+        ensures refused { IfErr result (λ fault. fault ≢ NewFault.NoMemory
+            → RefusesNew (unbegun self.new) name.now fault) };
 
     /// Gives the file its name. A file of this name that was there is replaced. After a fault
     /// nothing is left of what was written.

@@ -1,6 +1,6 @@
 //! `split`.
 ghost use Rattle.std.specs.Prelude.{◌≡◌, ◌≤◌, ◌<◌, ◌+◌, ◌++◌, ◌∷◌, [], ℕ, List, IfErr, IfOk};
-ghost use Rattle.std.specs.Prelude.{OnOk, Some, map, string_bytes};
+ghost use Rattle.std.specs.Prelude.{OnOk, Some, map, string_bytes, true};
 ghost use Rattle.std.specs.Io.KnownBytes.{Appends};
 ghost use Rattle.fare_texts.specs.WrittenOut.{Begins};
 ghost use Rattle.report_texts.specs.Report.{upload_line};
@@ -246,6 +246,7 @@ fn write_ends<'a, W: Write + Drop>(ends: &str, out: &mut Output<W>) -> Result<()
     ensures begun { IfErr result (λ _. Begins (W.contents out.old.inner)
         (W.contents out.new.inner) ends.now) }
     ensures fault { IfErr result (λ fault. fault ≡ failed_as out.new.end) }
+    ensures flushed { OnOk result (out.new.is_flushed ≡ true) }
 {
     match write_bytes(ends.as_bytes(), out) {
         Ok(()) => finish(out),
@@ -276,6 +277,7 @@ fn split<'a, S: Source, K: Sink, W: Write + Drop>(
         (S.loaded source.new) (S.refused source.new) (K.made sink.old) (K.made sink.new)
         (K.failed sink.new) out.new.end fault (W.contents out.old.inner)
         (W.contents out.new.inner)) }
+    ensures flushed { OnOk result (out.new.is_flushed ≡ true) }
 {
     let made = split_and_make(alloc, words, uploads, source, sink);
     source.end_count();
@@ -306,6 +308,8 @@ pub fn split_over<S: Source, K: Sink, W: Write + Drop, E: Write>(
         → Splits words.now (map (λ w. w.now) uploads.now) (S.loaded source.old)
         (S.loaded source.new) (K.made sink.old) (K.made sink.new) (W.contents out.old.inner)
         (W.contents out.new.inner) }
+    // And all that was written was flushed.
+    ensures flushed { result ≡ 0 → out.new.is_flushed ≡ true }
     // With status 1 the line of a fault was reported, which is the right one.
     ensures faults { result ≡ 1 → (fault : AFault) × IsFaultReported fault
         (E.contents err.old.writer) (E.contents err.new.writer) err.new.failed

@@ -1,9 +1,11 @@
 //! `uploads`: what each upload has.
-ghost use Rattle.std.specs.Prelude.{◌≡◌, ◌≤◌, ◌⊎◌, ◌++◌, ℕ, IfErr, IfOk, List, OnOk, Some, map};
-ghost use Rattle.std.specs.Prelude.{string_bytes, true};
+ghost use Rattle.std.specs.Prelude.{◌≡◌, ◌≤◌, ◌⊎◌, ◌++◌, [], ℕ, IfErr, IfOk, List, OnOk, Some};
+ghost use Rattle.std.specs.Prelude.{is_some, map, string_bytes, true};
 ghost use Rattle.tool_program.specs.Fault.{IsFaultReported};
-ghost use Rattle.tool_program.specs.Uploads.{GivesUpUploads, IsMomentOrDash, IsUploadText, Listed};
-ghost use Rattle.tool_program.specs.Uploads.{ListsFaulty, ListsUploads, are_sound, damage_text};
+ghost use Rattle.tool_program.specs.inside.UploadTokens.{HasTokensIf};
+ghost use Rattle.tool_program.specs.Uploads.{GivesUpUploads, GivesUpWith, IsMomentOrDash};
+ghost use Rattle.tool_program.specs.Uploads.{IsUploadText, Listed, ListsFaulty, ListsUploads};
+ghost use Rattle.tool_program.specs.Uploads.{ListsWith, are_sound, damage_text, listed_uploads};
 ghost use Rattle.tool_program.specs.declared.fault.Fault.{Fault as AFault};
 ghost use Rattle.tool_program.specs.inside.Uploads.{ListsOne, StopsListing};
 
@@ -12,11 +14,13 @@ use crate::layout::{AtTap, Cause, Remedy};
 use crate::names::Name;
 use crate::output::Output;
 use crate::source::{Source, load_upload};
+use crate::upload_tokens::{add_tokens, no_tokens, write_tokens};
 use fare_texts::{write_bytes, write_moment};
 use program_manners::Complaints;
 use std::alloc::{AllocError, Global};
 use std::io::Write;
 use tap_views::{Facts, facts_of};
+use upload_checks::CommonTokens;
 
 /// Appends a moment, in milliseconds since 1970-01-01T00:00Z, or `-` if there is none.
 pub fn push_moment(text: &mut String, moment: Option<u64>) -> Result<(), AllocError>
@@ -71,41 +75,57 @@ pub fn upload_text(
     Ok(text)
 }
 
-/// Writes the lines of the upload that the word names. Says whether it has no layout fault.
-fn list_one<'a, S: Source, W: Write + Drop>(
+/// An upload that was loaded, and whose lines were written.
+#[derive(Drop)]
+pub(crate) struct LoadedUpload {
+    /// All of it.
+    pub(crate) bytes: Vec<u8>,
+    /// Whether it has no layout fault.
+    pub(crate) is_sound: bool,
+}
+
+/// Writes the lines of the upload that the word names, which has this number.
+pub(crate) fn list_one<'a, S: Source, W: Write + Drop>(
     alloc: Global,
     number: usize,
     word: &'a str,
     source: &mut S,
     out: &mut Output<W>,
-) -> Result<bool, Fault<'a>>
-    ensures done { IfOk result (ListsOne number word.entry.now (S.loaded source.old)
-        (S.loaded source.new) (W.contents out.old.inner) (W.contents out.new.inner)) }
+) -> Result<LoadedUpload, Fault<'a>>
+    ensures done { IfOk result (λ one. ListsOne number word.entry.now (S.loaded source.old)
+        (S.loaded source.new) (W.contents out.old.inner) (W.contents out.new.inner)
+        one.bytes.items one.is_sound) }
     ensures stops { IfErr result (λ fault. StopsListing number word.entry.now
         (S.loaded source.old) (S.loaded source.new) (S.refused source.new) out.new.end fault
         (W.contents out.old.inner) (W.contents out.new.inner)) }
 {
-    let upload = load_upload(alloc, source, word)?;
-    let facts = facts_of(&upload);
+    let bytes = load_upload(alloc, source, word)?;
+    let facts = facts_of(&bytes);
     let text = upload_text(alloc, number, word, &facts)?;
     match write_bytes(text.as_bytes(), out) {
-        Ok(()) => Ok(facts.fault.is_none()),
+        Ok(()) => Ok(LoadedUpload {
+            bytes,
+            is_sound: facts.fault.is_none(),
+        }),
         Err(_) => Err(Fault::of_write(out.end())),
     }
 }
 
-/// Writes the lines of the uploads that the words name, in their order. Says whether none has a
-/// layout fault.
+/// Writes the lines of the uploads that the words name, in their order, and adds their tokens, if
+/// these are counted. Says whether none has a layout fault.
 fn list_each<'a, S: Source, W: Write + Drop>(
     alloc: Global,
     words: &[&'a str],
+    tokens: &mut Option<CommonTokens>,
     source: &mut S,
     out: &mut Output<W>,
 ) -> Result<bool, Fault<'a>>
+    ensures counted { is_some tokens.new ≡ is_some tokens.old }
     ensures done { IfOk result (λ well. (listed : List Listed)
         × ListsUploads (map (λ w. w.now) words.now) (S.loaded source.old) (S.loaded source.new)
         (W.contents out.old.inner) (W.contents out.new.inner) listed
-        × (well ≡ are_sound listed)) }
+        × (well ≡ are_sound listed)
+        × (HasTokensIf tokens.old [] → HasTokensIf tokens.new (listed_uploads listed))) }
     ensures stops { IfErr result (λ fault. GivesUpUploads (map (λ w. w.now) words.now)
         (S.loaded source.old) (S.refused source.new) out.new.end fault
         (W.contents out.old.inner) (W.contents out.new.inner)) }
@@ -113,8 +133,34 @@ fn list_each<'a, S: Source, W: Write + Drop>(
     let mut is_well = true;
     for (number, word) in words.iter().enumerate() {
         source.show_count(number, words.len(), "uploads");
-        is_well &= list_one(alloc, number, word, source, out)?;
+        let one = list_one(alloc, number, word, source, out)?;
+        add_tokens(tokens, &one.bytes)?;
+        is_well &= one.is_sound;
     }
+    Ok(is_well)
+}
+
+/// The same, and then the lines of the tokens, if these are counted.
+fn list_all<'a, S: Source, W: Write + Drop>(
+    alloc: Global,
+    words: &[&'a str],
+    has_tokens: bool,
+    source: &mut S,
+    out: &mut Output<W>,
+) -> Result<bool, Fault<'a>>
+    ensures done { IfOk result (λ well. (listed : List Listed)
+        × ListsWith has_tokens (map (λ w. w.now) words.now) (S.loaded source.old)
+        (S.loaded source.new) (W.contents out.old.inner) (W.contents out.new.inner) listed
+        × (well ≡ are_sound listed)) }
+    ensures stops { IfErr result (λ fault. GivesUpWith has_tokens (map (λ w. w.now) words.now)
+        (S.loaded source.old) (S.refused source.new) out.new.end fault
+        (W.contents out.old.inner) (W.contents out.new.inner)) }
+{
+    let mut tokens = no_tokens(alloc, has_tokens);
+    let listed = list_each(alloc, words, &mut tokens, source, out);
+    source.end_count();
+    let is_well = listed?;
+    write_tokens(alloc, &tokens, out)?;
     Ok(is_well)
 }
 
@@ -122,19 +168,20 @@ fn list_each<'a, S: Source, W: Write + Drop>(
 fn list<'a, S: Source, W: Write + Drop>(
     alloc: Global,
     words: &[&'a str],
+    has_tokens: bool,
     source: &mut S,
     out: &mut Output<W>,
 ) -> Result<bool, Fault<'a>>
     ensures done { IfOk result (λ well. (listed : List Listed)
-        × ListsUploads (map (λ w. w.now) words.now) (S.loaded source.old) (S.loaded source.new)
-        (W.contents out.old.inner) (W.contents out.new.inner) listed
+        × ListsWith has_tokens (map (λ w. w.now) words.now) (S.loaded source.old)
+        (S.loaded source.new) (W.contents out.old.inner) (W.contents out.new.inner) listed
         × (well ≡ are_sound listed)) }
-    ensures stops { IfErr result (λ fault. GivesUpUploads (map (λ w. w.now) words.now)
+    ensures stops { IfErr result (λ fault. GivesUpWith has_tokens (map (λ w. w.now) words.now)
         (S.loaded source.old) (S.refused source.new) out.new.end fault
         (W.contents out.old.inner) (W.contents out.new.inner)) }
+    ensures flushed { OnOk result (out.new.is_flushed ≡ true) }
 {
-    let done = list_each(alloc, words, source, out);
-    source.end_count();
+    let done = list_all(alloc, words, has_tokens, source, out);
     match done {
         Ok(well) => match finish(out) {
             Ok(()) => Ok(well),
@@ -148,35 +195,40 @@ fn list<'a, S: Source, W: Write + Drop>(
 }
 
 /// Writes to `out` what the uploads have that the words name, `-` being standard input: the lines
-/// of each, in their order. A fault that ends it is reported on `err`. Gives the status: 0 if all
-/// is written and no upload has a layout fault, else 1.
+/// of each, in their order; and if `has_tokens` is set, then a line for each, of how many different
+/// tokens it has and how many of these another one has, too. A fault that ends it is reported on
+/// `err`. Gives the status: 0 if all is written and no upload has a layout fault, else 1.
 pub fn uploads_over<S: Source, W: Write + Drop, E: Write>(
     alloc: Global,
     words: &[&str],
+    has_tokens: bool,
     source: &mut S,
     out: &mut Output<W>,
     err: &mut Complaints<E>,
 ) -> u8
     // With status 0 the uploads that the words name were loaded, and the lines of each were
-    // written. None has a layout fault.
+    // written, and of their tokens, if these are counted. None has a layout fault.
     ensures done { result ≡ 0 → (listed : List Listed)
-        × ListsUploads (map (λ w. w.now) words.now) (S.loaded source.old) (S.loaded source.new)
-        (W.contents out.old.inner) (W.contents out.new.inner) listed
+        × ListsWith has_tokens (map (λ w. w.now) words.now) (S.loaded source.old)
+        (S.loaded source.new) (W.contents out.old.inner) (W.contents out.new.inner) listed
         × (are_sound listed ≡ true) }
+    // And all that was written was flushed.
+    ensures flushed { result ≡ 0 → out.new.is_flushed ≡ true }
     // Nothing is reported beside the lines of uploads without a fault.
     ensures quiet { result ≡ 0 → err.new ≡ err.old }
-    // With status 1 all lines were written, also that of a layout fault, and nothing was reported;
-    // or a fault ended it, which was reported and is the right one.
-    ensures faults { result ≡ 1 → (ListsFaulty (map (λ w. w.now) words.now) (S.loaded source.old)
-        (S.loaded source.new) (W.contents out.old.inner) (W.contents out.new.inner)
-        × (err.new ≡ err.old)) ⊎ ((fault : AFault)
-        × GivesUpUploads (map (λ w. w.now) words.now) (S.loaded source.old)
+    // With status 1 all lines were written and flushed, also that of a layout fault, and nothing was
+    // reported; or a fault ended it, which was reported and is the right one.
+    ensures faults { result ≡ 1 → (ListsFaulty has_tokens (map (λ w. w.now) words.now)
+        (S.loaded source.old) (S.loaded source.new) (W.contents out.old.inner)
+        (W.contents out.new.inner) × (out.new.is_flushed ≡ true) × (err.new ≡ err.old))
+        ⊎ ((fault : AFault)
+        × GivesUpWith has_tokens (map (λ w. w.now) words.now) (S.loaded source.old)
         (S.refused source.new) out.new.end fault (W.contents out.old.inner)
         (W.contents out.new.inner) × IsFaultReported fault (E.contents err.old.writer)
         (E.contents err.new.writer) err.new.failed) }
     ensures status { result ≤ 1 }
 {
-    match list(alloc, words, source, out) {
+    match list(alloc, words, has_tokens, source, out) {
         Ok(well) => if well { 0 } else { 1 },
         Err(fault) => {
             say(err, &fault);

@@ -1,9 +1,11 @@
-//! What is wrong with a tap table, with an agency's CSV or with a device table.
+//! What is wrong with a tap table, with an agency's CSV, with a device table or with a fare table.
 ghost use Rattle.std.specs.Prelude.{◌≡◌, Some};
 ghost use Rattle.tool_program.specs.WrongTables.{column_text, device_text, reason_text};
-ghost use Rattle.tool_program.specs.WrongTables.{devices_text, rows_text, tap_table_text};
+ghost use Rattle.tool_program.specs.WrongTables.{devices_text, fare_table_text, rows_text};
+ghost use Rattle.tool_program.specs.WrongTables.{tap_table_text};
 
 use crate::names::Escaped;
+use fare_table::TableFault;
 use std::fmt;
 use tap_rows::{Column, Reason, WrongDevice};
 
@@ -111,6 +113,28 @@ impl fmt::Display for WrongDevices {
                 let why = device_text(*wrong);
                 write!(f, "row {number}: {why}")
             }
+        }
+    }
+}
+
+/// What is wrong with a fare table, in words.
+#[derive(Clone, Copy, Debug, PartialEq, Eq)]
+pub(crate) struct WrongFareTable(pub(crate) TableFault);
+
+impl fmt::Display for WrongFareTable {
+    ghost output = { λ wrong. Some (fare_table_text wrong.0) };
+
+    fn fmt<W: fmt::Write>(&self, f: &mut fmt::Formatter<W>) -> fmt::Result {
+        match self.0 {
+            TableFault::Text => f.write_str("the text is not TOML"),
+            TableFault::Missing { key } => write!(f, "{key} is missing"),
+            TableFault::Kind { key } => write!(f, "{key} is of another kind"),
+            TableFault::Range { key } => write!(f, "{key} is out of range"),
+            TableFault::Mode => f.write_str("a name is no mode of the table"),
+            TableFault::Overlap => f.write_str("two ranges share a validator"),
+            TableFault::Rider => f.write_str("a rider or a class is not one of the table"),
+            TableFault::NoMemory => f.write_str("out of memory"),
+            TableFault::Zone => f.write_str("the zone is no POSIX rule"),
         }
     }
 }

@@ -41,9 +41,9 @@ word_of old new New = new
 abbrev pub IsCorrectionsFault : List ℕ → List ℕ → Option WriteEnd → CorrectionsFault → Fault
     → Type 0
 IsCorrectionsFault old new end (changes.Form bill number) (Line word line why) =
-    (word.now ≡ word_of old new bill) × (why ≡ wrong.Form)
+    (word.now ≡ word_of old new bill) × (line ≡ number) × (why ≡ wrong.Form)
 IsCorrectionsFault old new end (changes.Order bill number) (Unsettled word line) =
-    word.now ≡ word_of old new bill
+    (word.now ≡ word_of old new bill) × (line ≡ number)
 IsCorrectionsFault old new end (changes.Unread bill) (Unread word) =
     word.now ≡ word_of old new bill
 IsCorrectionsFault old new end changes.Write fault = fault ≡ failed_as end

@@ -11,11 +11,13 @@ use Rattle.tool_program.specs.declared.fault.Fault.{Fault}
 use Rattle.tool_program.specs.declared.output.WriteEnd.{WriteEnd}
 use Rattle.tool_program.specs.inside.Decode.{IsOfWriting}
 
--- the upload of the word was loaded, and its lines were written; whether it has no layout fault
+-- the upload of the word was loaded, with these bytes, and its lines were written; whether it has
+-- no layout fault
 pub record ListsOne (number : ℕ) (word : List ℕ) (loaded loaded' : Option (List Loaded))
-    (out out' : Option (List ℕ)) (well : Bool) : Type 0 where
+    (out out' : Option (List ℕ)) (bytes : List ℕ) (well : Bool) : Type 0 where
   pub one : Listed
   pub named : one.word ≡ word
+  pub bytes_are : one.upload ≡ bytes
   pub is_text : IsUploadText number one.word one.facts one.text
   pub is_loaded : LoadsOne loaded loaded' (file_named word) one.upload
   pub written : Appends out out' one.text

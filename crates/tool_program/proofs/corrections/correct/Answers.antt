@@ -48,7 +48,7 @@ returns-clause-done g c =
 
 pub returns-clause-fault : goal.returns-clause-fault
 returns-clause-fault g c =
-    IfErr-weaker c.correct_texts.result _ _ (λ fault right kept is.
+    IfErr-weaker c.correct_texts.result _ _ (λ fault stops kept is.
     let old = c.args.ledgers.now.old.now in
     let new = c.args.ledgers.now.new.now in
     let loaded = g.S.Source.loaded c.args.source.now in
@@ -63,5 +63,5 @@ returns-clause-fault g c =
       old_text = first.0;
       new_text = second.0;
       opened = second.2;
-      right = right first.0 second.0 first.1 second.1;
-    })) c.correct_texts.ensures.right
+      stops = stops first.0 second.0 first.1 second.1;
+    })) c.correct_texts.ensures.fault

@@ -1,5 +1,5 @@
 use Rattle.std.proofs.Common.{Bool, subst, sym}
-use Rattle.std.proofs.lemmas.Result.{IfOk-weaker}
+use Rattle.std.proofs.lemmas.Result.{IfOk-weaker, on_err_weaker}
 use Rattle.tool_program.specs.Corrections.{IsTextOfCorrections}
 use Rattle.tool_program.proofs.corrections.write_corrections.Goals as goal
 
@@ -22,3 +22,31 @@ returns-clause-written g c =
           (sym c.if-is_by_token.false) t.1,
       t.2,
     )) c.corrections.ensures.written
+
+-- ---- what was written before a fault
+pub returns-then-is_by_token-clause-begun : goal.returns-then-is_by_token-clause-begun
+returns-then-is_by_token-clause-begun g c =
+    on_err_weaker c.corrections_by_token.result
+    (λ begun old_text new_text of_old of_new some count is.
+    let t = begun old_text new_text of_old of_new some count
+    (subst (λ (b : Bool). IsTextOfCorrections b old_text new_text some count)
+    c.if-is_by_token.true is) in (
+      t.0,
+      t.1,
+      subst (λ (b : Bool). IsTextOfCorrections b old_text new_text t.0 t.1)
+          (sym c.if-is_by_token.true) t.2,
+      t.3,
+    )) c.corrections_by_token.ensures.begun
+
+pub returns-clause-begun : goal.returns-clause-begun
+returns-clause-begun g c =
+    on_err_weaker c.corrections.result (λ begun old_text new_text of_old of_new some count is.
+    let t = begun old_text new_text of_old of_new some count
+    (subst (λ (b : Bool). IsTextOfCorrections b old_text new_text some count)
+    c.if-is_by_token.false is) in (
+      t.0,
+      t.1,
+      subst (λ (b : Bool). IsTextOfCorrections b old_text new_text t.0 t.1)
+          (sym c.if-is_by_token.false) t.2,
+      t.3,
+    )) c.corrections.ensures.begun

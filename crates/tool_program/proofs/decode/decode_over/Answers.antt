@@ -9,12 +9,15 @@ returns-then-well-clause-done g c = λ zero.
 pub returns-else-well-clause-faults : goal.returns-else-well-clause-faults
 returns-else-well-clause-faults g c = λ one.
     let all = c.in-Ok.ensures.done in
-    inl (record {
-      decoded = all.0;
-      decodes = all.1;
-      faulty = sym all.2 ∙ c.if-well.false;
-      reported = all.3;
-    })
+    inl (
+      record {
+        decoded = all.0;
+        decodes = all.1;
+        faulty = sym all.2 ∙ c.if-well.false;
+        reported = all.3;
+      },
+      c.in-Ok.ensures.flushed,
+    )
 
 pub returns-in-Err-clause-faults : goal.returns-in-Err-clause-faults
 returns-in-Err-clause-faults g c = λ one. inr (

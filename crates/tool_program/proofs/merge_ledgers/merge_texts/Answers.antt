@@ -48,7 +48,12 @@ returns-in-Ok-finish-2-clause-fault g c = λ ledgers reports of_ledgers of_repor
           (subst (λ end. IsNamedAs words end fault reported) c.end.ensures c.fault_of.ensures)
           (λ of_texts. c.in-Err.ensures.refused of_texts ledgers reports of_ledgers of_reports)
           c.in-Err.ensures.no_taps
-          (c.in-Err.ensures.wrong ledgers reports of_ledgers of_reports);
+          (record {
+            wrong = c.in-Err.ensures.wrong ledgers reports of_ledgers of_reports;
+            first = c.in-Err.ensures.first ledgers reports of_ledgers of_reports;
+            wrong_beside = c.in-Err.ensures.wrong_beside ledgers reports of_ledgers of_reports;
+            first_beside = c.in-Err.ensures.first_beside ledgers reports of_ledgers of_reports;
+          });
       begun = λ some whole. (
         some,
         whole,

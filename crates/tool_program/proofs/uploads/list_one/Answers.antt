@@ -1,22 +1,18 @@
-use Rattle.std.proofs.Common.{◌≡◌, ◌∷◌, [], ℕ, List, Option, ap, inl, inr, refl, subst, sym}
+use Rattle.std.proofs.Common.{◌≡◌, ◌∷◌, [], ℕ, List, Option, inl, inr, refl, subst, sym}
 use Rattle.std.proofs.KnownBytes.{Keeps-refl}
-use Rattle.std.specs.Io.KnownBytes.{Appends}
 use Rattle.std.proofs.lemmas.Result.{err_from_is_err_and}
-use Rattle.fare_texts.specs.WrittenOut.{Begins}
 use Rattle.program_manners.specs.Loads.{LoadsOne}
-use Rattle.tap_views.specs.Facts.{AreFacts}
 use Rattle.tool_program.specs.Fault.{failed_as}
 use Rattle.tool_program.specs.Names.{file_named}
-use Rattle.tool_program.specs.declared.fault.Fault.{Fault}
 use Rattle.tool_program.specs.declared.output.WriteEnd.{WriteEnd}
 use Rattle.tool_program.proofs.Listing.{none_when}
 use Rattle.tool_program.proofs.uploads.list_one.Goals as goal
 
-pub returns-in_err-upload-clause-stops : goal.returns-in_err-upload-clause-stops
-returns-in_err-upload-clause-stops g c =
+pub returns-in_err-bytes-clause-stops : goal.returns-in_err-bytes-clause-stops
+returns-in_err-bytes-clause-stops g c =
     let p = err_from_is_err_and c.from_residual.result c.from_residual.ensures.1 in
     rw (p.1, p.2) (inl (
-      c.in_err-upload.ensures.refusal (c.args.word.now ∷ []) (inl refl),
+      c.in_err-bytes.ensures.refusal (c.args.word.now ∷ []) (inl refl),
       Keeps-refl (g.W.Write.contents c.args.out.now.inner),
     ))
 
@@ -36,9 +32,10 @@ returns-in-Ok-clause-done g c =
         text = c.as_bytes.result.now;
       };
       named = refl;
+      bytes_are = c.deref.ensures.value;
       is_text = rw c.as_bytes.ensures.value c.in_ok-text.ensures;
       is_loaded = subst (λ (bytes : List ℕ). LoadsOne before after (file_named word) bytes)
-          (sym c.deref.ensures.value) c.in_ok-upload.ensures.reported;
+          (sym c.deref.ensures.value) c.in_ok-bytes.ensures.reported;
       written = c.in-Ok.ensures.whole;
       well_is = none_when c.facts_of-facts.result.fault c.is_none.result c.is_none.ensures;
     }
@@ -64,7 +61,7 @@ returns-clause-stops g c =
         named = refl;
         is_text = rw c.as_bytes.ensures.value c.in_ok-text.ensures;
         is_loaded = subst (λ (bytes : List ℕ). LoadsOne before after (file_named word) bytes)
-            (sym c.deref.ensures.value) c.in_ok-upload.ensures.reported;
+            (sym c.deref.ensures.value) c.in_ok-bytes.ensures.reported;
         begun = c.in-Err.ensures.begun;
       },
     )

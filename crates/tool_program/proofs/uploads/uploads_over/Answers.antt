@@ -10,6 +10,7 @@ returns-else-well-clause-faults g c = λ one.
     let all = c.in-Ok.ensures.done in
     inl (
       record { listed = all.0; lists = all.1; faulty = sym all.2 ∙ c.if-well.false },
+      c.in-Ok.ensures.flushed,
       refl,
     )
 

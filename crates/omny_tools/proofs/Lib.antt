@@ -1,2 +1,0 @@
-pub mod LaterWords
-pub mod TableAnswers

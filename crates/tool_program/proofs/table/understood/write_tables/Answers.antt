@@ -1,0 +1,79 @@
+use Rattle.std.proofs.Common.{◌≡◌, ◌∙◌, ◌+◌, ◌++◌, ◌∷◌, [], ℕ, List, get_or, refl, subst, sym, take}
+use Rattle.std.proofs.Common.{take_all}
+use Rattle.std.specs.Prelude.{◌&&◌, is_some, true}
+use Rattle.std.specs.Io.KnownBytes.{Appends}
+use Rattle.std.proofs.KnownBytes.{Appends-nil}
+use Rattle.std.proofs.lemmas.List.{take_more}
+use Rattle.std.proofs.lemmas.Result.{err_from_is_err_and}
+use Rattle.table_report.specs.ReadTable.{ReadTable}
+use Rattle.table_report.specs.SqlText.{sql_text}
+use Rattle.tool_program.specs.Table.{HasReported, sql_of}
+use Rattle.tool_program.specs.inside.Table.{AreWarnedSoFar, IsStoppedAt, IsWarnedOf}
+use Rattle.tool_program.proofs.Tables.{sql_push, stopped_at, warned_on}
+use Rattle.tool_program.proofs.table.understood.write_tables.Goals as goal
+
+pub loop-place-init : goal.loop-place-init
+loop-place-init g c = record {
+  written = λ sql. Appends-nil (g.W.Write.contents c.args.out.now.inner);
+  warned = (tt, refl);
+  kept = λ fine. fine;
+}
+
+pub loop-place-preserved : goal.loop-place-preserved
+loop-place-preserved g c =
+    let tables = c.args.tables.now in
+    let place = c.loop-place.place in
+    let table = c.index-tables-place.result in
+    let silent = c.loop-place.is_silent in
+    let is = c.in_ok-is_silent.field-0 in
+    let said = g.E.Write.contents c.args.err.now.writer in
+    let said' = g.E.Write.contents c.loop-place.err.writer in
+    let said'' = g.E.Write.contents c.write_at.new.err.writer in
+    let failed' = c.write_at.new.err.failed in
+    let has_seen = is_some c.args.seen.now in
+    let more = take_more tables place table c.loop-place-test.true in
+    let out' = g.W.Write.contents c.loop-place.out.inner in
+    let out'' = g.W.Write.contents c.write_at.new.out.inner in
+    let same = c.index-tables-place.is in
+    record {
+      written = λ sql. subst (λ (ts : List ReadTable). Appends
+          (g.W.Write.contents c.args.out.now.inner) (g.W.Write.contents c.write_at.new.out.inner)
+          (sql_of ts)) (sym more)
+          (sql_push (g.W.Write.contents c.args.out.now.inner)
+          (g.W.Write.contents c.loop-place.out.inner) (g.W.Write.contents c.write_at.new.out.inner)
+          (take place tables) (get_or tables place table) (c.loop-place.invariant.written sql)
+          (subst (λ (t : ReadTable). Appends out' out'' (sql_text t.fares)) same
+          (c.in_ok-is_silent.ensures.sql sql)));
+      warned = subst (λ (ts : List ReadTable). AreWarnedSoFar (silent && is) ts has_seen
+          (c.write_at.new.err ≡ c.args.err.now) (HasReported said said'' failed')) (sym more)
+          (warned_on said said' said'' c.loop-place.err.failed failed' (take place tables)
+          (get_or tables place table) has_seen silent is (c.loop-place.err ≡ c.args.err.now)
+          (c.write_at.new.err ≡ c.loop-place.err) (c.write_at.new.err ≡ c.args.err.now)
+          (λ a b. b ∙ a) (λ a. cc) (λ b. (cc, cc)) c.write_at.ensures.kept
+          c.loop-place.invariant.warned
+          (subst (λ (t : ReadTable). IsWarnedOf is t has_seen
+          (c.write_at.new.err ≡ c.loop-place.err) (HasReported said' said'' failed')) same
+          c.in_ok-is_silent.ensures.warned));
+      kept = λ fine. c.loop-place.invariant.kept (c.write_at.ensures.kept fine);
+    }
+
+pub returns-clause-sql : goal.returns-clause-sql
+returns-clause-sql g c =
+    let all : take c.loop-place.place c.args.tables.now ≡ c.args.tables.now =
+    take_all _ c.args.tables.now c.loop-place-test.false in
+    rw all at c.loop-place.invariant.written
+
+pub returns-clause-warned : goal.returns-clause-warned
+returns-clause-warned g c =
+    let all : take c.loop-place.place c.args.tables.now ≡ c.args.tables.now =
+    take_all _ c.args.tables.now c.loop-place-test.false in
+    rw all at c.loop-place.invariant.warned
+
+pub returns-in_err-is_silent-clause-stopped : goal.returns-in_err-is_silent-clause-stopped
+returns-in_err-is_silent-clause-stopped g c =
+    let p = err_from_is_err_and c.from_residual.result c.from_residual.ensures.1 in
+    rw (p.1, p.2) (stopped_at c.args.question.now.is_sql c.args.tables.now c.loop-place.place
+    c.index-tables-place.result c.write_at.new.out.end c.in_err-is_silent.field-0.0
+    c.loop-place-test.true
+    (subst (λ (t : ReadTable). IsStoppedAt c.args.question.now.is_sql t c.write_at.new.out.end
+    c.in_err-is_silent.field-0.0) c.index-tables-place.is c.in_err-is_silent.ensures.stopped))

@@ -1,0 +1,84 @@
+//! What clap answers if there is nothing to do.
+ghost use Rattle.std.specs.Prelude.{◌≡◌, ◌≢◌, ◌≤◌, ◌⊎◌, IfErr};
+ghost use Rattle.clap.specs.Words.{kind_of};
+ghost use Rattle.program_manners.specs.Words.{IsRequest};
+ghost use Rattle.tool_program.specs.Fault.{IsFaultReported, failed_as};
+ghost use Rattle.tool_program.specs.declared.fault.Fault.TheVariants.{NoMemory};
+
+use crate::fault::{Fault, finish, say};
+use crate::names::Escaped;
+use crate::output::Output;
+use clap::Error;
+use clap::error::ErrorKind;
+use program_manners::Complaints;
+use std::alloc::Global;
+use std::io::Write;
+
+/// Writes a text of several lines, with its other control characters escaped, since it may have
+/// words of the command line.
+fn write_safely<E: Write>(err: &mut Complaints<E>, text: &str) {
+    for line in text.split_inclusive("\n") {
+        match line.strip_suffix("\n") {
+            Some(line) => err.report_line(Escaped(line)),
+            None => err.report(Escaped(line)),
+        }
+    }
+}
+
+/// Writes clap's text, and lets it go out.
+fn print<'a, W: Write + Drop>(error: &Error, out: &mut Output<W>) -> Result<(), Fault<'a>>
+    ensures { IfErr result (λ fault. fault ≡ failed_as out.new.end) }
+{
+    match write!(out, "{error}") {
+        Ok(()) => finish(out),
+        Err(_) => Err(Fault::of_write(out.end())),
+    }
+}
+
+/// Reports a fault, and gives the status.
+pub(crate) fn report<E: Write>(err: &mut Complaints<E>, fault: &Fault<'_>) -> u8
+    ensures status { result ≡ 1 }
+    ensures reported { IsFaultReported fault.now (E.contents err.old.writer)
+        (E.contents err.new.writer) err.new.failed }
+{
+    say(err, fault);
+    1
+}
+
+/// Shows what clap answers if there is nothing to do: help and the version on `out`, a mistake on
+/// `err`. Gives the status: 0 for help and version, 2 for a mistake, and 1 after a fault: memory
+/// was refused, or help or the version could not be written.
+pub(crate) fn show<W: Write + Drop, E: Write>(
+    alloc: Global,
+    error: &Error,
+    out: &mut Output<W>,
+    err: &mut Complaints<E>,
+) -> u8
+    ensures help { result ≡ 0 → IsRequest (kind_of error.now) × (err.new ≡ err.old) }
+    ensures unwritten { IsRequest (kind_of error.now) → (result ≡ 0) ⊎ ((result ≡ 1)
+        × IsFaultReported (failed_as out.new.end) (E.contents err.old.writer)
+        (E.contents err.new.writer) err.new.failed) }
+    ensures refused { (¬ IsRequest (kind_of error.now)) → ((result ≡ 2)
+        × (kind_of error.now ≢ ErrorKind.OutOfMemory)) ⊎ ((result ≡ 1)
+        × IsFaultReported NoMemory (E.contents err.old.writer)
+        (E.contents err.new.writer) err.new.failed) }
+    ensures memory { kind_of error.now ≡ ErrorKind.OutOfMemory → result ≡ 1 }
+    ensures mistake { result ≡ 2 → ¬ IsRequest (kind_of error.now) }
+    ensures untouched { result ≡ 2 → out.new ≡ out.old }
+    ensures status { result ≤ 2 }
+{
+    match error.kind() {
+        ErrorKind::OutOfMemory => report(err, &Fault::NoMemory),
+        ErrorKind::DisplayHelp | ErrorKind::DisplayVersion => match print(error, out) {
+            Ok(()) => 0,
+            Err(fault) => report(err, &fault),
+        },
+        _ => match format!(in alloc; "{error}") {
+            Ok(text) => {
+                write_safely(err, &text);
+                2
+            }
+            Err(_) => report(err, &Fault::NoMemory),
+        },
+    }
+}

@@ -1,0 +1,30 @@
+-- The subcommand that a parse entered.
+use Rattle.std.proofs.Common.{◌≡◌, ◌∙◌, Bor, List, ℕ, Option, None, Some, refl, sym, ap}
+use Rattle.std.specs.Prelude.{Box, option_map}
+use Rattle.std.specs.Box.{box_value}
+use Rattle.clap.specs.Simple.{subcommand_rows}
+use Rattle.clap.specs.Words.{Row, Text, found_of, rows_of}
+use Rattle.clap.specs.declared.parser.matches.ArgMatches.{ArgMatches}
+use Rattle.clap.specs.declared.parser.matches.ArgMatches.TheViews.{out-SubCommand}
+use Rattle.clap.specs.declared.parser.matches.SubCommand.{SubCommand}
+
+none_some : {X : Type 0} (x : X) → None ≡ Some x → ⊥
+none_some x is = cc
+
+some_is : {X : Type 0} (x y : X) → Some x ≡ Some y → x ≡ y
+some_is x y is = cc
+
+-- a name and the rows under it are the pair
+module _ {Z : Type 0} where
+  pub entered_pair : (r : Option (Bor Text × ArgMatches)) (o : Option (Box SubCommand Z))
+      → option_map (λ p. p.0.now) r
+      ≡ option_map (λ b. (out-SubCommand (box_value b)).name.now) o
+      → option_map (λ p. rows_of (found_of p.1)) r ≡ option_map (λ p. p.1) (subcommand_rows o)
+      → option_map (λ p. (p.0.now, rows_of (found_of p.1))) r ≡ subcommand_rows o
+  entered_pair None None name rows = refl
+  entered_pair None (Some b) name rows = absurd (none_some _ rows)
+  entered_pair (Some p) None name rows = absurd (none_some _ (sym rows))
+  entered_pair (Some p) (Some b) name rows =
+      let same = some_is _ _ name in
+      let given = some_is _ _ rows in
+      λ i. Some (same i, given i)

@@ -1,0 +1,31 @@
+use Rattle.std.proofs.Common.{◌≡◌, ◌∙◌, true, refl, ap, subst, map, string_bytes}
+use Rattle.std.proofs.lemmas.Result.{IfOk-weaker}
+use Rattle.clap.specs.Words.{App, FailsBy, app_of, fault_of, is_simple, is_simple_and_free}
+use Rattle.clap.specs.Words.{subcommand_of, subcommand_rows_of}
+use Rattle.clap.proofs.OnLiterals.{clap_on_literals}
+use Rattle.tool_words.specs.ToolLine.{program}
+use Rattle.tool_words.proofs.words.matched.Goals as goal
+
+program_is_simple : is_simple program ≡ true
+unfolding program clap_on_literals
+program_is_simple = refl
+
+is_free : is_simple_and_free program ≡ true
+unfolding program clap_on_literals
+is_free = refl
+
+pub returns-clause-rows : goal.returns-clause-rows
+returns-clause-rows c =
+    let words = map string_bytes c.args.words.now in
+    let same : app_of c.in_ok-command.field-0 ≡ program = c.in_ok-command.ensures refl in
+    IfOk-weaker c.try_get_matches_from.result _ _
+    (λ m h. subst (λ (a : App). subcommand_rows_of m ≡ subcommand_of a words) same
+    (h (ap is_simple same ∙ program_is_simple)).1)
+    c.try_get_matches_from.ensures.matches
+
+pub returns-clause-kinds : goal.returns-clause-kinds
+returns-clause-kinds c =
+    let words = map string_bytes c.args.words.now in
+    let same : app_of c.in_ok-command.field-0 ≡ program = c.in_ok-command.ensures refl in
+    subst (λ (a : App). FailsBy (fault_of a words) c.try_get_matches_from.result) same
+    (c.try_get_matches_from.ensures.kinds (ap is_simple_and_free same ∙ is_free))

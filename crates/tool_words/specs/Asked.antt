@@ -1,0 +1,191 @@
+-- What the words of the tools ask for.
+use Rattle.std.specs.Prelude.{ℕ, Bool, ◌+◌, ◌==◌, ◌&&◌, ◌||◌, ◌^◌, if◌then◌else◌, not, nat_lt}
+use Rattle.std.specs.Prelude.{List, [], ◌∷◌, Option, Some, None, codes, false, is_some, length}
+use Rattle.std.specs.Prelude.{unwrap_or}
+use Rattle.std.specs.List.{count_by, list_all, list_any}
+use Rattle.std.specs.Option.{option_map_or}
+use Rattle.std.specs.Char.{digit_value}
+use Rattle.std.specs.Str.{bytes_eq}
+use Rattle.std.specs.Str.Parse.{digits_value, without_leading_plus}
+use Rattle.clap.specs.Words.{Row, Text, all_of, first_of, one_of, subcommand_of, without_minus}
+use Rattle.program_manners.specs.Words.{is_given}
+use Rattle.tool_words.specs.ToolLine.{breaks_rule, has_value, looks, program}
+use Rattle.tool_words.specs.declared.mistake.Mistake.{Mistake}
+use Rattle.tool_words.specs.declared.mistake.Mistake.TheVariants as wrong
+
+-- what `sort` is asked for
+pub record SortAsked : Type 0 where
+  pub is_merge : Bool
+  -- the file that is made
+  pub out : Text
+  -- the file of the uploads' ends, if one is made
+  pub ends : Option Text
+  pub uploads : List Text
+
+-- what `split` is asked for
+pub record SplitAsked : Type 0 where
+  pub parts : ℕ
+  -- the folder of the parts' files
+  pub folder : Text
+  -- the number of the first upload
+  pub first : ℕ
+  pub uploads : List Text
+
+-- what `corrections` is asked for: the ledger of the bill that was issued, and the one in its place
+pub record CorrectionsAsked : Type 0 where
+  pub old : Text
+  pub new : Text
+  pub is_by_token : Bool
+
+-- What is asked for. What `other` has are the subcommand and what it is given: `encode` with
+-- columns, `uploads` with a look or a good part, and `table`.
+pub data Asked : Type 0 where
+  encode : Text → Asked
+  decode : List Text → Asked
+  -- the uploads, and whether their tokens are counted
+  uploads : List Text → Bool → Asked
+  sort : SortAsked → Asked
+  split : SplitAsked → Asked
+  merge : List Text → List Text → Asked
+  merge_ledgers : List Text → List Text → Asked
+  corrections : CorrectionsAsked → Asked
+  other : Text → List Row → Asked
+  mistake : Mistake → Asked
+
+-- whether the word stands for standard input
+abbrev pub is_input : Text → Bool
+is_input word = bytes_eq word (codes "-")
+
+-- how many of the words stand for standard input
+abbrev pub inputs_in : List Text → ℕ
+inputs_in words = count_by is_input words
+
+-- the words that are given under this name, in order
+abbrev pub named : Text → List Row → List Text
+named name rows = unwrap_or (all_of name rows) []
+
+-- one of the words that are given under this name stands for standard input
+abbrev pub names_input : Text → List Row → Bool
+names_input name rows = list_any is_input (named name rows)
+
+-- the list of files is standard input, and so is a file
+abbrev pub has_input_twice : List Row → Bool
+has_input_twice rows = option_map_or is_input (first_of (codes "files-from") rows) false
+    && (names_input (codes "FILE") rows || (names_input (codes "UPLOAD") rows
+    || (names_input (codes "reports") rows || (names_input (codes "ends") rows
+    || names_input (codes "table") rows))))
+
+-- the digits write a number of 32 bits
+abbrev pub is_number : Text → Bool
+is_number digits = nat_lt 0 (length digits)
+    && (list_all (λ digit. nat_lt (digit_value digit) 10) digits
+    && nat_lt (digits_value 10 digits) (2 ^ 32))
+
+-- the number that a text writes, after a plus if there is one, or else this one
+abbrev pub number_or : ℕ → Text → ℕ
+number_or default text = if is_number (without_leading_plus text)
+    then digits_value 10 (without_leading_plus text) else default
+
+-- the number that is given under this name, or else this one
+abbrev pub number_in : Text → ℕ → List Row → ℕ
+number_in name default rows =
+    option_map_or (λ text. number_or default text) (one_of name rows) default
+
+-- the nearest number from 1 to 65,535
+abbrev pub as_parts : ℕ → ℕ
+as_parts number = if nat_lt number 1 then 1 else (if nat_lt 65535 number then 65535 else number)
+
+-- standard input if there are no words
+abbrev pub or_input : List Text → List Text
+or_input [] = codes "-" ∷ []
+or_input (word ∷ words) = word ∷ words
+
+-- a tap table; else the rows of an agency's CSV, or what the words lack
+abbrev pub encode_asked : List Row → Asked
+encode_asked rows =
+    if has_value (codes "columns") rows then other (codes "encode") rows
+    else (if has_value (codes "only") rows || (has_value (codes "separator") rows
+    || has_value (codes "refused") rows) then mistake wrong.NoColumns
+    else (if has_value (codes "validators") rows then mistake wrong.NoColumnsForValidators
+    else encode (unwrap_or (first_of (codes "FILE") rows) (codes "-"))))
+
+-- what uploads have, unless a look or a good part is asked for
+abbrev pub uploads_asked : List Row → Asked
+uploads_asked rows =
+    if looks rows || has_value (codes "good-part") rows then other (codes "uploads") rows
+    else uploads (named (codes "FILE") rows) (is_given (codes "tokens") rows)
+
+-- Uploads that are merged are read at any offset, and standard input cannot be.
+abbrev pub sort_asked : List Row → Asked
+sort_asked rows =
+    if nat_lt 0 (inputs_in (named (codes "UPLOAD") rows)) && is_given (codes "merge") rows
+    then mistake wrong.InputMerged
+    else (if nat_lt 1 (inputs_in (named (codes "UPLOAD") rows)) then mistake wrong.InputTwice
+    else sort (record {
+      is_merge = is_given (codes "merge") rows;
+      out = unwrap_or (first_of (codes "out") rows) (codes "-");
+      ends = first_of (codes "ends") rows;
+      uploads = named (codes "UPLOAD") rows;
+    }))
+
+abbrev pub split_asked : List Row → Asked
+split_asked rows = split (record {
+  parts = as_parts (number_in (codes "parts") 1 rows);
+  folder = unwrap_or (first_of (codes "part-files") rows) (codes ".");
+  first = number_in (codes "first") 0 rows;
+  uploads = named (codes "FILE") rows;
+})
+
+-- the files of the uploads' ends, and the reports
+abbrev pub merge_asked : List Text → List Text → Asked
+merge_asked ends reports = if nat_lt 1 (inputs_in ends + inputs_in reports)
+    then mistake wrong.InputTwice else merge ends reports
+
+-- the ledgers, and a report for each if there are reports
+abbrev pub merge_ledgers_asked : List Text → List Text → Asked
+merge_ledgers_asked ledgers reports =
+    if nat_lt 1 (inputs_in ledgers + inputs_in reports) then mistake wrong.InputTwice
+    else (if not (length reports == 0) && not (length reports == length ledgers)
+    then mistake wrong.NotEachReport else merge_ledgers ledgers reports)
+
+abbrev pub corrections_asked : CorrectionsAsked → Asked
+corrections_asked ledgers = if is_input ledgers.old && is_input ledgers.new
+    then mistake wrong.InputTwice else corrections ledgers
+
+-- the ledgers of `corrections`
+abbrev pub ledgers_named : List Row → CorrectionsAsked
+ledgers_named rows = record {
+  old = unwrap_or (first_of (codes "OLD") rows) (codes "-");
+  new = unwrap_or (first_of (codes "NEW") rows) (codes "-");
+  is_by_token = is_given (codes "tokens") rows;
+}
+
+-- what a subcommand is asked for by what it is given
+abbrev pub asked_of_name : Text → List Row → Asked
+asked_of_name name rows =
+    if bytes_eq name (codes "encode") then encode_asked rows
+    else (if bytes_eq name (codes "decode") then decode (or_input (named (codes "FILE") rows))
+    else (if bytes_eq name (codes "uploads") then uploads_asked rows
+    else (if bytes_eq name (codes "sort") then sort_asked rows
+    else (if bytes_eq name (codes "split") then split_asked rows
+    else (if bytes_eq name (codes "merge")
+    then merge_asked (named (codes "ends") rows) (named (codes "reports") rows)
+    else (if bytes_eq name (codes "merge-ledgers")
+    then merge_ledgers_asked (named (codes "FILE") rows) (named (codes "reports") rows)
+    else (if bytes_eq name (codes "corrections") then corrections_asked (ledgers_named rows)
+    else other name rows)))))))
+
+-- the same, unless standard input is named twice
+abbrev pub asked_once : Text → List Row → Asked
+asked_once name rows =
+    if has_input_twice rows then mistake wrong.InputTwice else asked_of_name name rows
+
+-- the same, unless what is given breaks a rule between its arguments
+abbrev pub asked_in : Option (Text × List Row) → Asked
+asked_in None = mistake wrong.NoSubcommand
+asked_in (Some entered) = if breaks_rule entered.0 entered.1 then mistake wrong.Arguments
+    else asked_once entered.0 entered.1
+
+-- what these words ask for
+abbrev pub asked_by : List Text → Asked
+asked_by words = asked_in (subcommand_of program words)

@@ -1,0 +1,5 @@
+pub mod Asked
+pub mod Mistakes
+pub mod Tasks
+pub mod ToolLine
+pub mod inside

@@ -1,0 +1,154 @@
+//! The arguments of a subcommand, as rows of a table.
+ghost use Rattle.std.specs.Prelude.{◌≡◌, IfOk, false};
+ghost use Rattle.clap.specs.Words.{app_of, new_app, rule_of};
+ghost use Rattle.tool_words.specs.inside.Rows.{rule_by, rules_of, taken_rule, with_rows, with_rules};
+
+use clap::builder::ValueParser;
+use clap::{Arg, ArgAction, Command};
+use program_manners::{
+    add_list_args, files_arg, flag_arg, option_arg, positional_arg, repeated_arg,
+};
+use std::alloc::{AllocError, Global};
+
+/// What an argument takes. First is its name, last is what the help says of it, and before that
+/// what the help calls a value.
+#[derive(Clone, Copy)]
+pub(crate) enum Takes {
+    /// Nothing: `--NAME`.
+    Flag(&'static str, &'static str),
+    /// A value: `--NAME VALUE`.
+    Value(&'static str, &'static str, &'static str),
+    /// A value, as often as it is given: `--NAME VALUE`.
+    Values(&'static str, &'static str, &'static str),
+    /// A number from the first to the second one: `--NAME N`.
+    Number(&'static str, &'static str, i64, i64, &'static str),
+    /// One or more files, as often as it is given: `--NAME FILE..`.
+    Files(&'static str, &'static str),
+    /// A word at its place.
+    Word(&'static str, &'static str),
+    /// Words at their place.
+    Words(&'static str, &'static str),
+}
+
+/// When an argument must be there, or may be.
+#[derive(Clone, Copy)]
+pub(crate) enum Need {
+    /// Whenever it is given.
+    Never,
+    /// It must be there.
+    Always,
+    /// It must be there, unless a list names files.
+    WithoutList,
+    /// Not beside these arguments.
+    Apart(&'static [&'static str]),
+    /// It has this value if it is not given.
+    Default(&'static str),
+}
+
+/// A row of the table.
+#[derive(Clone, Copy)]
+pub(crate) enum Row {
+    /// An argument.
+    One(Takes, Need),
+    /// A list of files: two options, which each program has.
+    List,
+}
+
+/// The argument, as if it need not be there.
+fn begun_arg<'a>(alloc: Global, takes: Takes) -> Arg<'a>
+    ensures rule { rule_of result ≡ taken_rule takes }
+    ensures local { result.global ≡ false }
+{
+    match takes {
+        Takes::Flag(name, help) => flag_arg(alloc, name, help),
+        Takes::Value(name, value, help) => option_arg(alloc, name, value, help),
+        Takes::Values(name, value, help) => {
+            option_arg(alloc, name, value, help).action(ArgAction::Append)
+        }
+        Takes::Number(name, value, first, last, help) => {
+            option_arg(alloc, name, value, help).value_parser(ValueParser::signed(first, last))
+        }
+        Takes::Files(name, help) => files_arg(alloc, name, help),
+        Takes::Word(name, help) => positional_arg(alloc, name, ArgAction::Set, help),
+        Takes::Words(name, help) => positional_arg(alloc, name, ArgAction::Append, help),
+    }
+}
+
+/// The argument. Its rules on others are left out if the command is not whole.
+fn arg<'a>(alloc: Global, takes: Takes, need: Need, is_whole: bool) -> Result<Arg<'a>, AllocError>
+    ensures rule { is_whole ≡ false
+        → IfOk result (λ arg. rule_of arg ≡ rule_by need (taken_rule takes)) }
+    ensures local { is_whole ≡ false → IfOk result (λ arg. arg.global ≡ false) }
+{
+    let begun = begun_arg(alloc, takes);
+    match need {
+        Need::Never => Ok(begun),
+        Need::Always => Ok(begun.required(true)),
+        Need::Default(value) => Ok(begun.default_value(value)),
+        Need::WithoutList => {
+            if is_whole {
+                begun.required_unless_present("files-from")
+            } else {
+                Ok(begun)
+            }
+        }
+        Need::Apart(others) => {
+            if is_whole {
+                begun.conflicts_with_all(others)
+            } else {
+                Ok(begun)
+            }
+        }
+    }
+}
+
+impl Row {
+    /// The command with the arguments of the row.
+    fn add_to<'a>(
+        &self,
+        alloc: Global,
+        command: Command<'a>,
+        is_whole: bool,
+    ) -> Result<Command<'a>, AllocError>
+        ensures { is_whole ≡ false → IfOk result
+            (λ more. app_of more ≡ with_rules (app_of command.entry) (rules_of self.now)) }
+    {
+        match *self {
+            Row::List => add_list_args(alloc, command),
+            Row::One(takes, need) => command.arg(arg(alloc, takes, need, is_whole)?),
+        }
+    }
+}
+
+/// The command with the arguments of these rows.
+fn add_rows<'a>(
+    alloc: Global,
+    command: Command<'a>,
+    rows: &[Row],
+    is_whole: bool,
+) -> Result<Command<'a>, AllocError>
+    ensures { is_whole ≡ false → IfOk result
+        (λ more. app_of more ≡ with_rows (app_of command.entry) rows.now) }
+{
+    let mut more = command;
+    for row in rows {
+        more = row.add_to(alloc, more, is_whole)?;
+    }
+    Ok(more)
+}
+
+/// A subcommand of this name, with what its exit status says, and with these arguments.
+pub(crate) fn subcommand<'a>(
+    alloc: Global,
+    name: &'a str,
+    about: &'a str,
+    status: &'a str,
+    rows: &[Row],
+    is_whole: bool,
+) -> Result<Command<'a>, AllocError>
+    ensures { is_whole ≡ false → IfOk result
+        (λ command. app_of command ≡ with_rows (new_app name.entry.now) rows.now) }
+{
+    let command = Command::new(alloc, name).about(about).after_help(status);
+    add_rows(alloc, command, rows, is_whole)
+}

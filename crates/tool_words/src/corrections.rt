@@ -1,0 +1,59 @@
+//! The arguments of `corrections`.
+ghost use Rattle.std.specs.Prelude.{◌≡◌, IfOk, codes, false};
+ghost use Rattle.clap.specs.Words.{app_of};
+ghost use Rattle.tool_words.specs.ToolLine.{corrections_rules};
+ghost use Rattle.tool_words.specs.inside.Rows.{leaf};
+
+use crate::arguments::{Need, Row, Takes, subcommand};
+use clap::Command;
+use std::alloc::{AllocError, Global};
+
+/// What the exit status of `corrections` says.
+const CORRECTIONS_STATUS: &str = "Exit status:
+  0  the corrections are written, also where there is none
+  1  a text is no settled ledger, or could not be read or written, as a line `fault: ..` on the
+     standard error says; what was written is not the corrections
+  2  the command line is wrong";
+
+/// What `corrections` does.
+const CORRECTIONS_ABOUT: &str =
+    "Writes what the bill of the ledger NEW charges otherwise than that of OLD, line by line.
+
+Both are ledgers of omny_cli --settle. A line of the one and a line of the other with the same
+token, moment and validator stand beside each other. A line is written, as CSV, for each that only
+one ledger has, and for each whose answer, cents or reason differ. With --tokens these are counted
+and their cents summed: a line for each token that has one. The ledgers are read as it is written,
+so they may be larger than memory. If OLD has lines that NEW has not, their number is reported on
+the standard error.";
+
+/// The help of the old ledger.
+const OLD_HELP: &str = "The ledger of the bill that was issued; - stands for standard input";
+
+/// The help of the new ledger.
+const NEW_HELP: &str = "The ledger of the bill that takes its place; - stands for standard input";
+
+/// The help of `--tokens`.
+const TOKENS_HELP: &str = "Write the sums of each token's corrections in place of their lines";
+
+/// `corrections [--tokens] OLD NEW`
+pub(crate) fn corrections_command<'a>(
+    alloc: Global,
+    is_whole: bool,
+) -> Result<Command<'a>, AllocError>
+    ensures { is_whole ≡ false → IfOk result
+        (λ command. app_of command ≡ leaf (codes "corrections") corrections_rules) }
+{
+    let rows = [
+        Row::One(Takes::Flag("tokens", TOKENS_HELP), Need::Never),
+        Row::One(Takes::Word("OLD", OLD_HELP), Need::Always),
+        Row::One(Takes::Word("NEW", NEW_HELP), Need::Always),
+    ];
+    subcommand(
+        alloc,
+        "corrections",
+        CORRECTIONS_ABOUT,
+        CORRECTIONS_STATUS,
+        &rows,
+        is_whole,
+    )
+}

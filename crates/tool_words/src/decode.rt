@@ -1,0 +1,36 @@
+//! The arguments of `decode`.
+ghost use Rattle.std.specs.Prelude.{◌≡◌, IfOk, codes, false};
+ghost use Rattle.clap.specs.Words.{app_of};
+ghost use Rattle.tool_words.specs.ToolLine.{decode_rules};
+ghost use Rattle.tool_words.specs.inside.Rows.{leaf};
+
+use crate::arguments::{Need, Row, Takes, subcommand};
+use clap::Command;
+use std::alloc::{AllocError, Global};
+
+/// What `decode` does.
+const DECODE_ABOUT: &str =
+    "Writes the taps of uploads as one tap table for encode, to standard output.
+
+Tokens have lower-case digits, moments are milliseconds. Of an upload with a layout fault the taps
+before it are written, and the fault is reported.";
+
+/// The help of `decode`'s uploads.
+const DECODE_HELP: &str =
+    "Uploads of at most 67108864 bytes; - stands for standard input [default: standard input]";
+
+/// `decode [--files-from LIST [-0]] [FILE]...`
+pub(crate) fn decode_command<'a>(
+    alloc: Global,
+    status: &'a str,
+    is_whole: bool,
+) -> Result<Command<'a>, AllocError>
+    ensures { is_whole ≡ false → IfOk result
+        (λ command. app_of command ≡ leaf (codes "decode") decode_rules) }
+{
+    let rows = [
+        Row::List,
+        Row::One(Takes::Words("FILE", DECODE_HELP), Need::Never),
+    ];
+    subcommand(alloc, "decode", DECODE_ABOUT, status, &rows, is_whole)
+}

@@ -1,0 +1,93 @@
+//! The arguments of `encode`.
+ghost use Rattle.std.specs.Prelude.{◌≡◌, IfOk, codes, false};
+ghost use Rattle.clap.specs.Words.{app_of};
+ghost use Rattle.tool_words.specs.ToolLine.{encode_rules};
+ghost use Rattle.tool_words.specs.inside.Rows.{leaf};
+
+use crate::arguments::{Need, Row, Takes, subcommand};
+use clap::Command;
+use std::alloc::{AllocError, Global};
+
+/// What the exit status of `encode` says.
+const ENCODE_STATUS: &str = "Exit status:
+  0  the upload is written; with --refused also where rows were refused
+  1  a file has a fault, or could not be read or written, as a line `fault: ..` on the standard
+     error says
+  2  the command line is wrong";
+
+/// What `encode` does.
+const ENCODE_ABOUT: &str = "Writes the upload of a tap table to standard output.
+
+The tap table is CSV. Its first line is token,validator,moment. Each other line is a tap: 32
+hexadecimal digits, a number from 0 to 4294967295, and a moment before 2100, in milliseconds
+since 1970-01-01T00:00Z or as 2024-03-08T17:00:00Z. A field may stand between double quotes. A line
+ends with LF or CRLF.
+
+The taps come out in the order of their lines, in TAP1 batches of 4096, the last of fewer.
+If a line is wrong, nothing is written, and its number is reported. So a file is read twice, and
+may be larger than memory. Standard input and pipes are held in memory whole.
+
+With --columns the file is any CSV with a head, as an agency has it: fields in quotes by RFC 4180, a
+byte order mark or none. A token may be a UUID, too, and a moment may have an offset, as
+2024-03-08 12:00:00-05:00. The last line on the standard error reports how many rows were read, how
+many are taps, left out and refused, and the first and the last moment. The head is row 1.
+
+With --validators the column of validators has the names of devices. DEVICES is CSV with the head
+device,validator and a row for each device, which gives it its number. A row of another device is no
+tap.";
+
+/// The help of `encode`'s table.
+const ENCODE_HELP: &str = "The tap table; - stands for standard input [default: standard input]";
+
+/// The help of `--columns`.
+const COLUMNS_HELP: &str =
+    "Read any CSV: token=NAME,validator=NAME,moment=NAME are the columns with these names in the head";
+
+/// The help of `--only`.
+const ONLY_HELP: &str =
+    "Keep only the rows with this value in this column; of several, each must be met";
+
+/// The help of `--validators`.
+const VALIDATORS_HELP: &str =
+    "Take the validators by the names of their devices in the file DEVICES";
+
+/// The help of `--separator`.
+const SEPARATOR_HELP: &str = "What stands between two fields: , or ; or tab [default: ,]";
+
+/// The help of `--refused`.
+const REFUSED_HELP: &str =
+    "Make the file OUT of the rows that are no taps, with their numbers and reasons, and go on; it must
+not be there";
+
+/// `encode [--columns NAMES [--validators DEVICES] [--only COLUMN=VALUE]... [--separator S]
+/// [--refused OUT]] [FILE]`
+pub(crate) fn encode_command<'a>(alloc: Global, is_whole: bool) -> Result<Command<'a>, AllocError>
+    ensures { is_whole ≡ false → IfOk result
+        (λ command. app_of command ≡ leaf (codes "encode") encode_rules) }
+{
+    let rows = [
+        Row::One(Takes::Value("columns", "NAMES", COLUMNS_HELP), Need::Never),
+        Row::One(
+            Takes::Value("validators", "DEVICES", VALIDATORS_HELP),
+            Need::Never,
+        ),
+        Row::One(
+            Takes::Values("only", "COLUMN=VALUE", ONLY_HELP),
+            Need::Never,
+        ),
+        Row::One(
+            Takes::Value("separator", "SEPARATOR", SEPARATOR_HELP),
+            Need::Never,
+        ),
+        Row::One(Takes::Value("refused", "OUT", REFUSED_HELP), Need::Never),
+        Row::One(Takes::Word("FILE", ENCODE_HELP), Need::Never),
+    ];
+    subcommand(
+        alloc,
+        "encode",
+        ENCODE_ABOUT,
+        ENCODE_STATUS,
+        &rows,
+        is_whole,
+    )
+}

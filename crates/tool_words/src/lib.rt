@@ -1,0 +1,40 @@
+//! What the words of the tools' command line ask for: each subcommand with its arguments, as `clap`
+//! reads them.
+//!
+//! | module | what it does |
+//! |---|---|
+//! | `arguments` | the arguments of a subcommand, as rows of a table |
+//! | `encode`, `decode`, `uploads`, `table`, `sort`, `split` | a subcommand: its arguments and help |
+//! | `merge`, `merge_ledgers`, `corrections` | the same |
+//! | `program` | the whole command line |
+//! | `rules` | the rules between the arguments of a subcommand |
+//! | `reading` | what is given to a subcommand |
+//! | `task` | what is asked for |
+//! | `mistake` | what is wrong with words that clap takes |
+//! | `words` | from the words to what they ask for |
+//! | `named_list` | the list of files that the words name |
+#![tactic(auto)]
+
+mod arguments;
+mod corrections;
+mod decode;
+mod encode;
+mod merge;
+mod merge_ledgers;
+mod mistake;
+mod named_list;
+mod program;
+mod reading;
+mod rules;
+mod sort;
+mod split;
+mod table;
+mod task;
+mod uploads;
+mod words;
+
+pub use mistake::Mistake;
+pub use named_list::list_words;
+pub use reading::is_input;
+pub use task::{CorrectionsWords, LedgersWords, MergeWords, SortingWords, SplittingWords, Task};
+pub use words::read;

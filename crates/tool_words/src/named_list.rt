@@ -1,0 +1,51 @@
+//! The list of files that the words name.
+
+use crate::reading::has_input_twice;
+use crate::rules::breaks_rule;
+use crate::words::{entered, matched};
+use program_manners::{ListFault, ListWords};
+use std::alloc::Global;
+
+/// The option that takes the names of a list at the subcommand of this name, if they are no
+/// positional arguments.
+fn option_of(name: &str) -> Option<&'static str> {
+    if name == "merge" {
+        Some("reports")
+    } else {
+        None
+    }
+}
+
+/// The list of files that the words name, if they name one, and the option that takes its names, if
+/// they are no positional arguments. Words that are no command line name none: the program says why,
+/// or shows its help.
+///
+/// # Errors
+///
+/// `NullAlone`, if the words say what ends the names of a list and name none; `InputTwice`, if the
+/// list is standard input, and so is a file; `NoMemory`.
+pub fn list_words<'a>(
+    alloc: Global,
+    words: &'a [String],
+) -> Result<Option<(ListWords<'a>, Option<&'static str>)>, ListFault> {
+    let matches = match matched(alloc, words) {
+        Ok(matches) => matches,
+        Err(error) => {
+            let _none = ListWords::unread(&error)?;
+            return Ok(None);
+        }
+    };
+    let Some((name, found)) = entered(matches) else {
+        return Ok(None);
+    };
+    if breaks_rule(name, &found) {
+        return Ok(None);
+    }
+    let Some(list) = ListWords::of(&found)? else {
+        return Ok(None);
+    };
+    if has_input_twice(&found) {
+        return Err(ListFault::InputTwice);
+    }
+    Ok(Some((list, option_of(name))))
+}

@@ -1,0 +1,104 @@
+//! What is given to a subcommand.
+ghost use Rattle.std.specs.Prelude.{◌≡◌, ◌≤◌, map, option_map};
+ghost use Rattle.std.specs.List.{list_any};
+ghost use Rattle.clap.specs.Words.{first_of, found_of, rows_of};
+ghost use Rattle.tool_words.specs.Asked.{as_parts, has_input_twice, inputs_in, is_input, names_input};
+ghost use Rattle.tool_words.specs.Asked.{number_in};
+ghost use Rattle.tool_words.specs.ToolLine.{has_value};
+
+use clap::ArgMatches;
+
+/// The word that stands for standard input.
+const INPUT_WORD: &str = "-";
+
+/// The most parts.
+const MAX_PARTS: u32 = 65_535;
+
+/// Whether the word stands for standard input.
+pub fn is_input(word: &str) -> bool
+    ensures { result ≡ is_input word.now }
+{
+    word == INPUT_WORD
+}
+
+/// How many of the words stand for standard input.
+pub(crate) fn inputs_in(words: &[&str]) -> usize
+    ensures { result ≡ inputs_in (map (λ w. w.now) words.now) }
+{
+    let mut inputs = 0;
+    for word in words {
+        if is_input(word) {
+            inputs += 1;
+        }
+    }
+    inputs
+}
+
+/// The value that is given under this name.
+pub(crate) fn value_in<'a>(matches: &ArgMatches<'a>, name: &str) -> Option<&'a str>
+    ensures { option_map (λ v. v.now) result
+        ≡ first_of name.now (rows_of (found_of matches.now)) }
+{
+    matches.get_str(name)
+}
+
+/// Whether a value is given under this name.
+pub(crate) fn has_value(matches: &ArgMatches<'_>, name: &str) -> bool
+    ensures { result ≡ has_value name.now (rows_of (found_of matches.now)) }
+{
+    value_in(matches, name).is_some()
+}
+
+/// The number that is given under this name, or else this one.
+pub(crate) fn number_in(matches: &ArgMatches<'_>, name: &str, default: u32) -> u32
+    ensures { result ≡ number_in name.now default (rows_of (found_of matches.now)) }
+{
+    matches.get_one(name).unwrap_or(default)
+}
+
+/// The nearest number from 1 to `MAX_PARTS`.
+pub(crate) fn as_parts(number: u32) -> u32
+    ensures nearest { result ≡ as_parts number }
+    ensures some { 1 ≤ result }
+    ensures few { result ≤ 65535 }
+{
+    if number < 1 {
+        return 1;
+    }
+    if number > MAX_PARTS {
+        return MAX_PARTS;
+    }
+    number
+}
+
+/// Whether one of the words stands for standard input.
+fn is_among(words: &[&str]) -> bool
+    ensures { result ≡ list_any (λ w. is_input w.now) words.now }
+{
+    words.iter().any(|word| is_input(word))
+}
+
+/// Whether one of the words that are given under this name stands for standard input.
+fn names_input(matches: &ArgMatches<'_>, name: &str) -> bool
+    ensures { result ≡ names_input name.now (rows_of (found_of matches.now)) }
+{
+    match matches.get_strs(name) {
+        Some(words) => is_among(words),
+        None => false,
+    }
+}
+
+/// Whether the list of files is standard input, and so is a file.
+pub(crate) fn has_input_twice(matches: &ArgMatches<'_>) -> bool
+    ensures { result ≡ has_input_twice (rows_of (found_of matches.now)) }
+{
+    let Some(list) = value_in(matches, "files-from") else {
+        return false;
+    };
+    is_input(list)
+        && (names_input(matches, "FILE")
+            || names_input(matches, "UPLOAD")
+            || names_input(matches, "reports")
+            || names_input(matches, "ends")
+            || names_input(matches, "table"))
+}

@@ -1,0 +1,63 @@
+//! The rules between the arguments of a subcommand.
+ghost use Rattle.std.specs.Prelude.{◌≡◌};
+ghost use Rattle.clap.specs.Words.{found_of, rows_of};
+ghost use Rattle.tool_words.specs.ToolLine.{breaks_rule, breaks_table, breaks_uploads, lacks_files};
+ghost use Rattle.tool_words.specs.ToolLine.{looks};
+
+use crate::reading::has_value;
+use clap::ArgMatches;
+use program_manners::flag_in;
+
+/// Whether files are wanted under this name, and neither they are given nor a list of files.
+fn lacks_files(matches: &ArgMatches<'_>, name: &str) -> bool
+    ensures { result ≡ lacks_files name.now (rows_of (found_of matches.now)) }
+{
+    !has_value(matches, name) && !has_value(matches, "files-from")
+}
+
+/// Whether an option of `uploads` says what to look for, or that all that is found is listed.
+pub(crate) fn looks(matches: &ArgMatches<'_>) -> bool
+    ensures { result ≡ looks (rows_of (found_of matches.now)) }
+{
+    flag_in(matches, "look")
+        || flag_in(matches, "list")
+        || has_value(matches, "within")
+        || has_value(matches, "from")
+        || has_value(matches, "until")
+        || has_value(matches, "table")
+}
+
+/// Whether `uploads` has no files, a look beside `--good-part`, or `--list` beside `--tokens`.
+fn breaks_uploads(matches: &ArgMatches<'_>) -> bool
+    ensures { result ≡ breaks_uploads (rows_of (found_of matches.now)) }
+{
+    lacks_files(matches, "FILE")
+        || (has_value(matches, "good-part") && looks(matches))
+        || (flag_in(matches, "list") && flag_in(matches, "tokens"))
+}
+
+/// Whether `table` has `--sql` beside `--riders` or `--from`.
+fn breaks_table(matches: &ArgMatches<'_>) -> bool
+    ensures { result ≡ breaks_table (rows_of (found_of matches.now)) }
+{
+    flag_in(matches, "sql") && (flag_in(matches, "riders") || has_value(matches, "from"))
+}
+
+/// Whether what is given to the subcommand of this name breaks a rule between its arguments.
+pub(crate) fn breaks_rule(name: &str, matches: &ArgMatches<'_>) -> bool
+    ensures { result ≡ breaks_rule name.now (rows_of (found_of matches.now)) }
+{
+    if name == "uploads" {
+        return breaks_uploads(matches);
+    }
+    if name == "table" {
+        return breaks_table(matches);
+    }
+    if name == "sort" {
+        return lacks_files(matches, "UPLOAD");
+    }
+    if name == "merge" {
+        return lacks_files(matches, "reports");
+    }
+    (name == "split" || name == "merge-ledgers") && lacks_files(matches, "FILE")
+}

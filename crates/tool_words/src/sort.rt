@@ -1,0 +1,54 @@
+//! The arguments of `sort`.
+ghost use Rattle.std.specs.Prelude.{◌≡◌, IfOk, codes, false};
+ghost use Rattle.clap.specs.Words.{app_of};
+ghost use Rattle.tool_words.specs.ToolLine.{sort_rules};
+ghost use Rattle.tool_words.specs.inside.Rows.{leaf};
+
+use crate::arguments::{Need, Row, Takes, subcommand};
+use clap::Command;
+use std::alloc::{AllocError, Global};
+
+/// What the exit status of `sort` says.
+const SORT_STATUS: &str = "Exit status:
+  0  OUT is made, and no upload was refused
+  1  a file has a fault, or could not be read or made, as a line `fault: ..` on the standard error
+     says; OUT is not made
+  2  the command line is wrong
+  3  OUT is made of the taps before each upload's first layout fault, and there is one";
+
+/// What `sort` does.
+const SORT_ABOUT: &str =
+    "Makes an upload of all taps of uploads, in canonical order: by token, moment and validator.
+
+The taps before each upload's first layout fault are sorted in memory. With --merge the uploads are
+in canonical order already, and of any length: they are read in pieces and merged. A fault of order
+or layout then ends it. OUT has batches of 512 taps. It is made under another name and then renamed,
+so it is whole, and it may be one of the uploads.";
+
+/// The help of `--merge`.
+const MERGE_HELP: &str = "Merge uploads that are in canonical order already";
+
+/// The help of `--out`.
+const OUT_HELP: &str = "The file that is made; one that is there is replaced";
+
+/// The help of `--ends`.
+const ENDS_HELP: &str = "Make a file ENDS of a line for each upload: how it ended, as in a report";
+
+/// The help of the uploads.
+const UPLOADS_HELP: &str =
+    "Uploads of at most 67108864 bytes (with --merge of any length); - stands for standard input";
+
+/// `sort [--merge] --out OUT [--ends ENDS] [--files-from LIST [-0]] UPLOAD...`
+pub(crate) fn sort_command<'a>(alloc: Global, is_whole: bool) -> Result<Command<'a>, AllocError>
+    ensures { is_whole ≡ false → IfOk result
+        (λ command. app_of command ≡ leaf (codes "sort") sort_rules) }
+{
+    let rows = [
+        Row::One(Takes::Flag("merge", MERGE_HELP), Need::Never),
+        Row::One(Takes::Value("out", "OUT", OUT_HELP), Need::Always),
+        Row::One(Takes::Value("ends", "ENDS", ENDS_HELP), Need::Never),
+        Row::List,
+        Row::One(Takes::Words("UPLOAD", UPLOADS_HELP), Need::WithoutList),
+    ];
+    subcommand(alloc, "sort", SORT_ABOUT, SORT_STATUS, &rows, is_whole)
+}

@@ -1,0 +1,76 @@
+//! The arguments of `table`.
+ghost use Rattle.std.specs.Prelude.{◌≡◌, IfOk, codes, false};
+ghost use Rattle.clap.specs.Words.{app_of};
+ghost use Rattle.tool_words.specs.ToolLine.{table_rules};
+ghost use Rattle.tool_words.specs.inside.Rows.{leaf};
+
+use crate::arguments::{Need, Row, Takes, subcommand};
+use clap::Command;
+use std::alloc::{AllocError, Global};
+
+/// What `table` does.
+const TABLE_ABOUT: &str =
+    "Prints a fare table as it is understood: the zone with its next changes of clocks, the modes,
+the transfers, the classes with the price of each ride of a window, the ranges of validators with
+the gaps between them, and how many riders each class has.
+
+Warnings name what the rules of the table pass over: keys that have no meaning and, where uploads
+are given, ranges that no validator of theirs is in, and validators of theirs that are in no range.
+Faults name each wrong value: its whole path, its line and column, and what is wanted. Both go to
+the standard error, and of a table with a fault nothing else is printed.
+
+With --table the tables that follow, each from its date on, are printed behind it. Uploads are held
+against each table by the taps of its own time.";
+
+/// The help of the table.
+const TABLE_HELP: &str =
+    "The fare table, a TOML file of at most 67108864 bytes; - stands for standard input";
+
+/// The help of the tables that follow it.
+const LATER_HELP: &str =
+    "A fare table that is valid from 00:00 of this date on, by the clocks of the tables' zone";
+
+/// The help of `table`'s uploads.
+const TABLE_UPLOADS_HELP: &str =
+    "Uploads of at most 67108864 bytes, whose validators are held against the ranges";
+
+/// The help of `--strict`.
+const STRICT_HELP: &str = "Let the status be 1 also where there is a warning";
+
+/// The help of `--riders`.
+const RIDERS_HELP: &str = "Print each rider with its class";
+
+/// The help of `--sql`.
+const SQL_HELP: &str =
+    "Print the table as SQL tables, which SQLite and PostgreSQL read, in place of these lines";
+
+/// The help of `--from`.
+const FROM_HELP: &str =
+    "Print the changes of clocks after this moment, as 2026-03-01T00:00:00Z [default: now]";
+
+/// `table [--strict] [--riders] [--from MOMENT] [--sql] F [--table G@YYYY-MM-DD]... [UPLOAD]...`
+pub(crate) fn table_command<'a>(
+    alloc: Global,
+    status: &'a str,
+    is_whole: bool,
+) -> Result<Command<'a>, AllocError>
+    ensures { is_whole ≡ false → IfOk result
+        (λ command. app_of command ≡ leaf (codes "table") table_rules) }
+{
+    let rows = [
+        Row::One(Takes::Flag("strict", STRICT_HELP), Need::Never),
+        Row::One(Takes::Flag("riders", RIDERS_HELP), Need::Never),
+        Row::One(Takes::Value("from", "MOMENT", FROM_HELP), Need::Never),
+        Row::One(
+            Takes::Flag("sql", SQL_HELP),
+            Need::Apart(&["riders", "from"]),
+        ),
+        Row::One(
+            Takes::Values("table", "G@YYYY-MM-DD", LATER_HELP),
+            Need::Never,
+        ),
+        Row::One(Takes::Word("F", TABLE_HELP), Need::Always),
+        Row::One(Takes::Words("UPLOAD", TABLE_UPLOADS_HELP), Need::Never),
+    ];
+    subcommand(alloc, "table", TABLE_ABOUT, status, &rows, is_whole)
+}

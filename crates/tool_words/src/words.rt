@@ -1,0 +1,289 @@
+//! From the words to what they ask for.
+ghost use Rattle.std.specs.Prelude.{◌≡◌, ◌⊎◌, ◌≢◌, IfErr, IfOk, IfSome, [], codes, map, option_map};
+ghost use Rattle.std.specs.Prelude.{string_bytes};
+ghost use Rattle.clap.specs.Words.{FailsBy, fault_of, found_of, kind_of, matches_of, rows_of};
+ghost use Rattle.clap.specs.Words.{subcommand_of, subcommand_rows_of};
+ghost use Rattle.program_manners.specs.Words.{IsRequest};
+ghost use Rattle.tool_words.specs.Asked.{asked_by, asked_of_name, asked_once, corrections_asked, decode, encode_asked};
+ghost use Rattle.tool_words.specs.Asked.{merge_asked, merge_ledgers_asked, named, or_input};
+ghost use Rattle.tool_words.specs.Asked.{sort_asked, split_asked, uploads_asked};
+ghost use Rattle.tool_words.specs.Asked.{ledgers_named};
+ghost use Rattle.tool_words.specs.Tasks.{asked_of, corrections_of, texts_of};
+ghost use Rattle.tool_words.specs.ToolLine.{AsksForText, Parses, program};
+
+use crate::mistake::Mistake;
+use crate::program::command;
+use crate::reading::{
+    as_parts, has_input_twice, has_value, inputs_in, is_input, number_in, value_in,
+};
+use crate::rules::{breaks_rule, looks};
+use crate::task::{CorrectionsWords, LedgersWords, MergeWords, SortingWords, SplittingWords, Task};
+use clap::error::ErrorKind;
+use clap::{ArgMatches, Error};
+use program_manners::{flag_in, names_in};
+use std::alloc::{AllocError, Global};
+
+/// What `encode` is asked for.
+fn encode_task<'a>(name: &'a str, matches: ArgMatches<'a>) -> Task<'a>
+    requires { name.now ≡ codes "encode" }
+    ensures { asked_of result ≡ encode_asked (rows_of (found_of matches.entry)) }
+{
+    if has_value(&matches, "columns") {
+        return Task::Other(name, matches);
+    }
+    if has_value(&matches, "only")
+        || has_value(&matches, "separator")
+        || has_value(&matches, "refused")
+    {
+        return Task::Mistake(Mistake::NoColumns);
+    }
+    if has_value(&matches, "validators") {
+        return Task::Mistake(Mistake::NoColumnsForValidators);
+    }
+    Task::Encode(value_in(&matches, "FILE").unwrap_or("-"))
+}
+
+/// What `decode` is asked for: standard input if no upload is named.
+fn decode_task<'a>(alloc: Global, matches: &ArgMatches<'a>) -> Result<Task<'a>, AllocError>
+    ensures { IfOk result (λ task. asked_of task
+        ≡ decode (or_input (named (codes "FILE") (rows_of (found_of matches.now))))) }
+{
+    let mut words = names_in(alloc, matches, "FILE")?;
+    if words.is_empty() {
+        words.push("-")?;
+    }
+    Ok(Task::Decode(words))
+}
+
+/// What `uploads` is asked for.
+fn uploads_task<'a>(
+    alloc: Global,
+    name: &'a str,
+    matches: ArgMatches<'a>,
+) -> Result<Task<'a>, AllocError>
+    requires { name.now ≡ codes "uploads" }
+    ensures { IfOk result (λ task. asked_of task
+        ≡ uploads_asked (rows_of (found_of matches.entry))) }
+{
+    if looks(&matches) || has_value(&matches, "good-part") {
+        return Ok(Task::Other(name, matches));
+    }
+    let has_tokens = flag_in(&matches, "tokens");
+    Ok(Task::Uploads(names_in(alloc, &matches, "FILE")?, has_tokens))
+}
+
+/// What `sort` is asked for. Uploads that are merged are read at any offset.
+fn sort_task<'a>(alloc: Global, matches: &ArgMatches<'a>) -> Result<Task<'a>, AllocError>
+    ensures { IfOk result (λ task. asked_of task ≡ sort_asked (rows_of (found_of matches.now))) }
+{
+    let is_merge = flag_in(matches, "merge");
+    let uploads = names_in(alloc, matches, "UPLOAD")?;
+    let inputs = inputs_in(&uploads);
+    if inputs > 0 && is_merge {
+        return Ok(Task::Mistake(Mistake::InputMerged));
+    }
+    if inputs > 1 {
+        return Ok(Task::Mistake(Mistake::InputTwice));
+    }
+    Ok(Task::Sort(SortingWords {
+        is_merge,
+        out: value_in(matches, "out").unwrap_or("-"),
+        ends: value_in(matches, "ends"),
+        uploads,
+    }))
+}
+
+/// What `split` is asked for.
+fn split_task<'a>(alloc: Global, matches: &ArgMatches<'a>) -> Result<Task<'a>, AllocError>
+    ensures { IfOk result (λ task. asked_of task ≡ split_asked (rows_of (found_of matches.now))) }
+{
+    Ok(Task::Split(SplittingWords {
+        parts: as_parts(number_in(matches, "parts", 1)),
+        folder: value_in(matches, "part-files").unwrap_or("."),
+        first: number_in(matches, "first", 0),
+        uploads: names_in(alloc, matches, "FILE")?,
+    }))
+}
+
+/// What `merge` is asked for with these files.
+fn merge_task<'a>(words: MergeWords<'a>) -> Task<'a>
+    ensures { asked_of result ≡ merge_asked (texts_of words.entry.ends.items)
+        (texts_of words.entry.reports.items) }
+{
+    if inputs_in(&words.ends).saturating_add(inputs_in(&words.reports)) > 1 {
+        return Task::Mistake(Mistake::InputTwice);
+    }
+    Task::Merge(words)
+}
+
+/// What `merge-ledgers` is asked for with these files.
+fn merge_ledgers_task<'a>(words: LedgersWords<'a>) -> Task<'a>
+    ensures { asked_of result ≡ merge_ledgers_asked (texts_of words.entry.ledgers.items)
+        (texts_of words.entry.reports.items) }
+{
+    if inputs_in(&words.ledgers).saturating_add(inputs_in(&words.reports)) > 1 {
+        return Task::Mistake(Mistake::InputTwice);
+    }
+    if !words.reports.is_empty() && words.reports.len() != words.ledgers.len() {
+        return Task::Mistake(Mistake::NotEachReport);
+    }
+    Task::MergeLedgers(words)
+}
+
+/// The ledgers of `corrections`.
+fn ledgers_in<'a>(matches: &ArgMatches<'a>) -> CorrectionsWords<'a>
+    ensures { corrections_of result ≡ ledgers_named (rows_of (found_of matches.now)) }
+{
+    CorrectionsWords {
+        old: value_in(matches, "OLD").unwrap_or("-"),
+        new: value_in(matches, "NEW").unwrap_or("-"),
+        is_by_token: flag_in(matches, "tokens"),
+    }
+}
+
+/// What `corrections` is asked for with these ledgers.
+fn corrections_task<'a>(words: CorrectionsWords<'a>) -> Task<'a>
+    ensures { asked_of result ≡ corrections_asked (corrections_of words.entry) }
+{
+    if is_input(words.old) && is_input(words.new) {
+        return Task::Mistake(Mistake::InputTwice);
+    }
+    Task::Corrections(words)
+}
+
+/// What the subcommand of this name is asked for by what it is given.
+fn task_of_name<'a>(
+    alloc: Global,
+    name: &'a str,
+    matches: ArgMatches<'a>,
+) -> Result<Task<'a>, AllocError>
+    ensures { IfOk result (λ task. asked_of task
+        ≡ asked_of_name name.entry.now (rows_of (found_of matches.entry))) }
+{
+    if name == "encode" {
+        return Ok(encode_task(name, matches));
+    }
+    if name == "decode" {
+        return decode_task(alloc, &matches);
+    }
+    if name == "uploads" {
+        return uploads_task(alloc, name, matches);
+    }
+    if name == "sort" {
+        return sort_task(alloc, &matches);
+    }
+    if name == "split" {
+        return split_task(alloc, &matches);
+    }
+    if name == "merge" {
+        return Ok(merge_task(MergeWords {
+            ends: names_in(alloc, &matches, "ends")?,
+            reports: names_in(alloc, &matches, "reports")?,
+        }));
+    }
+    if name == "merge-ledgers" {
+        return Ok(merge_ledgers_task(LedgersWords {
+            ledgers: names_in(alloc, &matches, "FILE")?,
+            reports: names_in(alloc, &matches, "reports")?,
+        }));
+    }
+    if name == "corrections" {
+        return Ok(corrections_task(ledgers_in(&matches)));
+    }
+    Ok(Task::Other(name, matches))
+}
+
+/// The words read by clap, without the rules between arguments.
+pub(crate) fn matched<'a>(alloc: Global, words: &'a [String]) -> Result<ArgMatches<'a>, Error>
+    ensures rows { IfOk result (λ matches. subcommand_rows_of matches
+        ≡ subcommand_of program (map string_bytes words.entry.now)) }
+    ensures kinds { FailsBy (fault_of program (map string_bytes words.entry.now)) result }
+{
+    command(alloc, false)?.try_get_matches_from(words)
+}
+
+/// What clap says of words that it refuses, with the rules between arguments, if it says so; else
+/// the error as it is.
+fn told<'a>(alloc: Global, words: &'a [String], error: Error) -> Error
+    ensures { ((kind_of result ≡ kind_of error)
+        × (IsRequest (kind_of error) ⊎ (kind_of error ≡ ErrorKind.OutOfMemory)))
+        ⊎ ((¬ IsRequest (kind_of result)) × (¬ IsRequest (kind_of error))
+        × (kind_of error ≢ ErrorKind.OutOfMemory)) }
+{
+    match error.kind() {
+        ErrorKind::OutOfMemory | ErrorKind::DisplayHelp | ErrorKind::DisplayVersion => error,
+        _ => match whole_error(alloc, words) {
+            Some(whole) => whole,
+            None => error,
+        },
+    }
+}
+
+/// The mistake that clap finds in the words with the rules between arguments.
+fn whole_error<'a>(alloc: Global, words: &'a [String]) -> Option<Error>
+    ensures { IfSome result (λ error. ¬ IsRequest (kind_of error)) }
+{
+    let Ok(whole) = command(alloc, true) else {
+        return None;
+    };
+    match whole.try_get_matches_from(words) {
+        Ok(_taken) => None,
+        Err(error) => {
+            if error.use_stderr() {
+                return Some(error);
+            }
+            None
+        }
+    }
+}
+
+/// The subcommand that a parse entered, with what it is given.
+pub(crate) fn entered<'a>(matches: ArgMatches<'a>) -> Option<(&'a str, ArgMatches<'a>)>
+    ensures { option_map (λ p. (p.0.now, rows_of (found_of p.1))) result
+        ≡ subcommand_rows_of matches.entry }
+{
+    let mut matches = matches;
+    matches.remove_subcommand()
+}
+
+/// The same, unless standard input is named twice.
+fn task_in<'a>(
+    alloc: Global,
+    name: &'a str,
+    matches: ArgMatches<'a>,
+) -> Result<Task<'a>, AllocError>
+    ensures { IfOk result (λ task. asked_of task
+        ≡ asked_once name.entry.now (rows_of (found_of matches.entry))) }
+{
+    if has_input_twice(&matches) {
+        return Ok(Task::Mistake(Mistake::InputTwice));
+    }
+    task_of_name(alloc, name, matches)
+}
+
+/// What the words ask for, of which the first is the program's name; else clap's error, which may be
+/// a call for help.
+pub fn read<'a>(alloc: Global, words: &'a [String]) -> Result<Task<'a>, Error>
+    ensures asked { IfOk result (λ task.
+        (fault_of program (map string_bytes words.entry.now) ≡ [])
+        × (asked_of task ≡ asked_by (map string_bytes words.entry.now))) }
+    ensures refused { IfErr result (λ error. (kind_of error ≡ ErrorKind.OutOfMemory)
+        ⊎ ((IsRequest (kind_of error) × AsksForText (map string_bytes words.entry.now)
+        × ¬ Parses (map string_bytes words.entry.now))
+        ⊎ ((¬ IsRequest (kind_of error)) × ¬ Parses (map string_bytes words.entry.now)))) }
+{
+    let matches = match matched(alloc, words) {
+        Ok(matches) => matches,
+        Err(error) => return Err(told(alloc, words, error)),
+    };
+    let Some((name, found)) = entered(matches) else {
+        return Ok(Task::Mistake(Mistake::NoSubcommand));
+    };
+    if breaks_rule(name, &found) {
+        return match whole_error(alloc, words) {
+            Some(error) => Err(error),
+            None => Ok(Task::Mistake(Mistake::Arguments)),
+        };
+    }
+    Ok(task_in(alloc, name, found)?)
+}
