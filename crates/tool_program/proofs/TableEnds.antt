@@ -43,16 +43,16 @@ among_first words front behind same word is =
 -- whether all is well
 pub ended : (asked : TableQuestion) (tables : List ReadTable)
     (loaded loaded' : Option (List Loaded)) (said said' said'' : Option (List ℕ))
-    (failed failed' well silent has_seen : Bool) (S0 S1 S2 : Type 0)
-    → (each : ChecksEach (uploads_asked asked) loaded loaded' said said' failed well S0)
-    → AreWarnedSoFar silent tables has_seen S1 (HasReported said' said'' failed')
-    → (has_seen ≡ true → uploads_asked asked ≢ []) → (S0 → S1 → S2)
-    → (S1 → AreReported said' said'' failed' [])
-    → (S0 → HasReported said' said'' failed' → HasReported said said'' failed')
+    (failed failed' well silent has_seen : Bool) (Quiet QuietNext QuietAll : Type 0)
+    → (each : ChecksEach (uploads_asked asked) loaded loaded' said said' failed well Quiet)
+    → AreWarnedSoFar silent tables has_seen QuietNext (HasReported said' said'' failed')
+    → (has_seen ≡ true → uploads_asked asked ≢ []) → (Quiet → QuietNext → QuietAll)
+    → (QuietNext → AreReported said' said'' failed' [])
+    → (Quiet → HasReported said' said'' failed' → HasReported said said'' failed')
     → (failed' ≡ false → failed ≡ false)
     → IsWellOrIll (well && (silent || not asked.is_strict)) asked tables each.checked said said''
-    failed' S2
-ended asked tables loaded loaded' said said' said'' failed failed' false silent has_seen S0 S1 S2
+    failed' QuietAll
+ended asked tables loaded loaded' said said' said'' failed failed' false silent has_seen Quiet QuietNext QuietAll
     each warned seen both quiet later kept = inl (
       sym each.well_is,
       (
@@ -63,17 +63,17 @@ ended asked tables loaded loaded' said said' said'' failed failed' false silent 
     )
   where
     lines : (silent : Bool)
-        → AreWarnedSoFar silent tables has_seen S1 (HasReported said' said'' failed')
+        → AreWarnedSoFar silent tables has_seen QuietNext (HasReported said' said'' failed')
         → (lines : List ℕ) × AreReported said' said'' failed' lines
     lines true all = ([], quiet all.1)
     lines false all = (all.1.0, all.1.2)
 
     more : (lines : List ℕ) × AreReported said' said'' failed' lines
     more = lines silent warned
-ended asked tables loaded loaded' said said' said'' failed failed' true true has_seen S0 S1 S2 each
+ended asked tables loaded loaded' said said' said'' failed failed' true true has_seen Quiet QuietNext QuietAll each
     warned seen both quiet later kept =
     (sym each.well_is, inl (warned.0, both (each.still refl) warned.1))
-ended asked tables loaded loaded' said said' said'' failed failed' true false has_seen S0 S1 S2 each
+ended asked tables loaded loaded' said said' said'' failed failed' true false has_seen Quiet QuietNext QuietAll each
     warned seen both quiet later kept = by asked.is_strict refl
   where
     given : HasWarned (uploads_asked asked) tables said said'' failed'
@@ -86,7 +86,7 @@ ended asked tables loaded loaded' said said' said'' failed failed' true false ha
     }
 
     by : (strict : Bool) → asked.is_strict ≡ strict
-        → IsWellOrIll (not strict) asked tables each.checked said said'' failed' S2
+        → IsWellOrIll (not strict) asked tables each.checked said said'' failed' QuietAll
     by true is = inr (is, given)
     by false is = (sym each.well_is, inr (is, given))
 
@@ -279,20 +279,20 @@ ends_behind asked loaded between texts out said said' said'' failed Still opened
 -- nothing was reported before
 pub writes_from : (asked : TableQuestion) (tables : List ReadTable)
     (loaded loaded' : Option (List Loaded)) (out out' said said' said'' : Option (List ℕ))
-    (failed well : Bool) (S0 S1 : Type 0) → said' ≡ said → (S0 → S1)
-    → WritesAll asked tables loaded loaded' out out' said' said'' failed well S0
-    → WritesAll asked tables loaded loaded' out out' said said'' failed well S1
-writes_from asked tables loaded loaded' out out' said said' said'' failed well S0 S1 same on writes
+    (failed well : Bool) (Quiet QuietNext : Type 0) → said' ≡ said → (Quiet → QuietNext)
+    → WritesAll asked tables loaded loaded' out out' said' said'' failed well Quiet
+    → WritesAll asked tables loaded loaded' out out' said said'' failed well QuietNext
+writes_from asked tables loaded loaded' out out' said said' said'' failed well Quiet QuietNext same on writes
     = subst (λ (s : Option (List ℕ)). WritesAll asked tables loaded loaded' out out' s said''
-    failed well S1) same (record {
+    failed well QuietNext) same (record {
       checked = writes.checked;
       uploads = writes.uploads;
       written = writes.written;
       ended = by well writes.ended;
     })
   where
-    by : (well : Bool) → IsWellOrIll well asked tables writes.checked said' said'' failed S0
-        → IsWellOrIll well asked tables writes.checked said' said'' failed S1
+    by : (well : Bool) → IsWellOrIll well asked tables writes.checked said' said'' failed Quiet
+        → IsWellOrIll well asked tables writes.checked said' said'' failed QuietNext
     by true is = (
       is.0,
       elim is.1 [
