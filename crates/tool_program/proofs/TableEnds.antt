@@ -52,7 +52,8 @@ pub ended : (asked : TableQuestion) (tables : List ReadTable)
     → (failed' ≡ false → failed ≡ false)
     → IsWellOrIll (well && (silent || not asked.is_strict)) asked tables each.checked said said''
     failed' QuietAll
-ended asked tables loaded loaded' said said' said'' failed failed' false silent has_seen Quiet QuietNext QuietAll
+ended asked tables loaded loaded' said said' said'' failed failed' false silent has_seen Quiet
+    QuietNext QuietAll
     each warned seen both quiet later kept = inl (
       sym each.well_is,
       (
@@ -70,10 +71,12 @@ ended asked tables loaded loaded' said said' said'' failed failed' false silent 
 
     more : (lines : List ℕ) × AreReported said' said'' failed' lines
     more = lines silent warned
-ended asked tables loaded loaded' said said' said'' failed failed' true true has_seen Quiet QuietNext QuietAll each
+ended asked tables loaded loaded' said said' said'' failed failed' true true has_seen Quiet
+    QuietNext QuietAll each
     warned seen both quiet later kept =
     (sym each.well_is, inl (warned.0, both (each.still refl) warned.1))
-ended asked tables loaded loaded' said said' said'' failed failed' true false has_seen Quiet QuietNext QuietAll each
+ended asked tables loaded loaded' said said' said'' failed failed' true false has_seen Quiet
+    QuietNext QuietAll each
     warned seen both quiet later kept = by asked.is_strict refl
   where
     given : HasWarned (uploads_asked asked) tables said said'' failed'
@@ -282,7 +285,8 @@ pub writes_from : (asked : TableQuestion) (tables : List ReadTable)
     (failed well : Bool) (Quiet QuietNext : Type 0) → said' ≡ said → (Quiet → QuietNext)
     → WritesAll asked tables loaded loaded' out out' said' said'' failed well Quiet
     → WritesAll asked tables loaded loaded' out out' said said'' failed well QuietNext
-writes_from asked tables loaded loaded' out out' said said' said'' failed well Quiet QuietNext same on writes
+writes_from asked tables loaded loaded' out out' said said' said'' failed well Quiet QuietNext same
+    on writes
     = subst (λ (s : Option (List ℕ)). WritesAll asked tables loaded loaded' out out' s said''
     failed well QuietNext) same (record {
       checked = writes.checked;

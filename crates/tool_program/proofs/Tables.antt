@@ -143,20 +143,26 @@ none_before (first ∷ texts) text (inr wrong) = inr (none_before texts text wro
 
 -- one text more
 pub texts_push : (texts : List (List ℕ)) (text : List ℕ) (tables tables' : List ReadTable)
-    (well is : Bool) (Quiet QuietNext QuietAll Said SaidNext SaidAll : Type 0) → (Quiet → QuietNext → QuietAll) → (Quiet → SaidNext → SaidAll)
-    → (Said → QuietNext → SaidAll) → (Said → SaidNext → SaidAll) → AreReadSoFar well texts tables Quiet Said
+    (well is : Bool) (Quiet QuietNext QuietAll Said SaidNext SaidAll : Type 0)
+    → (Quiet → QuietNext → QuietAll) → (Quiet → SaidNext → SaidAll)
+    → (Said → QuietNext → SaidAll) → (Said → SaidNext → SaidAll)
+    → AreReadSoFar well texts tables Quiet Said
     → AddsText is text tables tables' QuietNext SaidNext
     → AreReadSoFar (well && is) (texts ++ text ∷ []) tables' QuietAll SaidAll
-texts_push texts text tables tables' true true Quiet QuietNext QuietAll Said SaidNext SaidAll ss sr rs rr all one = (
-  subst (λ (ts : List ReadTable). AreReadFrom (texts ++ text ∷ []) ts) (sym one.2)
-      (read_push texts text tables one.0 all.0 one.1),
-  ss all.1 one.3,
-)
-texts_push texts text tables tables' true false Quiet QuietNext QuietAll Said SaidNext SaidAll ss sr rs rr all one =
+texts_push texts text tables tables' true true Quiet QuietNext QuietAll Said SaidNext SaidAll ss sr
+    rs rr all one = (
+      subst (λ (ts : List ReadTable). AreReadFrom (texts ++ text ∷ []) ts) (sym one.2)
+          (read_push texts text tables one.0 all.0 one.1),
+      ss all.1 one.3,
+    )
+texts_push texts text tables tables' true false Quiet QuietNext QuietAll Said SaidNext SaidAll ss sr
+    rs rr all one =
     (none_behind texts text one.0, sr all.1 one.1)
-texts_push texts text tables tables' false true Quiet QuietNext QuietAll Said SaidNext SaidAll ss sr rs rr all one =
+texts_push texts text tables tables' false true Quiet QuietNext QuietAll Said SaidNext SaidAll ss sr
+    rs rr all one =
     (none_before texts text all.0, rs all.1 one.3)
-texts_push texts text tables tables' false false Quiet QuietNext QuietAll Said SaidNext SaidAll ss sr rs rr all one =
+texts_push texts text tables tables' false false Quiet QuietNext QuietAll Said SaidNext SaidAll ss
+    sr rs rr all one =
     (none_before texts text all.0, rr all.1 one.1)
 
 -- the same, of what is reported
@@ -166,10 +172,13 @@ pub texts_on : (said said' said'' : Option (List ℕ)) (failed failed' : Bool)
     → (QuietNext → (said'' ≡ said') × (failed' ≡ failed)) → (failed' ≡ false → failed ≡ false)
     → AreReadSoFar well texts tables Quiet (HasReported said said' failed)
     → AddsText is text tables tables' QuietNext (HasReported said' said'' failed')
-    → AreReadSoFar (well && is) (texts ++ text ∷ []) tables' QuietAll (HasReported said said'' failed')
-texts_on said said' said'' failed failed' texts text tables tables' well is Quiet QuietNext QuietAll ss from to
+    → AreReadSoFar (well && is) (texts ++ text ∷ []) tables' QuietAll
+    (HasReported said said'' failed')
+texts_on said said' said'' failed failed' texts text tables tables' well is Quiet QuietNext QuietAll
+    ss from to
     kept all one =
-    texts_push texts text tables tables' well is Quiet QuietNext QuietAll (HasReported said said' failed)
+    texts_push texts text tables tables' well is Quiet QuietNext QuietAll
+    (HasReported said said' failed)
     (HasReported said' said'' failed') (HasReported said said'' failed') ss
     (λ still more. reported_from said said' said'' failed' (from still) more)
     (λ some still. let p = to still in
@@ -237,12 +246,14 @@ sound_push (first ∷ checked) one =
 -- one upload more
 pub checks_more : (words : List (List ℕ)) (word : List ℕ)
     (loaded loaded' loaded'' : Option (List Loaded)) (said said' said'' : Option (List ℕ))
-    (failed failed' well is : Bool) (Quiet QuietNext QuietAll : Type 0) → (Quiet → QuietNext → QuietAll)
+    (failed failed' well is : Bool) (Quiet QuietNext QuietAll : Type 0)
+    → (Quiet → QuietNext → QuietAll)
     → ChecksEach words loaded loaded' said said' failed well Quiet
     → ChecksOne word loaded' loaded'' said' said'' failed' is QuietNext
     → (failed' ≡ false → failed ≡ false)
     → ChecksEach (words ++ word ∷ []) loaded loaded'' said said'' failed' (well && is) QuietAll
-checks_more words word loaded loaded' loaded'' said said' said'' failed failed' well is Quiet QuietNext QuietAll ss
+checks_more words word loaded loaded' loaded'' said said' said'' failed failed' well is Quiet
+    QuietNext QuietAll ss
     each one kept = record {
       checked = each.checked ++ one.one ∷ [];
       uploads = record {
@@ -303,33 +314,39 @@ cause_of f table None some =
 cause_of f table (Some seen) some = inr refl
 
 pub warned_push : (tables : List ReadTable) (table : ReadTable) (has_seen silent is : Bool)
-    (Quiet QuietNext QuietAll Said SaidNext SaidAll : Type 0) → (Quiet → QuietNext → QuietAll) → (Quiet → SaidNext → SaidAll)
-    → (Said → QuietNext → SaidAll) → (Said → SaidNext → SaidAll) → AreWarnedSoFar silent tables has_seen Quiet Said
+    (Quiet QuietNext QuietAll Said SaidNext SaidAll : Type 0) → (Quiet → QuietNext → QuietAll)
+    → (Quiet → SaidNext → SaidAll)
+    → (Said → QuietNext → SaidAll) → (Said → SaidNext → SaidAll)
+    → AreWarnedSoFar silent tables has_seen Quiet Said
     → IsWarnedOf is table has_seen QuietNext SaidNext
     → AreWarnedSoFar (silent && is) (tables ++ table ∷ []) has_seen QuietAll SaidAll
-warned_push tables table has_seen true true Quiet QuietNext QuietAll Said SaidNext SaidAll ss sr rs rr all one =
+warned_push tables table has_seen true true Quiet QuietNext QuietAll Said SaidNext SaidAll ss sr rs
+    rr all one =
     (each_push HasNoIgnored tables table all.0 one.0, ss all.1 one.1)
-warned_push tables table has_seen true false Quiet QuietNext QuietAll Said SaidNext SaidAll ss sr rs rr all one = (
-  elim one.0 [
-    | inl some ↦ inl (λ none. some (all_last HasNoIgnored tables table none))
-    | inr seen ↦ inr seen
-  ],
-  sr all.1 one.1,
-)
-warned_push tables table has_seen false true Quiet QuietNext QuietAll Said SaidNext SaidAll ss sr rs rr all one = (
-  elim all.0 [
-    | inl some ↦ inl (λ none. some (all_front HasNoIgnored tables table none))
-    | inr seen ↦ inr seen
-  ],
-  rs all.1 one.1,
-)
-warned_push tables table has_seen false false Quiet QuietNext QuietAll Said SaidNext SaidAll ss sr rs rr all one = (
-  elim all.0 [
-    | inl some ↦ inl (λ none. some (all_front HasNoIgnored tables table none))
-    | inr seen ↦ inr seen
-  ],
-  rr all.1 one.1,
-)
+warned_push tables table has_seen true false Quiet QuietNext QuietAll Said SaidNext SaidAll ss sr rs
+    rr all one = (
+      elim one.0 [
+        | inl some ↦ inl (λ none. some (all_last HasNoIgnored tables table none))
+        | inr seen ↦ inr seen
+      ],
+      sr all.1 one.1,
+    )
+warned_push tables table has_seen false true Quiet QuietNext QuietAll Said SaidNext SaidAll ss sr rs
+    rr all one = (
+      elim all.0 [
+        | inl some ↦ inl (λ none. some (all_front HasNoIgnored tables table none))
+        | inr seen ↦ inr seen
+      ],
+      rs all.1 one.1,
+    )
+warned_push tables table has_seen false false Quiet QuietNext QuietAll Said SaidNext SaidAll ss sr
+    rs rr all one = (
+      elim all.0 [
+        | inl some ↦ inl (λ none. some (all_front HasNoIgnored tables table none))
+        | inr seen ↦ inr seen
+      ],
+      rr all.1 one.1,
+    )
 
 -- the same, of what is reported
 pub warned_on : (said said' said'' : Option (List ℕ)) (failed failed' : Bool)
@@ -340,9 +357,11 @@ pub warned_on : (said said' said'' : Option (List ℕ)) (failed failed' : Bool)
     → IsWarnedOf is table has_seen QuietNext (HasReported said' said'' failed')
     → AreWarnedSoFar (silent && is) (tables ++ table ∷ []) has_seen QuietAll
     (HasReported said said'' failed')
-warned_on said said' said'' failed failed' tables table has_seen silent is Quiet QuietNext QuietAll ss from to kept
+warned_on said said' said'' failed failed' tables table has_seen silent is Quiet QuietNext QuietAll
+    ss from to kept
     all one =
-    warned_push tables table has_seen silent is Quiet QuietNext QuietAll (HasReported said said' failed)
+    warned_push tables table has_seen silent is Quiet QuietNext QuietAll
+    (HasReported said said' failed)
     (HasReported said' said'' failed') (HasReported said said'' failed') ss
     (λ still more. reported_from said said' said'' failed' (from still) more)
     (λ some still. let p = to still in
