@@ -1,8 +1,6 @@
 -- The fault that is reported is the right one.
 use Rattle.std.proofs.Common.{◌≡◌, ◌∙◌, ◌<◌, ◌∷◌, ℕ, List, [], true, Option, Some, Bor, arith}
 use Rattle.std.proofs.Common.{nat_eq, ap, inr, length, map, refl, sym, subst}
-use Rattle.std.specs.Prelude.{IfErr, Result, Ok, Err}
-use Rattle.std.specs.Result.{IsErrAnd}
 use Rattle.std.proofs.lemmas.Bool.Decides.{nat_tests}
 use Rattle.std.proofs.lemmas.List.{length-map}
 use Rattle.fare_program.specs.Causes.{IsNameReported, IsRightFault, IsRightOfSorted, names_reported}
@@ -16,12 +14,6 @@ use Rattle.fare_program.specs.inside.Causes.{IsOfOutput, IsRightOfUploads}
 use Rattle.program_manners.specs.Loads.{Loaded}
 use Rattle.program_manners.specs.Refusals.{IsOneOf}
 use Rattle.program_manners.specs.declared.loading.LoadFault.{LoadFault}
-
--- a fault that is handed on
-pub handed_on : {A : Type 0} (r : Result A Fault) (fault : Fault) (P : Fault → Type 0)
-    → IsErrAnd r (λ e. e ≡ fault) → P fault → IfErr r P
-handed_on (Ok x) fault P same is = tt
-handed_on (Err e) fault P same is = subst P (sym same) is
 
 -- more than one file was loaded under as many names
 count_is : (names : List (List ℕ)) (loaded loaded' : Option (List Loaded)) (files : List (List ℕ))

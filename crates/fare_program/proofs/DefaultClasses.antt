@@ -1,5 +1,5 @@
 -- The text of a fare table names a default class.
-use Rattle.std.proofs.Common.{◌≡◌, ℕ, List, Option, Some, None, Ok, Err, Result, codes, refl, subst}
+use Rattle.std.proofs.Common.{◌≡◌, ℕ, List, Option, Some, None, Ok, Err, Result, codes, refl}
 use Rattle.std.specs.Option.{ok_or, option_and_then}
 use Rattle.toml.specs.Data.{Data, Members, as_str, get_member}
 use Rattle.toml.specs.Parse.{parse_document}
@@ -8,7 +8,7 @@ use Rattle.fare_table.specs.Members.{of_kind}
 use Rattle.fare_table.specs.OrFault.{◌>>=◌}
 use Rattle.fare_table.specs.TableMeaning.{TableMeaning, meaning_in, meaning_of_tree}
 use Rattle.fare_table.specs.declared.fault.TableFault.{TableFault}
-use Rattle.fare_table.specs.declared.fault.TableFault.TheVariants.{Missing, Kind, Text}
+use Rattle.fare_table.specs.declared.fault.TableFault.TheVariants.{Missing, Text}
 use Rattle.fare_table.specs.declared.fault.Key.TheVariants as the_key
 use Rattle.fare_table.proofs.PartLemmas.{parts}
 use Rattle.settled_texts.specs.Classes.{default_in}

@@ -1,5 +1,5 @@
 -- What was done stays done if what was written is kept.
-use Rattle.std.proofs.Common.{◌≡◌, ℕ, List, Bool, true, false, Option}
+use Rattle.std.proofs.Common.{ℕ, List, Bool, true, false, Option}
 use Rattle.std.specs.Prelude.{MatchBool}
 use Rattle.std.specs.Io.KnownBytes.{Keeps}
 use Rattle.std.proofs.KnownBytes.{Appends-kept}
@@ -12,7 +12,8 @@ kept_by : (b : Bool) (A B C D : Type 0) → (A → C) × (B → D) → MatchBool
 kept_by true A B C D both is = both.0 is
 kept_by false A B C D both is = both.1 is
 
-kept_listing : (table : Option TableNames) (names : List (List ℕ)) (loaded loaded' : Option (List Loaded))
+kept_listing : (table : Option TableNames) (names : List (List ℕ))
+    (loaded loaded' : Option (List Loaded))
     (out out' last : Option (List ℕ)) (well : Bool) → Keeps out' last
     → RunsListing table names loaded loaded' out out' well
     → RunsListing table names loaded loaded' out last well
@@ -27,7 +28,8 @@ kept_listing table names loaded loaded' out out' last well kept done = record {
 
 kept_service : (asked : Asked) (loaded loaded' : Option (List Loaded))
     (out out' last : Option (List ℕ)) (well : Bool) → Keeps out' last
-    → RunsService asked loaded loaded' out out' well → RunsService asked loaded loaded' out last well
+    → RunsService asked loaded loaded' out out' well
+    → RunsService asked loaded loaded' out last well
 kept_service asked loaded loaded' out out' last well kept done = record {
   fares = done.fares;
   files = done.files;

@@ -32,7 +32,8 @@ same_tokens entries others same =
           (map token_of others) moved;
     })
 
-same_reported : (entries others : List Entry) → ((token : Token) → own token entries ≡ own token others)
+same_reported : (entries others : List Entry)
+    → ((token : Token) → own token entries ≡ own token others)
     → (only : Option Token)
     → ledger_tokens only entries ≡ ledger_tokens only others
 same_reported entries others same None = same_tokens entries others same

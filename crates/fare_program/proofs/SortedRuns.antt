@@ -55,7 +55,8 @@ charges asked right sorted =
     (settles asked.sorted asked.settle asked.files sorted live)
     settle
 
-loaded_table : (table : Option TableNames) (loaded loaded' : Option (List Loaded)) (fares : Option Fares)
+loaded_table : (table : Option TableNames) (loaded loaded' : Option (List Loaded))
+    (fares : Option Fares)
     → is_some table ≡ true → LoadsTable table loaded loaded' fares → (f : Fares) × (fares ≡ Some f)
 loaded_table None loaded loaded' fares some loads = cc
 loaded_table (Some name) loaded loaded' fares some loads = (loads.1, loads.3)
@@ -93,7 +94,8 @@ does_traced asked known loaded loaded' out out' well traced runs =
 pub does_untraced : (asked : Asked) (known : List ℕ → Option (List ℕ))
     (loaded loaded' : Option (List Loaded))
     (out out' : Option (List ℕ)) (well : Bool) → asked.traced ≡ false
-    → DoesUntraced asked known loaded loaded' out out' well → Does asked known loaded loaded' out out' well
+    → DoesUntraced asked known loaded loaded' out out' well
+    → Does asked known loaded loaded' out out' well
 does_untraced asked known loaded loaded' out out' well untraced done =
     subst (λ (b : Bool). MatchBool b (RunsTraced asked loaded loaded' out out' well)
     (DoesUntraced asked known loaded loaded' out out' well)) (sym untraced) done

@@ -1,10 +1,8 @@
 -- What is told of fare tables that follow one another is right.
-use Rattle.std.proofs.Common.{◌≡◌, ◌∙◌, ◌<◌, ◌==◌, ℕ, Bor, Bool, true, false, List, [], ◌∷◌, ◌++◌}
-use Rattle.std.proofs.Common.{Option, Some, All, arith, inl, inr, map, refl, subst, sym, take}
-use Rattle.std.specs.Prelude.{◌≢◌, ◌⊎◌, length, slice_get}
-use Rattle.std.proofs.lemmas.Bool.{eqb-true, true≢false}
-use Rattle.toml.specs.Data.{Members}
-use Rattle.toml.specs.Parse.{parse_document}
+use Rattle.std.proofs.Common.{◌≡◌, ◌∙◌, ℕ, Bool, true, false, List, [], ◌∷◌, ◌++◌, Option, Some}
+use Rattle.std.proofs.Common.{inl, inr, refl, subst, sym}
+use Rattle.std.specs.Prelude.{◌≢◌}
+use Rattle.std.proofs.lemmas.Bool.{true≢false}
 use Rattle.fare_table.specs.Fares.{Fares}
 use Rattle.fare_table.specs.declared.fault.TableFault.{TableFault}
 use Rattle.program_manners.specs.Loads.{Loaded, LoadsOne}
@@ -19,12 +17,10 @@ use Rattle.program_manners.specs.declared.following.NextFault.{NextFault}
 use Rattle.program_manners.specs.declared.following.NextFault.TheVariants as next
 use Rattle.program_manners.specs.declared.loading.LoadFault.{LoadFault}
 use Rattle.program_manners.specs.declared.table_words.WrittenDate.{WrittenDate}
-use Rattle.settled_texts.specs.ClassFaults.{HasPlainClasses, IsFaultOf, IsWrongAt}
-use Rattle.settled_texts.specs.Classes.{has_plain_classes}
+use Rattle.settled_texts.specs.ClassFaults.{IsFaultOf, IsWrongAt}
 use Rattle.settled_texts.specs.declared.class_names.ClassFault.TheVariants as class
 use Rattle.settled_texts.specs.declared.class_names.WrongNames.{WrongNames}
-use Rattle.fare_program.specs.Causes.{HasOtherNames, IsNameReported, IsRightFault, RefusesClass}
-use Rattle.fare_program.specs.Causes.{names_reported, table_files}
+use Rattle.fare_program.specs.Causes.{IsNameReported, IsRightFault, RefusesClass}
 use Rattle.fare_program.specs.Options.{Asked}
 use Rattle.fare_program.specs.declared.fault.Fault.{Fault}
 use Rattle.fare_program.specs.declared.fault.Fault.TheVariants.{ClassName, Follow, NamedClass}

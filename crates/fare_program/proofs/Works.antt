@@ -22,21 +22,26 @@ appends_to_kept (Some x) (Some y) None text kept added = absurd added
 appends_to_kept (Some x) (Some y) (Some z) text kept added = added ∙ ap (λ l. l ++ text) kept
 
 -- with fares, and without the flag, the service is asked for
-serves : (list : Bool) (table : Option TableNames) (loaded_before loaded_before' : Option (List Loaded))
-    (fares : Option Fares) (f : Fares) → list ≡ false → LoadsTable table loaded_before loaded_before' fares
+serves : (list : Bool) (table : Option TableNames)
+    (loaded_before loaded_before' : Option (List Loaded))
+    (fares : Option Fares) (f : Fares) → list ≡ false
+    → LoadsTable table loaded_before loaded_before' fares
     → fares ≡ Some f → (list || not (is_some table)) ≡ false
 serves true table loaded_before loaded_before' fares f flag loads is = cc
 serves false None loaded_before loaded_before' fares f flag loads is = let none = loads.0 in cc
 serves false (Some name) loaded_before loaded_before' fares f flag loads is = refl
 
 -- with the flag, or without fares, a listing is asked for
-lists_by : (list : Bool) (table : Option TableNames) (loaded_before loaded_before' : Option (List Loaded))
-    (fares : Option Fares) → LoadsTable table loaded_before loaded_before' fares → (list ≡ true) ⊎ (fares ≡ None)
+lists_by : (list : Bool) (table : Option TableNames)
+    (loaded_before loaded_before' : Option (List Loaded))
+    (fares : Option Fares) → LoadsTable table loaded_before loaded_before' fares
+    → (list ≡ true) ⊎ (fares ≡ None)
     → (list || not (is_some table)) ≡ true
 lists_by true table loaded_before loaded_before' fares loads is = refl
 lists_by false None loaded_before loaded_before' fares loads is = refl
 lists_by false (Some name) loaded_before loaded_before' fares loads (inl e) = cc
-lists_by false (Some name) loaded_before loaded_before' fares loads (inr e) = let some = loads.3 in cc
+lists_by false (Some name) loaded_before loaded_before' fares loads (inr e) = let some = loads.3 in
+    cc
 
 module _ (asked : Asked) (known : List ℕ → Option (List ℕ))
     (loaded_before between loaded_before' : Option (List Loaded))
@@ -63,7 +68,8 @@ module _ (asked : Asked) (known : List ℕ → Option (List ℕ))
       })
 
   pub does_charge : (f : Fares) (files : List (List ℕ)) (token : Option Token) → fares ≡ Some f
-      → LoadsFiles (names_to_load asked.files) between loaded_before' files → IsTokenIn asked.token token
+      → LoadsFiles (names_to_load asked.files) between loaded_before' files
+      → IsTokenIn asked.token token
       → asked.list ≡ false → asked.sorted ≡ false
       → (text : List ℕ) × ShowsAsked asked f files token text well × Appends mid out' text
       → DoesUntraced asked known loaded_before loaded_before' out out' well
@@ -73,7 +79,8 @@ module _ (asked : Asked) (known : List ℕ → Option (List ℕ))
       (MatchBool asked.sorted (RunsSorted asked known loaded_before loaded_before' out out' well)
       (RunsService asked loaded_before loaded_before' out out' well)))
       (sym (serves asked.list asked.table loaded_before between fares f flag loads is))
-      (subst (λ (b : Bool). MatchBool b (RunsSorted asked known loaded_before loaded_before' out out' well)
+      (subst (λ (b : Bool). MatchBool b
+      (RunsSorted asked known loaded_before loaded_before' out out' well)
       (RunsService asked loaded_before loaded_before' out out' well)) (sym live) (record {
         fares = f;
         files = files;
@@ -113,7 +120,8 @@ named_length (name ∷ names) some = omega (arith, all names)
     all (x ∷ others) = omega (arith, all others)
 
 -- a source that keeps no loads says nothing of them
-pub unreported : (names : List (List ℕ)) (loaded_before : Option (List Loaded)) (files : List (List ℕ))
+pub unreported : (names : List (List ℕ)) (loaded_before : Option (List Loaded))
+    (files : List (List ℕ))
     → loaded_before ≡ None
     → 0 < length files → length files ≡ length names
     → LoadsFiles (names_to_load names) loaded_before loaded_before files
@@ -131,10 +139,13 @@ pub does_ahead : (asked : Asked) (known : List ℕ → Option (List ℕ)) (keeps
     (table : Option Fares) (token : Option Token) (out out' : Option (List ℕ)) (well : Bool)
     → LoadsTable asked.table loaded_before between table → (keeps ≡ false → between ≡ None)
     → IsTokenIn asked.token token → IsChargedAhead asked keeps table token out out' well
-    → Keeps out out → asked.sorted ≡ false → DoesUntraced asked known loaded_before between out out' well
-does_ahead asked known keeps loaded_before between table token out out' well loads none is_token is kept
+    → Keeps out out → asked.sorted ≡ false
+    → DoesUntraced asked known loaded_before between out out' well
+does_ahead asked known keeps loaded_before between table token out out' well loads none is_token is
+    kept
     live =
-    does_charge asked known loaded_before between between out out out' well table loads kept is.fares
+    does_charge asked known loaded_before between between out out out' well table loads kept
+    is.fares
     is.files token
     is.is_table
     (unreported asked.files between is.files (none is.kept_none) is.some is.number) is_token

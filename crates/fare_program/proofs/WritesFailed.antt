@@ -1,10 +1,8 @@
 -- What a write that failed left is a beginning.
-use Rattle.std.proofs.Common.{◌≡◌, ℕ, List, [], ◌++◌, Bool, true, false, not, Option, Some, None}
-use Rattle.std.proofs.Common.{refl, sym, ap, subst, ◌∙◌, append_assoc, append-nil}
-use Rattle.std.specs.Prelude.{IfErr, OnErr, Result, Ok, Err, MatchBool, ◌&&◌, is_some}
-use Rattle.std.specs.Result.{IsErrAnd}
+use Rattle.std.proofs.Common.{◌≡◌, ℕ, List, [], ◌++◌, Bool, true, false, Option, Some, None, refl}
+use Rattle.std.proofs.Common.{sym, ap, subst, ◌∙◌, append_assoc, append-nil}
+use Rattle.std.specs.Prelude.{MatchBool}
 use Rattle.std.specs.Io.KnownBytes.{Appends, Keeps, append_known}
-use Rattle.std.proofs.KnownBytes.{Appends-nil}
 use Rattle.fare_texts.specs.WrittenOut.{Begins}
 use Rattle.fare_texts.specs.declared.print_fault.PrintFault.{PrintFault}
 use Rattle.fare_texts.specs.declared.print_fault.PrintFault.TheVariants as print
@@ -12,8 +10,7 @@ use Rattle.program_manners.specs.Loads.{Loaded}
 use Rattle.fare_program.specs.Begun.{HasBegun, IsBegun}
 use Rattle.fare_program.specs.Options.{Asked, lists}
 use Rattle.fare_program.specs.Program.{Does, RunsListing, RunsService, RunsSorted, RunsTraced}
-use Rattle.fare_program.specs.declared.fault.Fault.{Fault}
-use Rattle.fare_program.specs.declared.fault.Fault.TheVariants.{Write, NoMemory}
+use Rattle.fare_program.specs.declared.fault.Fault.TheVariants.{Write}
 use Rattle.fare_program.specs.inside.Fault.{printed_as}
 use Rattle.fare_program.proofs.Works.{appends_to_kept}
 
@@ -71,7 +68,8 @@ grown_by true A B P one other is = one is
 grown_by false A B P one other is = other is
 
 -- what was done is a text that was written
-does_write : (asked : Asked) (known : List ℕ → Option (List ℕ)) (loaded loaded' : Option (List Loaded))
+does_write : (asked : Asked) (known : List ℕ → Option (List ℕ))
+    (loaded loaded' : Option (List Loaded))
     (out out' : Option (List ℕ)) (well : Bool) → Does asked known loaded loaded' out out' well
     → (text : List ℕ) × Appends out out' text
 does_write asked known loaded loaded' out out' well done =

@@ -2,7 +2,6 @@
 use Rattle.std.specs.Prelude.{◌≡◌, ◌≢◌, ◌⊎◌, ◌<◌, ℕ, List, [], ◌∷◌, Option, None, Some, true, false}
 use Rattle.std.specs.Prelude.{All, codes, length, map, slice_get, take}
 use Rattle.fare_table.specs.Fares.{Fares}
-use Rattle.placed_files.specs.declared.unopened.Unopened.{Unopened}
 use Rattle.program_manners.specs.Loads.{Loaded}
 use Rattle.program_manners.specs.Refusals.{IsOneOf, HasRefused}
 use Rattle.program_manners.specs.TableLoads.{LoadsTables}
@@ -11,8 +10,7 @@ use Rattle.program_manners.specs.TableWords.{TableNames, file_named}
 use Rattle.program_manners.specs.declared.loading.LoadFault.{LoadFault}
 use Rattle.sorted_bills.specs.Faults.{HaveTooManyTaps}
 use Rattle.settled_texts.specs.Classes.{has_plain_classes}
-use Rattle.sorted_taps.specs.Checked.{IsFirstFault}
-use Rattle.sorted_taps.specs.declared.fault.SortedFault.{SortedFault}
+use Rattle.sorted_taps.specs.Checked.{IsFirstUnsorted}
 use Rattle.toml.specs.Data.{Members}
 use Rattle.toml.specs.Parse.{parse_document}
 use Rattle.fare_program.specs.Options.{Asked}
@@ -38,15 +36,6 @@ abbrev pub IsNameReported : Asked → List ℕ → Type 0
 IsNameReported asked name =
     IsOneOf name (table_files asked.table) ⊎ IsOneOf name (names_reported asked.files)
 
--- Of sorted files under these names, of which this is known, the one of this name is the first that
--- is not sorted, for this reason.
-pub record IsFirstUnsorted (names : List (List ℕ)) (known : List (Option (List ℕ)))
-    (name : List ℕ) (fault : SortedFault) : Type 0 where
-  pub index : ℕ
-  pub named : slice_get names index ≡ Some name
-  pub first : (files : List (List ℕ)) → known ≡ map Some files
-      → IsFirstFault files (record { index = index; fault = fault })
-
 -- A fault of sorted files under these names, of which this is known, is the right one: a file that
 -- is named is one of them, and is refused for this reason, or all have too many taps. Any may have
 -- changed after it was checked, and a write or want of memory may fail at any time.
@@ -66,8 +55,8 @@ abbrev pub HasOtherNames : List ℕ → Type 0
 HasOtherNames text =
     (tree : Members) × (parse_document text ≡ Some tree) × (has_plain_classes tree ≡ false)
 
--- All tables were loaded. A class that the text of this place names cannot stand in a ledger, and each
--- class of the texts before it can.
+-- All tables were loaded. A class that the text of this place names cannot stand in a ledger, and
+-- each class of the texts before it can.
 pub record RefusesClass (tables : TableNames) (loaded loaded' : Option (List Loaded)) (place : ℕ)
     : Type 0 where
   pub texts : List (List ℕ)
@@ -86,7 +75,8 @@ pub record RefusesTheNames (asked : Asked) (loaded loaded' : Option (List Loaded
   pub place : ℕ
   pub refused : RefusesClass tables loaded loaded' place
 
--- Of several tables, the one of this name is the first that has a class that cannot stand in a ledger.
+-- Of several tables, the one of this name is the first that has a class that cannot stand in a
+-- ledger.
 pub record RefusesNames (asked : Asked) (loaded loaded' : Option (List Loaded)) (name : List ℕ)
     : Type 0 where
   pub tables : TableNames
@@ -98,9 +88,9 @@ pub record RefusesNames (asked : Asked) (loaded loaded' : Option (List Loaded)) 
 
 -- The fault is the right one for what is asked for. A file that is named is one of the words, and
 -- one that the source refused so. A table fault is the first one of the text that was loaded under
--- the table's name, behind those of the tables before it. A class's name is refused only for a traced
--- ledger, and if a text has one that no ledger can have. There are too many uploads only above
--- 65,535. Only a write and want of memory may fail at any time.
+-- the table's name, behind those of the tables before it. A class's name is refused only for a
+-- traced ledger, and if a text has one that no ledger can have. There are too many uploads only
+-- above 65,535. Only a write and want of memory may fail at any time.
 abbrev pub IsRightFault : Asked → (List ℕ → Option (List ℕ)) → Option (List Loaded)
     → Option (List Loaded) → Option (Option (List ℕ) × LoadFault) → Fault → Type 0
 IsRightFault asked under loaded loaded' refused (File file) =

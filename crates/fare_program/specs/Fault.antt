@@ -18,7 +18,8 @@ use Rattle.fare_program.specs.declared.fault.Fault.TheVariants.{LedgerList, Expl
 use Rattle.fare_program.specs.declared.fault.Fault.TheVariants.{ExplainList, ExplainLedger}
 use Rattle.fare_program.specs.declared.fault.Fault.TheVariants.{SortedNoSettle, SortedNoFile}
 use Rattle.fare_program.specs.declared.fault.Fault.TheVariants.{TracedNoLedger, TracedNoSettle}
-use Rattle.fare_program.specs.declared.fault.Fault.TheVariants.{TracedToken, TracedSorted, ClassName}
+use Rattle.fare_program.specs.declared.fault.Fault.TheVariants.{TracedToken, TracedSorted}
+use Rattle.fare_program.specs.declared.fault.Fault.TheVariants.{ClassName}
 use Rattle.fare_program.specs.declared.fault.Fault.TheVariants.{File, Table, Unopened, Unsorted}
 use Rattle.fare_program.specs.declared.fault.Fault.TheVariants.{TooManyTaps, Late, Date, Follow}
 use Rattle.fare_program.specs.declared.fault.Fault.TheVariants.{NamedClass, NamedTable}
@@ -164,9 +165,9 @@ abbrev pub first_of_two : Option Fault → Option Fault → Option Fault
 first_of_two None other = other
 first_of_two (Some fault) other = Some fault
 
--- what is wrong with what is asked for, if anything, but for the dates of tables: the token is looked
--- at first, then settling, then the ledger, then the explained statement, then sorted files, then a
--- traced ledger
+-- what is wrong with what is asked for, if anything, but for the dates of tables: the token is
+-- looked at first, then settling, then the ledger, then the explained statement, then sorted files,
+-- then a traced ledger
 abbrev pub mistake : Asked → Option Fault
 mistake asked =
     first_of_two (token_mistake asked) (first_of_two (settle_mistake asked)

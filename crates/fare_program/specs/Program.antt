@@ -61,7 +61,8 @@ pub record Loads (table : Option TableNames) (names : List (List ℕ))
 -- Tables and files were loaded; what was appended to the writer is the listing of these files, with
 -- the validators known that the table knows. It is clean if no file has a layout fault.
 pub record RunsListing (table : Option TableNames) (names : List (List ℕ))
-    (loaded loaded' : Option (List Loaded)) (out out' : Option (List ℕ)) (clean : Bool) : Type 0 where
+    (loaded loaded' : Option (List Loaded)) (out out' : Option (List ℕ)) (clean : Bool) : Type
+    0 where
   pub fares : Option Fares
   pub files : List (List ℕ)
   pub loads : Loads table names loaded loaded' fares files
@@ -137,7 +138,8 @@ pub record RunsService (asked : Asked) (loaded loaded' : Option (List Loaded))
 -- canonical order. What was appended to the writer is what is asked for of the settled history of
 -- the files, if what stands under their names is known. All is well.
 pub record RunsSorted (asked : Asked) (known : List ℕ → Option (List ℕ))
-    (loaded loaded' : Option (List Loaded)) (out out' : Option (List ℕ)) (well : Bool) : Type 0 where
+    (loaded loaded' : Option (List Loaded)) (out out' : Option (List ℕ)) (well : Bool) : Type
+    0 where
   pub fares : Fares
   pub loads : LoadsTable asked.table loaded loaded' (Some fares)
   pub token : Option Token
@@ -173,7 +175,8 @@ pub record RunsTraced (asked : Asked) (loaded loaded' : Option (List Loaded))
 
 -- What is asked for beside a traced ledger was done, of files that were loaded, or of sorted files.
 -- What stands under a name of a sorted file is given, if it is known.
-abbrev pub DoesUntraced : Asked → (List ℕ → Option (List ℕ)) → Option (List Loaded) → Option (List Loaded)
+abbrev pub DoesUntraced : Asked → (List ℕ → Option (List ℕ)) → Option (List Loaded)
+    → Option (List Loaded)
     → Option (List ℕ) → Option (List ℕ) → Bool → Type 0
 DoesUntraced asked known loaded loaded' out out' well = MatchBool (lists asked)
     (RunsListing asked.table asked.files loaded loaded' out out' well)
@@ -184,7 +187,8 @@ DoesUntraced asked known loaded loaded' out out' well = MatchBool (lists asked)
 abbrev pub Does : Asked → (List ℕ → Option (List ℕ)) → Option (List Loaded) → Option (List Loaded)
     → Option (List ℕ) → Option (List ℕ) → Bool → Type 0
 Does asked known loaded loaded' out out' well = MatchBool asked.traced
-    (RunsTraced asked loaded loaded' out out' well) (DoesUntraced asked known loaded loaded' out out' well)
+    (RunsTraced asked loaded loaded' out out' well)
+    (DoesUntraced asked known loaded loaded' out out' well)
 
 -- The program gave up: the fault's line was reported, and nothing was written unless a write
 -- failed.

@@ -14,8 +14,8 @@ use Rattle.fare_program.specs.Program.{Does, GaveUp, GaveUpOn}
 use Rattle.fare_program.specs.declared.fault.Fault.{Fault}
 use Rattle.fare_program.specs.declared.fault.Fault.TheVariants.{NoMemory, Write}
 
--- What `main_over` promises, each clause under its name there: of these words, of what stands on the
--- disk under a name, of what the source had loaded before and after, of the last load that it
+-- What `main_over` promises, each clause under its name there: of these words, of what stands on
+-- the disk under a name, of what the source had loaded before and after, of the last load that it
 -- refused, of what was written to the output and said on the standard error before and after, of
 -- whether the output was flushed, of whether a word failed to be said, and of the status. `Silent`
 -- is that the standard error is as it was.

@@ -114,8 +114,8 @@ fn command<'a>(alloc: Global) -> Result<Command<'a>, AllocError>
     with_texts(alloc, command)
 }
 
-/// The command line with the options of the ledger and of the explained statement, the list of files
-/// and the files.
+/// The command line with the options of the ledger and of the explained statement, the list of
+/// files and the files.
 fn with_texts<'a>(alloc: Global, command: Command<'a>) -> Result<Command<'a>, AllocError>
     ensures { IfOk result (λ more. app_of more ≡ with_rule (with_rule (with_rule (with_rule
         (with_rule (with_rule (app_of command.entry) ledger_flag) explain_flag) traced_flag)

@@ -142,8 +142,8 @@ impl Listing {
         }
     }
 
-    /// Lists one more tap, `known` if its validator is, and says its liveness. If memory is refused,
-    /// the listing stays as it was. The taps so far are below 2 to the power of 127.
+    /// Lists one more tap, `known` if its validator is, and says its liveness. If memory is
+    /// refused, the listing stays as it was. The taps so far are below 2 to the power of 127.
     pub fn add(&mut self, tap: &TapView, known: bool) -> Result<Word, NoMemory>
         requires { self.old.counts.taps < 2 ^ 127 }
         ensures liveness { IfOk result (λ liveness. (taps : List Listed) → StandsFor self.old taps

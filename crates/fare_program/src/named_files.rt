@@ -113,8 +113,8 @@ pub(crate) fn sizes_of<D: Disk>(alloc: Global, disk: &D, names: &[&str]) -> Opti
     Some(sizes)
 }
 
-/// Charges the named files, each of which is read when its turn comes, and writes what is asked for.
-/// Says whether each file was posted whole.
+/// Charges the named files, each of which is read when its turn comes, and writes what is asked
+/// for. Says whether each file was posted whole.
 fn charge_named<'a, R: Threads + Wait + RandomSource + Sync, D: Disk + Sync, W: Write>(
     rt: &R,
     alloc: Global,

@@ -63,7 +63,8 @@ fn print<'a, R: Threads + Sync, W: Write>(
     token: Option<Token>,
     out: &mut W,
 ) -> Result<(), Fault<'a>>
-    ensures ok { OnOk result ((text : List ℕ) × ShowsWith explain token outcome.now.ends outcome.now text
+    ensures ok { OnOk result ((text : List ℕ)
+        × ShowsWith explain token outcome.now.ends outcome.now text
         × Appends (W.contents out.old) (W.contents out.new) text) }
     ensures begun { IfErr result (λ fault. fault ≡ Fault.Write
         → (text : List ℕ) × ShowsWith explain token outcome.now.ends outcome.now text

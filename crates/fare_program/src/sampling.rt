@@ -52,8 +52,8 @@ fn push_front(front: &[u8], sample: &mut Vec<u128>) -> Result<Option<u64>, Alloc
     Ok(Some((header + width * count) as u64))
 }
 
-/// Adds some tokens of the file to the sample, as big-endian numbers: of each of its first batches a
-/// few. No tap is checked, and batches are passed over by their headers alone. It says nothing of
+/// Adds some tokens of the file to the sample, as big-endian numbers: of each of its first batches
+/// a few. No tap is checked, and batches are passed over by their headers alone. It says nothing of
 /// the file, which may be read otherwise later.
 pub(crate) fn push_file_sample<F: Placed>(
     alloc: Global,

@@ -1,5 +1,6 @@
 //! What is printed of one token of settled files, from its taps alone.
-ghost use Rattle.std.specs.Prelude.{Bool, ◌≡◌, ◌≢◌, ℕ, List, All, Some, IfErr, IfOk, MatchBool, OnOk};
+ghost use Rattle.std.specs.Prelude.{Bool, ◌≡◌, ◌≢◌, ℕ, List, All, Some, IfErr, IfOk, MatchBool};
+ghost use Rattle.std.specs.Prelude.{OnOk};
 ghost use Rattle.std.specs.Io.KnownBytes.{Appends, Keeps};
 ghost use Rattle.fare_texts.specs.WrittenOut.{Begins};
 ghost use Rattle.tap_views.specs.Encoding.{AreEarly};
@@ -99,8 +100,8 @@ pub(crate) fn write_text<'a, W: Write>(
     Ok(())
 }
 
-/// Writes what is asked for of the token: of the taps of the uploads no others are kept. Says whether
-/// each file was posted whole.
+/// Writes what is asked for of the token: of the taps of the uploads no others are kept. Says
+/// whether each file was posted whole.
 pub(crate) fn write_token<'a, R: Threads + Sync, U: Uploads + Sync, W: Write>(
     rt: &R,
     alloc: Global,

@@ -1,6 +1,6 @@
 //! What is asked for of sorted files, which are read in pieces and merged.
-ghost use Rattle.std.specs.Prelude.{◌≡◌, ◌≢◌, ℕ, true, false, List, Option, Some, None, IfErr, IfOk, OnOk};
-ghost use Rattle.std.specs.Prelude.{◌++◌, ◌∷◌, [], is_some, map};
+ghost use Rattle.std.specs.Prelude.{◌≡◌, ◌≢◌, ℕ, true, false, List, Option, Some, None, IfErr};
+ghost use Rattle.std.specs.Prelude.{IfOk, OnOk, ◌++◌, ◌∷◌, [], is_some, map};
 ghost use Rattle.std.specs.Io.KnownBytes.{Keeps};
 ghost use Rattle.fare_table.specs.Fares.{Fares};
 ghost use Rattle.fare_program.specs.Causes.{IsRightOfSorted};
@@ -206,8 +206,8 @@ fn charge_sorted<'a, R: Threads + RandomSource + Sync, F: Placed + Sync, W: Writ
 }
 
 /// Opens the named files, each of which has its taps in canonical order, charges them by the table,
-/// of which there is one, and writes what is asked for. It ends well, or with a fault: a file that is
-/// out of order or damaged is refused whole.
+/// of which there is one, and writes what is asked for. It ends well, or with a fault: a file that
+/// is out of order or damaged is refused whole.
 pub(crate) fn work_sorted<'a, R: Threads + RandomSource + Sync, D: Disk, W: Write>(
     rt: &R,
     alloc: Global,

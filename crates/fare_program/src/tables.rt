@@ -1,6 +1,6 @@
 //! Fare tables that are loaded in the order of their words.
-ghost use Rattle.std.specs.Prelude.{◌≡◌, ◌≢◌, ◌++◌, ◌∷◌, [], ℕ, List, Option, None, Some, IfErr, IfOk};
-ghost use Rattle.std.specs.Prelude.{OnOk, false, map};
+ghost use Rattle.std.specs.Prelude.{◌≡◌, ◌≢◌, ◌++◌, ◌∷◌, [], ℕ, List, Option, None, Some, IfErr};
+ghost use Rattle.std.specs.Prelude.{IfOk, OnOk, false, map};
 ghost use Rattle.fare_program.specs.Causes.{IsRightFault};
 ghost use Rattle.fare_program.specs.Fault.{status_of};
 ghost use Rattle.fare_program.specs.Options.{Asked};
@@ -70,9 +70,11 @@ fn load_next<'a, S: Source>(
 ) -> Result<Tables, Fault<'a>>
     requires { date_fault false word.now ≡ None }
     ensures ok { IfOk result (λ all. (text : List ℕ)
-        × LoadsOne (S.loaded source.old) (S.loaded source.new) (Some (file_named word.entry.now)) text
+        × LoadsOne (S.loaded source.old) (S.loaded source.new) (Some (file_named word.entry.now))
+        text
         × Follows tables.fares word.entry.now text all.fares
-        × (map (λ t. t.items) all.texts.items ≡ map (λ t. t.items) tables.texts.items ++ text ∷ [])) }
+        × (map (λ t. t.items) all.texts.items
+        ≡ map (λ t. t.items) tables.texts.items ++ text ∷ [])) }
     ensures right { IfErr result (λ fault. (asked : Asked) (under : List ℕ → Option (List ℕ))
         (loaded : Option (List Loaded)) (words : TableNames) (before behind texts : List (List ℕ))
         → asked.table ≡ Some words → words.later ≡ before ++ word.entry.now ∷ behind
@@ -103,7 +105,8 @@ fn load_first<'a, S: Source>(
     words: &TableWords<'a>,
     source: &mut S,
 ) -> Result<Tables, Fault<'a>>
-    ensures ok { IfOk result (λ tables. LoadsTables (record { first = words.now.first.now; later = [] })
+    ensures ok { IfOk result (λ tables.
+        LoadsTables (record { first = words.now.first.now; later = [] })
         (S.loaded source.old) (S.loaded source.new) (map (λ t. t.items) tables.texts.items)
         tables.fares) }
     ensures right { IfErr result (λ fault. (asked : Asked) (under : List ℕ → Option (List ℕ))

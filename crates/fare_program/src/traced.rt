@@ -1,6 +1,6 @@
 //! The traced ledger of files.
-ghost use Rattle.std.specs.Prelude.{Bool, ◌≡◌, ◌≢◌, ◌≤◌, ℕ, List, Option, IfErr, IfOk, Some, length};
-ghost use Rattle.std.specs.Prelude.{map, true};
+ghost use Rattle.std.specs.Prelude.{Bool, ◌≡◌, ◌≢◌, ◌≤◌, ℕ, List, Option, IfErr, IfOk, Some};
+ghost use Rattle.std.specs.Prelude.{length, map, true};
 ghost use Rattle.std.specs.Io.KnownBytes.{Appends, Keeps};
 ghost use Rattle.fare_texts.specs.WrittenOut.{Begins};
 ghost use Rattle.toml.specs.Data.{Members};
@@ -34,8 +34,8 @@ pub(crate) struct Riders {
     pub(crate) names: ClassNames,
 }
 
-/// Why the names of classes were not read. The texts were read as fare tables before, so that each is
-/// TOML, and names a default class.
+/// Why the names of classes were not read. The texts were read as fare tables before, so that each
+/// is TOML, and names a default class.
 fn of_names<'a>(words: &TableWords<'a>, wrong: WrongNames) -> Fault<'a>
     requires fault { wrong.fault ≢ ClassFault.Text }
     requires place { wrong.place ≤ length (names_of words.now).later }

@@ -1,11 +1,12 @@
 -- Several files that are checked, one after the other.
-use Rattle.std.specs.Prelude.{◌≡◌, ℕ, ◌<◌, List, [], length, get_or, map}
+use Rattle.std.specs.Prelude.{◌≡◌, ℕ, ◌<◌, List, [], Option, Some, length, get_or, map, slice_get}
 use Rattle.tap_views.specs.declared.encoder.TapFields.{TapFields}
 use Rattle.sorted_taps.specs.Merges.{AreSortedFiles}
 use Rattle.sorted_taps.specs.Sorted.{IsSortedFile, IsSortedFault}
 use Rattle.sorted_taps.specs.declared.fault.FileFault.{FileFault}
 use Rattle.sorted_taps.specs.declared.fault.MergeFault.{MergeFault}
 use Rattle.sorted_taps.specs.declared.fault.MergeFault.TheVariants.{File}
+use Rattle.sorted_taps.specs.declared.fault.SortedFault.{SortedFault}
 
 -- each file is sorted, and the numbers are those of their taps
 pub record AreCountedFiles (files : List (List ℕ)) (numbers : List ℕ) : Type 0 where
@@ -19,6 +20,15 @@ pub record IsFirstFault (files : List (List ℕ)) (fault : FileFault) : Type 0 w
   pub earlier : (k : ℕ) → k < fault.index
       → (taps : List TapFields) × IsSortedFile (get_or files k []) taps
   pub is_fault : IsSortedFault (get_or files fault.index []) fault.fault
+
+-- Of files under these names, of which this is known, the one of this name is the first that is not
+-- sorted, for this reason.
+pub record IsFirstUnsorted (names : List (List ℕ)) (known : List (Option (List ℕ)))
+    (name : List ℕ) (fault : SortedFault) : Type 0 where
+  pub index : ℕ
+  pub named : slice_get names index ≡ Some name
+  pub first : (files : List (List ℕ)) → known ≡ map Some files
+      → IsFirstFault files (record { index = index; fault = fault })
 
 -- why files are not merged: the first of them that is not sorted; that a read, a write or a growth
 -- of memory failed says nothing of them

@@ -37,6 +37,7 @@ IsTableLine line = (fault : TableFault) × (line ≡ table_text fault)
 -- a table, with their status, if there is one; else a fault with the other status.
 abbrev pub IsWhyOf : Asked → Fault → Type 0
 IsWhyOf asked fault = MatchOption (mistake asked) (MatchOption (wrong_date asked)
-    (status_of fault ≡ 1) (λ wrong. (fault_text fault ≡ codes "fault: " ++ date_text wrong.0 wrong.1)
+    (status_of fault ≡ 1)
+    (λ wrong. (fault_text fault ≡ codes "fault: " ++ date_text wrong.0 wrong.1)
     × (status_of fault ≡ 2)))
     (λ first. (fault ≡ first) × (status_of fault ≡ 2))

@@ -8,8 +8,8 @@ use Rattle.report_texts.specs.UploadEnds.{are_posted}
 use Rattle.fare_program.specs.Program.{ShowsOf, ShowsPlain}
 use Rattle.fare_service.specs.Headline.{HasRun}
 
--- The files were posted as they are. If each was posted whole, what is shown of the outcome is shown
--- over their plain history.
+-- The files were posted as they are. If each was posted whole, what is shown of the outcome is
+-- shown over their plain history.
 pub record IsLiveRun (fares : Fares) (shards workers : ℕ) (files : List (List ℕ))
     (outcome : OutcomeView) : Type 0 where
   pub run : HasRun fares shards files workers outcome

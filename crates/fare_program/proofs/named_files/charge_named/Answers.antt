@@ -1,5 +1,4 @@
-use Rattle.std.proofs.Common.{◌∙◌, ℕ, List, arith, subst}
-use Rattle.std.specs.Prelude.{Option, None}
+use Rattle.std.proofs.Common.{◌∙◌, arith, subst}
 use Rattle.std.proofs.lemmas.List.{length-map}
 use Rattle.std.proofs.lemmas.Result.{IfErr-weaker, IfOk-weaker}
 use Rattle.fare_table.specs.Fares.{Fares}
@@ -30,7 +29,8 @@ returns-clause-ok g c =
       is.0,
       is.1,
       lent_number _ is.0 is.2 ∙ length-map c.args.uploads.now.names.now _,
-      subst (λ (f : Fares). ShowsAsked asked f is.0 c.args.token is.1 well) c.in_ok-own.ensures is.3,
+      subst (λ (f : Fares). ShowsAsked asked f is.0 c.args.token is.1 well) c.in_ok-own.ensures
+          is.3,
       is.4,
     ))
     c.charge_lent.ensures.ok
@@ -61,7 +61,8 @@ returns-clause-begun g c =
       is.1,
       is.2,
       lent_number _ is.1 is.3 ∙ length-map c.args.uploads.now.names.now _,
-      subst (λ (f : Fares). ShowsAsked asked f is.1 c.args.token is.2 is.0) c.in_ok-own.ensures is.4,
+      subst (λ (f : Fares). ShowsAsked asked f is.1 c.args.token is.2 is.0) c.in_ok-own.ensures
+          is.4,
       is.5,
     ))
     c.charge_lent.ensures.begun

@@ -5,7 +5,8 @@ use Rattle.std.proofs.lemmas.List.{map-append, take_all, take_more}
 use Rattle.fare_program.proofs.Loads.{loads_push, names_to_load_are}
 use Rattle.program_manners.specs.Loads.{Loaded}
 use Rattle.program_manners.proofs.Refusals.{is_one_at}
-use Rattle.fare_program.proofs.Causes.{handed_on, named_one, none_named}
+use Rattle.fare_program.proofs.Causes.{named_one, none_named}
+use Rattle.tap_views.proofs.Choices.{IfErr_handed_on}
 use Rattle.fare_program.specs.Causes.{IsRightFault}
 use Rattle.fare_program.specs.Options.{Asked}
 use Rattle.fare_program.proofs.program.load_files.Goals as goal
@@ -37,7 +38,7 @@ returns-clause-ok g c =
 pub returns-in_err-bytes-clause-right : goal.returns-in_err-bytes-clause-right
 returns-in_err-bytes-clause-right g c =
     let none : c.is_empty.result ≡ nat_eq (length c.args.names.now) 0 = c.is_empty.ensures in
-    handed_on c.from_residual.result c.in_err-bytes.field-0.0
+    IfErr_handed_on c.from_residual.result c.in_err-bytes.field-0.0
     (λ f. (asked : Asked) (under : List ℕ → Option (List ℕ)) (loaded after : Option (List Loaded))
     → asked.files ≡ map (λ n. n.now) c.args.names.now
     → IsRightFault asked under loaded after _ f)
@@ -48,7 +49,7 @@ returns-in_err-bytes-clause-right g c =
 pub returns-in_err-bytes-2-clause-right : goal.returns-in_err-bytes-2-clause-right
 returns-in_err-bytes-2-clause-right g c =
     let no_name : Bor (List ℕ) = record { ref_ptr = (0, 0); now = [] } in
-    handed_on c.from_residual-in_err-bytes-2.result c.in_err-bytes-2.field-0.0
+    IfErr_handed_on c.from_residual-in_err-bytes-2.result c.in_err-bytes-2.field-0.0
     (λ f. (asked : Asked) (under : List ℕ → Option (List ℕ)) (loaded after : Option (List Loaded))
     → asked.files ≡ map (λ n. n.now) c.args.names.now
     → IsRightFault asked under loaded after _ f)

@@ -1,6 +1,5 @@
-use Rattle.std.proofs.Common.{◌≡◌, ◌∙◌, ◌++◌, ℕ, Bool, List, None, Option, Some, arith, codes, false}
-use Rattle.std.proofs.Common.{inl, inr, map, refl, subst, sym, true}
-use Rattle.std.proofs.Common.{⊎_elim}
+use Rattle.std.proofs.Common.{◌≡◌, ◌∙◌, ◌++◌, ℕ, Bool, List, None, Option, Some, arith, codes, inl}
+use Rattle.std.proofs.Common.{inr, map, refl, subst, sym, true, ⊎_elim}
 use Rattle.fare_program.specs.Begun.{AreOfBytes, HasBegun}
 use Rattle.fare_program.specs.Program.{Does}
 use Rattle.clap.specs.Words.{IsAmong, kind_of}
@@ -83,7 +82,8 @@ returns-clause-faults g c = λ one.
           (g.W.Write.contents c.args.out.now.writer) (g.W.Write.contents c.work.new.out.writer))
           same
           (c.in-Err-work.ensures.begun write
-          (subst (λ (asked : Asked). AreOfBytes asked (g.D.Disk.bytes_under c.args.disk.now)) (sym same)
+          (subst (λ (asked : Asked). AreOfBytes asked (g.D.Disk.bytes_under c.args.disk.now))
+          (sym same)
           unsorted))),
       record {
         line_reported = c.report.ensures.line;

@@ -22,6 +22,9 @@ returns-in-Err-clause-fault g c = λ one.
       Write,
       tt,
       refl,
-      record
-          { line_reported = rw (← quiet) c.report.ensures.line; kept = λ other. absurd (other refl) },
+      record {
+        line_reported = rw (← quiet) c.report.ensures.line;
+        kept =
+            λ other. absurd (other refl);
+      },
     )

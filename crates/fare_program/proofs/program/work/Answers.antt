@@ -14,8 +14,8 @@ use Rattle.fare_program.specs.inside.Options.{asked_of}
 use Rattle.fare_program.proofs.SortedRuns.{does_sorted, does_traced, does_untraced, has_table}
 use Rattle.fare_program.proofs.SortedRuns.{one_table, traced_table}
 use Rattle.fare_program.proofs.Works.{does_ahead}
-use Rattle.std.proofs.Common.{◌∙◌, ℕ, Bool, List, None, Option, Some, true, false, sym}
-use Rattle.fare_program.proofs.Causes.{handed_on}
+use Rattle.std.proofs.Common.{◌∙◌, ℕ, List, None, Option, Some, true, sym}
+use Rattle.tap_views.proofs.Choices.{IfErr_handed_on}
 use Rattle.fare_program.specs.Causes.{IsRightFault}
 use Rattle.fare_program.specs.Fault.{status_of}
 use Rattle.fare_program.proofs.program.work.Goals as goal
@@ -103,7 +103,7 @@ returns-then-options-2-clause-fault g c =
 pub returns-in_err-table-clause-right_fault : goal.returns-in_err-table-clause-right_fault
 returns-in_err-table-clause-right_fault g c =
     let asked = asked_of c.args.options.now in
-    handed_on c.from_residual-in_err-table.result c.in_err-table.field-0.0
+    IfErr_handed_on c.from_residual-in_err-table.result c.in_err-table.field-0.0
     (λ f. status_of f ≡ 1 → IsRightFault asked (g.D.Disk.bytes_under c.args.disk.now) _ _ _ f)
     c.from_residual-in_err-table.ensures.1
     (λ one. c.in_err-table.ensures.right asked (g.D.Disk.bytes_under c.args.disk.now) refl)

@@ -6,7 +6,7 @@ use Rattle.fare_program.proofs.WritesFailed.{begun_by}
 use Rattle.fare_program.specs.inside.Options.{asked_of}
 use Rattle.fare_program.proofs.Works.{does_charge, does_list}
 use Rattle.program_manners.specs.Loads.{Loaded}
-use Rattle.fare_program.proofs.Causes.{handed_on}
+use Rattle.tap_views.proofs.Choices.{IfErr_handed_on}
 use Rattle.fare_program.specs.Causes.{IsRightFault}
 use Rattle.fare_program.proofs.program.work_by_table.Goals as goal
 
@@ -22,7 +22,8 @@ returns-then-options-clause-ok g c =
     (g.S.Source.loaded c.args.source.now) (g.S.Source.loaded c.load_files.new.source)
     (map bytes_in c.in_ok-files.files.items)) c.deref.ensures.value c.in_ok-files.ensures.ok in
     IfOk-weaker c.list.result _ _
-    (λ well done loaded_before before loads is_token kept live. does_list (asked_of c.args.options.now)
+    (λ well done loaded_before before loads is_token kept live. does_list
+    (asked_of c.args.options.now)
     (g.D.Disk.bytes_under c.args.disk.now) loaded_before _ _ before _ _ well
     c.args.table loads kept (map bytes_in c.deref-then-options.result.now)
     (subst (λ (fs : List (List ℕ)). LoadsFiles (names_to_load (asked_of c.args.options.now).files)
@@ -37,7 +38,8 @@ returns-in-Some-clause-ok g c =
     (g.S.Source.loaded c.args.source.now) (g.S.Source.loaded c.load_files.new.source)
     (map bytes_in c.in_ok-files.files.items)) c.deref.ensures.value c.in_ok-files.ensures.ok in
     IfOk-weaker c.charge.result _ _
-    (λ well done loaded_before before loads is_token kept live. does_charge (asked_of c.args.options.now)
+    (λ well done loaded_before before loads is_token kept live. does_charge
+    (asked_of c.args.options.now)
     (g.D.Disk.bytes_under c.args.disk.now) loaded_before _ _ before _ _ well
     c.args.table loads kept c.in-Some.table (map bytes_in c.in_ok-files.files.items) c.args.token
     c.in-Some.is
@@ -50,10 +52,12 @@ returns-clause-ok g c =
     (g.S.Source.loaded c.args.source.now) (g.S.Source.loaded c.load_files.new.source)
     (map bytes_in c.in_ok-files.files.items)) c.deref.ensures.value c.in_ok-files.ensures.ok in
     IfOk-weaker c.list-in-None.result _ _
-    (λ well done loaded_before before loads is_token kept live. does_list (asked_of c.args.options.now)
+    (λ well done loaded_before before loads is_token kept live. does_list
+    (asked_of c.args.options.now)
     (g.D.Disk.bytes_under c.args.disk.now) loaded_before _ _ before _ _ well
     None (subst
-    (LoadsTable (asked_of c.args.options.now).table loaded_before (g.S.Source.loaded c.args.source.now))
+    (LoadsTable (asked_of c.args.options.now).table loaded_before
+    (g.S.Source.loaded c.args.source.now))
     c.in-None.is loads)
     kept (map bytes_in c.deref-in-None.result.now)
     (subst (λ (fs : List (List ℕ)). LoadsFiles (names_to_load (asked_of c.args.options.now).files)
@@ -65,11 +69,12 @@ returns-clause-ok g c =
 pub returns-in_err-files-clause-right : goal.returns-in_err-files-clause-right
 returns-in_err-files-clause-right g c =
     let asked = asked_of c.args.options.now in
-    handed_on c.from_residual.result c.in_err-files.field-0.0
+    IfErr_handed_on c.from_residual.result c.in_err-files.field-0.0
     (λ f. (loaded_before : Option (List Loaded))
     → IsRightFault asked (g.D.Disk.bytes_under c.args.disk.now) loaded_before _ _ f)
     c.from_residual.ensures.1
-    (λ loaded_before. c.in_err-files.ensures.right asked (g.D.Disk.bytes_under c.args.disk.now) loaded_before _
+    (λ loaded_before. c.in_err-files.ensures.right asked (g.D.Disk.bytes_under c.args.disk.now)
+    loaded_before _
     (ap (map name_in) (sym c.deref.ensures.value)))
 
 -- ---- what a write that failed left
@@ -85,10 +90,12 @@ returns-then-options-clause-begun g c =
     let is = begun write in (
       is.0,
       begun_by before (g.W.Write.contents c.args.out.now) (g.W.Write.contents c.list.new.out) is.1
-          (λ all. DoesUntraced asked under loaded_before (g.S.Source.loaded c.load_files.new.source) before
+          (λ all. DoesUntraced asked under loaded_before (g.S.Source.loaded c.load_files.new.source)
+          before
           all is.0)
           kept is.3
-          (λ all written. does_list asked under loaded_before _ _ before _ all is.0 c.args.table loads
+          (λ all written. does_list asked under loaded_before _ _ before _ all is.0 c.args.table
+          loads
           kept (map bytes_in c.deref-then-options.result.now)
           (subst (λ (fs : List (List ℕ)). LoadsFiles (names_to_load asked.files)
           (g.S.Source.loaded c.args.source.now) (g.S.Source.loaded c.load_files.new.source) fs)
@@ -109,10 +116,12 @@ returns-in-Some-clause-begun g c =
     let is = begun write in (
       is.0,
       begun_by before (g.W.Write.contents c.args.out.now) (g.W.Write.contents c.charge.new.out) is.1
-          (λ all. DoesUntraced asked under loaded_before (g.S.Source.loaded c.load_files.new.source) before
+          (λ all. DoesUntraced asked under loaded_before (g.S.Source.loaded c.load_files.new.source)
+          before
           all is.0)
           kept is.3
-          (λ all written. does_charge asked under loaded_before _ _ before _ all is.0 c.args.table loads
+          (λ all written. does_charge asked under loaded_before _ _ before _ all is.0 c.args.table
+          loads
           kept c.in-Some.table (map bytes_in c.in_ok-files.files.items) c.args.token c.in-Some.is
           loaded
           is_token c.if-options.false live (is.1, is.2, written)),
@@ -132,10 +141,12 @@ returns-clause-begun g c =
       is.0,
       begun_by before (g.W.Write.contents c.args.out.now)
           (g.W.Write.contents c.list-in-None.new.out) is.1
-          (λ all. DoesUntraced asked under loaded_before (g.S.Source.loaded c.load_files.new.source) before
+          (λ all. DoesUntraced asked under loaded_before (g.S.Source.loaded c.load_files.new.source)
+          before
           all is.0)
           kept is.3 (λ all written. does_list asked under loaded_before _ _ before _ all is.0 None
-          (subst (LoadsTable asked.table loaded_before (g.S.Source.loaded c.args.source.now)) c.in-None.is
+          (subst (LoadsTable asked.table loaded_before (g.S.Source.loaded c.args.source.now))
+          c.in-None.is
           loads)
           kept (map bytes_in c.deref-in-None.result.now)
           (subst (λ (fs : List (List ℕ)). LoadsFiles (names_to_load asked.files)

@@ -1,4 +1,4 @@
-use Rattle.std.proofs.Common.{◌∙◌, ℕ, List, Vec, Global, Bor, ap, map, subst, sym, ◌≡◌, inl, true}
+use Rattle.std.proofs.Common.{ℕ, List, Vec, Global, Bor, ap, map, subst, sym, ◌≡◌, true}
 use Rattle.std.specs.Prelude.{option_map}
 use Rattle.fare_table.specs.Fares.{Fares}
 use Rattle.program_manners.specs.TableViews.{names_of}
@@ -10,7 +10,7 @@ use Rattle.fare_program.specs.Program.{LoadsFiles, RunsTraced, names_to_load}
 use Rattle.fare_program.specs.inside.Options.{asked_of}
 use Rattle.settled_texts.specs.Ledgers.{IsTracedLedger}
 use Rattle.settled_texts.specs.Names.{class_by}
-use Rattle.fare_program.proofs.Causes.{handed_on}
+use Rattle.tap_views.proofs.Choices.{IfErr_handed_on}
 use Rattle.fare_program.specs.Causes.{IsRightFault}
 use Rattle.fare_program.proofs.program.work_traced.Goals as goal
 
@@ -46,7 +46,8 @@ returns-clause-ok g c =
       shows = subst (λ (f : Fares). IsTracedLedger (class_by c.in_ok-riders.riders.names) f
           (map bytes_in c.in_ok-files.files.items) done.0 well) c.in_ok-riders.ensures.table
           (subst (λ (fs : List (Vec ℕ Global)). IsTracedLedger
-          (class_by c.in_ok-riders.riders.names) c.in_ok-riders.riders.table (map bytes_in fs) done.0
+          (class_by c.in_ok-riders.riders.names) c.in_ok-riders.riders.table (map bytes_in fs)
+          done.0
           well) c.deref-2.ensures.value done.1);
       written = done.2;
     })
@@ -55,7 +56,7 @@ returns-clause-ok g c =
 pub returns-in_err-tables-clause-right : goal.returns-in_err-tables-clause-right
 returns-in_err-tables-clause-right g c =
     let asked = asked_of c.args.options.now in
-    handed_on c.from_residual.result c.in_err-tables.field-0.0
+    IfErr_handed_on c.from_residual.result c.in_err-tables.field-0.0
     (λ f. asked.traced ≡ true → IsRightFault asked (g.D.Disk.bytes_under c.args.disk.now) _ _ _ f)
     c.from_residual.ensures.1
     (λ traced. c.in_err-tables.ensures.right asked (g.D.Disk.bytes_under c.args.disk.now)
@@ -64,7 +65,7 @@ returns-in_err-tables-clause-right g c =
 pub returns-in_err-riders-clause-right : goal.returns-in_err-riders-clause-right
 returns-in_err-riders-clause-right g c =
     let asked = asked_of c.args.options.now in
-    handed_on c.from_residual-in_err-riders.result c.in_err-riders.field-0.0
+    IfErr_handed_on c.from_residual-in_err-riders.result c.in_err-riders.field-0.0
     (λ f. asked.traced ≡ true → IsRightFault asked (g.D.Disk.bytes_under c.args.disk.now) _ _ _ f)
     c.from_residual-in_err-riders.ensures.1
     (λ traced. c.in_err-riders.ensures.right asked (g.D.Disk.bytes_under c.args.disk.now) _ _ _
@@ -73,7 +74,7 @@ returns-in_err-riders-clause-right g c =
 pub returns-in_err-files-clause-right : goal.returns-in_err-files-clause-right
 returns-in_err-files-clause-right g c =
     let asked = asked_of c.args.options.now in
-    handed_on c.from_residual-in_err-files.result c.in_err-files.field-0.0
+    IfErr_handed_on c.from_residual-in_err-files.result c.in_err-files.field-0.0
     (λ f. asked.traced ≡ true → IsRightFault asked (g.D.Disk.bytes_under c.args.disk.now) _ _ _ f)
     c.from_residual-in_err-files.ensures.1
     (λ traced. c.in_err-files.ensures.right asked (g.D.Disk.bytes_under c.args.disk.now) _ _
@@ -113,7 +114,8 @@ returns-clause-begun g c =
             shows = subst (λ (f : Fares). IsTracedLedger (class_by c.in_ok-riders.riders.names) f
                 (map bytes_in c.in_ok-files.files.items) done.1 done.0) c.in_ok-riders.ensures.table
                 (subst (λ (fs : List (Vec ℕ Global)). IsTracedLedger
-                (class_by c.in_ok-riders.riders.names) c.in_ok-riders.riders.table (map bytes_in fs) done.1
+                (class_by c.in_ok-riders.riders.names) c.in_ok-riders.riders.table (map bytes_in fs)
+                done.1
                 done.0) c.deref-2.ensures.value done.2);
             written = written;
           }),

@@ -1,9 +1,9 @@
-use Rattle.std.proofs.Common.{◌≡◌, ◌∙◌, ℕ, List, Bor, Some, ap, map, refl, subst, sym, true}
+use Rattle.std.proofs.Common.{◌≡◌, ◌∙◌, ℕ, List, Bor, ap, map, refl, subst, sym, true}
 use Rattle.std.proofs.lemmas.Result.{err_from_is_err_and}
 use Rattle.fare_table.specs.Fares.{Fares}
 use Rattle.fare_program.specs.Settling.{ShowsSettled}
 use Rattle.fare_program.specs.inside.Options.{asked_of}
-use Rattle.fare_program.proofs.Causes.{handed_on}
+use Rattle.tap_views.proofs.Choices.{IfErr_handed_on}
 use Rattle.fare_program.proofs.SortedRuns.{one_table}
 use Rattle.fare_program.specs.Causes.{IsRightOfSorted}
 use Rattle.fare_program.proofs.sorted.work_sorted.Goals as goal
@@ -36,7 +36,7 @@ pub returns-in_err-files-clause-right : goal.returns-in_err-files-clause-right
 returns-in_err-files-clause-right g c =
     let known = map (g.D.Disk.bytes_under c.args.disk.now) (asked_of c.args.options.now).files in
     let fault = c.in_err-files.field-0.0 in
-    handed_on c.from_residual.result fault
+    IfErr_handed_on c.from_residual.result fault
     (IsRightOfSorted (asked_of c.args.options.now).files known) c.from_residual.ensures.1
     (subst (λ (ns : List (Bor (List ℕ))). IsRightOfSorted (map name_in ns) known fault)
     c.deref.ensures.value (c.in_err-files.ensures.right known))

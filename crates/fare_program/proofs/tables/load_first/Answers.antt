@@ -2,7 +2,7 @@
 use Rattle.std.proofs.Common.{◌≡◌, ◌∙◌, ◌==◌, Bor, List, ℕ, ap, length, refl, subst}
 use Rattle.program_manners.proofs.Refusals.{first_table_fault}
 use Rattle.program_manners.specs.Refusals.{IsFirstTableFault}
-use Rattle.fare_program.proofs.Causes.{handed_on}
+use Rattle.tap_views.proofs.Choices.{IfErr_handed_on}
 use Rattle.fare_program.proofs.TableCauses.{first_is_right, first_reported}
 use Rattle.program_manners.proofs.AnyWord.{any_word}
 use Rattle.fare_program.specs.Causes.{IsRightFault}
@@ -26,8 +26,9 @@ returns-clause-right g c = λ asked under named.
 
 pub returns-in_err-text-clause-right : goal.returns-in_err-text-clause-right
 returns-in_err-text-clause-right g c =
-    handed_on c.from_residual.result c.in_err-text.field-0.0
+    IfErr_handed_on c.from_residual.result c.in_err-text.field-0.0
     (λ f. (asked : Asked) (under : List ℕ → _) → asked.table ≡ _
     → IsRightFault asked under _ _ _ f)
     c.from_residual.ensures.1
-    (λ asked under named. c.in_err-text.ensures.right asked under _ _ (first_reported asked _ named))
+    (λ asked under named. c.in_err-text.ensures.right asked under _ _
+    (first_reported asked _ named))

@@ -1,15 +1,13 @@
 -- The next table was loaded and follows those before it, or what is reported of it is right.
-use Rattle.std.proofs.Common.{◌≡◌, ◌∙◌, ◌++◌, ◌∷◌, [], ℕ, List, Option, Some, ap, refl, subst, sym}
-use Rattle.std.proofs.Common.{map}
+use Rattle.std.proofs.Common.{◌≡◌, ◌∙◌, ◌++◌, ◌∷◌, ℕ, List, Option, Some, subst, sym}
 use Rattle.program_manners.specs.Loads.{Loaded, LoadsOne}
 use Rattle.program_manners.specs.NextFaults.{IsRightNext}
-use Rattle.program_manners.specs.TableLoads.{FollowsFrom, LoadsTables}
-use Rattle.program_manners.specs.TableWords.{TableNames, file_named}
-use Rattle.program_manners.proofs.DatedWords.{has_date, right_date}
+use Rattle.program_manners.specs.TableLoads.{LoadsTables}
+use Rattle.program_manners.specs.TableWords.{TableNames}
 use Rattle.fare_program.specs.Causes.{IsNameReported, IsRightFault}
 use Rattle.fare_program.specs.Options.{Asked}
 use Rattle.fare_program.specs.inside.Tables.{IsRightLater}
-use Rattle.fare_program.proofs.Causes.{handed_on}
+use Rattle.tap_views.proofs.Choices.{IfErr_handed_on}
 use Rattle.fare_program.proofs.TableCauses.{later_reported, next_is_right}
 use Rattle.fare_program.proofs.tables.load_next.Goals as goal
 
@@ -33,7 +31,7 @@ returns-clause-right g c =
 
 pub returns-in_err-text-clause-right : goal.returns-in_err-text-clause-right
 returns-in_err-text-clause-right g c =
-    handed_on c.from_residual.result c.in_err-text.field-0.0
+    IfErr_handed_on c.from_residual.result c.in_err-text.field-0.0
     (λ f. (asked : Asked) (under : List ℕ → Option (List ℕ)) (loaded : Option (List Loaded))
     (words : TableNames) (before behind texts : List (List ℕ))
     → asked.table ≡ Some words → words.later ≡ before ++ c.args.word.now ∷ behind

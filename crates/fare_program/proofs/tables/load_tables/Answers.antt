@@ -1,5 +1,6 @@
 -- Each round loads one table more.
-use Rattle.std.proofs.Common.{◌≡◌, ◌∙◌, ◌+◌, ◌++◌, ◌<◌, ◌∷◌, [], ℕ, List, Bor, None, Some, Option, ap}
+use Rattle.std.proofs.Common.{◌≡◌, ◌∙◌, ◌+◌, ◌++◌, ◌<◌, ◌∷◌, [], ℕ, List, Bor, None, Some, Option}
+use Rattle.std.proofs.Common.{ap}
 use Rattle.std.proofs.Common.{drop, false, get_or, length, map, subst, sym, take}
 use Rattle.std.proofs.lemmas.List.{map-append, take_more}
 use Rattle.program_manners.specs.TableLoads.{LoadsTables}
@@ -9,7 +10,7 @@ use Rattle.program_manners.proofs.DatedWords.{later_right, tables_right}
 use Rattle.program_manners.proofs.NextTables.{tables_push, words_at}
 use Rattle.fare_program.specs.Causes.{IsRightFault}
 use Rattle.fare_program.specs.Options.{Asked}
-use Rattle.fare_program.proofs.Causes.{handed_on}
+use Rattle.tap_views.proofs.Choices.{IfErr_handed_on}
 use Rattle.fare_program.proofs.tables.load_tables.Goals as goal
 
 abbrev texts_of : List (Bor (List ℕ)) → List (List ℕ)
@@ -89,7 +90,7 @@ returns-in_err-tables-2-clause-right g c =
     let words = c.args.words.now.later.items in
     let all = c.deref-word-items.result.now in
     let place = c.loop-word.word-index in
-    handed_on c.from_residual-in_err-tables-2.result c.in_err-tables-2.field-0.0
+    IfErr_handed_on c.from_residual-in_err-tables-2.result c.in_err-tables-2.field-0.0
     (λ f. (asked : Asked) (under : List ℕ → Option (List ℕ))
     → asked.table ≡ Some (names_of c.args.words.now)
     → IsRightFault asked under (g.S.Source.loaded c.args.source.now)

@@ -1,4 +1,4 @@
-use Rattle.std.proofs.Common.{◌≡◌, map, take}
+use Rattle.std.proofs.Common.{map, take}
 use Rattle.program_manners.specs.TableLoads.{LoadsTables}
 use Rattle.fare_program.proofs.tables.load_tables.Given as goal
 

@@ -11,7 +11,8 @@ returns-clause-asked c =
     let found = found_of c.in_ok-matches.matches in
     let rows = c.in_ok-matches.ensures.rows in
     let table = c.in_ok-of.ensures
-    ∙ ap tables_in (ap (λ (words : List (Bor (List ℕ))). map (λ w. w.now) words) c.deref.ensures.value
+    ∙ ap tables_in
+    (ap (λ (words : List (Bor (List ℕ))). map (λ w. w.now) words) c.deref.ensures.value
     ∙ c.in_ok-tables.ensures ∙ ap (λ r. unwrap_or (all_of (codes "table") r) []) rows) in
     let list = c.flag_in.ensures ∙ ap (is_given (codes "list")) rows in
     let workers = c.number_in.ensures.number ∙ ap (number_of (codes "workers")) rows in

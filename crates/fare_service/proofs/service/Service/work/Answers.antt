@@ -82,7 +82,8 @@ loop-preserved g c =
     }
 
 -- no upload was left
-pub returns-in_default-next_number-clause-stopped : goal.returns-in_default-next_number-clause-stopped
+pub returns-in_default-next_number-clause-stopped :
+    goal.returns-in_default-next_number-clause-stopped
 returns-in_default-next_number-clause-stopped g c =
     let none = c.in_default-next_number.ensures.none in
     inr (none_next c.args.self.now c.loop.drawer c.next_number.new.drawer

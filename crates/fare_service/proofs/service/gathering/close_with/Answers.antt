@@ -10,7 +10,8 @@ use Rattle.fare_service.specs.inside.Joining.{IsJoinedOf}
 use Rattle.fare_service.proofs.CloseLemmas.{split_first, closed_none, closed_all, held_drawn}
 use Rattle.fare_service.proofs.CloseLemmas.{joined_whole, any_ok, some_shares, none_there}
 use Rattle.fare_service.proofs.CloseLemmas.{first_missing, first_unseen, first_drawn, first_undrawn}
-use Rattle.fare_service.proofs.CloseLemmas.{any_err, none_whole, lacks_whole, drawer_whole}
+use Rattle.fare_service.proofs.CloseLemmas.{none_whole, lacks_whole, drawer_whole}
+use Rattle.tap_views.proofs.Choices.{OnErr_any}
 use Rattle.fare_service.specs.Claims.{HaveAllClaims}
 use Rattle.fare_service.proofs.service.gathering.close_with.Goals as goal
 use Rattle.fare_service.proofs.service.gathering.close_with.Goals.{in-Ok, in-Err-finish_unseen}
@@ -152,7 +153,7 @@ returns-then-is_empty-clause-claims c =
     let none = nil_from_length c.args.shares.items
     (sym c.args.shares.ok.0
     ∙ none_there c.is_empty.result (vec_len c.args.shares) c.is_empty.ensures c.if-is_empty.true) in
-    any_err c.match-finish_unseen.result
+    OnErr_any c.match-finish_unseen.result
     (HaveAllClaims (length c.args.books.items) c.args.shares.items → ⊥)
     (none_whole (length c.args.books.items) c.args.shares.items none)
 
