@@ -1,6 +1,7 @@
 -- Reading the lines of a report up to those of its tokens, and the first one that is wrong.
 use Rattle.std.proofs.Common.{◌≡◌, ◌∙◌, ◌+◌, ◌<◌, ◌^◌, ℕ, List, [], ◌∷◌, ◌++◌, Option, Some}
-use Rattle.std.proofs.Common.{Err, Ok, arith, ap, codes, false, inl, inr, length, map, refl, subst, sym}
+use Rattle.std.proofs.Common.{Err, Ok, arith, ap, codes, false, inl, inr, length, map, refl, subst}
+use Rattle.std.proofs.Common.{sym}
 use Rattle.std.proofs.Common.{Result, true}
 use Rattle.std.specs.Prelude.{IsTrue}
 use Rattle.std.specs.Io.BufRead.{take_through}
@@ -41,7 +42,8 @@ Small number = number < 2 ^ 64
 
 -- ---- the head of a section
 pub uploads_one : (number : ℕ) → number < 2 ^ 64 → IsOneLine (number_line (codes "uploads ") number)
-uploads_one number small = head_is_one (codes "uploads ") number (no_feed (codes "uploads ") refl) small
+uploads_one number small =
+    head_is_one (codes "uploads ") number (no_feed (codes "uploads ") refl) small
 
 pub validators_one : (number : ℕ) → number < 2 ^ 64
     → IsOneLine (number_line (codes "validators ") number)
@@ -49,7 +51,8 @@ validators_one number small =
     head_is_one (codes "validators ") number (no_feed (codes "validators ") refl) small
 
 pub tokens_one : (number : ℕ) → number < 2 ^ 64 → IsOneLine (number_line (codes "tokens ") number)
-tokens_one number small = head_is_one (codes "tokens ") number (no_feed (codes "tokens ") refl) small
+tokens_one number small =
+    head_is_one (codes "tokens ") number (no_feed (codes "tokens ") refl) small
 
 abbrev pub HeadRead : List ℕ → Option (List ℕ) → Option (List ℕ) → Result ℕ MergeFault → Type 0
 HeadRead word left after result =
@@ -77,7 +80,8 @@ pub no_uploads_head : (file : List ℕ) (left after : Option (List ℕ)) (number
     → HeadRead (codes "uploads ") left after (Err fault) → IsOfForm number fault
     → IsFirstWrong file fault
 no_uploads_head file left after number fault read reported form =
-    no_form {T = ℕ} (λ reported number. reported ≡ number) Small (number_line (codes "uploads ")) file
+    no_form {T = ℕ} (λ reported number. reported ≡ number) Small (number_line (codes "uploads "))
+    file
     OfNothing left after number fault read reported form
     (λ line next is. of_line Small (number_line (codes "uploads "))
     (λ number. OfUploads number []) line next is)
@@ -89,17 +93,20 @@ UploadsTo file uploads count left number =
 
 abbrev pub EndRead : ℕ → Option (List ℕ) → Option (List ℕ) → Result UploadEnd MergeFault → Type 0
 EndRead upload left after result =
-    IsRead (λ (end reported : UploadEnd). end ≡ reported) IsUploadEnd (upload_line upload) left after result
+    IsRead (λ (end reported : UploadEnd). end ≡ reported) IsUploadEnd (upload_line upload) left
+    after result
 
 pub end_more : (file : List ℕ) (uploads count : ℕ) (end : UploadEnd)
     (left after : Option (List ℕ)) (number lines : ℕ) → count < uploads → uploads < 2 ^ 64
     → UploadsTo file uploads count left number → EndRead count left after (Ok end)
     → is_posted end ≡ true → lines ≡ next_number number
     → UploadsTo file uploads (count + 1) after lines
-end_more file uploads count end left after number lines less small (ends, long, read) reported posted
+end_more file uploads count end left after number lines less small (ends, long, read) reported
+    posted
     number_is =
     let at = subst (λ k. EndRead k left after (Ok end)) (sym long) reported in
-    let (value, is, may, one, on) = read_one (λ (end reported : UploadEnd). end ≡ reported) IsUploadEnd
+    let (value, is, may, one, on) =
+    read_one (λ (end reported : UploadEnd). end ≡ reported) IsUploadEnd
     (upload_line (length ends)) end file (OfUploads uploads ends) left after number lines read at
     (λ end may. end_line_is_one (length ends) end (omega (arith, less, small, long)) may)
     number_is in (
@@ -120,7 +127,8 @@ pub no_end : (file : List ℕ) (uploads count : ℕ) (left after : Option (List 
     (fault : MergeFault) → count < uploads → UploadsTo file uploads count left number
     → EndRead count left after (Err fault) → IsOfForm number fault → IsFirstWrong file fault
 no_end file uploads count left after number fault less (ends, long, read) reported form =
-    no_form {T = UploadEnd} (λ end reported. end ≡ reported) IsUploadEnd (upload_line (length ends)) file
+    no_form {T = UploadEnd} (λ end reported. end ≡ reported) IsUploadEnd (upload_line (length ends))
+    file
     (OfUploads uploads ends) left after number fault read
     (subst (λ k. EndRead k left after (Err fault)) (sym long) reported) form
     (λ line next is. elim is [
@@ -137,7 +145,8 @@ pub end_not_posted : (file : List ℕ) (uploads count : ℕ) (end : UploadEnd)
 end_not_posted file uploads count end left after number at text fault less small (ends, long, read)
     reported none number_is fault_is =
     subst (IsFirstWrong file) (sym fault_is)
-    (fails (λ (end reported : UploadEnd). end ≡ reported) IsUploadEnd (upload_line (length ends)) end file
+    (fails (λ (end reported : UploadEnd). end ≡ reported) IsUploadEnd (upload_line (length ends))
+    end file
     (OfUploads uploads ends) left after number at text NotPosted read
     (subst (λ k. EndRead k left after (Ok end)) (sym long) reported)
     (λ end may. end_line_is_one (length ends) end (omega (arith, less, small, long)) may) number_is
@@ -151,11 +160,13 @@ end_not_posted file uploads count end left after number at text fault less small
 -- ---- totals
 pub totals_more : (file : List ℕ) (uploads : ℕ) (totals : Totals) (left after : Option (List ℕ))
     (number lines : ℕ) → AreUploadsRead file uploads left number
-    → IsRead (λ (totals : Totals) reported. sums_of totals ≡ reported) AreCounts totals_line left after
+    → IsRead (λ (totals : Totals) reported. sums_of totals ≡ reported) AreCounts totals_line left
+    after
     (Ok totals) → lines ≡ next_number number
     → (ends : List UploadEnd) × IsReadTo file (OfTotals ends (sums_of totals)) after lines
 totals_more file uploads totals left after number lines (ends, long, read) reported number_is =
-    let (value, is, may, one, on) = read_one (λ (totals : Totals) reported. sums_of totals ≡ reported)
+    let (value, is, may, one, on) =
+    read_one (λ (totals : Totals) reported. sums_of totals ≡ reported)
     AreCounts totals_line totals file (OfUploads uploads ends) left after number lines read reported
     totals_line_is_one number_is in (
       ends,
@@ -166,7 +177,8 @@ totals_more file uploads totals left after number lines (ends, long, read) repor
 
 pub no_totals_line : (file : List ℕ) (uploads : ℕ) (left after : Option (List ℕ)) (number : ℕ)
     (fault : MergeFault) → AreUploadsRead file uploads left number
-    → IsRead {T = Totals} (λ totals reported. sums_of totals ≡ reported) AreCounts totals_line left after
+    → IsRead {T = Totals} (λ totals reported. sums_of totals ≡ reported) AreCounts totals_line left
+    after
     (Err fault) → IsOfForm number fault → IsFirstWrong file fault
 no_totals_line file uploads left after number fault (ends, long, read) reported form =
     no_form {T = Totals} (λ totals reported. sums_of totals ≡ reported) AreCounts totals_line file
@@ -195,7 +207,8 @@ pub no_validators_head : (file : List ℕ) (ends : List UploadEnd) (totals : Sum
     → HeadRead (codes "validators ") left after (Err fault) → IsOfForm number fault
     → IsFirstWrong file fault
 no_validators_head file ends totals left after number fault read reported form =
-    no_form {T = ℕ} (λ reported number. reported ≡ number) Small (number_line (codes "validators ")) file
+    no_form {T = ℕ} (λ reported number. reported ≡ number) Small (number_line (codes "validators "))
+    file
     (OfTotals ends totals) left after number fault read reported form
     (λ line next is. of_line Small (number_line (codes "validators "))
     (λ number. OfValidators ends totals number []) line next is)
@@ -228,12 +241,14 @@ pub validator_more : (file : List ℕ) (ends : List UploadEnd) (totals : Sums) (
     → ValidatorsTo file ends totals number count sums left at → SumRead left after (Ok sum)
     → MayFollowValidators (map validator_sum sums) sum.validator → lines ≡ next_number at
     → ValidatorsTo file ends totals number (count + 1) more after lines
-validator_more file ends totals number count sums more sum left after at lines less all read reported
+validator_more file ends totals number count sums more sum left after at lines less all read
+    reported
     follow number_is =
     let done = map validator_sum sums in
     let size = sums_length sums in
     let long = read.long in
-    let (value, is, may, one, on) = read_one (λ (sum : ValidatorSum) reported. validator_sum sum ≡ reported)
+    let (value, is, may, one, on) =
+    read_one (λ (sum : ValidatorSum) reported. validator_sum sum ≡ reported)
     IsValidatorSum validator_line sum file (OfValidators ends totals number done) left after at
     lines read.read reported validator_line_is_one number_is in
     record {
@@ -265,7 +280,8 @@ pub no_validator : (file : List ℕ) (ends : List UploadEnd) (totals : Sums) (nu
 no_validator file ends totals number count sums left after at fault less read reported form =
     let size = sums_length sums in
     let long = read.long in
-    no_form {T = ValidatorSum} (λ sum reported. validator_sum sum ≡ reported) IsValidatorSum validator_line
+    no_form {T = ValidatorSum} (λ sum reported. validator_sum sum ≡ reported) IsValidatorSum
+    validator_line
     file (OfValidators ends totals number (map validator_sum sums)) left after at fault read.read
     reported form
     (λ line next is. elim is [
@@ -287,7 +303,8 @@ validator_not_above file ends totals number count sums sum left after at lines t
     let size = sums_length sums in
     let long = read.long in
     subst (IsFirstWrong file) (sym fault_is)
-    (fails (λ (sum : ValidatorSum) reported. validator_sum sum ≡ reported) IsValidatorSum validator_line sum
+    (fails (λ (sum : ValidatorSum) reported. validator_sum sum ≡ reported) IsValidatorSum
+    validator_line sum
     file (OfValidators ends totals number done) left after at lines text Order read.read reported
     validator_line_is_one number_is
     (λ value is may line shown. (
@@ -328,7 +345,8 @@ pub no_tokens_head : (file : List ℕ) (ends : List UploadEnd) (totals : Sums)
     → IsFirstWrong file fault
 no_tokens_head file ends totals sums left after number fault read reported form =
     let size = sums_length sums in
-    no_form {T = ℕ} (λ reported number. reported ≡ number) Small (number_line (codes "tokens ")) file
+    no_form {T = ℕ} (λ reported number. reported ≡ number) Small (number_line (codes "tokens "))
+    file
     (OfValidators ends totals (length sums) (map validator_sum sums)) left after number fault read
     reported form
     (λ line next is. elim is [

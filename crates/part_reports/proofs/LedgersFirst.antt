@@ -328,7 +328,8 @@ merged_first files known ats numbers (Line named number wrong) same are numbered
     let (place, there, at) =
     first texts files behind.sources (begun_counted files known ats same are)
     in
-    names_first files behind.lefts place number wrong behind.shown at named (numbered place named there)
+    names_first files behind.lefts place number wrong behind.shown at named
+    (numbered place named there)
 merged_first files known ats numbers (Taps reports uploads) same are numbered no_taps first =
     absurd (no_taps tt)
 merged_first files known ats numbers (Unread named) same are numbered no_taps first = tt

@@ -6,6 +6,7 @@ pub mod ChargeLines
 pub mod Counted
 pub mod EndsRead
 pub mod EndsRight
+pub mod EqualTables
 pub mod FewParts
 pub mod FirstBeside
 pub mod FirstLines
@@ -33,6 +34,7 @@ pub mod Parts
 pub mod PartsBegun
 pub mod PartsRight
 pub mod PermutedTokens
+pub mod PlaceFaults
 pub mod Places
 pub mod ReportsLeft
 pub mod ReportsMerged

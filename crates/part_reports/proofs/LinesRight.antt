@@ -88,7 +88,8 @@ pub read_one : {T V : Type 0} (Is : T → V → Type 0) (MayStand : V → Type 0
     × ((next : SoFar) → IsNext so_far (written value) next → IsRight next
     → IsReadTo file next after lines)
 read_one Is MayStand written x file so_far left after number lines read reported one number_is =
-    let here = subst (λ left. IsRead Is MayStand written left after (Ok x)) read.left_is reported in (
+    let here =
+    subst (λ left. IsRead Is MayStand written left after (Ok x)) read.left_is reported in (
       here.value,
       here.is,
       here.may,
@@ -136,7 +137,8 @@ pub no_form : {T V : Type 0} (Is : T → V → Type 0) (MayStand : V → Type 0)
     → ((line : List ℕ) (next : SoFar) → IsNext so_far line next
     → (value : V) × MayStand value × (line ≡ written value))
     → IsFirstWrong file fault
-no_form {T = T} Is MayStand written file so_far left after number (Line text at wrong) read reported form
+no_form {T = T} Is MayStand written file so_far left after number (Line text at wrong) read reported
+    form
     wanted =
     let here = subst (λ left. IsRead {T = T} Is MayStand written left after
     (Err (Line text at wrong))) read.left_is reported in
@@ -147,7 +149,8 @@ no_form {T = T} Is MayStand written file so_far left after number (Line text at 
     shown))
 no_form Is MayStand written file so_far left after number (Taps reports uploads) read reported form
     wanted = tt
-no_form Is MayStand written file so_far left after number (Unread text) read reported form wanted = tt
+no_form Is MayStand written file so_far left after number (Unread text) read reported form wanted =
+    tt
 no_form Is MayStand written file so_far left after number Write read reported form wanted = tt
 no_form Is MayStand written file so_far left after number NoMemory read reported form wanted = tt
 
@@ -176,7 +179,8 @@ pub fails : {T V : Type 0} (Is : T → V → Type 0) (MayStand : V → Type 0) (
     → ((value : V) → Is x value → MayStand value → (line : List ℕ) → line ≡ written value
     → IsWhyAlone wrong so_far line)
     → IsFirstWrong file (Line text at wrong)
-fails Is MayStand written x file so_far left after number at text wrong read reported one number_is why =
+fails Is MayStand written x file so_far left after number at text wrong read reported one number_is
+    why =
     let here = subst (λ left. IsRead Is MayStand written left after (Ok x)) read.left_is reported in
     first_wrong file so_far left number at text wrong read number_is
     (why here.value here.is here.may (take_through 10 read.rest)

@@ -128,7 +128,8 @@ too_many before after file front left number text fault read reported full fault
                     let size = length-append fronts (reported.value ∷ []) in
                     absurd (full fronts reported.value counted reported.is
                     (few (fronts ++ reported.value ∷ [])
-                    (All-push MayBePart fronts reported.value may reported.may) (omega (arith, less, size))))
+                    (All-push MayBePart fronts reported.value may reported.may)
+                    (omega (arith, less, size))))
                 | inr many ↦ many
               ];
             });
@@ -160,7 +161,8 @@ begun_wrong file front left number rest (Line text at wrong) read rest_is next =
           (take_through 10 so_far.rest) wrong
           (record {
             count_is = omega arith;
-            add = sym (none_add (sums_of front.totals)) ∙ ap (λ s. add_sums (added {K = Token} []) s)
+            add = sym (none_add (sums_of front.totals))
+                ∙ ap (λ s. add_sums (added {K = Token} []) s)
                 (ap sums_left (sym rest_is));
             last = λ token same. absurd (cc (same));
           }) why;
@@ -290,7 +292,8 @@ counted_push : (files : List (List ℕ)) (ats : List Standing) (file : List ℕ)
 counted_push [] [] file at all one = (one, tt)
 counted_push [] (b ∷ ats) file at all one = absurd all
 counted_push (a ∷ files) [] file at all one = absurd all
-counted_push (a ∷ files) (b ∷ ats) file at all one = (all.0, counted_push files ats file at all.1 one)
+counted_push (a ∷ files) (b ∷ ats) file at all one =
+    (all.0, counted_push files ats file at all.1 one)
 
 pub counted_none : {R : Type 0} (remaining : R → Option (List ℕ)) (ats : List Standing) → ats ≡ []
     → CountedSo remaining [] ats

@@ -218,7 +218,8 @@ front_read reported rest may =
     )
 
 -- ---- tokens
-pub added_behind : (some more : List Sum) → added (some ++ more) ≡ add_sums (added some) (added more)
+pub added_behind : (some more : List Sum)
+    → added (some ++ more) ≡ add_sums (added some) (added more)
 added_behind [] more = sym (none_add (added more))
 added_behind (first ∷ some) more =
     ap (add_sums first.1) (added_behind some more)

@@ -191,7 +191,8 @@ tokens_so one done left now rest may behind each rise shown =
     (subst (λ lines. Leave HasTokenSums lines front.totals (sums_left now)) reported.is behind.1) in
     let (start, head) = front_read front one.1 may in
     let (number, read) = tokens_read (begun_text one) rest front.ends front.totals (sums_left now)
-    front.validators front.tokens start reported.sums may.add (omega (arith, size, count_is)) reported.fit
+    front.validators front.tokens start reported.sums may.add (omega (arith, size, count_is))
+    reported.fit
     rises within
     (subst (λ text. IsReadTo (begun_text one) (OfTokens front.ends front.totals front.validators
     front.tokens []) (Some text) start)
@@ -278,7 +279,8 @@ module _ (files : List (List ℕ)) (place number : ℕ) (wrong : Wrong) (one : B
     (each : AllByRecursion (IsLineOfKind (left_text one).0) done)
     (rise : Rise (left_text one).0 done) (shown : one.1 ≡ text_of done ++ rest)
     (number_is : number ≡ up_to_64 (line_feeds (reported_text one.0 ++ text_of done) + 1)) where
-  so : AreTokensRead (begun_text one) one.0.ends one.0.totals one.0.validators one.0.tokens done left
+  so : AreTokensRead (begun_text one) one.0.ends one.0.totals one.0.validators one.0.tokens done
+      left
       now rest
   so = tokens_so one done left now rest may behind each rise shown
 

@@ -15,7 +15,8 @@ use Rattle.shard_book.specs.Sums.{Sums, add_sums}
 use Rattle.tap_views.specs.Token.{token_cmp}
 use Rattle.tap_views.specs.declared.token.Token.{Token}
 use Rattle.part_reports.specs.Faults.{number_from}
-use Rattle.part_reports.specs.Reports.{IsPartReport, Report, added, all_ends, end_texts, report_text}
+use Rattle.part_reports.specs.Reports.{IsPartReport, Report, added, all_ends, end_texts}
+use Rattle.part_reports.specs.Reports.{report_text}
 use Rattle.part_reports.specs.declared.fault.MergeFault.{MergeFault}
 use Rattle.part_reports.specs.declared.fault.MergeFault.TheVariants.{Line, Taps, Unread, Write}
 use Rattle.part_reports.specs.declared.fault.MergeFault.TheVariants.{NoMemory}
@@ -42,7 +43,8 @@ IsLineOf {V = V} MayStand written behind line next =
 
 -- The line has the form of the one that is wanted behind these, and with it the lines say the
 -- second: the number of uploads and a line for each, the totals, the number of validators and a
--- line for each, the number of tokens and a line for each, and then the end, which is an empty line.
+-- line for each, the number of tokens and a line for each, and then the end, which is an empty
+-- line.
 abbrev pub IsNext : SoFar → List ℕ → SoFar → Type 0
 IsNext OfNothing line next = IsLineOf (λ number. number < 2 ^ 64) (number_line (codes "uploads "))
     (λ number. OfUploads number []) line next
@@ -184,9 +186,9 @@ IsFirstWrongOfReport files place number wrong =
     (file : List ℕ) × (slice_get files place ≡ Some file)
     × IsFirstWrongLine (IsWhy files place wrong) file number
 
--- The line of this number is the first wrong one of the text of ends at this place: the texts before
--- it are ends of uploads, and so are its lines before this one, and this one has not the form of
--- the next upload's line.
+-- The line of this number is the first wrong one of the text of ends at this place: the texts
+-- before it are ends of uploads, and so are its lines before this one, and this one has not the
+-- form of the next upload's line.
 pub record IsFirstWrongOfEnds (files : List (List ℕ)) (place number : ℕ) (wrong : Wrong)
     : Type 0 where
   pub before : List (List UploadEnd)
@@ -203,8 +205,8 @@ pub record IsFirstWrongOfEnds (files : List (List ℕ)) (place number : ℕ) (wr
   pub none : (end : UploadEnd) → IsUploadEnd end
       → ¬ (take_through 10 rest ≡ upload_line (length (all_ends before) + length some) end)
 
--- A line that is refused is the first wrong one of a text of ends or, behind these, of a report, and
--- the reason that the fault has is why.
+-- A line that is refused is the first wrong one of a text of ends or, behind these, of a report,
+-- and the reason that the fault has is why.
 abbrev pub NamesFirstWrong : List (List ℕ) → List (List ℕ) → MergeFault → Type 0
 NamesFirstWrong end_files report_files (Line text number wrong) =
     ((place : ℕ) × (text ≡ number_from 0 place) × IsFirstWrongOfEnds end_files place number wrong)

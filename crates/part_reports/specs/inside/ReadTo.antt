@@ -9,7 +9,8 @@ use Rattle.shard_book.specs.declared.sums.ValidatorSum.{ValidatorSum}
 use Rattle.part_reports.specs.Faults.{number_from}
 use Rattle.part_reports.specs.FirstWrongLines.{AreRightLines, IsFirstWrongLine, IsFirstWrongOfEnds}
 use Rattle.part_reports.specs.FirstWrongLines.{IsFirstWrongOfReport, IsNext, IsRight}
-use Rattle.part_reports.specs.FirstWrongLines.{IsWhyAlone, OfNothing, OfUploads, OfValidators, SoFar}
+use Rattle.part_reports.specs.FirstWrongLines.{IsWhyAlone, OfNothing, OfUploads, OfValidators}
+use Rattle.part_reports.specs.FirstWrongLines.{SoFar}
 use Rattle.part_reports.specs.Reports.{added}
 use Rattle.part_reports.specs.inside.FirstWrong.{line_feeds, up_to_64}
 use Rattle.part_reports.specs.inside.Fronts.{MayBePart}

@@ -8,7 +8,7 @@ use Rattle.part_reports.proofs.ReportsMerged.{all_up, up_more}
 use Rattle.part_reports.specs.inside.Reported.{text_number}
 use Rattle.part_reports.specs.inside.Standings.{standing}
 use Rattle.part_reports.proofs.BesideWrong.{at_item, of_left}
-use Rattle.part_reports.proofs.FirstBeside.{end_line}
+use Rattle.part_reports.proofs.PlaceFaults.{end_line}
 use Rattle.part_reports.proofs.ledgers_with_reports.finish_all.Goals as goal
 
 pub loop-at-init : goal.loop-at-init
@@ -54,7 +54,8 @@ returns-clause-all g c =
     (omega (arith, size, done))
 
 -- ---- of which text a fault is
-pub returns-in_err-finish-in-Some-clause-reported : goal.returns-in_err-finish-in-Some-clause-reported
+pub returns-in_err-finish-in-Some-clause-reported :
+    goal.returns-in_err-finish-in-Some-clause-reported
 returns-in_err-finish-in-Some-clause-reported g c =
     let remaining = g.R.Read.remaining in
     let sources = c.args.sources.now in

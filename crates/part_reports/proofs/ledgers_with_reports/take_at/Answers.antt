@@ -7,7 +7,7 @@ use Rattle.part_reports.proofs.Places.{map_at, map_kept, map_of_set}
 use Rattle.part_reports.specs.inside.Reported.{text_number}
 use Rattle.part_reports.specs.inside.WrongBeside.{left_number}
 use Rattle.part_reports.proofs.BesideWrong.{of_place}
-use Rattle.part_reports.proofs.FirstBeside.{place_line}
+use Rattle.part_reports.proofs.PlaceFaults.{place_line}
 use Rattle.part_reports.proofs.ledgers_with_reports.take_at.Goals as goal
 
 pub returns-in-Some-clause-taken : goal.returns-in-Some-clause-taken

@@ -4,7 +4,8 @@ use Rattle.shard_book.specs.Shown.{token_sum}
 use Rattle.part_reports.proofs.Added.{no_behind}
 use Rattle.part_reports.proofs.merging.behind_token.Goals as goal
 
-pub returns-in_default-token_sum_of-clause-reported : goal.returns-in_default-token_sum_of-clause-reported
+pub returns-in_default-token_sum_of-clause-reported :
+    goal.returns-in_default-token_sum_of-clause-reported
 returns-in_default-token_sum_of-clause-reported c = λ behind token first.
     c.in_default-token_sum_of.ensures (token, first.0.sums) first.0.is first.0.shown
 

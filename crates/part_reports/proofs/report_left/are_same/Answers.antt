@@ -1,8 +1,8 @@
 use Rattle.std.proofs.Common.{◌∙◌, sym}
 use Rattle.std.specs.Cmp.Lexicographic.{as_long}
 use Rattle.std.proofs.lemmas.Bool.{eqb-true}
-use Rattle.part_reports.proofs.ReportsLeft.{sums_test, tables_equal, tables_same, test_sums}
-use Rattle.part_reports.proofs.ReportsLeft.{totals_test}
+use Rattle.part_reports.proofs.EqualTables.{sums_test, tables_equal, tables_same, test_sums}
+use Rattle.part_reports.proofs.EqualTables.{totals_test}
 use Rattle.part_reports.proofs.report_left.are_same.Goals as goal
 
 pub returns-then-len : goal.returns-then-len

@@ -4,7 +4,7 @@ use Rattle.part_reports.specs.inside.ReportsLeft.{AreSame, report_at}
 use Rattle.part_reports.specs.inside.SumsLeft.{sums_left}
 use Rattle.part_reports.specs.declared.fault.Wrong.TheVariants.{LessThanReport, MissingToken}
 use Rattle.part_reports.specs.declared.fault.Wrong.TheVariants.{OtherValidators}
-use Rattle.part_reports.proofs.FirstBeside.{this_line}
+use Rattle.part_reports.proofs.PlaceFaults.{this_line}
 use Rattle.part_reports.proofs.ReportsLeft.{none_there, rest_left, some_left, some_there, used_up}
 use Rattle.part_reports.proofs.ReportsLeft.{validators_left}
 use Rattle.part_reports.proofs.report_left.ReportLeft.finish.Goals as goal

@@ -10,7 +10,7 @@ use Rattle.part_reports.specs.inside.SumsLeft.{left_of, sums_left}
 use Rattle.part_reports.specs.declared.fault.Wrong.TheVariants.{Form, MoreThanReport}
 use Rattle.part_reports.specs.declared.fault.Wrong.TheVariants.{Sums as TooManySums}
 use Rattle.part_reports.proofs.ChargeLines.{one_charge}
-use Rattle.part_reports.proofs.FirstBeside.{before_of, first_line, line_weaker, turn_take}
+use Rattle.part_reports.proofs.PlaceFaults.{before_of, first_line, line_weaker, turn_take}
 use Rattle.part_reports.proofs.ReportsLeft.{no_charge, too_many, too_much, used_next, used_same}
 use Rattle.part_reports.specs.inside.WrongBeside.{left_number}
 use Rattle.part_reports.proofs.BesideWrong.{either_weaker, first_reported, of_first}

@@ -10,7 +10,7 @@ use Rattle.part_reports.specs.inside.ReportsLeft.{IsNoRest, report_at}
 use Rattle.part_reports.specs.inside.WrongBeside.{HasNoReport, IsOfEither, left_number}
 use Rattle.part_reports.specs.declared.fault.Wrong.TheVariants.{Form, LessThanReport, OtherToken}
 use Rattle.part_reports.proofs.BesideWrong.{none_by_turn, of_first, of_second}
-use Rattle.part_reports.proofs.FirstBeside.{first_line, next_line, second_line}
+use Rattle.part_reports.proofs.PlaceFaults.{first_line, next_line, second_line}
 use Rattle.part_reports.proofs.report_left.ReportLeft.turn.Goals as goal
 
 pub returns-then-not-is_nothing-clause-refused : goal.returns-then-not-is_nothing-clause-refused
