@@ -574,7 +574,8 @@ pub kept_paid : (meaning : TableMeaning) (clock : ClockView) (state : Kept) (tap
 unfolding kept_under
 kept_paid meaning clock state tap none = rw none refl
 
--- a live tap of an account that has a window, by the meaning that is valid and the token's class in it
+-- a live tap of an account that has a window, by the meaning that is valid and the token's class in
+-- it
 pub live_tap_is : (fares : Fares) (token : List ℕ) (clock : ClockView) (account : Option Kept)
     (state next : Kept) (taps : List TapIn) (tap : TapIn) (mode : Mode) (meaning : TableMeaning)
     (class : ℕ) (answered : Reply)
@@ -600,7 +601,8 @@ live_tap_is fares token clock account state next taps tap mode meaning class ans
     by true given =
         rw (
           is_reply,
-          reply_given meaning clock (record state { class = class }) (live_at tap.moment mode) given,
+          reply_given meaning clock (record state { class = class }) (live_at tap.moment mode)
+              given,
         )
         (transfer (rules_of fares token) account state next taps tap mode class same stands known
         (listed fares token mode below) after
@@ -608,7 +610,8 @@ live_tap_is fares token clock account state next taps tap mode meaning class ans
         (sym given))
         (class_at fares token tap.moment class is there)
         (is_next
-        ∙ kept_given meaning clock (record state { class = class }) (live_at tap.moment mode) given))
+        ∙ kept_given meaning clock (record state { class = class }) (live_at tap.moment mode)
+        given))
     by false none =
         rw (
           is_reply,
@@ -619,7 +622,8 @@ live_tap_is fares token clock account state next taps tap mode meaning class ans
         same stands known (listed fares token mode below)
         (until_same fares token clock meaning tap.moment zone valid)
         (gives_none-state (rules_of fares token).transfers account state tap mode same after
-        (gives_same fares token meaning tap.moment class mode (kept_trip (Some state)) false valid is
+        (gives_same fares token meaning tap.moment class mode (kept_trip (Some state)) false valid
+        is
         (sym none)))
         (class_at fares token tap.moment class is there)
         (terms_same fares token meaning tap.moment class mode valid is) (bounds none)
@@ -659,7 +663,8 @@ first_ride rules account next taps tap mode until class terms answered fresh sta
     (room-open tap.moment until) its same bounds)
 
 -- the first ride of an account, by the meaning that is valid and the token's class in it
-pub first_ride_is : (fares : Fares) (token : List ℕ) (clock : ClockView) (account next : Option Kept)
+pub first_ride_is : (fares : Fares) (token : List ℕ) (clock : ClockView)
+    (account next : Option Kept)
     (taps : List TapIn) (tap : TapIn) (mode : Mode) (meaning : TableMeaning) (class : ℕ)
     (answered : Reply)
     → account ≡ None → KeepsOf (rules_of fares token) account taps

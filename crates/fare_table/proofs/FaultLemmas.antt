@@ -333,7 +333,8 @@ pub reported_two : (tree : Members) (at : Where) (one two : TableFault)
     ≡ cond (is_wrong tree at one) (Some one) (cond (is_wrong tree at two) (Some two) None)
 reported_two tree at one two =
     reported tree at one (a_row at two ∷ [])
-    ∙ ap (λ (x : Option TableFault). cond (is_wrong tree at one) (Some one) x) (reported tree at two [])
+    ∙ ap (λ (x : Option TableFault). cond (is_wrong tree at one) (Some one) x)
+    (reported tree at two [])
 
 terms-reported : (tree : Members) (n : ℕ)
     → fault_in (terms_of (members_at (class n) tree)) ≡ first_row tree (rows_of_terms n)
@@ -481,7 +482,8 @@ list-from-reported tree modes n earlier (member name (table inner) more) known s
     (stand_here (classes_in tree) n name (table inner) more stand) in
     steps tree (class_of modes inner) (λ one. classes_from modes (earlier ++ one ∷ []) more)
     (rows_of_class tree n) (class_rows tree (suc n) more)
-    (ap (λ (m : Members). fault_in (class_of modes m)) (sym here) ∙ class-reported tree modes n known)
+    (ap (λ (m : Members). fault_in (class_of modes m)) (sym here)
+    ∙ class-reported tree modes n known)
     (λ one is. list-from-reported tree modes (suc n) (earlier ++ one ∷ []) more known
     (stand_next (classes_in tree) n name (table inner) more stand) tables)
 list-from-reported tree modes n earlier (member name _ more) known stand tables =

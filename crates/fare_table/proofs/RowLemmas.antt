@@ -17,9 +17,9 @@ use Rattle.toml.specs.Data.{Data, Items, no_items, item, Members, no_members, me
 use Rattle.toml.specs.Data.{integer, array, table, get_member, get_item, as_str, as_array}
 use Rattle.toml.specs.Parse.{parse_document}
 use Rattle.fare_table.proofs.ElementLemmas.{Reads, by_mode, by_tables, reads}
-use Rattle.fare_table.proofs.FaultLemmas.{Stand, classes-reported, classes_tables, default-reported, done}
-use Rattle.fare_table.proofs.FaultLemmas.{fails, fault_in, list-reported}
-use Rattle.fare_table.proofs.FaultLemmas.{modes-known, modes-reported, named-reported, needs, number_reports}
+use Rattle.fare_table.proofs.FaultLemmas.{Stand, classes-reported, classes_tables, default-reported}
+use Rattle.fare_table.proofs.FaultLemmas.{done, fails, fault_in, list-reported, modes-known}
+use Rattle.fare_table.proofs.FaultLemmas.{modes-reported, named-reported, needs, number_reports}
 use Rattle.fare_table.proofs.FaultLemmas.{stand_all, stand_here, stand_next, steps, reported}
 use Rattle.fare_table.proofs.FaultLemmas.{reported_needed, reported_two, transfers-reported}
 use Rattle.fare_table.proofs.OverlapLemmas.{stands-insert, comes_after, comes_before}
@@ -223,7 +223,8 @@ ranges-reported tree modes n earlier (item (table inner) more) known stand table
     steps tree (range_of modes inner) (λ one.
     with_range earlier one >>= (λ next. ranges_from modes next more)) (rows_of_range n)
     (a_row (range n) Overlap ∷ range_rows (suc n) more)
-    (ap (λ (m : Members). fault_in (range_of modes m)) (sym here) ∙ range-reported tree modes n known)
+    (ap (λ (m : Members). fault_in (range_of modes m)) (sym here)
+    ∙ range-reported tree modes n known)
     (λ one is.
     let r = reads modes (table inner) one is in
     let nums = numbers tree modes n inner one here r in
@@ -488,7 +489,8 @@ meaning-reported tree =
     (transfers-reported tree modes known) (λ transfers is_transfers.
     let rest_rows = class_rows tree 0 (classes_in tree) ++ default_rows in
     regroup tree default_rows
-    (steps tree (classes_of tree) _ (needed_rows top the_key.Classes) rest_rows (classes-reported tree)
+    (steps tree (classes_of tree) _ (needed_rows top the_key.Classes) rest_rows
+    (classes-reported tree)
     (λ classes is_classes.
     let same : classes_in tree ≡ classes = ap members_of (classes_read tree classes is_classes) in
     let tables = classes_tables tree classes is_classes in

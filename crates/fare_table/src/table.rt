@@ -1,7 +1,7 @@
 //! The fare table and its look-ups.
 ghost use Rattle.std.specs.Prelude.{◌≡◌, ◌≢◌, ◌⊎◌, ℕ, ◌<◌, ◌≤◌, [], length, option_map, IfSome};
-ghost use Rattle.std.specs.Prelude.{IfErr, IfOk, IsErrOf, IsTrue, IsUtf8, IsOk, Err, Ok, None, Some};
-ghost use Rattle.std.specs.Prelude.{All, map, slice_get, string_bytes};
+ghost use Rattle.std.specs.Prelude.{IfErr, IfOk, IsErrOf, IsTrue, IsUtf8, IsOk, Err, Ok, None};
+ghost use Rattle.std.specs.Prelude.{Some, All, map, slice_get, string_bytes};
 ghost use Rattle.toml.specs.Parse.{parse_document};
 ghost use Rattle.toml.specs.View.{table_view};
 ghost use Rattle.fare_table.specs.Fares.{meaning_at, mode_at, terms_at};

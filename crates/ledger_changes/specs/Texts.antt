@@ -36,6 +36,7 @@ abbrev pub difference : ℕ → ℕ → List ℕ
 difference before after =
     if nat_le before after then decimal (after - before) else codes "-" ++ decimal (before - after)
 
+--
 -- `000000000000000000000000000000a1,2026-03-02T13:40:00.000Z,201,changed,paid,290,full,transfer,0,transfer,-290`
 unfoldable pub correction_line : Pair → List ℕ
 correction_line pair =

@@ -108,7 +108,9 @@ next_ends fares earlier entry line is lacks =
 pub head_ends : (line : List ℕ) → Lacks 10 line → line ≢ head_text
 head_ends line lacks is =
     lacks-last 10
-    (codes "token,line,moment,validator,mode,answer,cents,window_start,window_end,ride,reason,points_at") line is lacks
+    (codes
+    "token,line,moment,validator,mode,answer,cents,window_start,window_end,ride,reason,points_at")
+    line is lacks
 
 pub begun_true : (fares : Fares) (so_far : LinesSoFar) (lines : List (List ℕ)) (begun : List ℕ)
     (more : List (List ℕ)) → HasTaken fares so_far lines

@@ -1,5 +1,5 @@
--- The same lines are taken alike, so that what is reported of the first lines of a text is what each
--- recount of the text reports of them.
+-- The same lines are taken alike, so that what is reported of the first lines of a text is what
+-- each recount of the text reports of them.
 use Rattle.std.proofs.Common.{◌≡◌, ℕ, suc, ◌+◌, Bool, true, false, List, [], ◌∷◌, ◌++◌, length}
 use Rattle.std.proofs.Common.{Option, None, Some, refl, sym, ap, subst, ◌∙◌, ◌⊎◌, inl, inr, arith}
 use Rattle.std.proofs.Common.{⊎_elim}
@@ -16,7 +16,8 @@ use Rattle.ledger_check.specs.FirstLines.{RecountsGoOn}
 use Rattle.ledger_check.specs.Lines.{lines_of}
 use Rattle.ledger_check.specs.Struck.{tap_of_entry}
 use Rattle.ledger_check.specs.Recounts.{AreTaken, IsCounted, IsJudged, IsTaken, TakenLine}
-use Rattle.ledger_check.specs.Recounts.{end_text, falls_after, lines_from, one_wrong, remark_for, remark_lines}
+use Rattle.ledger_check.specs.Recounts.{end_text, falls_after, lines_from, one_wrong, remark_for}
+use Rattle.ledger_check.specs.Recounts.{remark_lines}
 use Rattle.ledger_check.specs.Recounts.{remark_text, run_of, run_with, taps_from, taps_with}
 use Rattle.ledger_check.specs.Recounts.{with_first, wrong_count}
 use Rattle.ledger_check.specs.declared.walk.CountedTap.{CountedTap}
@@ -42,7 +43,8 @@ counted_same fares run line a b remark remark' wanted wanted' is also =
     a.entry.moment b.entry.moment is.rest also.rest is.of_tap also.of_tap in
     let entry : a.entry ≡ b.entry =
     is.ruled
-    ∙ ap (λ (t : Token). next_entry fares t (own t run) a.entry.validator a.entry.moment) of.token_is
+    ∙ ap (λ (t : Token). next_entry fares t (own t run) a.entry.validator a.entry.moment)
+    of.token_is
     ∙ ap (λ (v : ℕ). next_entry fares b.entry.token (own b.entry.token run) v a.entry.moment)
     of.validator_is
     ∙ ap (λ (m : ℕ). next_entry fares b.entry.token (own b.entry.token run) b.entry.validator m)
@@ -51,7 +53,8 @@ counted_same fares run line a b remark remark' wanted wanted' is also =
     let wants : wanted ≡ wanted' =
     line_same fares b.entry.token (length (own b.entry.token run) + 1) b.entry
     (reason_after fares b.entry.token (own b.entry.token run) b.entry) wanted wanted'
-    (subst (λ (e : Entry). IsLedgerLineAfter fares e.token (own e.token run) e wanted) entry is.shown)
+    (subst (λ (e : Entry). IsLedgerLineAfter fares e.token (own e.token run) e wanted) entry
+    is.shown)
     also.shown in
     record {
       entry = entry;
@@ -135,7 +138,8 @@ taken_same fares (c ∷ a) [] x y same line is also = absurd (omega (arith, same
 taken_same fares (c ∷ a) (d ∷ b) x y same line is also =
     judged_same fares (run_of (c ∷ a)) x.line x.finding.tap y.finding.tap x.finding.remark
     y.finding.remark x.wanted y.wanted is
-    (subst (λ (l : List ℕ). IsJudged fares (run_of (c ∷ a)) l y.finding.tap y.finding.remark y.wanted)
+    (subst (λ (l : List ℕ). IsJudged fares (run_of (c ∷ a)) l y.finding.tap y.finding.remark
+    y.wanted)
     (sym line)
     (subst (λ (r : List Entry). IsJudged fares r y.line y.finding.tap y.finding.remark y.wanted)
     (sym same.run) also))
@@ -277,7 +281,8 @@ lines_go_on fares (line ∷ lines) rest first taken are is also split =
 
 pub go_on : RecountsGoOn
 go_on fares text first taken begins recount =
-    let (more, is) = lines_go_on fares (lines_of text) begins.rest first taken begins.are begins.split
+    let (more, is) = lines_go_on fares (lines_of text) begins.rest first taken begins.are
+    begins.split
     recount.are recount.split in (
       more ++ end_text taken,
       ap (λ (t : List ℕ). t ++ end_text taken) is

@@ -14,7 +14,8 @@ use Rattle.ledger_check.specs.declared.columns.CutLine.{CutLine}
 
 -- the head line of a traced ledger
 unfoldable pub traced_head : List ℕ
-traced_head = codes "token,line,moment,validator,mode,answer,cents,window_start,window_end,ride,reason,points_at,class,upload,place\n"
+traced_head = codes
+    "token,line,moment,validator,mode,answer,cents,window_start,window_end,ride,reason,points_at,class,upload,place\n"
 
 -- whether the text begins with that line
 abbrev pub has_traced_head : List ℕ → Bool

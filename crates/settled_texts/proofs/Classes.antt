@@ -7,7 +7,8 @@ use Rattle.std.proofs.lemmas.List.{get_or-take, length-take, take_all, take_more
 use Rattle.std.proofs.lemmas.Option.{get_or_from_slice_get, slice_get_within}
 use Rattle.fare_table.specs.Fares.{Fares}
 use Rattle.fare_table.specs.TableMeaning.{TableMeaning}
-use Rattle.std.specs.Prelude.{is_some, nat_le, slice_get, option_map, if◌then◌else◌, string_bytes, String}
+use Rattle.std.specs.Prelude.{is_some, nat_le, slice_get, option_map, if◌then◌else◌, string_bytes}
+use Rattle.std.specs.Prelude.{String}
 use Rattle.std.specs.BTreeMap.{BTreeMap, is_at}
 use Rattle.std.specs.Cmp.Lexicographic.{slice_cmp}
 use Rattle.std.specs.List.{AllZip}
@@ -166,7 +167,8 @@ pub all_trees : (fares : Fares) (texts : List (List ℕ)) (text : List ℕ) (tre
 all_trees fares [] text tree trees place long end at is are = absurd (omega (arith, long))
 all_trees fares (first ∷ rest) text tree trees place long end at is are =
     let same : first ≡ text = cc in
-    let all : take place fares.later ≡ fares.later = take_all place fares.later (omega (arith, end)) in
+    let all : take place fares.later ≡ fares.later =
+    take_all place fares.later (omega (arith, end)) in
     let texts : take place rest ≡ rest = take_all place rest (omega (arith, end, long)) in
     (ap parse_document same ∙ is, rw (texts, all) at are)
 

@@ -38,7 +38,9 @@ pub enum ClassFault {
 }
 
 impl From<AllocError> for ClassFault {
-    ghost use Rattle.settled_texts.specs.declared.class_names.ClassFault.TheVariants.{NoMemory as ForMemory};
+    ghost use Rattle.settled_texts.specs.declared.class_names.ClassFault.TheVariants.{
+      NoMemory as ForMemory,
+    };
 
     ghost from_gives = { λ _ fault. fault ≡ ForMemory };
 

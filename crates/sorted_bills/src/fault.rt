@@ -73,7 +73,9 @@ impl From<PrintFault> for BillFault {
 
 impl From<NoMemory> for BillFault {
     ghost use Rattle.std.specs.Prelude.{◌≡◌};
-    ghost use Rattle.sorted_bills.specs.declared.fault.BillFault.TheVariants.{NoMemory as ForMemory};
+    ghost use Rattle.sorted_bills.specs.declared.fault.BillFault.TheVariants.{
+      NoMemory as ForMemory,
+    };
 
     ghost from_gives = { λ _ fault. fault ≡ ForMemory };
 
@@ -84,7 +86,9 @@ impl From<NoMemory> for BillFault {
 
 impl From<AllocError> for BillFault {
     ghost use Rattle.std.specs.Prelude.{◌≡◌};
-    ghost use Rattle.sorted_bills.specs.declared.fault.BillFault.TheVariants.{NoMemory as ForMemory};
+    ghost use Rattle.sorted_bills.specs.declared.fault.BillFault.TheVariants.{
+      NoMemory as ForMemory,
+    };
 
     ghost from_gives = { λ _ fault. fault ≡ ForMemory };
 

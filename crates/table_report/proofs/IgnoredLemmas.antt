@@ -190,7 +190,8 @@ class_from (member name value more) p found x has =
         let at : suc p + n ≡ p + suc n = omega arith in
         inr (suc n, subst (λ (q : ℕ). IsNew (Class q) (class_keys n more) x) at new)
 
-class_to : (ms : Members) (p : ℕ) (found : List Found) (x : Found) → Contains found x ⊎ InClass p ms x
+class_to : (ms : Members) (p : ℕ) (found : List Found) (x : Found)
+    → Contains found x ⊎ InClass p ms x
     → Contains (ignored_of_classes p found ms) x
 class_to no_members p found x (inl has) = has
 class_to no_members p found x (inr (zero, new)) = absurd (false≢true new.stands)
@@ -262,7 +263,8 @@ as_ignored tree h x new = record {
   no_meaning = subst (λ (g : KeyHolder). has_meaning g x.1 ≡ false) (sym new.here) new.no_meaning;
 }
 
-pub ignored_reported : (tree : Members) (x : Found) → Contains (ignored_in tree) x → IsIgnored tree x
+pub ignored_reported : (tree : Members) (x : Found) → Contains (ignored_in tree) x
+    → IsIgnored tree x
 ignored_reported tree x has = by_range (range_from elements 0 with_classes x has)
   where
     elements : Items

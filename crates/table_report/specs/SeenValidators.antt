@@ -19,8 +19,8 @@ is_tap_at span validator tap =
 abbrev pub has_tap_at : MomentSpan → List Tap → ℕ → Bool
 has_tap_at span taps validator = list_any (is_tap_at span validator) taps
 
--- the validators are the old ones and those of the upload's taps of the span before its first layout
--- fault
+-- the validators are the old ones and those of the upload's taps of the span before its first
+-- layout fault
 pub record AddsValidators (span : MomentSpan) (old : List ℕ) (upload : List ℕ) (new : List ℕ)
     : Type 0 where
   pub batches : List (List Tap)

@@ -37,7 +37,8 @@ default_mark fares place = if place == fares.meaning.standard then 1 else 0
 abbrev pub class_row : Fares → ℕ → List Field
 class_row fares place =
     text (name_at fares.meaning.names place) ∷ number (class_at fares.meaning place).terms.fare
-    ∷ number (class_at fares.meaning place).terms.rides ∷ number (class_at fares.meaning place).terms.ceiling
+    ∷ number (class_at fares.meaning place).terms.rides ∷ number
+    (class_at fares.meaning place).terms.ceiling
     ∷ number (default_mark fares place) ∷ number (transfer_terms fares.meaning place).taps
     ∷ number (transfer_terms fares.meaning place).time ∷ []
 
@@ -58,7 +59,8 @@ two_modes fares from to =
 
 -- the pair of two modes, if a ride includes a transfer from the one to the other
 abbrev pub pair_row : Fares → ℕ → ℕ → List (List Field)
-pair_row fares from to = if is_permitted fares.meaning from to then two_modes fares from to ∷ [] else []
+pair_row fares from to =
+    if is_permitted fares.meaning from to then two_modes fares from to ∷ [] else []
 
 -- the pairs of one mode with each
 abbrev pub pair_rows_of : Fares → ℕ → List (List Field)

@@ -3,7 +3,8 @@
 ghost use Rattle.std.specs.Prelude.{◌≡◌, [], ℕ, ◌||◌, IfOk, OnOk};
 ghost use Rattle.std.specs.List.{filter, list_any};
 ghost use Rattle.table_report.specs.Ranges.{is_from_to, is_in_no_range};
-ghost use Rattle.table_report.specs.SeenValidators.{AddsValidators, has_tap_at, is_among, is_tap_at};
+ghost use Rattle.table_report.specs.SeenValidators.{AddsValidators, has_tap_at, is_among};
+ghost use Rattle.table_report.specs.SeenValidators.{is_tap_at};
 
 use fare_table::FareTable;
 use std::alloc::Global;

@@ -1,14 +1,12 @@
 -- What is written of an agency's CSV that is not written whole.
-use Rattle.std.proofs.Common.{◌≡◌, ◌∙◌, ℕ, List, [], ◌∷◌, ◌++◌, append-nil, inl, inr, refl, sym}
-use Rattle.std.proofs.Common.{None, Option, Some}
+use Rattle.std.proofs.Common.{◌∙◌, ℕ, List, [], ◌++◌, append-nil, inl, inr, refl, sym, None, Option}
+use Rattle.std.proofs.Common.{Some}
 use Rattle.std.specs.Prelude.{IfSome}
-use Rattle.std.specs.Io.KnownBytes.{Appends}
 use Rattle.std.proofs.KnownBytes.{Keeps-refl}
 use Rattle.csv.specs.declared.reader.Reader.{Reader}
 use Rattle.fare_texts.proofs.Beginnings.{begins_behind, begins_kept, begins_whole}
 use Rattle.tap_views.specs.declared.encoder.TapFields.{TapFields}
-use Rattle.tap_rows.specs.Agencies.{AreBegun, BeginsUpload, IsRowsEncoded, IsUploadBegun}
-use Rattle.tap_rows.specs.Agencies.{MayEndOnce, taps_in}
+use Rattle.tap_rows.specs.Agencies.{AreBegun, IsRowsEncoded, IsUploadBegun, MayEndOnce, taps_in}
 use Rattle.tap_rows.specs.declared.agency.choice.Choice.{Choice}
 use Rattle.tap_rows.specs.declared.agency.fault.AgencyFault.{AgencyFault}
 use Rattle.tap_rows.specs.declared.agency.fault.AgencyFault.TheVariants as fault

@@ -1,5 +1,7 @@
 -- The devices of a table, and the rows that give them.
-use Rattle.std.proofs.Common.{◌≡◌, ℕ, ◌+◌, Bool, true, false, cond, List, [], ◌∷◌, ◌++◌, length, Option, None, Some, inl, refl, sym, ap, subst, ◌∙◌, arith, length-append, eqb-true}
+use Rattle.std.proofs.Common.{◌≡◌, ℕ, ◌+◌, Bool, true, false, cond, List, [], ◌∷◌, ◌++◌, length}
+use Rattle.std.proofs.Common.{Option, None, Some, inl, refl, sym, ap, subst, ◌∙◌, arith}
+use Rattle.std.proofs.Common.{length-append, eqb-true}
 use Rattle.std.specs.Prelude.{map, codes, is_some, nat_eq, ◌||◌}
 use Rattle.std.specs.Cmp.Lexicographic.{nat_list_eq_equiv}
 use Rattle.std.specs.List.{IsDistinct, list_any}
@@ -138,16 +140,20 @@ pub devices_more : {R : Type 0} (remaining : R → Option (List ℕ)) (separator
     (text : List ℕ) (count : ℕ) (reader after : Reader R) (old new : List Device)
     (row : List (List ℕ)) (device : Device)
     → HasDevices remaining separator text count reader old
-    → ((rows : List (List (List ℕ))) → HasCome remaining separator text rows reader → HasCome remaining separator text (rows ++ row ∷ []) after)
-    → IsDeviceRow row device → validator_of old device.0 ≡ None → new ≡ old ++ device ∷ [] → HasDevices remaining separator text (count + 1) after new
-devices_more remaining separator text count reader after old new row device has come is none more = subst (HasDevices remaining separator text (count + 1) after) (sym more) (record {
-  rows = has.rows ++ row ∷ [];
-  come = come (device_head ∷ has.rows) has.come;
-  each = zip_more IsDeviceRow has.rows old row device has.each is;
-  once = subst (IsDistinct bytes_eq) (sym (map-append (λ (d : Device). d.0) old (device ∷ [])))
-      (IsDistinct-push nat_list_eq_equiv (keys_of old) device.0 has.once (no_name old device.0 none));
-  number = omega (arith, has.number, length-append has.rows (row ∷ []));
-})
+    → ((rows : List (List (List ℕ))) → HasCome remaining separator text rows reader
+    → HasCome remaining separator text (rows ++ row ∷ []) after)
+    → IsDeviceRow row device → validator_of old device.0 ≡ None → new ≡ old ++ device ∷ []
+    → HasDevices remaining separator text (count + 1) after new
+devices_more remaining separator text count reader after old new row device has come is none more =
+    subst (HasDevices remaining separator text (count + 1) after) (sym more) (record {
+      rows = has.rows ++ row ∷ [];
+      come = come (device_head ∷ has.rows) has.come;
+      each = zip_more IsDeviceRow has.rows old row device has.each is;
+      once = subst (IsDistinct bytes_eq) (sym (map-append (λ (d : Device). d.0) old (device ∷ [])))
+          (IsDistinct-push nat_list_eq_equiv (keys_of old) device.0 has.once
+          (no_name old device.0 none));
+      number = omega (arith, has.number, length-append has.rows (row ∷ []));
+    })
 
 -- a row that was not added is the first that is wrong
 pub row_fault : {R : Type 0} (remaining : R → Option (List ℕ)) (separator : Separator)
@@ -181,7 +187,8 @@ pub own_devices : (separator : Separator) (text : List ℕ) (devices : List Devi
 own_devices separator text devices are =
     record { its = separator; is_its = inl (has_head separator text devices are, refl); are = are }
 
-pub own_fault : (separator : Separator) (text : List ℕ) (f : DevicesFault) → ¬ (f ≡ fault.Head) → IsFaultBy separator text f → IsDevicesFault separator text f
+pub own_fault : (separator : Separator) (text : List ℕ) (f : DevicesFault) → ¬ (f ≡ fault.Head)
+    → IsFaultBy separator text f → IsDevicesFault separator text f
 own_fault separator text fault.Head other is = absurd (other refl)
 own_fault separator text (fault.Row number why) other is = (
   separator,

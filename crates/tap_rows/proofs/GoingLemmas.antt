@@ -71,20 +71,29 @@ pub going_first : {R : Type 0} (remaining : R → Option (List ℕ)) (choice : C
     → IsSummary [] [] summary
     → Appends old_refused new_refused (refusals_head choice.separator head)
     → IsGoing remaining choice places text 0 reader waiting summary out out old_refused new_refused
-going_first remaining choice places text reader waiting summary out old_refused new_refused head columns come none summary_is appended = record {
-  head = head;
-  rows = [];
-  readings = [];
-  columns = columns;
-  come = come;
-  each = tt;
-  number = refl;
-  room = subst (λ taps. AreEncodable (λ tap. tap.moment) taps) (sym none) (omega arith, λ k d within. absurd (omega (arith, within)));
-  written = subst (λ taps. AreWritten out out taps []) (sym none)
-      (record { done = []; file = []; upload = no_text; written = Appends-nil out; all = refl });
-  refused = subst (λ bytes. Appends old_refused new_refused bytes) (sym (append-nil (refusals_head choice.separator head))) appended;
-  summary_is = summary_is;
-}
+going_first remaining choice places text reader waiting summary out old_refused new_refused head
+    columns come none summary_is appended = record {
+      head = head;
+      rows = [];
+      readings = [];
+      columns = columns;
+      come = come;
+      each = tt;
+      number = refl;
+      room = subst (λ taps. AreEncodable (λ tap. tap.moment) taps) (sym none)
+          (omega arith, λ k d within. absurd (omega (arith, within)));
+      written = subst (λ taps. AreWritten out out taps []) (sym none)
+          (record {
+            done = [];
+            file = [];
+            upload = no_text;
+            written = Appends-nil out;
+            all = refl;
+          });
+      refused = subst (λ bytes. Appends old_refused new_refused bytes)
+          (sym (append-nil (refusals_head choice.separator head))) appended;
+      summary_is = summary_is;
+    }
 
 pub going_more : {R : Type 0} (remaining : R → Option (List ℕ)) (choice : Choice) (places : Places)
     (text : Option (List ℕ)) (count number : ℕ) (reader after : Reader R)

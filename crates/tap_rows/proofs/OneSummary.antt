@@ -1,6 +1,6 @@
 -- The rows of an agency's CSV have one summary, and a text that is read again has the same one.
-use Rattle.std.proofs.Common.{◌≡◌, ◌∙◌, ◌≤◌, ◌<◌, ℕ, List, [], ◌∷◌, ap, arith, length, map, refl}
-use Rattle.std.proofs.Common.{None, Option, Some, subst, suc, sym, zero}
+use Rattle.std.proofs.Common.{◌≡◌, ◌∙◌, ◌<◌, ℕ, List, [], ◌∷◌, ap, arith, length, map, refl, None}
+use Rattle.std.proofs.Common.{Option, Some, subst, suc, sym, zero}
 use Rattle.std.specs.Prelude.{Contains, IfSome, IsSome, slice_index_or}
 use Rattle.std.specs.List.{AllByRecursion}
 use Rattle.tap_views.specs.Facts.{IsSpan, IsWithin}

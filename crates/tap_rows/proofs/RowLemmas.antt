@@ -24,7 +24,8 @@ one_validator text number other (value, stands, is) (again, also_stands, also) =
     let same = one_value text value again stands also_stands in
     cc (is.0.value, also.0.value, same)
 
-one_moment : (text : List ℕ) (number other : ℕ) → IsMomentField text number → IsMomentField text other
+one_moment : (text : List ℕ) (number other : ℕ) → IsMomentField text number
+    → IsMomentField text other
     → number ≡ other
 one_moment text number other (value, stands, is) (again, also_stands, also) =
     let same = one_value text value again stands also_stands in

@@ -75,7 +75,13 @@ reached_more text now new number taps tap reached next =
     let (some, row, after) =
     MatchOption-at_some (Unit {0}) (λ left. IsNextRow left number new (Ok (Some tap))) reached.left
     reached.now_is next in
-    record { left = drop_through 10 reached.left; head_line = reached.head_line; now_is = after; rows = more_rows (drop_through 10 text) taps reached.left tap reached.rows row }
+    record {
+      left = drop_through 10 reached.left;
+      head_line = reached.head_line;
+      now_is =
+          after;
+      rows = more_rows (drop_through 10 text) taps reached.left tap reached.rows row;
+    }
 
 -- the same, of a row that was answered
 pub next_of : (now new : Option (List ℕ)) (number : ℕ)
@@ -93,7 +99,11 @@ reached_end text now new number taps reached next =
     let none : reached.left ≡ [] =
     MatchOption-at_some (Unit {0}) (λ left. IsNextRow left number new (Ok None)) reached.left
     reached.now_is next in
-    record { head_line = reached.head_line; rows = subst (λ left. BeginsWithRows (drop_through 10 text) taps left) none reached.rows }
+    record {
+      head_line = reached.head_line;
+      rows =
+          subst (λ left. BeginsWithRows (drop_through 10 text) taps left) none reached.rows;
+    }
 
 -- a fault is of the row behind those that were read
 pub reached_fault : (text : List ℕ) (now new : Option (List ℕ)) (number : ℕ) (taps : List TapFields)
@@ -277,7 +287,8 @@ pub ready_written : (old now out0 here there out : Option (List ℕ)) (count : �
     → IfSome old (λ text. Writing text now count pending out0 here) → IsEncodedAs pending here there
     → Ready old now out0 out count after
 ready_written old now out0 here there out count pending after none same writing encoded =
-    let P : List TapFields → Option (List ℕ) → Type 0 = λ taps o. IfSome old (λ text. Writing text now count taps out0 o) in
+    let P : List TapFields → Option (List ℕ) → Type 0 =
+    λ taps o. IfSome old (λ text. Writing text now count taps out0 o) in
     let done : P [] there =
     IfSome_then old writing
     (λ text w. writing_batch text now count pending out0 here there w encoded) in

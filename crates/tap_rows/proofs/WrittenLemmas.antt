@@ -186,7 +186,8 @@ decimal_high number small = digits_high (decimal number) (decimal_is_IsNumeral n
 line_unbroken : (tap : TapFields) → IsTapFields tap → IsUnbroken (line_of tap)
 line_unbroken tap is =
     unbroken_joined (encode_lower tap.token)
-    (44 ∷ (decimal tap.validator ++ 44 ∷ decimal tap.moment)) (high_unbroken _ (token_high tap is)) (
+    (44 ∷ (decimal tap.validator ++ 44 ∷ decimal tap.moment))
+    (high_unbroken _ (token_high tap is)) (
       omega arith,
       unbroken_joined (decimal tap.validator) (44 ∷ decimal tap.moment)
           (high_unbroken _ (decimal_high tap.validator (omega (arith, is.validator))))

@@ -95,7 +95,8 @@ counts_push : (uploads : List (List (List ℕ))) (upload : List (List ℕ)) (tok
     → is_among upload token ≡ false → is_common uploads token ≡ b
     → counts_among uploads (upload ++ token ∷ []) ≡ plus 1 (one b) (counts_among uploads upload)
 counts_push uploads upload token b new is =
-    ap (λ (ts : List (List ℕ)). record { all = length ts; shared = count_by (is_common uploads) ts })
+    ap (λ (ts : List (List ℕ)). record
+    { all = length ts; shared = count_by (is_common uploads) ts })
     (different_new upload token new)
     ∙ ap (λ (n : ℕ). record {
       all = n;

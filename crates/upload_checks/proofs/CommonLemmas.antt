@@ -196,7 +196,8 @@ count_more_step test other token apart misses hits before first tokens more =
 
     by_test : (b : Bool) → pointwise nat_eq token first ≡ b
         → count_by other (own ++ rest) ≡ count_by test (own ++ rest)
-        + cond (is_among before token) 0 (one (pointwise nat_eq token first || is_among tokens token))
+        + cond (is_among before token) 0
+        (one (pointwise nat_eq token first || is_among tokens token))
     by_test false is =
         let same = part_same other test first (is_among before first) (apart first is) in
         let there : is_among (before ++ first ∷ []) token ≡ is_among before token =

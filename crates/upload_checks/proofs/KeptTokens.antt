@@ -74,7 +74,8 @@ last_same number upload more token (Some its) same known = known ∙ sym same
 module _ (before : List (List (List ℕ))) (upload : List (List ℕ)) (token : List ℕ)
     (old new : BTreeMap (List ℕ) TokenUploads) (its : TokenUploads)
     (put : IsPut old new token its) where
-  apart_got : (other : List ℕ) → pointwise nat_eq token other ≡ false → got new other ≡ got old other
+  apart_got : (other : List ℕ) → pointwise nat_eq token other ≡ false
+      → got new other ≡ got old other
   apart_got other apart =
       put other ∙ ap (λ (b : Bool). cond b (Some its) (got old other)) (tied token other ∙ apart)
 

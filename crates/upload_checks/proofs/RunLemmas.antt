@@ -1,6 +1,7 @@
 -- Runs of silent validators, as one more is found.
 use Rattle.std.proofs.Common.{◌≡◌, ℕ, ◌+◌, ◌<◌, ◌≤◌, ◌&&◌, ◌||◌, Bool, true, false}
-use Rattle.std.proofs.Common.{List, [], ◌∷◌, ◌++◌, All, cond, refl, sym, ap, subst, ◌∙◌, arith, inl, inr}
+use Rattle.std.proofs.Common.{List, [], ◌∷◌, ◌++◌, All, cond, refl, sym, ap, subst, ◌∙◌, arith, inl}
+use Rattle.std.proofs.Common.{inr}
 use Rattle.std.proofs.Common.{nat_eq, nat_le}
 use Rattle.std.proofs.Math.Bool.{or_assoc}
 use Rattle.std.proofs.lemmas.Bool.Decides.{nat_tests}
@@ -113,8 +114,11 @@ apart_with_run (run ∷ []) next apart below small back = by_touch (touches run 
     by_touch true is =
         let joins = (of_touching run next is).1 in
         let forward : run.first ≤ run.last = apart in omega arith
-    by_touch false is =
-        (apart, before_of run next (All-head (IsBelow next.day next.first) run [] below) small is, back)
+    by_touch false is = (
+      apart,
+      before_of run next (All-head (IsBelow next.day next.first) run [] below) small is,
+      back,
+    )
 apart_with_run (run ∷ other ∷ more) next apart below small back =
     front_apart run other more next apart.0 apart.1
     (apart_with_run (other ∷ more) next apart.2

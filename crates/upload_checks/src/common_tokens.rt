@@ -37,8 +37,8 @@ pub struct CommonTokens {
     counts: Vec<CommonCounts>,
 }
 
-/// Adds to the counts of the upload of this number, if there is one. A count that would be too large
-/// is reported as want of memory: each token is kept.
+/// Adds to the counts of the upload of this number, if there is one. A count that would be too
+/// large is reported as want of memory: each token is kept.
 fn count(
     counts: &mut Vec<CommonCounts>,
     number: usize,

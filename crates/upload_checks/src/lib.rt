@@ -1,6 +1,6 @@
 //! What an auditor looks for in uploads: near doubles, taps outside a span of moments, uploads that
-//! are there twice, validators of a table without a tap on a day, and how many tokens uploads share.
-//! Nothing is changed or left out.
+//! are there twice, validators of a table without a tap on a day, and how many tokens uploads
+//! share. Nothing is changed or left out.
 #![tactic(auto)]
 
 mod common_tokens;

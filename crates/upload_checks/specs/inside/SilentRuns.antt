@@ -1,5 +1,6 @@
 -- Runs of silent validators, as they are found one by one.
-use Rattle.std.specs.Prelude.{◌≡◌, ℕ, ◌+◌, ◌*◌, ◌<◌, ◌≤◌, ◌&&◌, All, Bool, List, [], ◌∷◌, Option, Some}
+use Rattle.std.specs.Prelude.{◌≡◌, ℕ, ◌+◌, ◌*◌, ◌<◌, ◌≤◌, ◌&&◌, All, Bool, List, [], ◌∷◌, Option}
+use Rattle.std.specs.Prelude.{Some}
 use Rattle.std.specs.Prelude.{None, if◌then◌else◌, nat_eq, nat_le, nat_lt, not, sum_by, true, false}
 use Rattle.fare_table.specs.declared.validators.RangeRest.{RangeRest}
 use Rattle.upload_checks.specs.SilentDays.{AreApart, size_of}
@@ -44,7 +45,8 @@ next_first (range ∷ more) = range.0
 -- on the day, the validator is one from the first up to the end, and without a tap
 abbrev pub is_gap : (ℕ → Bool) → ℕ → ℕ → ℕ → ℕ → ℕ → Bool
 is_gap has_tap day first end other validator =
-    nat_eq other day && ((nat_le first validator && nat_lt validator end) && not (has_tap validator))
+    nat_eq other day
+    && ((nat_le first validator && nat_lt validator end) && not (has_tap validator))
 
 -- none of the validators from the first up to the end has a tap
 abbrev pub AreSilent : (ℕ → Bool) → ℕ → ℕ → Type 0

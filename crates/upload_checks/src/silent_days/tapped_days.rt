@@ -145,7 +145,8 @@ impl TappedDays {
         requires day { day < 47_482 }
         requires below { AreBelow found.old day first }
         ensures below { OnOk result (AreBelow found.new day (last + 1)) }
-        ensures adds { OnOk result ((other validator : ℕ) → are_in found.new.runs.items other validator
+        ensures adds { OnOk result ((other validator : ℕ)
+            → are_in found.new.runs.items other validator
             ≡ (are_in found.old.runs.items other validator
             || is_gap (has_visit_on self.now day) day first (last + 1) other validator)) }
     {
@@ -175,7 +176,8 @@ impl TappedDays {
         requires day { day < 47_482 }
         requires below { AreBelow found.old day 0 }
         ensures below { OnOk result (AreBelow found.new (day + 1) 0) }
-        ensures adds { OnOk result ((other validator : ℕ) → are_in found.new.runs.items other validator
+        ensures adds { OnOk result ((other validator : ℕ)
+            → are_in found.new.runs.items other validator
             ≡ (are_in found.old.runs.items other validator || (nat_eq other day
             && (list_any (has_number validator) ranges.now
             && not (has_visit_on self.now day validator))))) }

@@ -111,7 +111,8 @@ loop-place-preserved g c =
     record {
       explained = λ earlier come.
           let so_far = inv.explained earlier come in
-          let lines = next.explained (earlier ++ posted_after fares earlier before) so_far.1.come in (
+          let lines =
+          next.explained (earlier ++ posted_after fares earlier before) so_far.1.come in (
             so_far.0 ++ lines.0,
             subst (λ (ts : List TapFields). AreExplained fares earlier ts c.write_list.new.explainer
                 (so_far.0 ++ lines.0)) (sym more) (reported_append fares earlier before list

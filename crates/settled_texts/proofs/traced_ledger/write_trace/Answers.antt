@@ -45,7 +45,9 @@ returns-clause-ok g c =
           (ap (λ (h : List ℕ). (h ++ c.as_bytes-2.result.now) ++ with_columns explained.0 columns)
           c.as_bytes.ensures.value
           ∙ ap (λ (h : List ℕ).
-          (codes "token,line,moment,validator,mode,answer,cents,window_start,window_end,ride,reason,points_at" ++ h)
+          (codes
+          "token,line,moment,validator,mode,answer,cents,window_start,window_end,ride,reason,points_at"
+          ++ h)
           ++ with_columns explained.0 columns) c.as_bytes-2.ensures.value
           ∙ sym (head_on explained.0 columns))
           (Appends-trans _ _ _ _ _ (Appends-trans _ _ _ _ _ c.in_ok-write_out.ensures.ok
@@ -56,14 +58,17 @@ returns-clause-ok g c =
 -- the head line, its columns' names, and the lines with their columns
 with_head : (head more lines : List ℕ) (columns : List (List ℕ))
     → head
-    ≡ codes "token,line,moment,validator,mode,answer,cents,window_start,window_end,ride,reason,points_at"
+    ≡ codes
+    "token,line,moment,validator,mode,answer,cents,window_start,window_end,ride,reason,points_at"
     → more ≡ codes ",class,upload,place\n"
     → (head ++ more) ++ with_columns lines columns
     ≡ with_columns (head_text ++ lines) (head_columns ∷ columns)
 with_head head more lines columns one other =
     ap (λ (h : List ℕ). (h ++ more) ++ with_columns lines columns) one
     ∙ ap (λ (h : List ℕ).
-    (codes "token,line,moment,validator,mode,answer,cents,window_start,window_end,ride,reason,points_at" ++ h)
+    (codes
+    "token,line,moment,validator,mode,answer,cents,window_start,window_end,ride,reason,points_at"
+    ++ h)
     ++ with_columns lines columns) other
     ∙ sym (head_on lines columns)
 

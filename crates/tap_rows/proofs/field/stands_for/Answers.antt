@@ -12,7 +12,8 @@ returns-in-Some c =
       λ same. subst (λ value. FieldStandsFor c.args.field.now value) (decides.0 same)
           c.in-Some.ensures,
       λ stands. decides.1
-          (one_value c.args.field.now c.in-Some.found.now c.args.value.now c.in-Some.ensures stands),
+          (one_value c.args.field.now c.in-Some.found.now c.args.value.now c.in-Some.ensures
+          stands),
     )
 
 pub returns-in-None : goal.returns-in-None

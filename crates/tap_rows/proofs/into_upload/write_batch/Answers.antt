@@ -12,7 +12,8 @@ use Rattle.tap_rows.proofs.into_upload.write_batch.Goals as goal
 pub returns-then-is_empty-clause-upload : goal.returns-then-is_empty-clause-upload
 returns-then-is_empty-clause-upload g c =
     let none : c.args.taps.now ≡ [] =
-    nil_from_length c.args.taps.now (eqb-true _ 0 (sym c.is_empty.ensures ∙ c.if-is_empty.true)) in (
+    nil_from_length c.args.taps.now
+    (eqb-true _ 0 (sym c.is_empty.ensures ∙ c.if-is_empty.true)) in (
       [],
       subst (λ taps. IsFileOf [] taps) (sym none) no_text,
       Appends-nil (g.W.Write.contents c.args.out.now),

@@ -121,8 +121,10 @@ returns-in_err-tap-clause-refused g c =
     let now = g.R.Read.remaining c.loop-count.table in
     let new = g.R.Read.remaining c.next_row.new.text in
     let fault = c.in_err-tap.field-0.0 in
-    let next = next_of now new (c.loop-count.count + 2) c.next_row.result (Err fault) c.in_err-tap.was c.next_row.ensures.row in
-    let p = err_from_is_err_and c.from_residual-in_err-tap.result c.from_residual-in_err-tap.ensures.1 in
+    let next = next_of now new (c.loop-count.count + 2) c.next_row.result (Err fault)
+    c.in_err-tap.was c.next_row.ensures.row in
+    let p = err_from_is_err_and c.from_residual-in_err-tap.result
+    c.from_residual-in_err-tap.ensures.1 in
     rw (p.1, p.2)
     (IfSome_then (g.R.Read.remaining c.args.table.now) c.loop-count.invariant.writing
     (λ text writing.
@@ -138,7 +140,8 @@ returns-in-None-clause-upload g c =
     let next = next_of now new (c.loop-count.count + 2) c.next_row.result (Ok None)
     (c.in_ok-tap.was ∙ ap (λ row. Ok row) c.in-None.is) c.next_row.ensures.row in
     let P : List TapFields → Type 0 = λ taps. IsEncodedAs taps here there in
-    let encoded = subst P c.deref-in-None.ensures.value c.in_ok-write_batch-in-None.ensures.upload in
+    let encoded = subst P c.deref-in-None.ensures.value
+    c.in_ok-write_batch-in-None.ensures.upload in
     IfSome_then (g.R.Read.remaining c.args.table.now) c.loop-count.invariant.writing
     (λ text writing.
     writing_end text now new c.loop-count.count (c.loop-count.count + 2) c.loop-count.taps.items

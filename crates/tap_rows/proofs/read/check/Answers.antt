@@ -9,8 +9,10 @@ returns-in_err-next_row-clause-refused g c =
     let now = g.R.Read.remaining c.loop-count.table in
     let new = g.R.Read.remaining c.next_row.new.text in
     let fault = c.in_err-next_row.field-0.0 in
-    let next = next_of now new (c.loop-count.count + 2) c.next_row.result (Err fault) c.in_err-next_row.was c.next_row.ensures.row in
-    let p = err_from_is_err_and c.from_residual-in_err-next_row.result c.from_residual-in_err-next_row.ensures.1 in
+    let next = next_of now new (c.loop-count.count + 2) c.next_row.result (Err fault)
+    c.in_err-next_row.was c.next_row.ensures.row in
+    let p = err_from_is_err_and c.from_residual-in_err-next_row.result
+    c.from_residual-in_err-next_row.ensures.1 in
     rw (p.1, p.2)
     (IfSome_then (g.R.Read.remaining c.args.table.now) c.loop-count.invariant (λ text reached.
     reached_fault text now new (c.loop-count.count + 2) reached.0 fault reached.1

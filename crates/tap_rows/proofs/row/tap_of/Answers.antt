@@ -5,7 +5,8 @@ use Rattle.tap_rows.proofs.row.tap_of.Goals as goal
 
 pub returns-in_default-and_then-2-clause-wrong : goal.returns-in_default-and_then-2-clause-wrong
 returns-in_default-and_then-2-clause-wrong c =
-    let token = reported_of IsToken (λ v. v.now) c.in-Some.token.now c.value_of.result c.and_then.result
+    let token = reported_of IsToken (λ v. v.now) c.in-Some.token.now c.value_of.result
+    c.and_then.result
     c.value_of.ensures c.and_then.ensures in
     let validator = reported_of IsValidator (λ v. v.now) c.in-Some.validator.now c.value_of-2.result
     c.and_then-2.result c.value_of-2.ensures c.and_then-2.ensures in
@@ -20,7 +21,8 @@ returns-in_default-and_then-2-clause-wrong c =
 
 pub returns-in_default-and_then-3-clause-wrong : goal.returns-in_default-and_then-3-clause-wrong
 returns-in_default-and_then-3-clause-wrong c =
-    let token = reported_of IsToken (λ v. v.now) c.in-Some.token.now c.value_of.result c.and_then.result
+    let token = reported_of IsToken (λ v. v.now) c.in-Some.token.now c.value_of.result
+    c.and_then.result
     c.value_of.ensures c.and_then.ensures in
     let validator = reported_of IsValidator (λ v. v.now) c.in-Some.validator.now c.value_of-2.result
     c.and_then-2.result c.value_of-2.ensures c.and_then-2.ensures in

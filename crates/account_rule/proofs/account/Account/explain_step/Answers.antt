@@ -130,7 +130,8 @@ class_at-self-requires c = record {
 -- the last tap gives a transfer
 
 pub gives_transfer-requires-clause-class : goal.gives_transfer-requires-clause-class
-gives_transfer-requires-clause-class c = rw c.at-tariff-2.ensures.meaning c.class_at-self.ensures.there
+gives_transfer-requires-clause-class c =
+    rw c.at-tariff-2.ensures.meaning c.class_at-self.ensures.there
 
 pub gives_transfer-requires-clause-from : goal.gives_transfer-requires-clause-from
 unfolding StandsForSome Stands kept_trip rules_of live_at
@@ -160,7 +161,8 @@ is_transfer c taps stands =
     transfer (rules_of c.args.table.now c.args.token.now) _ _ _ taps c.args.tap c.in-Some.mode
     c.class_at-self.result (kept-open _ c.if-not-self.false) stands c.in-Some.is
     (listed c.args.table.now c.args.token.now c.in-Some.mode (c.requires.mode _ c.in-Some.is))
-    c.if-tap-self.false (gives_same c.args.table.now c.args.token.now c.at-tariff-2.result.now.meaning
+    c.if-tap-self.false
+    (gives_same c.args.table.now c.args.token.now c.at-tariff-2.result.now.meaning
     c.args.tap.moment c.class_at-self.result c.in-Some.mode
     (kept_trip (Some (kept_numbers c.args.self.now))) c.gives_transfer.result
     c.at-tariff-2.ensures.meaning c.class_at-self.ensures.class c.gives_transfer.ensures.gives

@@ -25,7 +25,8 @@ is_first_ride : (c : After-first_ride) (taps : List TapIn)
     (known_tap c.args.moment c.args.mode) c.first_ride.result (kept_of c.first_ride.new.self)
 unfolding Stands live_at known_tap
 is_first_ride c taps stands =
-    first_ride_is c.args.table.now c.args.token.now c.args.clock.now (kept_of c.args.self.now) _ taps
+    first_ride_is c.args.table.now c.args.token.now c.args.clock.now (kept_of c.args.self.now) _
+    taps
     (known_tap c.args.moment c.args.mode) c.args.mode c.at.result.now.meaning _ _
     (kept-fresh _ c.if-not-self.true) stands refl c.requires.mode c.requires.clock
     c.at.ensures.meaning c.first_ride.ensures.class c.first_ride.ensures.there

@@ -1,6 +1,7 @@
 -- Each way out of the step is one of the rule's cases: unknown, at a later tariff, the first ride,
 -- stale, a transfer or a later ride.
-use Rattle.std.proofs.Common.{◌≡◌, ◌<◌, ◌≤◌, List, [], ◌∷◌, ◌++◌, Some, arith, refl, sym, ap, ◌∙◌, length, subst}
+use Rattle.std.proofs.Common.{◌≡◌, ◌<◌, ◌≤◌, List, [], ◌∷◌, ◌++◌, Some, arith, refl, sym, ap, ◌∙◌}
+use Rattle.std.proofs.Common.{length, subst}
 use Rattle.fare_table.specs.Fares.{class_of, meaning_at}
 use Rattle.account_rule.specs.Replies.{reply}
 use Rattle.account_rule.specs.TokenRules.{rules_of}
@@ -63,7 +64,8 @@ is_first_ride : (c : After-first_ride) (taps : List TapIn)
     (kept_of c.first_ride.new.self)
 unfolding Stands live_at
 is_first_ride c taps stands =
-    first_ride_is c.args.table.now c.args.token.now c.args.clock.now (kept_of c.args.self.now) _ taps
+    first_ride_is c.args.table.now c.args.token.now c.args.clock.now (kept_of c.args.self.now) _
+    taps
     c.args.tap c.in-Some.mode c.first.result.now.meaning _ _
     (kept-fresh _ c.if-not-self.true) stands c.in-Some.is (c.requires.mode _ c.in-Some.is)
     c.requires.clock
@@ -102,7 +104,8 @@ returns-then-tap-self-clause-stands c =
     (stale _ _ _ taps c.args.tap _ (kept-open _ c.if-not-self.false) stands c.in-Some.is
     c.if-tap-self.true).stands
 
--- the tap is a transfer or a later ride: the kept class is the first tariff's, as at the last live tap
+-- the tap is a transfer or a later ride: the kept class is the first tariff's, as at the last live
+-- tap
 
 pub live_step-requires-clause-class : goal.live_step-requires-clause-class
 unfolding StandsForSome

@@ -3,7 +3,8 @@ use Rattle.ledger_check.specs.Verdicts.{IsVerdict, is_legal}
 use Rattle.ledger_check.proofs.CheckerLemmas.{kept, too_long}
 use Rattle.ledger_check.proofs.checker.Checker.keep.Goals as goal
 
-pub returns-then-len-gt-MAX_LINE_BYTES-clause-fed : goal.returns-then-len-gt-MAX_LINE_BYTES-clause-fed
+pub returns-then-len-gt-MAX_LINE_BYTES-clause-fed :
+    goal.returns-then-len-gt-MAX_LINE_BYTES-clause-fed
 returns-then-len-gt-MAX_LINE_BYTES-clause-fed c = λ fares text fed more.
     let whole = c.extend_from_slice.new.self.items in
     let long : 255 < length whole = omega (arith, c.extend_from_slice.new.self.ok.0) in
@@ -18,7 +19,8 @@ returns-clause-fed c = λ fares text fed.
     kept fares c.args.self.now _ text c.args.rest.now fed c.requires.rest refl
     c.in_ok-extend_from_slice.ensures.items short
 
-pub returns-then-len-gt-MAX_LINE_BYTES-clause-struck : goal.returns-then-len-gt-MAX_LINE_BYTES-clause-struck
+pub returns-then-len-gt-MAX_LINE_BYTES-clause-struck :
+    goal.returns-then-len-gt-MAX_LINE_BYTES-clause-struck
 returns-then-len-gt-MAX_LINE_BYTES-clause-struck c =
     λ fares text balance good struck. ap is_legal c.no_line.ensures
 

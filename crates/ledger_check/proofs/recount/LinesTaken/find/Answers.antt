@@ -7,7 +7,8 @@ returns-then-self-eq0-clause-found c = λ taken whole lines line same.
     found_first c.args.table.now c.args.self.now taken c.args.line.now whole c.first_finding.result
     lines c.if-self-eq0.true same c.first_finding.ensures
 
-pub returns-then-line-gt-MAX_LINE_BYTES-clause-found : goal.returns-then-line-gt-MAX_LINE_BYTES-clause-found
+pub returns-then-line-gt-MAX_LINE_BYTES-clause-found :
+    goal.returns-then-line-gt-MAX_LINE_BYTES-clause-found
 returns-then-line-gt-MAX_LINE_BYTES-clause-found c = λ taken whole lines line same.
     found_long c.args.table.now c.args.self.now taken c.args.line.now whole _ lines (omega arith)
     same c.if-line-gt-MAX_LINE_BYTES.true refl refl

@@ -12,7 +12,8 @@ join_seat-requires c =
     let other : c.other.inside.seat.table_id ≡ c.self.inside.table.shared.table_id =
     ap (λ d. d.drawn_from.home) c.other.view_is
     ∙ (ap (λ d. d.home) c.requires.other ∙ sym (ap (λ d. d.home) c.self.view_is)) in
-    let word : 0 < c.self.inside.table.shared.table_id.words = omega (arith, c.self.invariant.1) in (
+    let word : 0 < c.self.inside.table.shared.table_id.words =
+    omega (arith, c.self.invariant.1) in (
       home,
       other,
       c.other.invariant.carries,
@@ -25,7 +26,8 @@ load-requires c =
     let home : c.drawer.inside.seat.table_id ≡ c.self.inside.table.shared.table_id =
     ap (λ d. d.drawn_from.home) c.drawer.view_is
     ∙ (ap (λ d. d.home) c.requires.belongs ∙ sym (ap (λ d. d.home) c.self.view_is)) in
-    let word : 0 < c.self.inside.table.shared.table_id.words = omega (arith, c.self.invariant.1) in (
+    let word : 0 < c.self.inside.table.shared.table_id.words =
+    omega (arith, c.self.invariant.1) in (
       c.join_seat.ensures.0
           ∙ home,
       word,

@@ -6,7 +6,8 @@ pub store-requires-2 : goal.store-requires-2
 store-requires-2 c =
     let home : c.args.seat.now.table_id ≡ c.self.inside.table.shared.table_id =
     c.requires.belongs ∙ sym (ap (λ o. o.home) c.self.view_is) in
-    let word : 0 < c.self.inside.table.shared.table_id.words = omega (arith, c.self.invariant.1) in (
+    let word : 0 < c.self.inside.table.shared.table_id.words =
+    omega (arith, c.self.invariant.1) in (
       c.exchange.ensures.0
           ∙ home,
       word,

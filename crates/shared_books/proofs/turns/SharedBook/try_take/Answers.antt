@@ -7,7 +7,8 @@ pub compare_exchange-before-requires : goal.compare_exchange-before-requires
 compare_exchange-before-requires c =
     let home : c.args.seat.now.table_id ≡ c.self.inside.table.shared.table_id =
     c.requires.belongs ∙ sym (ap (λ o. o.home) c.self.view_is) in
-    let word : 0 < c.self.inside.table.shared.table_id.words = omega (arith, c.self.invariant.1) in (
+    let word : 0 < c.self.inside.table.shared.table_id.words =
+    omega (arith, c.self.invariant.1) in (
       home,
       word,
       takes_turn _ _ _ _ _ _ c.requires.free.unjoined c.requires.free.turn

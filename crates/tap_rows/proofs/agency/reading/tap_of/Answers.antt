@@ -29,7 +29,8 @@ returns-in-Err-clause-wrong c = λ head are long.
     (record { place = places.validator; column = are.validator; field = field })
     c.in-Err.ensures.wrong
 
-pub returns-in_default-agency_moment_in-clause-wrong : goal.returns-in_default-agency_moment_in-clause-wrong
+pub returns-in_default-agency_moment_in-clause-wrong :
+    goal.returns-in_default-agency_moment_in-clause-wrong
 returns-in_default-agency_moment_in-clause-wrong c = λ head are long.
     let choice = c.args.choice.now in
     let row = fields_of c.args.row.now in

@@ -82,7 +82,8 @@ pub returns-in_err-has_row-clause-begun : goal.returns-in_err-has_row-clause-beg
 returns-in_err-has_row-clause-begun g c =
     let p = err_from_is_err_and c.from_residual-in_err-has_row.result
     c.from_residual-in_err-has_row.ensures.1 in
-    rw p.1 (going_kept g.R.Read.remaining c.args.choice.now c.in_ok-places.places (g.R.Read.remaining c.args.text)
+    rw p.1 (going_kept g.R.Read.remaining c.args.choice.now c.in_ok-places.places
+    (g.R.Read.remaining c.args.text)
     c.loop-count.count c.loop-count.reader c.loop-count.waiting.items c.loop-count.summary
     (g.W.Write.contents c.args.out.now) (g.W.Write.contents c.loop-count.out)
     (g.X.Write.contents c.args.refused.now) (g.X.Write.contents c.loop-count.refused)
@@ -92,7 +93,8 @@ pub returns-in_err-write_waiting-clause-begun : goal.returns-in_err-write_waitin
 returns-in_err-write_waiting-clause-begun g c =
     let p = err_from_is_err_and c.from_residual-in_err-write_waiting.result
     c.from_residual-in_err-write_waiting.ensures.1 in
-    rw p.1 (going_begun g.R.Read.remaining c.args.choice.now c.in_ok-places.places (g.R.Read.remaining c.args.text)
+    rw p.1 (going_begun g.R.Read.remaining c.args.choice.now c.in_ok-places.places
+    (g.R.Read.remaining c.args.text)
     c.loop-count.count c.loop-count.reader c.loop-count.waiting.items c.loop-count.summary
     (g.W.Write.contents c.args.out.now) (g.W.Write.contents c.loop-count.out)
     (g.W.Write.contents c.write_waiting.new.out)
@@ -104,7 +106,8 @@ pub returns-in_err-put_row-clause-begun : goal.returns-in_err-put_row-clause-beg
 returns-in_err-put_row-clause-begun g c =
     let p = err_from_is_err_and c.from_residual-in_err-put_row.result
     c.from_residual-in_err-put_row.ensures.1 in
-    rw p.1 (going_begun g.R.Read.remaining c.args.choice.now c.in_ok-places.places (g.R.Read.remaining c.args.text)
+    rw p.1 (going_begun g.R.Read.remaining c.args.choice.now c.in_ok-places.places
+    (g.R.Read.remaining c.args.text)
     c.loop-count.count c.loop-count.reader c.loop-count.waiting.items c.loop-count.summary
     (g.W.Write.contents c.args.out.now) (g.W.Write.contents c.loop-count.out)
     (g.W.Write.contents c.put_row.new.out)
@@ -114,7 +117,8 @@ returns-in_err-put_row-clause-begun g c =
 
 pub returns-clause-begun : goal.returns-clause-begun
 returns-clause-begun g c =
-    going_kept g.R.Read.remaining c.args.choice.now c.in_ok-places.places (g.R.Read.remaining c.args.text)
+    going_kept g.R.Read.remaining c.args.choice.now c.in_ok-places.places
+    (g.R.Read.remaining c.args.text)
     c.loop-count.count c.loop-count.reader c.loop-count.waiting.items c.loop-count.summary
     (g.W.Write.contents c.args.out.now) (g.W.Write.contents c.loop-count.out)
     (g.X.Write.contents c.args.refused.now) (g.X.Write.contents c.loop-count.refused)

@@ -7,7 +7,8 @@ pub returns-in_default : goal.returns-in_default
 returns-in_default c =
     on_ok_weaker c.count.result
     (λ counts before upload is has.
-    added_first c.args.self.now (record { uploads = c.insert.new.self; counts = c.count.new.counts })
+    added_first c.args.self.now
+    (record { uploads = c.insert.new.self; counts = c.count.new.counts })
     before upload c.args.token
     (record { first = c.args.number; last = c.args.number; is_common = false }) c.args.number is
     (sym (c.copied.ensures ∙ c.get.ensures.value) ∙ c.in_default.is) refl

@@ -19,5 +19,6 @@ loop-tap-preserved c = λ taps are.
     let i = c.loop-tap.tap-index in
     let gone = looked_at c.args.table.now.meaning c.args.span (take i list) in
     subst (λ (ts : List TapFields). AreDaysOf c.add_looked_at.new.self ts)
-    (filter_more (is_looked_at c.args.table.now.meaning c.args.span) taps list i none c.loop-tap-test.true)
+    (filter_more (is_looked_at c.args.table.now.meaning c.args.span) taps list i none
+    c.loop-tap-test.true)
     (c.in_ok-add_looked_at.ensures (taps ++ gone) (c.loop-tap.invariant taps are))

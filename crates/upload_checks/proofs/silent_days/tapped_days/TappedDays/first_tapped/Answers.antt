@@ -1,6 +1,7 @@
 use Rattle.std.proofs.Common.{arith}
 use Rattle.upload_checks.proofs.VisitLemmas.{tapped_first, tapped_none, tapped_nowhere}
-use Rattle.upload_checks.proofs.silent_days.tapped_days.TappedDays.first_tapped.Goals.{else-visit-day-via-then-visit-day+else-visit-last, else-visit-day-via-else-visit-day}
+use Rattle.upload_checks.proofs.silent_days.tapped_days.TappedDays.first_tapped.Goals.{else-visit-day-via-then-visit-day+else-visit-last}
+use Rattle.upload_checks.proofs.silent_days.tapped_days.TappedDays.first_tapped.Goals.{else-visit-day-via-else-visit-day}
 use Rattle.upload_checks.proofs.silent_days.tapped_days.TappedDays.first_tapped.Goals as goal
 
 pub returns-then-visit-last : goal.returns-then-visit-last
