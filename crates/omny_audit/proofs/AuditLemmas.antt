@@ -1,5 +1,5 @@
 -- What is found of a ledger and of a report, by its parts.
-use Rattle.std.proofs.Common.{◌≡◌, ◌∙◌, ℕ, Bool, true, false, List, [], Option, Some, None, refl}
+use Rattle.std.proofs.Common.{◌≡◌, ◌∙◌, ℕ, Bool, true, false, List, Option, Some, None, refl}
 use Rattle.std.proofs.Common.{sym, ap, subst}
 use Rattle.std.specs.Prelude.{◌↔◌, ◌&&◌, ◌||◌, is_some, not}
 use Rattle.std.proofs.lemmas.Bool.{and_parts}
@@ -11,13 +11,14 @@ use Rattle.ledger_check.specs.Ledger.{IsLedgerOf}
 use Rattle.omny_audit.specs.Findings.{FindingsDecide, FullFindingsDecide, IsFindingOf}
 use Rattle.omny_audit.specs.Findings.{IsRightLedger}
 use Rattle.omny_audit.specs.Reports.{HasOwnReport, IsAudit, IsReportLine, IsRightAudit}
-use Rattle.omny_audit.specs.Traced.{AreColumnsReported, HasRightColumns, HasRightPlaces, IsFaultBehind}
+use Rattle.omny_audit.specs.Traced.{AreColumnsReported, HasRightColumns, HasRightPlaces}
+use Rattle.omny_audit.specs.Traced.{IsFaultBehind}
 use Rattle.omny_audit.specs.Traced.{IsPlaceFault, ReadLine, Wanted, have_place, wrong_class}
 use Rattle.omny_audit.specs.Traced.{wrong_place}
 use Rattle.omny_audit.specs.declared.traced.PlaceFault.{PlaceFault}
 use Rattle.omny_audit.specs.declared.traced.PlaceFault.TheVariants.{NoLine, OtherTap, Repeated}
 use Rattle.omny_audit.specs.declared.traced.WrongClass.{WrongClass}
-use Rattle.report_check.specs.Reports.{ReportVerdictsDecide, is_of_ledger}
+use Rattle.report_check.specs.Reports.{ReportVerdictsDecide}
 
 false_true : false ≡ true → ⊥
 false_true h = cc

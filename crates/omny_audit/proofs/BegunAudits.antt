@@ -1,14 +1,14 @@
--- What was written when an audit of all lines is broken off is a beginning of what is found of them.
-use Rattle.std.proofs.Common.{◌≡◌, ◌∙◌, ◌++◌, ℕ, Bool, true, List, Option, Some, None, inl, refl}
-use Rattle.std.proofs.Common.{sym, ap, subst, append_assoc, ⊎_elim, if◌then◌else◌}
-use Rattle.std.specs.Prelude.{◌↔◌, ◌&&◌, IfErr, Result, Ok, Err, is_some, nat_eq}
+-- What was written when an audit of all lines is broken off is a beginning of what is found of
+-- them.
+use Rattle.std.proofs.Common.{◌≡◌, ◌∙◌, ◌++◌, ℕ, Bool, true, List, Option, inl, refl}
+use Rattle.std.proofs.Common.{sym, ap, subst, append_assoc, ⊎_elim}
+use Rattle.std.specs.Prelude.{◌↔◌, ◌&&◌, is_some, nat_eq}
 use Rattle.std.specs.Io.KnownBytes.{Consumes}
 use Rattle.fare_table.specs.Fares.{Fares}
 use Rattle.fare_texts.specs.WrittenOut.{Begins}
 use Rattle.fare_texts.proofs.Beginnings.{begins_front}
 use Rattle.ledger_check.specs.Columns.{read_as}
 use Rattle.ledger_check.specs.FirstLines.{AreFirstTaken, RecountsGoOn}
-use Rattle.ledger_check.specs.FullBalances.{IsFullBalance}
 use Rattle.ledger_check.specs.Ledger.{IsLedger}
 use Rattle.ledger_check.specs.Lines.{lines_of}
 use Rattle.ledger_check.specs.Recounts.{IsRecount, RecountsDecide, TakenLine, recount_text}
@@ -21,8 +21,7 @@ use Rattle.tap_views.specs.declared.encoder.TapFields.{TapFields}
 use Rattle.omny_audit.specs.Findings.{IsDifferencesEnd}
 use Rattle.omny_audit.specs.Reports.{HasBegunAudit, IsAudit, IsReportLine}
 use Rattle.omny_audit.specs.Traced.{AreColumnsReported, ReadLine, Wanted}
-use Rattle.omny_audit.specs.declared.fault.Fault.{Fault}
-use Rattle.omny_audit.specs.declared.traced.Trace.{Trace}
+use Rattle.omny_audit.specs.declared.traced.TracedPieces.{TracedPieces}
 use Rattle.omny_audit.specs.inside.Findings.{HasBegunRecount}
 use Rattle.omny_audit.specs.inside.Source.{IsAllOf}
 use Rattle.omny_audit.specs.inside.Traced.{HasReadAs, wanted_by}
@@ -30,13 +29,8 @@ use Rattle.omny_audit.proofs.FullFindingLemmas.{recount_legal}
 use Rattle.omny_audit.proofs.ReadLemmas.{whatever_follows}
 use Rattle.omny_audit.proofs.TraceLemmas.{reads_more}
 
--- what holds after each fault
-pub after_any : {A : Type 0} (r : Result A Fault) (P : Type 0) → P → IfErr r (λ _. P)
-after_any (Ok x) P is = tt
-after_any (Err e) P is = is
-
 -- the lines that were recounted are the first ones of what is read of the file, however it goes on
-first_lines : (trace : Option Trace) (fares : Fares) (recount : Recount) (strikes : Bool)
+first_lines : (trace : Option TracedPieces) (fares : Fares) (recount : Recount) (strikes : Bool)
     (full : FullBalance) (file text written : List ℕ) (good : List TapFields)
     → HasReadAs trace file text → (has : HasRecounted fares recount strikes full text written good)
     → (more : List ℕ)
@@ -49,7 +43,7 @@ first_lines trace fares recount strikes full file text written good known has mo
     }
 
 -- a beginning of the remarks on the lines so far was written, of a file that goes on or not
-pub begun_so_far : (trace : Option Trace) (wanted : Option Wanted) (fares : Fares)
+pub begun_so_far : (trace : Option TracedPieces) (wanted : Option Wanted) (fares : Fares)
     (recount : Recount) (strikes : Bool) (full : FullBalance) (file text written : List ℕ)
     (good : List TapFields) (left left' out out' : Option (List ℕ))
     → HasReadAs trace file text → wanted_by trace ≡ wanted
@@ -57,13 +51,15 @@ pub begun_so_far : (trace : Option Trace) (wanted : Option Wanted) (fares : Fare
     → Consumes left left' file → Begins out out' written
     → (whole : List ℕ) × IsAllOf left whole
     × HasBegunRecount fares (read_as (is_some wanted) whole) out out'
-begun_so_far trace wanted fares recount strikes full file text written good left left' out out' known
+begun_so_far trace wanted fares recount strikes full file text written good left left' out out'
+    known
     same has read begun =
     whatever_follows
     (λ (whole : List ℕ). HasBegunRecount fares (read_as (is_some wanted) whole) out out') left left'
     file read (λ more. inl (
       has.taken,
-      subst (λ (w : Option Wanted). AreFirstTaken fares (read_as (is_some w) (file ++ more)) has.taken)
+      subst (λ (w : Option Wanted). AreFirstTaken fares (read_as (is_some w) (file ++ more))
+          has.taken)
           same
           (first_lines trace fares recount strikes full file text written good known has more),
       subst (λ (t : List ℕ). Begins out out' t) has.reported begun,
@@ -90,10 +86,12 @@ full_audit_of decide fares wanted file good report taken legal ending columns re
         recount = recount;
         rest = ending;
         shown = refl;
-        second = subst (λ (b : Bool). IsDifferencesEnd good (taps_from taken) b ending sound) is end;
+        second = subst (λ (b : Bool). IsDifferencesEnd good (taps_from taken) b ending sound) is
+            end;
       };
       legal = legal;
-      is_legal = subst (λ (b : Bool). (b ≡ true) ↔ IsLedger fares (read_as (is_some wanted) file)) (sym is)
+      is_legal = subst (λ (b : Bool). (b ≡ true) ↔ IsLedger fares (read_as (is_some wanted) file))
+          (sym is)
           (recount_legal decide fares (read_as (is_some wanted) file) taken recount);
       columns = columns;
       right = right;
@@ -101,7 +99,8 @@ full_audit_of decide fares wanted file good report taken legal ending columns re
       rest = rest;
       fits = fits;
       report_line = line;
-      shown = ap (λ (t : List ℕ). recount_text taken ++ t) (shown ∙ append_assoc ending columns rest)
+      shown = ap (λ (t : List ℕ). recount_text taken ++ t)
+          (shown ∙ append_assoc ending columns rest)
           ∙ sym (append_assoc (recount_text taken) ending (columns ++ rest));
       both = both;
     }
@@ -155,7 +154,8 @@ goes_on : (fares : Fares) (wanted : Option Wanted) (file : List ℕ)
 goes_on fares wanted file good report some well read first go_on begins audit =
     let finding = audit.finding in
     let behind = audit.columns ++ audit.rest in
-    let more = go_on fares (read_as (is_some wanted) file) first finding.taken begins finding.recount in (
+    let more = go_on fares (read_as (is_some wanted) file) first finding.taken begins
+    finding.recount in (
       more.0 ++ (finding.rest ++ behind),
       audit.shown ∙ ap (λ (t : List ℕ). t ++ behind) (finding.shown
           ∙ ap (λ (t : List ℕ). t ++ finding.rest) more.1)

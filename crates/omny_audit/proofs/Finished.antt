@@ -1,5 +1,5 @@
 -- What was found and written, whether it was flushed or not.
-use Rattle.std.proofs.Common.{◌≡◌, ℕ, Bool, true, false, List, Option, inr}
+use Rattle.std.proofs.Common.{◌≡◌, ℕ, Bool, false, List, Option, inr}
 use Rattle.std.specs.Io.KnownBytes.{Keeps}
 use Rattle.std.proofs.KnownBytes.{Appends-kept}
 use Rattle.fare_texts.proofs.Beginnings.{begins_whole}
@@ -8,8 +8,8 @@ use Rattle.program_manners.specs.declared.loading.LoadFault.{LoadFault}
 use Rattle.omny_audit.specs.Options.{AuditAsked}
 use Rattle.omny_audit.specs.Program.{Audits, IsRightAuditFault}
 use Rattle.omny_audit.specs.declared.fault.Fault.{Fault}
-use Rattle.omny_audit.specs.inside.Fault.{is_of_loading}
-use Rattle.omny_audit.proofs.ProgramLemmas.{right_later}
+use Rattle.omny_audit.specs.inside.Fault.{is_of_source}
+use Rattle.omny_audit.proofs.RightFaults.{right_later}
 
 -- what was written is kept
 pub audits_kept : (asked : AuditAsked) (loaded loaded' : Option (List Loaded))
@@ -23,12 +23,14 @@ audits_kept asked loaded loaded' out out' last well kept done = record {
 
 -- the whole text was written, and the flush behind it failed
 pub unflushed : (asked : AuditAsked) (loaded loaded' : Option (List Loaded))
-    (refused : Option (Option (List ℕ) × LoadFault)) (fault : Fault) (out out' : Option (List ℕ))
-    (well : Bool) → is_of_loading fault ≡ false → Audits asked loaded loaded' out out' well
-    → IsRightAuditFault asked loaded loaded' refused fault out out'
-unflushed asked loaded loaded' refused fault out out' well later done =
+    (refused refused' : Option (Option (List ℕ) × LoadFault)) (fault : Fault)
+    (out out' : Option (List ℕ)) (well : Bool) → is_of_source fault ≡ false → refused' ≡ refused
+    → Audits asked loaded loaded' out out' well
+    → IsRightAuditFault asked loaded loaded' refused refused' fault out out'
+unflushed asked loaded loaded' refused refused' fault out out' well later same done =
     let all = begins_whole out out' done.text done.written in record {
-      right = right_later asked.table loaded loaded' refused fault later;
+      right = right_later asked.table asked.ledger loaded loaded' refused' fault later;
+      told = λ no. same;
       begun = λ no un. record { text = done.text; well = well; found = done.found; begun = all };
       begun_of_all = λ yes. inr (record {
         files = done.found.files;

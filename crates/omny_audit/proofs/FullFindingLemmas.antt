@@ -78,7 +78,8 @@ end_well (Some good) taps legal rest well entries even is
     ∙ ap (λ (s : List TapFields). are_none [] s) none.1
 
 pub decides : RecountsDecide → ((good taps : List TapFields) → Even good taps)
-    → (fares : Fares) (text : List ℕ) (good : Option (List TapFields)) (reported : List ℕ) (well : Bool)
+    → (fares : Fares) (text : List ℕ) (good : Option (List TapFields)) (reported : List ℕ)
+    (well : Bool)
     → IsFullFinding fares text good reported well → (well ≡ true) ↔ IsRightLedger fares text good
 decides recounts even fares text good reported well finding =
     let taken = finding.taken in

@@ -3,11 +3,10 @@ pub mod BegunAudits
 pub mod FindingLemmas
 pub mod Finished
 pub mod FullFindingLemmas
-pub mod Handing
 pub mod LoadedTables
 pub mod ProgramLemmas
 pub mod ReadLemmas
+pub mod RightFaults
 pub mod TableFaults
 pub mod TapLines
 pub mod TraceLemmas
-pub mod Written

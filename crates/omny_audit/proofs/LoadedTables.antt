@@ -1,9 +1,9 @@
 -- Tables that were loaded in the order of their words.
-use Rattle.std.proofs.Common.{◌≡◌, ◌∙◌, ℕ, ◌+◌, ◌-◌, ◌<◌, zero, suc, List, [], ◌∷◌, ◌++◌, Bor, Option, None}
-use Rattle.std.proofs.Common.{Some, ap, arith, drop, get_or, inl, inr, length, map, refl, subst, sym, take}
-use Rattle.std.proofs.Common.{◌==◌, Bool, false, true}
+use Rattle.std.proofs.Common.{◌≡◌, ◌∙◌, ℕ, ◌+◌, ◌-◌, ◌<◌, zero, suc, List, [], ◌∷◌, ◌++◌, Bor}
+use Rattle.std.proofs.Common.{Option, None}
+use Rattle.std.proofs.Common.{Some, ap, arith, drop, get_or, inr, length, map, refl, subst}
+use Rattle.std.proofs.Common.{sym, take}
 use Rattle.std.specs.Prelude.{◌≢◌, IfSome, option_map, slice_get}
-use Rattle.std.proofs.lemmas.Bool.{eqb-true, true≢false}
 use Rattle.std.proofs.lemmas.List.{map_more}
 use Rattle.std.proofs.lemmas.Option.{slice_get-map}
 use Rattle.fare_table.specs.Fares.{Fares}
@@ -30,7 +30,8 @@ pub tables_on : (first : List ℕ) (words : List (Bor (List ℕ))) (place : ℕ)
     → LoadsTables (words_to first words (place + 1)) before after more next
 tables_on first words place other within before between after texts more text all next loads one
     follows are =
-    subst (λ (ts : List (List ℕ)). LoadsTables (words_to first words (place + 1)) before after ts next)
+    subst (λ (ts : List (List ℕ)). LoadsTables (words_to first words (place + 1)) before after ts
+    next)
     (sym are)
     (subst (λ (ws : List (List ℕ)). LoadsTables (record { first = first; later = ws }) before after
     (texts ++ text ∷ []) next)

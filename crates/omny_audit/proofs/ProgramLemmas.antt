@@ -1,11 +1,10 @@
 -- What was loaded, one more each time, and what the program compares.
 use Rattle.std.proofs.Common.{◌≡◌, ◌∙◌, ℕ, Bool, true, false, not, List, [], ◌∷◌, ◌++◌, length, map}
 use Rattle.std.proofs.Common.{refl, sym, ap, subst, append-nil, append_assoc, nat_eq, Option, Some}
-use Rattle.std.proofs.Common.{None, if◌then◌else◌, Bor, ◌<◌, ◌≤◌, ◌⊎◌, ⊎_elim, zero, suc, get_or}
+use Rattle.std.proofs.Common.{None, if◌then◌else◌, Bor, ◌<◌, ◌≤◌, ◌⊎◌, ⊎_elim, suc, get_or}
 use Rattle.std.proofs.Common.{inl, inr, arith, codes}
 use Rattle.std.specs.Prelude.{IfErr, IfSome, Result, Ok, Err, option_map, unwrap_or}
-use Rattle.std.specs.Io.KnownBytes.{Consumes, IsAtEnd, Keeps}
-use Rattle.std.specs.Fmt.{option_append}
+use Rattle.std.specs.Io.KnownBytes.{Consumes, IsAtEnd, Keeps, prepend_known}
 use Rattle.std.specs.Str.{bytes_eq}
 use Rattle.ledger_check.specs.Columns.{has_traced_head, traced_head}
 use Rattle.fare_table.specs.Fares.{Fares}
@@ -14,12 +13,9 @@ use Rattle.std.proofs.lemmas.List.{map-append, take-append-le}
 use Rattle.clap.specs.Words.{Text}
 use Rattle.ledger_check.specs.Balances.{AreGoodFields}
 use Rattle.tap_views.specs.declared.encoder.TapFields.{TapFields}
-use Rattle.omny_audit.specs.Fault.{IsRightFault, NamesOneOf, is_unwritten, named_by}
+use Rattle.omny_audit.specs.Fault.{IsRightFault, IsTold, NamesOneOf, is_unwritten, named_by}
 use Rattle.omny_audit.specs.Options.{AuditAsked, files_of, named_file, table_files}
 use Rattle.omny_audit.specs.declared.fault.Fault.{Fault}
-use Rattle.omny_audit.specs.declared.fault.Fault.TheVariants.{ClassName, Closed, Date, File, Follow}
-use Rattle.omny_audit.specs.declared.fault.Fault.TheVariants.{Ledger, NamedClass, NamedTable, NoMemory}
-use Rattle.omny_audit.specs.declared.fault.Fault.TheVariants.{Table, Write}
 use Rattle.omny_audit.specs.Program.{AreGoodFieldsOfAll, AreGoodFieldsOfEach, AreWanted}
 use Rattle.omny_audit.specs.Program.{HasLoaded, IsRightAuditFault, IsTracedAs}
 use Rattle.omny_audit.specs.Program.{LoadsNamedFiles, LoadsReport, compared}
@@ -30,12 +26,11 @@ use Rattle.settled_texts.specs.ClassFaults.{IsWrongAt}
 use Rattle.settled_texts.specs.declared.class_names.WrongNames.{WrongNames}
 use Rattle.program_manners.specs.TableLoads.{LoadsTables}
 use Rattle.program_manners.specs.TableViews.{wrong_of}
-use Rattle.program_manners.specs.TableWords.{TableNames, date_text, wrong_word}
+use Rattle.program_manners.specs.TableWords.{date_text, wrong_word}
 use Rattle.program_manners.specs.declared.table_words.DateFault.{DateFault}
 use Rattle.program_manners.specs.declared.table_words.WrongWord.{WrongWord}
 use Rattle.program_manners.specs.Refusals.{IsOneOf}
 use Rattle.program_manners.proofs.Refusals.{is_one_at}
-use Rattle.omny_audit.specs.inside.Fault.{is_of_loading}
 use Rattle.omny_audit.specs.inside.Tables.{IsClassFault}
 use Rattle.omny_audit.specs.inside.Source.{IsAllOf}
 use Rattle.program_manners.specs.Loads.{Loaded, LoadsAll, LoadsOne}
@@ -167,7 +162,8 @@ at_report asked fault is = weaker (named_by fault) is
         (is_one_right name asked.uploads (named_file asked.report) is))
 
 -- a fault about the one file that is named
-pub names_single : (name : Text) (fault : Fault) → IfSome (named_by fault) (λ reported. reported ≡ name)
+pub names_single : (name : Text) (fault : Fault)
+    → IfSome (named_by fault) (λ reported. reported ≡ name)
     → NamesOneOf (name ∷ []) fault
 names_single name fault is = weaker (named_by fault) is
   where
@@ -177,7 +173,8 @@ names_single name fault is = weaker (named_by fault) is
     weaker (Some other) is = inl is
 
 pub at_ledger : (asked : AuditAsked) (fault : Fault)
-    → IfSome (named_by fault) (λ reported. reported ≡ unwrap_or asked.ledger (codes "standard input"))
+    → IfSome (named_by fault)
+    (λ reported. reported ≡ unwrap_or asked.ledger (codes "standard input"))
     → NamesOneOf (files_of asked) fault
 at_ledger asked fault is = weaker (named_by fault) is
   where
@@ -207,22 +204,6 @@ pub names_same : (names same : List (Bor Text)) (fault : Fault) → names ≡ sa
 names_same names same fault is one =
     subst (λ (ns : List (Bor Text)). NamesOneOf (map (λ n. n.now) ns) fault) is one
 
--- a fault that comes after all files were loaded
-pub right_later : (tables : TableNames) (before after : Option (List Loaded))
-    (refused : Option (Option (List ℕ) × LoadFault)) (fault : Fault)
-    → is_of_loading fault ≡ false → IsRightFault tables before after refused fault
-right_later tables before after refused (File file) later = absurd (cc)
-right_later tables before after refused Ledger later = tt
-right_later tables before after refused (Date wrong) later = absurd (cc)
-right_later tables before after refused (Table fault) later = absurd (cc)
-right_later tables before after refused (NamedTable line) later = absurd (cc)
-right_later tables before after refused (Follow line) later = absurd (cc)
-right_later tables before after refused ClassName later = absurd (cc)
-right_later tables before after refused (NamedClass line) later = absurd (cc)
-right_later tables before after refused Write later = tt
-right_later tables before after refused Closed later = tt
-right_later tables before after refused NoMemory later = tt
-
 -- what two clauses say of an error
 pub both_err : {A : Type 0} (r : Result A Fault) (P Q R : Fault → Type 0)
     → ((fault : Fault) → P fault → Q fault → R fault) → IfErr r P → IfErr r Q → IfErr r R
@@ -235,15 +216,18 @@ not_both all never asked = cc
 
 -- a fault of loading is no write that failed
 pub written_first : (asked : AuditAsked) (loaded loaded' : Option (List Loaded))
-    (refused : Option (Option (List ℕ) × LoadFault)) (fault : Fault) (out out' : Option (List ℕ))
-    → is_unwritten fault ≡ false → Keeps out out'
-    → IsRightFault asked.table loaded loaded' refused fault
-    → IsRightAuditFault asked loaded loaded' refused fault out out'
-written_first asked loaded loaded' refused fault out out' written kept right = record {
-  right = right;
-  begun = λ all un. absurd (apart (sym written ∙ un));
-  begun_of_all = λ all. inl (written, kept);
-}
+    (refused refused' : Option (Option (List ℕ) × LoadFault)) (fault : Fault)
+    (out out' : Option (List ℕ)) → is_unwritten fault ≡ false → Keeps out out'
+    → IsRightFault asked.table asked.ledger loaded loaded' refused' fault
+    → IsTold refused refused' fault
+    → IsRightAuditFault asked loaded loaded' refused refused' fault out out'
+written_first asked loaded loaded' refused refused' fault out out' written kept right told =
+    record {
+      right = right;
+      told = told;
+      begun = λ all un. absurd (apart (sym written ∙ un));
+      begun_of_all = λ all. inl (written, kept);
+    }
   where
     apart : false ≡ true → ⊥
     apart same = cc
@@ -269,7 +253,7 @@ kept_all (Err e) (Some xs) = λ un. refl
 
 -- bytes that were read before the rest of what a reader had
 pub chained : (left left' : Option (List ℕ)) (head file : List ℕ) → Consumes left left' head
-    → IsAllOf (option_append (Some head) left') file → IsAllOf left file
+    → IsAllOf (prepend_known head left') file → IsAllOf left file
 chained None left' head file reads all = tt
 chained (Some xs) None head file reads all = absurd reads
 chained (Some xs) (Some ys) head file reads all = reads ∙ all
@@ -284,7 +268,7 @@ pub headed : (before after : Option (List Loaded)) (name : Option Text)
     (left left' : Option (List ℕ)) (head file : List ℕ)
     → OpensOne before after name left → Consumes left left' head
     → IsAtEnd left' ⊎ (length traced_head ≤ length head)
-    → IsAllOf (option_append (Some head) left') file → IsTracedAs before file (has_traced_head head)
+    → IsAllOf (prepend_known head left') file → IsTracedAs before file (has_traced_head head)
 headed None after name left left' head file opens reads enough all = tt
 headed (Some before) after name None left' head file opens reads enough all = absurd opens
 headed (Some before) after name (Some xs) None head file opens reads enough all = absurd reads
@@ -304,22 +288,26 @@ pub record ReadsLedger (before after : Option (List Loaded)) (name : Option Text
   pub is_traced : IsTracedAs before file traced
   pub are_wanted : AreWanted fares texts traced uploads wanted
 
-pub reads_ledger : (before after : Option (List Loaded)) (name : Option Text)
-    (left left' whole : Option (List ℕ)) (head begun : List ℕ) (fares : Fares)
+pub reads_ledger : (before opened_to after : Option (List Loaded)) (name : Option Text)
+    (left left' : Option (List ℕ)) (head begun : List ℕ) (fares : Fares)
     (texts : List (List ℕ)) (file : List ℕ)
     (kept uploads : Option (List (List TapFields))) (wanted : Option Wanted)
-    → OpensOne before after name left
+    → OpensOne before opened_to name left → after ≡ opened_to
     → Consumes left left' head → IsAtEnd left' ⊎ (length traced_head ≤ length head)
-    → begun ≡ head → kept ≡ uploads → whole ≡ option_append (Some head) left'
-    → IsAllOf whole file → AreWanted fares texts (has_traced_head begun) kept wanted
+    → begun ≡ head → kept ≡ uploads
+    → IsAllOf (prepend_known begun left') file
+    → AreWanted fares texts (has_traced_head begun) kept wanted
     → ReadsLedger before after name fares texts uploads wanted file
-reads_ledger before after name left left' whole head begun fares texts file kept uploads wanted
-    opens reads enough same_head same_uploads is all named =
-    let rest = subst (λ (w : Option (List ℕ)). IsAllOf w file) is all in
+reads_ledger before opened_to after name left left' head begun fares texts file kept uploads wanted
+    opens same_loads reads enough same_head same_uploads all named =
+    let rest = subst (λ (h : List ℕ). IsAllOf (prepend_known h left') file) same_head all in
     record {
-      is_loaded = opened before after name left file opens (chained left left' head file reads rest);
+      is_loaded = subst (λ (l : Option (List Loaded)). LoadsOne before l name file)
+          (sym same_loads)
+          (opened before opened_to name left file opens
+          (chained left left' head file reads rest));
       traced = has_traced_head head;
-      is_traced = headed before after name left left' head file opens reads enough rest;
+      is_traced = headed before opened_to name left left' head file opens reads enough rest;
       are_wanted = subst (λ (u : Option (List (List TapFields))). AreWanted fares texts
           (has_traced_head head) u wanted) same_uploads
           (subst (λ (h : List ℕ). AreWanted fares texts (has_traced_head h) kept wanted) same_head
@@ -335,9 +323,11 @@ abbrev pub has_loaded : (asked : AuditAsked)
     → LoadsNamedFiles asked.uploads after_table after_uploads uploads
     → AreGoodFieldsOfAll uploads good → AreGoodFieldsOfEach uploads lists
     → LoadsReport asked.report after_uploads after_report report
-    → ReadsLedger after_report loaded' asked.ledger fares texts (compared asked.uploads lists) wanted
+    → ReadsLedger after_report loaded' asked.ledger fares texts (compared asked.uploads lists)
+    wanted
     ledger → HasLoaded asked loaded loaded'
-has_loaded asked loaded after_table after_uploads after_report loaded' fares texts uploads good lists
+has_loaded asked loaded after_table after_uploads after_report loaded' fares texts uploads good
+    lists
     report wanted ledger tables each are_good are_lists of_report reads = record {
       after_table = after_table;
       after_uploads = after_uploads;
@@ -365,31 +355,37 @@ has_loaded asked loaded after_table after_uploads after_report loaded' fares tex
 pub loaded_report : (name : Option Text) (loaded loaded' : Option (List Loaded))
     (report : Option (List ℕ)) → LoadsReport name loaded loaded' report
     → (more : List Loaded) × LoadsAll loaded loaded' more
-loaded_report None loaded loaded' report is =
-    ([], subst (λ (t : Option (List Loaded)). LoadsAll loaded t []) (sym is.0) (reports_none loaded))
+loaded_report None loaded loaded' report is = (
+  [],
+  subst (λ (t : Option (List Loaded)). LoadsAll loaded t []) (sym is.0)
+      (reports_none loaded),
+)
 loaded_report (Some name) loaded loaded' report is = (_, is.1)
 
-pub loaded_ledger : (before after : Option (List Loaded)) (name : Option Text)
-    (left : Option (List ℕ)) → OpensOne before after name left
+pub loaded_ledger : (before opened_to after : Option (List Loaded)) (name : Option Text)
+    (left : Option (List ℕ)) → OpensOne before opened_to name left → after ≡ opened_to
     → (more : List Loaded) × LoadsAll before after more
-loaded_ledger None after name left opens = ([], tt)
-loaded_ledger (Some before) after name None opens = absurd opens
-loaded_ledger (Some before) after name (Some text) opens = (_, opens)
+loaded_ledger None opened_to after name left opens same = ([], tt)
+loaded_ledger (Some before) opened_to after name None opens same = absurd opens
+loaded_ledger (Some before) opened_to after name (Some text) opens same = (
+  _,
+  subst (λ (l : Option (List Loaded)). LoadsOne (Some before) l name text) (sym same) opens,
+)
 
 -- the names of the classes are not had, for the right reason
 pub right_of_names : (asked : AuditAsked) (before between after : Option (List Loaded))
-    (refused : Option (Option (List ℕ) × LoadFault)) (texts : List (List ℕ)) (fares : Fares)
-    → LoadsTables asked.table before between texts fares
+    (refused refused' : Option (Option (List ℕ) × LoadFault)) (texts : List (List ℕ))
+    (fares : Fares) → LoadsTables asked.table before between texts fares
     → (later : List Loaded) → LoadsAll between after later
     → (wrong : WrongNames) → IsWrongAt texts wrong
     → (fault : Fault) (out out' : Option (List ℕ)) → IsClassFault asked.table wrong fault
-    → is_unwritten fault ≡ false → Keeps out out'
-    → IsRightAuditFault asked before after refused fault out out'
-right_of_names asked before between after refused texts fares loads later more wrong at fault out
-    out' is written kept =
-    written_first asked before after refused fault out out' written kept
-    (classes_are_right asked.table before between after refused texts fares loads later more wrong
-    at fault is)
+    → is_unwritten fault ≡ false → Keeps out out' → refused' ≡ refused
+    → IsRightAuditFault asked before after refused refused' fault out out'
+right_of_names asked before between after refused refused' texts fares loads later more wrong at
+    fault out out' is written kept same =
+    written_first asked before after refused refused' fault out out' written kept
+    (classes_are_right asked.table before between after refused' asked.ledger texts fares loads
+    later more wrong at fault is) (λ no. same)
 
 -- the places that are kept are those of the uploads that are named
 pub kept_lists : (names same : List (Bor Text)) (kept : Option (List (List TapFields))) (has : Bool)

@@ -1,7 +1,7 @@
 -- What is told of fare tables that follow one another is right.
 use Rattle.std.proofs.Common.{◌≡◌, ◌∙◌, ℕ, Bool, true, false, List, [], ◌∷◌, ◌++◌, Option, Some}
-use Rattle.std.proofs.Common.{All, subst, sym, take}
-use Rattle.std.specs.Prelude.{◌≢◌, length, slice_get}
+use Rattle.std.proofs.Common.{subst, sym}
+use Rattle.std.specs.Prelude.{◌≢◌}
 use Rattle.std.proofs.lemmas.Bool.{true≢false}
 use Rattle.fare_table.specs.Fares.{Fares}
 use Rattle.fare_table.specs.declared.fault.TableFault.{TableFault}
@@ -27,13 +27,13 @@ use Rattle.omny_audit.specs.declared.fault.Fault.TheVariants.{NamedTable, NoMemo
 use Rattle.omny_audit.specs.inside.Tables.{IsClassFault, IsRightLater, IsRightNamed}
 
 module _ (tables : TableNames) (loaded_before loaded_before' loaded_before'' : Option (List Loaded))
-    (refused : Option (Option (List ℕ) × LoadFault)) where
+    (refused : Option (Option (List ℕ) × LoadFault)) (ledger : Option (List ℕ)) where
   -- what is told of the first table's text
   pub first_is_right : (text : List ℕ) (alone : Bool) (why : TableFault) (fault : Fault)
       → LoadsOne loaded_before loaded_before'' (Some tables.first) text → IsFirstTableFault text why
       → (alone ≡ true → tables.later ≡ []) → (alone ≡ false → tables.later ≢ [])
       → IsRightNamed tables.first alone why fault
-      → IsRightFault tables loaded_before loaded_before'' refused fault
+      → IsRightFault tables ledger loaded_before loaded_before'' refused fault
   first_is_right text alone why (Table fault) loaded first one several is =
       subst (RefusesOnly tables loaded_before loaded_before'') (sym is.1)
       (only_refused tables loaded_before loaded_before'' text loaded why first (one is.0))
@@ -46,17 +46,19 @@ module _ (tables : TableNames) (loaded_before loaded_before' loaded_before'' : O
 
   module _ (before behind : List (List ℕ)) (word text : List ℕ)
       (stands : tables.later ≡ before ++ word ∷ behind) (texts : List (List ℕ)) (fares : Fares)
-      (loads : LoadsTables (record { first = tables.first; later = before }) loaded_before loaded_before' texts fares)
+      (loads : LoadsTables (record { first = tables.first; later = before }) loaded_before
+      loaded_before' texts fares)
       (loaded : LoadsOne loaded_before' loaded_before'' (Some (file_named word)) text) where
     -- what is told of the text of a table behind others, and of the table
     pub next_is_right : (date : WrittenDate) → written_date word ≡ Some date
         → (why : NextFault) → IsRightNext fares date text why
         → (fault : Fault) → IsRightLater word (file_named word) why fault
-        → IsRightFault tables loaded_before loaded_before'' refused fault
+        → IsRightFault tables ledger loaded_before loaded_before'' refused fault
     next_is_right date dated (next.Table why) first (NamedTable line) is =
         subst (RefusesNamed tables loaded_before loaded_before'' line.name.now) (sym is.2)
         (subst (λ (n : List ℕ). RefusesNamed tables loaded_before loaded_before'' n why) (sym is.1)
-        (later_refused tables loaded_before loaded_before' loaded_before'' before behind word text stands texts fares loads
+        (later_refused tables loaded_before loaded_before' loaded_before'' before behind word text
+        stands texts fares loads
         loaded why first))
     next_is_right date dated (next.Table why) first NoMemory is = tt
     next_is_right date dated (next.Table why) first (Table fault) is =
@@ -64,13 +66,16 @@ module _ (tables : TableNames) (loaded_before loaded_before' loaded_before'' : O
     next_is_right date dated (next.Table why) first _ is = absurd is
     next_is_right date dated (next.Follow why) wrong (Follow line) is =
         subst (RefusesToFollow tables loaded_before loaded_before'' line.word.now) (sym is.1)
-        (subst (λ (w : List ℕ). RefusesToFollow tables loaded_before loaded_before'' w why) (sym is.0)
-        (not_following tables loaded_before loaded_before' loaded_before'' before behind word text stands texts fares loads
+        (subst (λ (w : List ℕ). RefusesToFollow tables loaded_before loaded_before'' w why)
+        (sym is.0)
+        (not_following tables loaded_before loaded_before' loaded_before'' before behind word text
+        stands texts fares loads
         loaded date dated why wrong))
     next_is_right date dated (next.Follow why) wrong _ is = absurd is
 
   -- a text whose classes no ledger can have
-  unplain_at : (texts : List (List ℕ)) (fares : Fares) → LoadsTables tables loaded_before loaded_before' texts fares
+  unplain_at : (texts : List (List ℕ)) (fares : Fares)
+      → LoadsTables tables loaded_before loaded_before' texts fares
       → (later : List Loaded) → LoadsAll loaded_before' loaded_before'' later
       → (wrong : WrongNames) → IsWrongAt texts wrong → wrong.fault ≡ class.Name
       → LoadsUnplainClass tables loaded_before loaded_before'' wrong.place
@@ -96,7 +101,7 @@ module _ (tables : TableNames) (loaded_before loaded_before' loaded_before'' : O
       → (later : List Loaded) → LoadsAll loaded_before' loaded_before'' later
       → (wrong : WrongNames) → IsWrongAt texts wrong
       → (fault : Fault) → IsClassFault tables wrong fault
-      → IsRightFault tables loaded_before loaded_before'' refused fault
+      → IsRightFault tables ledger loaded_before loaded_before'' refused fault
   classes_are_right texts fares loads later more wrong at NoMemory is = tt
   classes_are_right texts fares loads later more wrong at ClassName is =
       (is.1, wrong.place, unplain_at texts fares loads later more wrong at is.0)

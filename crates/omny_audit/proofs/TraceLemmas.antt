@@ -1,9 +1,9 @@
 -- A traced ledger, read piece by piece.
-use Rattle.std.proofs.Common.{◌≡◌, ◌≢◌, ◌∙◌, ◌⊎◌, inl, inr, ⊎_elim, ℕ, ◌+◌, ◌-◌, ◌<◌, ◌≤◌, Bool}
-use Rattle.std.proofs.Common.{true, false, List, [], ◌∷◌, ◌++◌, append_assoc, append-nil, codes}
-use Rattle.std.proofs.Common.{length, length-append, Option, None, Some, refl, sym, ap, subst}
+use Rattle.std.proofs.Common.{◌≡◌, ◌∙◌, inl, inr, ℕ, ◌+◌, ◌<◌, ◌≤◌, Bool}
+use Rattle.std.proofs.Common.{true, false, List, [], ◌∷◌, ◌++◌, append_assoc, append-nil}
+use Rattle.std.proofs.Common.{length, Option, None, Some, refl, sym, ap, subst}
 use Rattle.std.proofs.Common.{arith, if◌then◌else◌}
-use Rattle.std.specs.Prelude.{◌&&◌, ◌||◌, is_some, not, option_map}
+use Rattle.std.specs.Prelude.{◌&&◌, ◌||◌, is_some, not}
 use Rattle.std.specs.Option.{option_or}
 use Rattle.std.specs.Str.{bytes_eq}
 use Rattle.std.proofs.Math.Bool.{or-false}
@@ -15,26 +15,28 @@ use Rattle.fare_texts.specs.LedgerLines.{head_text}
 use Rattle.ledger_check.specs.Columns.{TracedLine, cut_line, read_as, traced_head, untraced_by}
 use Rattle.ledger_check.specs.Columns.{untraced_line, untraced_lines}
 use Rattle.ledger_check.specs.Lines.{IsLine, Lacks, lines_of}
-use Rattle.ledger_check.proofs.ColumnLemmas.{cut_fits, cut_long, untraced-append}
+use Rattle.ledger_check.proofs.ColumnLemmas.{cut_long, untraced-append}
 use Rattle.ledger_check.proofs.LineLemmas.{lacks-append, lines-part}
 use Rattle.ledger_check.proofs.RecountLemmas.{split_line_at, split_part}
-use Rattle.ledger_check.specs.Places.{IsFirstUnnamed, IsUnnamed, is_named, is_place, place_finding}
+use Rattle.ledger_check.specs.Places.{is_named, is_place, place_finding}
 use Rattle.ledger_check.specs.Places.{tap_at, uploads_of}
 use Rattle.ledger_check.specs.declared.places.PlaceFinding.{PlaceFinding}
 use Rattle.ledger_check.specs.declared.places.PlaceFinding.TheVariants.{Right, Another, Again}
 use Rattle.ledger_check.specs.declared.places.Places.{Places}
-use Rattle.omny_audit.specs.Traced.{AreColumnsReported, AreLinesOf, AreRead, IsFaultBehind, IsPlaceFault}
+use Rattle.omny_audit.specs.Traced.{AreColumnsReported, AreLinesOf, IsFaultBehind}
+use Rattle.omny_audit.specs.Traced.{IsPlaceFault}
 use Rattle.omny_audit.specs.Traced.{ReadLine, class_text, place_text}
-use Rattle.omny_audit.specs.Traced.{NamesTracedTap, TracedTap, Wanted, class_fault, fault_by}
+use Rattle.omny_audit.specs.Traced.{NamesTapWithColumns, TapWithColumns, Wanted, class_fault}
+use Rattle.omny_audit.specs.Traced.{fault_by}
 use Rattle.omny_audit.specs.Traced.{have_place, lines_read, place_fault, traced_by, wrong_class}
 use Rattle.omny_audit.specs.Traced.{wrong_place}
 use Rattle.omny_audit.specs.inside.Traced.{HasColumns, HasLines, HasPlaces, HasReadAll, HasReadAs}
-use Rattle.omny_audit.specs.inside.Traced.{HasTraced, HaveNamed, IsKeptOf, uploads_in, wanted_by}
+use Rattle.omny_audit.specs.inside.Traced.{HasTraced, IsKeptOf, uploads_in, wanted_by}
 use Rattle.omny_audit.specs.inside.Traced.{wanted_of, wrong_place_in}
 use Rattle.omny_audit.specs.declared.traced.PlaceFault.{PlaceFault}
 use Rattle.omny_audit.specs.declared.traced.PlaceFault.TheVariants.{NoLine, OtherTap, Repeated}
 use Rattle.omny_audit.specs.declared.traced.LinesRead.{LinesRead}
-use Rattle.omny_audit.specs.declared.traced.Trace.{Trace}
+use Rattle.omny_audit.specs.declared.traced.TracedPieces.{TracedPieces}
 use Rattle.omny_audit.specs.declared.traced.WrongClass.{WrongClass}
 
 -- what is read in place of a line that is not cut
@@ -105,9 +107,10 @@ no_tap_placed (Some places) wrong line read has = record {
 
 -- behind a wrong place the places stay as they were
 pub wrong_stays : (places : Option Places) (wrong : PlaceFault) (line : List ℕ)
-    (traced : Option TracedTap) (read : List ReadLine) → HasPlaces places (Some wrong) read
+    (traced : Option TapWithColumns) (read : List ReadLine) → HasPlaces places (Some wrong) read
     → HasPlaces places (Some wrong) (record { line = line; traced = traced } ∷ read)
-wrong_stays None wrong line traced read has = record { wrong_is = has.wrong_is; named = λ none. absurd (apart none) }
+wrong_stays None wrong line traced read has =
+    record { wrong_is = has.wrong_is; named = λ none. absurd (apart none) }
   where
     apart : ◌≡◌ {A = Option PlaceFault} (Some wrong) None → ⊥
     apart none = cc
@@ -121,13 +124,13 @@ wrong_stays (Some places) wrong line traced read has = record {
     apart none = cc
 
 -- without uploads nothing is looked at
-pub no_uploads_placed : (line : List ℕ) (traced : Option TracedTap) (read : List ReadLine)
+pub no_uploads_placed : (line : List ℕ) (traced : Option TapWithColumns) (read : List ReadLine)
     → HasPlaces None None read
     → HasPlaces None None (record { line = line; traced = traced } ∷ read)
 no_uploads_placed line traced read has = record { wrong_is = refl; named = λ none. tt }
 
 -- a place was named, and what was found of the tap there
-pub place_named : (places after : Places) (line : List ℕ) (traced : TracedTap)
+pub place_named : (places after : Places) (line : List ℕ) (traced : TapWithColumns)
     (read : List ReadLine) (number : ℕ) (finding : PlaceFinding)
     → HasPlaces (Some places) None read → number ≡ length read + 1
     → finding ≡ place_finding (tap_at (uploads_of places) traced.upload traced.place)
@@ -214,7 +217,7 @@ pub took_other : (so_far after : LinesRead) (kept whole : List ℕ) (read : List
 took_other so_far after kept whole read has same none count class names places = record {
   are = (
     has.are,
-    subst (λ (c : Option TracedLine). NamesTracedTap c None)
+    subst (λ (c : Option TracedLine). NamesTapWithColumns c None)
         (sym (kept_cut kept whole None same none)) refl,
   );
   count = let before = has.count in omega (arith, before, count);
@@ -227,40 +230,41 @@ took_other so_far after kept whole read has same none count class names places =
 }
 
 pub took_cut : (so_far after : LinesRead) (kept whole : List ℕ) (cut : TracedLine)
-    (traced : Option TracedTap) (read : List ReadLine)
+    (traced : Option TapWithColumns) (read : List ReadLine)
     → HasLines so_far read → IsKeptOf kept whole → cut_line kept ≡ Some cut
     → after.lines ≡ so_far.lines + 1
     → after.wrong_class ≡ option_or so_far.wrong_class
     (class_fault (class_by so_far.names) (so_far.lines + 1) traced)
-    → after.names ≡ so_far.names → NamesTracedTap (Some cut) traced
+    → after.names ≡ so_far.names → NamesTapWithColumns (Some cut) traced
     → HasPlaces after.places after.wrong_place (record { line = whole; traced = traced } ∷ read)
     → HasLines after (record { line = whole; traced = traced } ∷ read)
-took_cut so_far after kept whole cut traced read has same is count class names reports places = record {
-  are = (
-    has.are,
-    subst (λ (c : Option TracedLine). NamesTracedTap c traced)
-        (sym (kept_cut kept whole (Some cut) same is)) reports,
-  );
-  count = let before = has.count in omega (arith, before, count);
-  columns = record {
-    class = class
-        ∙ ap (λ (w : Option WrongClass). option_or w
-        (class_fault (class_by so_far.names) (so_far.lines + 1) traced)) has.columns.class
-        ∙ ap (λ (n : ℕ). option_or (wrong_class (class_by so_far.names) read)
-        (class_fault (class_by so_far.names) (n + 1) traced)) has.count
-        ∙ ap (λ (n : ClassNames). option_or (wrong_class (class_by n) read)
-        (class_fault (class_by n) (length read + 1) traced)) (sym names);
-    places = places;
-  };
-}
+took_cut so_far after kept whole cut traced read has same is count class names reports places =
+    record {
+      are = (
+        has.are,
+        subst (λ (c : Option TracedLine). NamesTapWithColumns c traced)
+            (sym (kept_cut kept whole (Some cut) same is)) reports,
+      );
+      count = let before = has.count in omega (arith, before, count);
+      columns = record {
+        class = class
+            ∙ ap (λ (w : Option WrongClass). option_or w
+            (class_fault (class_by so_far.names) (so_far.lines + 1) traced)) has.columns.class
+            ∙ ap (λ (n : ℕ). option_or (wrong_class (class_by so_far.names) read)
+            (class_fault (class_by so_far.names) (n + 1) traced)) has.count
+            ∙ ap (λ (n : ClassNames). option_or (wrong_class (class_by n) read)
+            (class_fault (class_by n) (length read + 1) traced)) (sym names);
+        places = places;
+      };
+    }
 
 -- a text that was read, and more of it
-abbrev pub Traced : Trace → List ℕ → List ℕ → List ℕ → List ℕ → Type 0
+abbrev pub Traced : TracedPieces → List ℕ → List ℕ → List ℕ → List ℕ → Type 0
 Traced trace file reported text text' =
     (more : List ℕ) × (read : List ReadLine) × (text' ≡ text ++ more) × HasTraced trace file
     (reported ++ more) read
 
-pub traced_none : (trace : Trace) (file reported text : List ℕ) (read : List ReadLine)
+pub traced_none : (trace : TracedPieces) (file reported text : List ℕ) (read : List ReadLine)
     → HasTraced trace file reported read
     → Traced trace (file ++ []) reported text text
 traced_none trace file reported text read is = (
@@ -271,7 +275,7 @@ traced_none trace file reported text read is = (
       (subst (λ (t : List ℕ). HasTraced trace file t read) (sym (append-nil reported)) is),
 )
 
-pub traced_on : (middle after : Trace) (file front piece reported text text' text'' : List ℕ)
+pub traced_on : (middle after : TracedPieces) (file front piece reported text text' text'' : List ℕ)
     → (before : Traced middle (file ++ front) reported text text')
     → Traced after ((file ++ front) ++ piece) (reported ++ before.0) text' text''
     → Traced after (file ++ (front ++ piece)) reported text text''
@@ -286,9 +290,11 @@ traced_on middle after file front piece reported text text' text'' before next =
 )
 
 -- a piece that ends no line
-pub traced_part : (trace after : Trace) (file piece reported text : List ℕ) (read : List ReadLine)
+pub traced_part : (trace after : TracedPieces) (file piece reported text : List ℕ)
+    (read : List ReadLine)
     → (is : HasTraced trace file reported read) → Lacks 10 piece → after.so_far ≡ trace.so_far
-    → IsKeptOf after.begun.items (is.begun ++ piece) → Traced after (file ++ piece) reported text text
+    → IsKeptOf after.begun.items (is.begun ++ piece)
+    → Traced after (file ++ piece) reported text text
 traced_part trace after file piece reported text read is lacks same kept = (
   [],
   read,
@@ -304,10 +310,12 @@ traced_part trace after file piece reported text read is lacks same kept = (
 )
 
 -- one line more was read, and what is read in its place
-pub took_line : (trace after : Trace) (file line reported text text' : List ℕ) (read : List ReadLine)
+pub took_line : (trace after : TracedPieces) (file line reported text text' : List ℕ)
+    (read : List ReadLine)
     → (is : HasTraced trace file reported read) → IsLine line → after.begun.items ≡ []
     → ((next : ReadLine) × (next.line ≡ is.begun ++ line) × HasLines after.so_far (next ∷ read))
-    → text' ≡ text ++ untraced_line (is.begun ++ line) → Traced after (file ++ line) reported text text'
+    → text' ≡ text ++ untraced_line (is.begun ++ line)
+    → Traced after (file ++ line) reported text text'
 took_line trace after file line reported text text' read is ends none (next, same, has) written = (
   untraced_line (is.begun ++ line),
   next ∷ read,
@@ -333,13 +341,13 @@ kept_none kept begun (inr (left, right)) none = absurd
     (omega (arith, left, ap (λ (l : List ℕ). length l) none))
 
 -- all that there was, read
-abbrev pub Ended : Trace → List ℕ → List ℕ → List ℕ → List ℕ → Type 0
+abbrev pub Ended : TracedPieces → List ℕ → List ℕ → List ℕ → List ℕ → Type 0
 Ended trace file reported text text' =
     (more : List ℕ) × (read : List ReadLine) × (text' ≡ text ++ more) ×
     (reported ++ more ≡ untraced_lines (lines_of file))
     × AreLinesOf file read × HasColumns trace.so_far read
 
-pub ended_whole : (trace : Trace) (file reported text : List ℕ) (read : List ReadLine)
+pub ended_whole : (trace : TracedPieces) (file reported text : List ℕ) (read : List ReadLine)
     → HasTraced trace file reported read
     → trace.begun.items ≡ [] → Ended trace file reported text text
 unfolding lines_of
@@ -360,7 +368,8 @@ ended_whole trace file reported text read is none =
     nothing = append-nil (lines_read read)
 
 -- the line that its end cuts was read too
-pub ended_cut : (trace after : Trace) (file reported text text' : List ℕ) (read : List ReadLine)
+pub ended_cut : (trace after : TracedPieces) (file reported text text' : List ℕ)
+    (read : List ReadLine)
     → (is : HasTraced trace file reported read) → 0 < length trace.begun.items
     → ((next : ReadLine) × (next.line ≡ is.begun) × HasLines after.so_far (next ∷ read))
     → text' ≡ text ++ untraced_line is.begun → Ended after file reported text text'
@@ -390,7 +399,8 @@ ended_cut trace after file reported text text' read is some (next, same, has) wr
     some_begun kept begun (inr (left, right)) some = omega (arith, right)
 
 -- what is read of a file that goes on
-pub reads_more : (trace : Option Trace) (file reported : List ℕ) → HasReadAs trace file reported
+pub reads_more : (trace : Option TracedPieces) (file reported : List ℕ)
+    → HasReadAs trace file reported
     → (more : List ℕ)
     → (rest : List ℕ) × (read_as (is_some (wanted_by trace)) (file ++ more) ≡ reported ++ rest)
 reads_more None file reported is more = (more, ap (λ (t : List ℕ). t ++ more) (sym is))
@@ -418,22 +428,26 @@ pub fault_some : (classes : ℕ → List ℕ → List ℕ) (line : ℕ) (cut : T
     → class_fault classes line (Some (traced_by cut tap)) ≡ Some
     (record { line = line; moment = tap.moment; token = tap.token })
 unfolding fault_at
-fault_some classes line cut tap other = by_test (bytes_eq (classes tap.moment tap.token) cut.class) refl
+fault_some classes line cut tap other =
+    by_test (bytes_eq (classes tap.moment tap.token) cut.class) refl
   where
     by_test : (b : Bool) → bytes_eq (classes tap.moment tap.token) cut.class ≡ b
         → class_fault classes line (Some (traced_by cut tap)) ≡ Some (fault_at line tap)
-    by_test true same = absurd (other ((bytes_eq-Decides (classes tap.moment tap.token) cut.class).0 same))
+    by_test true same = absurd
+        (other ((bytes_eq-Decides (classes tap.moment tap.token) cut.class).0 same))
     by_test false same = ap (λ (b : Bool). if b then None else Some (fault_at line tap)) same
 
 -- this is reported of the columns, for some lines of the file
-abbrev ReportedOf : Trace → Option PlaceFault → List ℕ → Bool → Option Trace → Bool → Type 0
+abbrev ReportedOf : TracedPieces → Option PlaceFault → List ℕ → Bool → Option TracedPieces → Bool
+    → Type 0
 ReportedOf trace fault file right o looked =
     (read : List ReadLine) × AreColumnsReported (wanted_by o) looked file read
     (class_text (class_by trace.so_far.names) trace.so_far.wrong_class
     ++ place_text (uploads_in trace.so_far.places) fault) right
 
 -- what is reported of the columns, and whether they are right
-pub columns_reported : (trace : Trace) (looked : Bool) (o : Option Trace) (file : List ℕ)
+pub columns_reported : (trace : TracedPieces) (looked : Bool) (o : Option TracedPieces)
+    (file : List ℕ)
     (fault : Option PlaceFault) (right classes places : Bool) → o ≡ Some trace → looked ≡ true
     → classes ≡ not (is_some trace.so_far.wrong_class) → places ≡ not (is_some fault)
     → right ≡ (classes && places)
@@ -443,11 +457,12 @@ pub columns_reported : (trace : Trace) (looked : Bool) (o : Option Trace) (file 
     → (read : List ReadLine) × AreColumnsReported (wanted_by o) looked file read
     (class_text (class_by trace.so_far.names) trace.so_far.wrong_class
     ++ place_text (uploads_in trace.so_far.places) fault) right
-columns_reported trace looked o file fault right classes places is look of_classes of_places both found
-    all = subst (λ (o : Option Trace). ReportedOf trace fault file right o looked)
+columns_reported trace looked o file fault right classes places is look of_classes of_places both
+    found
+    all = subst (λ (o : Option TracedPieces). ReportedOf trace fault file right o looked)
     (sym is)
     (subst (λ (l : Bool). ReportedOf trace fault file right (Some trace) l) (sym look)
-    (let known = subst (λ (o : Option Trace). HasReadAll o file) is (all look) in (
+    (let known = subst (λ (o : Option TracedPieces). HasReadAll o file) is (all look) in (
       known.0,
       (
         known.1,

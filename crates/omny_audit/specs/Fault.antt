@@ -12,11 +12,14 @@ use Rattle.program_manners.specs.TableWords.{TableNames, date_text}
 use Rattle.omny_audit.specs.Options.{table_files}
 use Rattle.program_manners.specs.Loads.{Loaded, LoadsAll}
 use Rattle.program_manners.specs.declared.loading.LoadFault.{LoadFault}
-use Rattle.program_manners.specs.Refusals.{IsOneOf, HasRefused}
+use Rattle.program_manners.specs.declared.loading.LoadFault.TheVariants as load
+use Rattle.program_manners.specs.Refusals.{IsOneOf, HasRefused, Refuses}
 use Rattle.settled_texts.specs.Classes.{has_plain_classes}
 use Rattle.omny_audit.specs.declared.fault.Fault.{Fault}
-use Rattle.omny_audit.specs.declared.fault.Fault.TheVariants.{ClassName, Date, File, Follow, Ledger, Table}
-use Rattle.omny_audit.specs.declared.fault.Fault.TheVariants.{Write, Closed, NamedClass, NamedTable, NoMemory}
+use Rattle.omny_audit.specs.declared.fault.Fault.TheVariants.{ClassName, Date, File, Follow, Ledger}
+use Rattle.omny_audit.specs.declared.fault.Fault.TheVariants.{Table}
+use Rattle.omny_audit.specs.declared.fault.Fault.TheVariants.{Write, Closed, NamedClass, NamedTable}
+use Rattle.omny_audit.specs.declared.fault.Fault.TheVariants.{NoMemory}
 
 -- the line that the program writes of a fault
 abbrev pub audit_fault_text : Fault → List ℕ
@@ -50,6 +53,17 @@ named_by (NamedTable line) = Some line.name.now
 named_by (NamedClass line) = Some line.0.now
 named_by _ = None
 
+-- whether the source refused a file, or a read of the ledger
+abbrev pub is_refusal : Fault → Bool
+is_refusal (File file) = true
+is_refusal Ledger = true
+is_refusal _ = false
+
+-- what a source refused is told: it refused nothing if the fault is no refusal
+abbrev pub IsTold : Option (Option (List ℕ) × LoadFault) → Option (Option (List ℕ) × LoadFault)
+    → Fault → Type 0
+IsTold refused refused' fault = is_refusal fault ≡ false → refused' ≡ refused
+
 -- the fault is about no other file than one of these names
 abbrev pub NamesOneOf : List (List ℕ) → Fault → Type 0
 NamesOneOf names fault = IfSome (named_by fault) (λ name. IsOneOf name names)
@@ -61,7 +75,8 @@ pub record NamesUnplainClass (text : List ℕ) : Type 0 where
   pub unplain : has_plain_classes tree ≡ false
 
 -- The tables were loaded first. The text at this place names such a class, and none before it does.
-pub record LoadsUnplainClass (tables : TableNames) (loaded loaded' : Option (List Loaded)) (place : ℕ)
+pub record LoadsUnplainClass (tables : TableNames) (loaded loaded' : Option (List Loaded))
+    (place : ℕ)
     : Type 0 where
   pub texts : List (List ℕ)
   pub fares : Fares
@@ -74,25 +89,27 @@ pub record LoadsUnplainClass (tables : TableNames) (loaded loaded' : Option (Lis
   pub names : NamesUnplainClass text
   pub before : All (λ earlier. ¬ NamesUnplainClass earlier) (take place texts)
 
--- The fault is the right one: a file that is named is one that the source refused so, a table fault
--- is the first one of the text that was loaded under the table's name, behind the tables before it,
--- and that of a class's name comes only if a table's text names one that cannot stand in a ledger.
-abbrev pub IsRightFault : TableNames → Option (List Loaded) → Option (List Loaded)
-    → Option (Option (List ℕ) × LoadFault) → Fault → Type 0
-IsRightFault tables loaded loaded' refused (File file) =
+-- The fault is the right one: a file that is named is one that the source refused so, and the
+-- ledger of this name cannot be read only if the source refused it so. A table fault is the first
+-- one of the text that was loaded under the table's name, behind the tables before it, and that of
+-- a class's name comes only if a table's text names one that cannot stand in a ledger.
+abbrev pub IsRightFault : TableNames → Option (List ℕ) → Option (List Loaded)
+    → Option (List Loaded) → Option (Option (List ℕ) × LoadFault) → Fault → Type 0
+IsRightFault tables ledger loaded loaded' refused (File file) =
     HasRefused refused file.name.now file.fault
-IsRightFault tables loaded loaded' refused Ledger = Unit {0}
-IsRightFault tables loaded loaded' refused (Date wrong) = ⊥
-IsRightFault tables loaded loaded' refused (Table fault) = RefusesOnly tables loaded loaded' fault
-IsRightFault tables loaded loaded' refused (NamedTable line) =
+IsRightFault tables ledger loaded loaded' refused Ledger = Refuses refused ledger load.Unread
+IsRightFault tables ledger loaded loaded' refused (Date wrong) = ⊥
+IsRightFault tables ledger loaded loaded' refused (Table fault) =
+    RefusesOnly tables loaded loaded' fault
+IsRightFault tables ledger loaded loaded' refused (NamedTable line) =
     RefusesNamed tables loaded loaded' line.name.now line.fault
-IsRightFault tables loaded loaded' refused (Follow line) =
+IsRightFault tables ledger loaded loaded' refused (Follow line) =
     RefusesToFollow tables loaded loaded' line.word.now line.fault
-IsRightFault tables loaded loaded' refused ClassName =
+IsRightFault tables ledger loaded loaded' refused ClassName =
     (tables.later ≡ []) × (place : ℕ) × LoadsUnplainClass tables loaded loaded' place
-IsRightFault tables loaded loaded' refused (NamedClass line) = (tables.later ≢ [])
+IsRightFault tables ledger loaded loaded' refused (NamedClass line) = (tables.later ≢ [])
     × (place : ℕ) × (slice_get (table_files tables) place ≡ Some line.0.now)
     × LoadsUnplainClass tables loaded loaded' place
-IsRightFault tables loaded loaded' refused Write = Unit {0}
-IsRightFault tables loaded loaded' refused Closed = Unit {0}
-IsRightFault tables loaded loaded' refused NoMemory = Unit {0}
+IsRightFault tables ledger loaded loaded' refused Write = Unit {0}
+IsRightFault tables ledger loaded loaded' refused Closed = Unit {0}
+IsRightFault tables ledger loaded loaded' refused NoMemory = Unit {0}

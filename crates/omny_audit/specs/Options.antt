@@ -68,7 +68,8 @@ pub record AuditAsked : Type 0 where
   pub ledger : Option Text
 
 -- the words' tables, without which no command line is; whether all wrong lines are asked for; their
--- uploads, in order; the file of the report, if one is named; and that of the ledger, if one is named
+-- uploads, in order; the file of the report, if one is named; and that of the ledger, if one is
+-- named
 abbrev pub audit_asked_by : List Text → AuditAsked
 audit_asked_by words = record {
   table = tables_or_none (unwrap_or (all_of (codes "table") (matches_of audit_program words)) []);

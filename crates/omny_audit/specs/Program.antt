@@ -10,7 +10,7 @@ use Rattle.settled_texts.specs.Classes.{AreTrees, class_of_token, tree_at}
 use Rattle.toml.specs.Data.{Members}
 use Rattle.tap_views.specs.declared.encoder.TapFields.{TapFields}
 use Rattle.omny_audit.specs.Reports.{HasBegunAudit, IsAudit, IsRightAudit}
-use Rattle.omny_audit.specs.Fault.{IsRightFault, audit_fault_text, is_quiet, is_unwritten}
+use Rattle.omny_audit.specs.Fault.{IsRightFault, IsTold, audit_fault_text, is_quiet, is_unwritten}
 use Rattle.omny_audit.specs.Options.{AuditAsked}
 use Rattle.fare_texts.specs.WrittenOut.{Begins}
 use Rattle.omny_audit.specs.Traced.{ReadLine, Wanted}
@@ -59,8 +59,8 @@ abbrev pub IsTracedAs : Option (List Loaded) → List ℕ → Bool → Type 0
 IsTracedAs None ledger traced = ⊤
 IsTracedAs (Some loads) ledger traced = traced ≡ has_traced_head ledger
 
--- If the ledger is traced, these are the classes that the texts of the tables name for tokens at each
--- moment, and these uploads.
+-- If the ledger is traced, these are the classes that the texts of the tables name for tokens at
+-- each moment, and these uploads.
 abbrev pub AreWanted : Fares → List (List ℕ) → Bool → Option (List (List TapFields)) → Option Wanted
     → Type 0
 AreWanted fares texts false uploads wanted = wanted ≡ None
@@ -147,12 +147,15 @@ pub record AuditGaveUp (all : Bool) (fault : Fault) (said said' : Option (List �
   pub line_reported : IsFaultReported fault said said' failed
   pub kept : all ≡ false → is_unwritten fault ≡ false → Keeps out out'
 
--- The fault is the right one. If a write failed, what it left is a beginning of the right text. If
--- all wrong lines are asked for, any fault leaves such a beginning, or nothing if no write failed.
+-- The fault is the right one, and tells what the source refused, if it refused anything. If a write
+-- failed, what it left is a beginning of the right text. If all wrong lines are asked for, any
+-- fault leaves such a beginning, or nothing if no write failed.
 pub record IsRightAuditFault (asked : AuditAsked) (loaded loaded' : Option (List Loaded))
-    (refused : Option (Option (List ℕ) × LoadFault)) (fault : Fault) (out out' : Option (List ℕ))
-    : Type 0 where
-  pub right : IsRightFault asked.table loaded loaded' refused fault
-  pub begun : asked.all ≡ false → is_unwritten fault ≡ true → BeginsAudit asked loaded loaded' out out'
+    (refused refused' : Option (Option (List ℕ) × LoadFault)) (fault : Fault)
+    (out out' : Option (List ℕ)) : Type 0 where
+  pub right : IsRightFault asked.table asked.ledger loaded loaded' refused' fault
+  pub told : IsTold refused refused' fault
+  pub begun : asked.all ≡ false → is_unwritten fault ≡ true
+      → BeginsAudit asked loaded loaded' out out'
   pub begun_of_all : asked.all ≡ true → ((is_unwritten fault ≡ false) × Keeps out out')
       ⊎ BeginsFound asked loaded loaded' out out'

@@ -15,8 +15,9 @@ use Rattle.report_check.specs.declared.verdict.ReportVerdict.TheVariants.{Taps}
 use Rattle.shard_book.specs.declared.entry.Entry.{Entry}
 use Rattle.tap_views.specs.declared.encoder.TapFields.{TapFields}
 
--- `report of the ledger`, `wrong report line 4: wants LINE`, `wrong report line 4: no report has it`
--- or `wrong report line 4: the uploads have 5 taps, the ledger 6`; the wanted line has its line feed
+-- `report of the ledger`, `wrong report line 4: wants LINE`, `wrong report line 4: no report has
+-- it` or `wrong report line 4: the uploads have 5 taps, the ledger 6`; the wanted line has its line
+-- feed
 unfoldable pub report_text : ReportVerdict → List ℕ
 report_text OfLedger = codes "report of the ledger\n"
 report_text (Wants line wanted) =
@@ -28,15 +29,16 @@ report_text (Taps line uploads ledger) =
     ++ (decimal uploads ++ (codes " taps, the ledger " ++ (decimal ledger ++ codes "\n")))))
 
 -- what is found of the report: a verdict that is true beside whatever entries the ledger has
-pub record IsReportFinding (fares : Fares) (ledger report rest : List ℕ) (fits : Bool) : Type 0 where
+pub record IsReportFinding (fares : Fares) (ledger report rest : List ℕ) (fits : Bool) : Type
+    0 where
   pub verdict : ReportVerdict
   pub shown : rest ≡ report_text verdict
   pub reported : fits ≡ is_of_ledger verdict
   pub true_of : (entries : List Entry) → IsLedgerOf fares entries ledger
       → IsReportVerdict entries report verdict
 
--- What follows the finding on the ledger, which is legal or not: nothing without a report, or behind
--- a ledger that is not legal; else the line of the verdict on the report.
+-- What follows the finding on the ledger, which is legal or not: nothing without a report, or
+-- behind a ledger that is not legal; else the line of the verdict on the report.
 abbrev pub IsReportLine : Fares → List ℕ → Option (List ℕ) → Bool → List ℕ → Bool → Type 0
 IsReportLine fares ledger None legal rest fits = (rest ≡ []) × (fits ≡ true)
 IsReportLine fares ledger (Some report) false rest fits = (rest ≡ []) × (fits ≡ false)

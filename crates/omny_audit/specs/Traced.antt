@@ -17,14 +17,14 @@ use Rattle.omny_audit.specs.declared.traced.PlaceFault.TheVariants.{NoLine, Othe
 use Rattle.omny_audit.specs.declared.traced.WrongClass.{WrongClass}
 
 -- the tap of a line, and its columns
-pub record TracedTap : Type 0 where
+pub record TapWithColumns : Type 0 where
   pub tap : TapFields
   pub class : List ℕ
   pub upload : ℕ
   pub place : ℕ
 
 -- a tap with the columns of its line
-abbrev pub traced_by : TracedLine → TapFields → TracedTap
+abbrev pub traced_by : TracedLine → TapFields → TapWithColumns
 traced_by cut tap = record {
   tap = tap;
   class = cut.class;
@@ -34,21 +34,21 @@ traced_by cut tap = record {
 
 -- a line that has not the form of a traced one names no tap, and a line that has it names the one
 -- of its fields, if these name one
-abbrev pub NamesTracedTap : Option TracedLine → Option TracedTap → Type 0
-NamesTracedTap None traced = traced ≡ None
-NamesTracedTap (Some cut) traced =
+abbrev pub NamesTapWithColumns : Option TracedLine → Option TapWithColumns → Type 0
+NamesTapWithColumns None traced = traced ≡ None
+NamesTapWithColumns (Some cut) traced =
     (tap : Option TapFields) × IsTapOfLine (cut.fields ++ 10 ∷ []) tap
     × (traced ≡ option_map (traced_by cut) tap)
 
 -- a line that was read, and what it names
 pub record ReadLine : Type 0 where
   pub line : List ℕ
-  pub traced : Option TracedTap
+  pub traced : Option TapWithColumns
 
 -- what is kept of each line is what it names; the lines stand last first
 abbrev pub AreRead : List ReadLine → Type 0
 AreRead [] = Unit {0}
-AreRead (read ∷ earlier) = AreRead earlier × NamesTracedTap (cut_line read.line) read.traced
+AreRead (read ∷ earlier) = AreRead earlier × NamesTapWithColumns (cut_line read.line) read.traced
 
 -- the lines, the first one first
 abbrev pub lines_read : List ReadLine → List (List ℕ)
@@ -56,7 +56,7 @@ lines_read [] = []
 lines_read (read ∷ earlier) = lines_read earlier ++ read.line ∷ []
 
 -- the fault of a line that has another class than the one of its token at its moment
-abbrev pub class_fault : (ℕ → List ℕ → List ℕ) → ℕ → Option TracedTap → Option WrongClass
+abbrev pub class_fault : (ℕ → List ℕ → List ℕ) → ℕ → Option TapWithColumns → Option WrongClass
 class_fault classes line None = None
 class_fault classes line (Some traced) =
     if bytes_eq (classes traced.tap.moment traced.tap.token) traced.class then None
@@ -76,7 +76,7 @@ class_text classes (Some fault) =
     ++ (classes fault.moment fault.token ++ codes "\n")))
 
 -- whether the line has this upload and place
-abbrev pub has_place : ℕ → ℕ → Option TracedTap → Bool
+abbrev pub has_place : ℕ → ℕ → Option TapWithColumns → Bool
 has_place upload place None = false
 has_place upload place (Some traced) = is_place upload place traced.upload traced.place
 
@@ -94,7 +94,7 @@ fault_by line upload place Again = Some (Repeated line upload place)
 
 -- the fault of a line behind earlier ones: another tap stands at its place, or an earlier line has
 -- its place
-abbrev pub place_fault : List (List TapFields) → List ReadLine → ℕ → Option TracedTap
+abbrev pub place_fault : List (List TapFields) → List ReadLine → ℕ → Option TapWithColumns
     → Option PlaceFault
 place_fault uploads earlier line None = None
 place_fault uploads earlier line (Some traced) =
@@ -148,8 +148,8 @@ abbrev pub place_text : Option (List (List TapFields)) → Option PlaceFault →
 place_text None fault = []
 place_text (Some uploads) fault = place_fault_text fault
 
--- what the columns of a traced ledger are held against: the class of each token at a moment, and the
--- good taps of each upload, if there are uploads
+-- what the columns of a traced ledger are held against: the class of each token at a moment, and
+-- the good taps of each upload, if there are uploads
 pub record Wanted : Type 0 where
   pub classes : ℕ → List ℕ → List ℕ
   pub uploads : Option (List (List TapFields))
@@ -161,7 +161,8 @@ pub record AreLinesOf (file : List ℕ) (read : List ReadLine) : Type 0 where
 
 -- What is reported of the columns of a file, of which these lines were read: nothing of a ledger
 -- that is not traced, which has right ones, and nothing of one that is not looked at.
-abbrev pub AreColumnsReported : Option Wanted → Bool → List ℕ → List ReadLine → List ℕ → Bool → Type 0
+abbrev pub AreColumnsReported : Option Wanted → Bool → List ℕ → List ReadLine → List ℕ → Bool
+    → Type 0
 AreColumnsReported None looked file read reported right = (reported ≡ []) × (right ≡ true)
 AreColumnsReported (Some wanted) false file read reported right = (reported ≡ []) × (right ≡ false)
 AreColumnsReported (Some wanted) true file read reported right =
@@ -170,8 +171,8 @@ AreColumnsReported (Some wanted) true file read reported right =
     ++ place_text wanted.uploads fault)
     × (right ≡ (not (is_some (wrong_class wanted.classes read)) && not (is_some fault)))
 
--- Each line that has a tap has it where it stands in the uploads, if there are uploads: no two lines
--- have one place, and each place of a tap is that of a line.
+-- Each line that has a tap has it where it stands in the uploads, if there are uploads: no two
+-- lines have one place, and each place of a tap is that of a line.
 abbrev pub HasRightPlaces : Option (List (List TapFields)) → List ReadLine → Type 0
 HasRightPlaces None read = Unit {0}
 HasRightPlaces (Some uploads) read = (wrong_place uploads read ≡ None)

@@ -1,8 +1,9 @@
 //! The finding on all that a reader gives.
 
 ghost use Rattle.std.specs.Prelude.{◌≡◌, ℕ, List, [], IfErr, IfOk, IsTrue, None, Some, false, map};
-ghost use Rattle.std.specs.Prelude.{Bool, ◌↔◌, if◌then◌else◌, is_some, string_bytes, true};
-ghost use Rattle.std.specs.Io.KnownBytes.{Appends, Keeps};
+ghost use Rattle.std.specs.Prelude.{Bool, ◌↔◌, if◌then◌else◌, is_some, option_map, string_bytes};
+ghost use Rattle.std.specs.Prelude.{true};
+ghost use Rattle.std.specs.Io.KnownBytes.{Appends, Keeps, prepend_known};
 ghost use Rattle.fare_table.specs.Fares.{Fares};
 ghost use Rattle.shard_book.specs.declared.entry.Entry.{Entry};
 ghost use Rattle.ledger_check.specs.Balances.{IsBalance};
@@ -16,26 +17,25 @@ ghost use Rattle.omny_audit.specs.Reports.{IsAudit};
 ghost use Rattle.omny_audit.specs.inside.Findings.{StrikesOut};
 ghost use Rattle.omny_audit.specs.inside.Reports.{HasSummedFor, text_of};
 ghost use Rattle.omny_audit.specs.Fault.{is_unwritten, named_by};
-ghost use Rattle.omny_audit.specs.inside.Fault.{is_of_loading};
+ghost use Rattle.omny_audit.specs.inside.Fault.{IsLedgerFault, is_of_source};
 ghost use Rattle.fare_texts.specs.WrittenOut.{Begins};
 ghost use Rattle.omny_audit.specs.Traced.{ReadLine};
 ghost use Rattle.omny_audit.specs.inside.Traced.{HasReadAll, HasReadAs, wanted_by};
 ghost use Rattle.omny_audit.specs.inside.Source.{IsAllOf};
 
 use crate::fault::Fault;
+use crate::ledger::{PIECE_BYTES, WholeLedger, read_on};
 use crate::output::write_text;
 use crate::report::{ReportWithSums, add_piece, are_both, write_report_line};
+use crate::source::Source;
 use crate::text::{verdict_line, write_difference};
-use crate::traced::{Trace, read_end, read_piece, write_columns};
+use crate::traced::{TracedPieces, read_end, read_piece, write_columns};
 use fare_table::{Clock, FareTable};
 use ledger_check::laws::verdicts_decide;
 use ledger_check::{Balance, Checker, Difference, Verdict};
 use std::alloc::{AllocError, Global};
-use std::io::{Read, Write};
+use std::io::Write;
 use tap_views::NoMemory;
-
-/// How many bytes one read asks for.
-const PIECE_BYTES: usize = 65_536;
 
 /// Reads what the end of the file leaves, and gives the verdict. The text is replaced.
 fn end_verdict(
@@ -44,7 +44,7 @@ fn end_verdict(
     clock: &Clock,
     checker: &mut Checker,
     balance: &mut Balance,
-    trace: &mut Option<Trace>,
+    trace: &mut Option<TracedPieces>,
     report: &mut Option<ReportWithSums>,
     text: &mut Vec<u8>,
 ) -> Result<Verdict, Fault<'static>>
@@ -53,25 +53,27 @@ fn end_verdict(
         × HasSummedFor table.now report.old reported }
 
     // Of all that was read so far.
-    ensures verdict { IfOk result (λ verdict. (file reported : List ℕ) → HasReadAs trace.old file reported
-        → HasFed table.now checker.old reported
+    ensures verdict { IfOk result (λ verdict. (file reported : List ℕ)
+        → HasReadAs trace.old file reported → HasFed table.now checker.old reported
         → IsVerdict table.now (read_as (is_some (wanted_by trace.new)) file) verdict) }
     ensures struck { IfOk result (λ verdict. (file reported : List ℕ) (good : List TapFields)
-        → HasReadAs trace.old file reported → HasStruck table.now checker.old balance.old reported good
+        → HasReadAs trace.old file reported
+        → HasStruck table.now checker.old balance.old reported good
         → IsTrue (is_legal verdict) → (entries : List Entry)
         → IsLedgerOf table.now entries (read_as (is_some (wanted_by trace.new)) file)
         → IsBalance balance.new good (map tap_of_entry entries)) }
-    ensures sums { IfOk result (λ verdict. (file reported : List ℕ) → HasReadAs trace.old file reported
-        → HasSummedFor table.now report.old reported → IsTrue (is_legal verdict)
+    ensures sums { IfOk result (λ verdict. (file reported : List ℕ)
+        → HasReadAs trace.old file reported → HasSummedFor table.now report.old reported
+        → IsTrue (is_legal verdict)
         → (good : List TapFields) → HasStruck table.now checker.old balance.old reported good
         → HasSummedFor table.now report.new (read_as (is_some (wanted_by trace.new)) file)) }
-    ensures all { IfOk result (λ verdict. (file reported : List ℕ) → HasReadAs trace.old file reported
-        → HasReadAll trace.new file) }
+    ensures all { IfOk result (λ verdict. (file reported : List ℕ)
+        → HasReadAs trace.old file reported → HasReadAll trace.new file) }
     ensures wanted { wanted_by trace.new ≡ wanted_by trace.old }
     ensures report { text_of report.new ≡ text_of report.old }
     ensures named { IfErr result (λ fault. named_by fault ≡ None) }
     ensures fault { IfErr result (λ fault. is_unwritten fault ≡ false) }
-    ensures later { IfErr result (λ fault. is_of_loading fault ≡ false) }
+    ensures later { IfErr result (λ fault. is_of_source fault ≡ false) }
 {
     read_end(trace, text)?;
     let left = text.as_slice();
@@ -82,16 +84,18 @@ fn end_verdict(
     Ok(checker.finish())
 }
 
-/// The verdict on all that the reader has left, whose taps are struck out, and added to the sums that
-/// a report is compared with, if there is a report. Of a traced ledger the columns are looked at. It
-/// keeps no more of it than one read gives, and reads no further than to the first wrong line.
-pub(crate) fn verdict_of<R: Read>(
+/// The verdict on all that the ledger has left, whose taps are struck out, and added to the sums
+/// that a report is compared with, if there is a report. Of a traced ledger the columns are looked
+/// at. It keeps no more of it than one read gives, and reads no further than to the first wrong
+/// line.
+pub(crate) fn verdict_of<S: Source>(
     alloc: Global,
     table: &FareTable,
     clock: &Clock,
-    reader: &mut R,
+    source: &mut S,
+    ledger: &mut WholeLedger<'_, S::Ledger>,
     balance: &mut Balance,
-    trace: &mut Option<Trace>,
+    trace: &mut Option<TracedPieces>,
     report: &mut Option<ReportWithSums>,
 ) -> Result<Verdict, Fault<'static>>
     requires clock { clock.now ≡ table.now.zone }
@@ -99,7 +103,7 @@ pub(crate) fn verdict_of<R: Read>(
     requires trace { HasReadAs trace.old [] [] }
     requires sums { HasSummedFor table.now report.old [] }
     ensures reported { IfOk result (λ verdict. (file : List ℕ)
-        × IsAllOf (R.remaining reader.old) file
+        × IsAllOf (prepend_known ledger.old.head.now (S.Ledger.remaining ledger.old.rest)) file
         × IsVerdict table.now (read_as (is_some (wanted_by trace.new)) file) verdict
         × StrikesOut table.now (read_as (is_some (wanted_by trace.new)) file) balance.old
         balance.new verdict
@@ -108,15 +112,18 @@ pub(crate) fn verdict_of<R: Read>(
         × (IsTrue (is_legal verdict) → HasReadAll trace.new file)) }
     ensures wanted { wanted_by trace.new ≡ wanted_by trace.old }
     ensures report { text_of report.new ≡ text_of report.old }
+    ensures loaded { S.loaded source.new ≡ S.loaded source.old }
+    ensures well { IfOk result (λ _. S.refused source.new ≡ S.refused source.old) }
     ensures fault { IfErr result (λ fault. is_unwritten fault ≡ false) }
     ensures named { IfErr result (λ fault. named_by fault ≡ None) }
-    ensures later { IfErr result (λ fault. is_of_loading fault ≡ false) }
+    ensures later { IfErr result (IsLedgerFault (S.refused source.old) (S.refused source.new)
+        (option_map (λ n. n.now) ledger.old.name)) }
 {
     let mut checker = Checker::new(alloc);
     let mut text = Vec::new(alloc);
     let mut step = [0u8; PIECE_BYTES];
     for _piece in 0..u64::MAX {
-        let Ok(count) = reader.read(&mut step) else {
+        let Ok(count) = read_on(source, ledger, &mut step) else {
             return Err(Fault::Ledger);
         };
         if count == 0 {
@@ -139,7 +146,8 @@ pub(crate) fn verdict_of<R: Read>(
         }
         add_piece(alloc, table, part, report)?;
     }
-    Err(Fault::Ledger)
+    // no run makes so many reads
+    Err(Fault::NoMemory)
 }
 
 /// Whether the verdict is `legal`.
@@ -196,7 +204,7 @@ fn audit_text(
     verdict: &Verdict,
     balance: &Balance,
     has_uploads: bool,
-    trace: &Option<Trace>,
+    trace: &Option<TracedPieces>,
     report: Option<ReportWithSums>,
 ) -> Result<(Vec<u8>, bool), NoMemory>
     requires { is_legal verdict.now ≡ true → (fares : Fares) × (text : List ℕ)
@@ -226,16 +234,17 @@ fn audit_text(
     Ok((text, are_both(is_sound, is_behind)))
 }
 
-/// Checks the ledger that the reader has left, beside the taps of uploads that the balance has and
-/// beside a report, if there is one, and writes the finding. Says whether all is well.
-pub(crate) fn audit_over<R: Read, W: Write>(
+/// Checks what the ledger has left, beside the taps of uploads that the balance has and beside a
+/// report, if there is one, and writes the finding. Says whether all is well.
+pub(crate) fn audit_over<S: Source, W: Write>(
     alloc: Global,
     table: &FareTable,
     clock: &Clock,
-    reader: &mut R,
+    source: &mut S,
+    ledger: &mut WholeLedger<'_, S::Ledger>,
     mut balance: Balance,
     has_uploads: bool,
-    mut trace: Option<Trace>,
+    mut trace: Option<TracedPieces>,
     mut report: Option<ReportWithSums>,
     out: &mut W,
 ) -> Result<bool, Fault<'static>>
@@ -243,7 +252,8 @@ pub(crate) fn audit_over<R: Read, W: Write>(
     requires good { (good : List TapFields) × IsBalance balance good [] }
     requires trace { HasReadAs trace [] [] }
     requires sums { HasSummedFor table.now report [] }
-    ensures reported { IfOk result (λ well. (file : List ℕ) × IsAllOf (R.remaining reader.old) file
+    ensures reported { IfOk result (λ well. (file : List ℕ)
+        × IsAllOf (prepend_known ledger.old.head.now (S.Ledger.remaining ledger.old.rest)) file
         × ((good : List TapFields) → IsBalance balance good [] → (reported : List ℕ)
         × (read : List ReadLine) × IsAudit false table.now (wanted_by trace) file read
         (if has_uploads then Some good else None) (text_of report) reported well
@@ -254,13 +264,16 @@ pub(crate) fn audit_over<R: Read, W: Write>(
         → Keeps (W.contents out.old) (W.contents out.new)) }
     // And what it leaves is a beginning of the right text.
     ensures begun { IfErr result (λ fault. is_unwritten fault ≡ true → (file : List ℕ)
-        × IsAllOf (R.remaining reader.old) file
+        × IsAllOf (prepend_known ledger.old.head.now (S.Ledger.remaining ledger.old.rest)) file
         × ((good : List TapFields) → IsBalance balance good [] → (reported : List ℕ) × (well : Bool)
         × (read : List ReadLine) × IsAudit false table.now (wanted_by trace) file read
         (if has_uploads then Some good else None) (text_of report) reported well
         × Begins (W.contents out.old) (W.contents out.new) reported)) }
+    ensures loaded { S.loaded source.new ≡ S.loaded source.old }
+    ensures well { IfOk result (λ _. S.refused source.new ≡ S.refused source.old) }
     ensures named { IfErr result (λ fault. named_by fault ≡ None) }
-    ensures later { IfErr result (λ fault. is_of_loading fault ≡ false) }
+    ensures later { IfErr result (IsLedgerFault (S.refused source.old) (S.refused source.new)
+        (option_map (λ n. n.now) ledger.old.name)) }
 {
     // proof: the verdict is `legal` exactly if the text is a ledger
     verdicts_decide();
@@ -268,7 +281,8 @@ pub(crate) fn audit_over<R: Read, W: Write>(
         alloc,
         table,
         clock,
-        reader,
+        source,
+        ledger,
         &mut balance,
         &mut trace,
         &mut report,

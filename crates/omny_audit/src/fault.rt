@@ -1,12 +1,11 @@
 //! Why the program gives up, with the line that says so.
-ghost use Rattle.std.specs.Prelude.{◌≡◌, ℕ, IfSome, List, Option, Some, false};
-ghost use Rattle.omny_audit.specs.Fault.{IsRightFault, audit_fault_text, is_quiet, is_unwritten};
+ghost use Rattle.std.specs.Prelude.{◌≡◌, ℕ, IfSome, List, Option, Some, false, true};
+ghost use Rattle.omny_audit.specs.Fault.{audit_fault_text, is_quiet, is_refusal, is_unwritten};
 ghost use Rattle.omny_audit.specs.Fault.{named_by};
+ghost use Rattle.omny_audit.specs.inside.Fault.{IsRefusal};
 ghost use Rattle.program_manners.specs.Refusals.{HasRefused};
-ghost use Rattle.program_manners.specs.Loads.{Loaded};
 ghost use Rattle.program_manners.specs.declared.loading.LoadFault.{LoadFault as ALoadFault};
 ghost use Rattle.program_manners.specs.Lines.{load_text};
-ghost use Rattle.program_manners.specs.TableWords.{TableNames};
 
 use fare_table::TableFault;
 use program_manners::{
@@ -49,10 +48,9 @@ impl<'a> Fault<'a> {
         ensures line { audit_fault_text result ≡ load_text name.entry.now fault }
         ensures named { IfSome (named_by result) (λ reported. reported ≡ name.entry.now) }
         ensures unwritten { is_unwritten result ≡ false }
-        ensures right { (table : TableNames) (loaded after : Option (List Loaded))
-            (refused : Option (Option (List ℕ) × ALoadFault))
-            → HasRefused refused name.entry.now fault
-            → IsRightFault table loaded after refused result }
+        ensures refusal { is_refusal result ≡ true }
+        ensures right { (refused : Option (Option (List ℕ) × ALoadFault))
+            → HasRefused refused name.entry.now fault → IsRefusal refused result }
     {
         Fault::File(FileFault { name, fault })
     }

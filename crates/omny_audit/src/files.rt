@@ -2,7 +2,8 @@
 
 use crate::source::Source;
 use program_manners::{LoadFault, Opened, load_file, open_file};
-use std::io::Input;
+use std::io;
+use std::io::{Input, Read};
 
 /// Loads from the system's files and standard input. It does not keep what it loaded.
 #[derive(Drop)]
@@ -31,5 +32,14 @@ impl Source for Host<'_> {
         };
         let file = open_file(self.rt, name)?;
         Ok(Opened::File(file))
+    }
+
+    fn read_ledger(
+        &mut self,
+        _name: Option<&str>,
+        ledger: &mut Opened,
+        piece: &mut [u8],
+    ) -> io::Result<usize> {
+        ledger.read(piece)
     }
 }

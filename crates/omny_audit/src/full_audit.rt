@@ -1,14 +1,15 @@
 //! The finding on all lines that a reader gives.
 
 ghost use Rattle.std.specs.Prelude.{◌≡◌, ◌++◌, ℕ, List, [], Bool, IfErr, IfOk, None, Some, nat_eq};
-ghost use Rattle.std.specs.Prelude.{◌&&◌, false, if◌then◌else◌, is_some, string_bytes, true};
-ghost use Rattle.std.specs.Io.KnownBytes.{Appends};
+ghost use Rattle.std.specs.Prelude.{◌&&◌, false, if◌then◌else◌, is_some, option_map, string_bytes};
+ghost use Rattle.std.specs.Prelude.{true};
+ghost use Rattle.std.specs.Io.KnownBytes.{Appends, prepend_known};
 ghost use Rattle.fare_table.specs.Fares.{Fares};
 ghost use Rattle.ledger_check.specs.Balances.{IsBalance};
 ghost use Rattle.ledger_check.specs.FullBalances.{IsFullBalance};
 ghost use Rattle.tap_views.specs.declared.encoder.TapFields.{TapFields};
 ghost use Rattle.omny_audit.specs.Fault.{named_by};
-ghost use Rattle.omny_audit.specs.inside.Fault.{is_of_loading};
+ghost use Rattle.omny_audit.specs.inside.Fault.{IsLedgerFault, is_of_source};
 ghost use Rattle.ledger_check.specs.Columns.{read_as};
 ghost use Rattle.ledger_check.specs.Ledger.{IsLedger};
 ghost use Rattle.ledger_check.specs.Recounts.{IsRecount, TakenLine, recount_text, taps_from};
@@ -23,19 +24,18 @@ ghost use Rattle.omny_audit.specs.Traced.{AreColumnsReported, ReadLine};
 ghost use Rattle.omny_audit.specs.inside.Traced.{HasReadAll, HasReadAs, wanted_by};
 
 use crate::fault::Fault;
+use crate::ledger::{PIECE_BYTES, WholeLedger, read_on};
 use crate::output::write_text;
 use crate::report::{ReportWithSums, add_piece, are_both, write_report_line};
+use crate::source::Source;
 use crate::text::{are_none, write_differences};
-use crate::traced::{Trace, read_end, read_piece, write_columns};
+use crate::traced::{TracedPieces, read_end, read_piece, write_columns};
 use fare_table::{Clock, FareTable};
 use ledger_check::laws::{recounts_decide, recounts_go_on};
 use ledger_check::{Balance, FullBalance, Recount};
 use std::alloc::{AllocError, Global};
-use std::io::{Read, Write};
+use std::io::Write;
 use tap_views::{NoMemory, TapFields};
-
-/// How many bytes one read asks for.
-const PIECE_BYTES: usize = 65_536;
 
 /// Reads what the end of the file leaves, and appends the rest of the report. The text is replaced.
 /// Says whether no line is wrong.
@@ -46,7 +46,7 @@ fn end_recount(
     recount: &mut Recount,
     has_uploads: bool,
     full: &mut FullBalance,
-    trace: &mut Option<Trace>,
+    trace: &mut Option<TracedPieces>,
     report: &mut Option<ReportWithSums>,
     text: &mut Vec<u8>,
     reported: &mut String,
@@ -74,7 +74,7 @@ fn end_recount(
     ensures wanted { wanted_by trace.new ≡ wanted_by trace.old }
     ensures report { text_of report.new ≡ text_of report.old }
     ensures named { IfErr result (λ fault. named_by fault ≡ None) }
-    ensures later { IfErr result (λ fault. is_of_loading fault ≡ false) }
+    ensures later { IfErr result (λ fault. is_of_source fault ≡ false) }
 {
     read_end(trace, text)?;
     let left = text.as_slice();
@@ -84,17 +84,18 @@ fn end_recount(
     Ok(legal)
 }
 
-/// Recounts all that the reader has left, and writes what is reported of its lines as they come.
+/// Recounts all that the ledger has left, and writes what is reported of its lines as they come.
 /// The taps that they name are struck out, if there are uploads. It keeps no more of the text than
 /// one read gives. Says whether no line is wrong.
-fn recount_all<R: Read, W: Write>(
+fn recount_all<S: Source, W: Write>(
     alloc: Global,
     table: &FareTable,
     clock: &Clock,
-    reader: &mut R,
+    source: &mut S,
+    ledger: &mut WholeLedger<'_, S::Ledger>,
     has_uploads: bool,
     full: &mut FullBalance,
-    trace: &mut Option<Trace>,
+    trace: &mut Option<TracedPieces>,
     report: &mut Option<ReportWithSums>,
     out: &mut W,
 ) -> Result<bool, Fault<'static>>
@@ -105,7 +106,8 @@ fn recount_all<R: Read, W: Write>(
         × (has_uploads ≡ true → IsFullBalance full.old good []) }
 
     // Of all good taps that the balance can have.
-    ensures reported { IfOk result (λ legal. (file : List ℕ) × IsAllOf (R.remaining reader.old) file
+    ensures reported { IfOk result (λ legal. (file : List ℕ)
+        × IsAllOf (prepend_known ledger.old.head.now (S.Ledger.remaining ledger.old.rest)) file
         × ((good : List TapFields) → (has_uploads ≡ true → IsFullBalance full.old good [])
         → HasRecountedAll table.now has_uploads full.new
         (read_as (is_some (wanted_by trace.new)) file) good legal (W.contents out.old)
@@ -114,20 +116,24 @@ fn recount_all<R: Read, W: Write>(
         × HasReadAll trace.new file) }
 
     // What was written when a fault comes is a beginning of what is reported of the lines.
-    ensures begun { IfErr result (λ _. (file : List ℕ) × IsAllOf (R.remaining reader.old) file
+    ensures begun { IfErr result (λ _. (file : List ℕ)
+        × IsAllOf (prepend_known ledger.old.head.now (S.Ledger.remaining ledger.old.rest)) file
         × HasBegunRecount table.now (read_as (is_some (wanted_by trace.old)) file)
         (W.contents out.old) (W.contents out.new)) }
     ensures wanted { wanted_by trace.new ≡ wanted_by trace.old }
     ensures report { text_of report.new ≡ text_of report.old }
+    ensures loaded { S.loaded source.new ≡ S.loaded source.old }
+    ensures well { IfOk result (λ _. S.refused source.new ≡ S.refused source.old) }
     ensures named { IfErr result (λ fault. named_by fault ≡ None) }
-    ensures later { IfErr result (λ fault. is_of_loading fault ≡ false) }
+    ensures later { IfErr result (IsLedgerFault (S.refused source.old) (S.refused source.new)
+        (option_map (λ n. n.now) ledger.old.name)) }
 {
     let mut recount = Recount::new(alloc);
     let mut reported = String::new(alloc);
     let mut text = Vec::new(alloc);
     let mut step = [0u8; PIECE_BYTES];
     for _piece in 0..u64::MAX {
-        let Ok(count) = reader.read(&mut step) else {
+        let Ok(count) = read_on(source, ledger, &mut step) else {
             return Err(Fault::Ledger);
         };
         reported.clear();
@@ -153,7 +159,8 @@ fn recount_all<R: Read, W: Write>(
         add_piece(alloc, table, part, report)?;
         write_text(out, reported.as_bytes())?;
     }
-    Err(Fault::Ledger)
+    // no run makes so many reads
+    Err(Fault::NoMemory)
 }
 
 /// What is reported of the taps behind a recount, if there are uploads; and whether all is well.
@@ -192,7 +199,7 @@ fn end_text(
     full: &FullBalance,
     has_uploads: bool,
     legal: bool,
-    trace: &Option<Trace>,
+    trace: &Option<TracedPieces>,
     report: Option<ReportWithSums>,
 ) -> Result<(Vec<u8>, bool), NoMemory>
     requires { legal ≡ true → (fares : Fares) × (text : List ℕ)
@@ -218,17 +225,17 @@ fn end_text(
     Ok((text, are_both(is_sound, is_behind)))
 }
 
-/// Checks all lines of the ledger that the reader has left, beside the taps of uploads that the
-/// balance has and beside a report, if there is one, and writes the finding. Says whether all is
-/// well.
-pub(crate) fn full_audit_over<R: Read, W: Write>(
+/// Checks all lines that the ledger has left, beside the taps of uploads that the balance has and
+/// beside a report, if there is one, and writes the finding. Says whether all is well.
+pub(crate) fn full_audit_over<S: Source, W: Write>(
     alloc: Global,
     table: &FareTable,
     clock: &Clock,
-    reader: &mut R,
+    source: &mut S,
+    ledger: &mut WholeLedger<'_, S::Ledger>,
     balance: Balance,
     has_uploads: bool,
-    mut trace: Option<Trace>,
+    mut trace: Option<TracedPieces>,
     mut report: Option<ReportWithSums>,
     out: &mut W,
 ) -> Result<bool, Fault<'static>>
@@ -238,19 +245,24 @@ pub(crate) fn full_audit_over<R: Read, W: Write>(
     requires sums { HasSummedFor table.now report [] }
 
     // Of all good taps that the balance can have.
-    ensures reported { IfOk result (λ well. (file : List ℕ) × IsAllOf (R.remaining reader.old) file
+    ensures reported { IfOk result (λ well. (file : List ℕ)
+        × IsAllOf (prepend_known ledger.old.head.now (S.Ledger.remaining ledger.old.rest)) file
         × ((good : List TapFields) → IsBalance balance good [] → (reported : List ℕ)
         × (read : List ReadLine) × IsAudit true table.now (wanted_by trace) file read
         (if has_uploads then Some good else None) (text_of report) reported well
         × Appends (W.contents out.old) (W.contents out.new) reported)) }
 
     // What was written when a fault comes is a beginning of the right text.
-    ensures begun { IfErr result (λ _. (file : List ℕ) × IsAllOf (R.remaining reader.old) file
+    ensures begun { IfErr result (λ _. (file : List ℕ)
+        × IsAllOf (prepend_known ledger.old.head.now (S.Ledger.remaining ledger.old.rest)) file
         × ((good : List TapFields) → IsBalance balance good [] → HasBegunAudit true table.now
         (wanted_by trace) file (if has_uploads then Some good else None) (text_of report)
         (W.contents out.old) (W.contents out.new))) }
+    ensures loaded { S.loaded source.new ≡ S.loaded source.old }
+    ensures well { IfOk result (λ _. S.refused source.new ≡ S.refused source.old) }
     ensures named { IfErr result (λ fault. named_by fault ≡ None) }
-    ensures later { IfErr result (λ fault. is_of_loading fault ≡ false) }
+    ensures later { IfErr result (IsLedgerFault (S.refused source.old) (S.refused source.new)
+        (option_map (λ n. n.now) ledger.old.name)) }
 {
     // proof: no line is wrong exactly if the text is a ledger
     recounts_decide();
@@ -261,7 +273,8 @@ pub(crate) fn full_audit_over<R: Read, W: Write>(
         alloc,
         table,
         clock,
-        reader,
+        source,
+        ledger,
         has_uploads,
         &mut full,
         &mut trace,

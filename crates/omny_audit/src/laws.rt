@@ -20,7 +20,8 @@ pub fn full_findings_decide()
     ledger_check::balance_laws::even_sides_lack_nothing();
 }
 
-/// All is well exactly if the ledger is right, as above, and the report is its own, if there is one.
+/// All is well exactly if the ledger is right, as above, and the report is its own, if there is
+/// one.
 pub fn audits_decide()
     ensures { AuditsDecide }
 {

@@ -10,6 +10,7 @@
 //! | `laws` | what follows of a finding |
 //! | `source` | where the table, the uploads, the report and the ledger come from |
 //! | `files` | the files and the standard input of the system as a source |
+//! | `ledger` | the ledger, read from its beginning |
 //! | `options` | the words of the command line, as `clap` reads them |
 //! | `tables` | fare tables that are loaded in the order of their words |
 //! | `text` | the lines of a finding |
@@ -26,6 +27,7 @@ mod fault;
 mod files;
 mod full_audit;
 mod laws;
+mod ledger;
 mod options;
 mod output;
 mod program;

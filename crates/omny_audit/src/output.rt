@@ -3,7 +3,7 @@ ghost use Rattle.std.specs.Prelude.{◌≡◌, ◌↔◌, IfErr, None, OnErr, On
 ghost use Rattle.std.specs.Io.KnownBytes.{Appends};
 ghost use Rattle.std.specs.IoError.{error_kind};
 ghost use Rattle.omny_audit.specs.Fault.{is_quiet, is_unwritten, named_by};
-ghost use Rattle.omny_audit.specs.inside.Fault.{is_of_loading};
+ghost use Rattle.omny_audit.specs.inside.Fault.{is_of_source};
 ghost use Rattle.fare_texts.specs.WrittenOut.{Begins};
 
 use crate::fault::Fault;
@@ -16,7 +16,7 @@ pub(crate) fn unwritten<'a>(error: &io::Error) -> Fault<'a>
     ensures unwritten { is_unwritten result ≡ true }
     ensures quiet { (error_kind error.now ≡ ErrorKind.BrokenPipe) ↔ (is_quiet result ≡ true) }
     ensures named { named_by result ≡ None }
-    ensures later { is_of_loading result ≡ false }
+    ensures later { is_of_source result ≡ false }
 {
     if error.kind() == ErrorKind::BrokenPipe {
         Fault::Closed
@@ -29,7 +29,7 @@ pub(crate) fn unwritten<'a>(error: &io::Error) -> Fault<'a>
 pub(crate) fn write_text<'a, W: Write>(out: &mut W, text: &[u8]) -> Result<(), Fault<'a>>
     ensures fault { IfErr result (λ fault. is_unwritten fault ≡ true) }
     ensures named { IfErr result (λ fault. named_by fault ≡ None) }
-    ensures later { IfErr result (λ fault. is_of_loading fault ≡ false) }
+    ensures later { IfErr result (λ fault. is_of_source fault ≡ false) }
     ensures text { OnOk result (Appends (W.contents out.old) (W.contents out.new) text.now) }
 
     // What a write that fails leaves is a beginning of the text.

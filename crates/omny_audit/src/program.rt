@@ -1,16 +1,15 @@
 //! The whole program, over any source of bytes and any two writers.
-ghost use Rattle.std.specs.Prelude.{◌≡◌, ◌≢◌, ◌≤◌, ◌⊎◌, ◌++◌, ◌∷◌, [], List, ℕ, IfErr, IfOk};
-ghost use Rattle.std.specs.Prelude.{IfSome, None, Some, codes, false, length, map, option_map};
-ghost use Rattle.std.specs.Prelude.{Option, if◌then◌else◌, string_bytes, true, is_some, unwrap_or};
-ghost use Rattle.std.specs.Io.KnownBytes.{Appends, Consumes, IsAtEnd, Keeps};
+ghost use Rattle.std.specs.Prelude.{◌≡◌, ◌≢◌, ◌≤◌, ◌⊎◌, ◌++◌, [], List, ℕ, IfErr, IfOk, IfSome};
+ghost use Rattle.std.specs.Prelude.{None, Option, Some, codes, false, if◌then◌else◌, is_some};
+ghost use Rattle.std.specs.Prelude.{length, map, option_map, string_bytes, true};
+ghost use Rattle.std.specs.Io.KnownBytes.{Keeps};
 ghost use Rattle.clap.specs.Words.{kind_of};
 ghost use Rattle.fare_table.specs.Fares.{Fares};
 ghost use Rattle.ledger_check.specs.Balances.{IsBalance};
-ghost use Rattle.ledger_check.specs.Columns.{has_traced_head, traced_head};
+ghost use Rattle.ledger_check.specs.Columns.{has_traced_head};
 ghost use Rattle.ledger_check.specs.Places.{HasUploads, uploads_of};
 ghost use Rattle.tap_views.specs.declared.encoder.TapFields.{TapFields};
-ghost use Rattle.omny_audit.specs.Fault.{IsRightFault, NamesOneOf};
-ghost use Rattle.omny_audit.specs.Fault.{is_unwritten, named_by};
+ghost use Rattle.omny_audit.specs.Fault.{IsTold, NamesOneOf, is_unwritten, named_by};
 ghost use Rattle.omny_audit.specs.Options.{AsksForAuditText, ParsesForAudit, audit_asked_by};
 ghost use Rattle.omny_audit.specs.inside.Options.{audit_asked_of};
 ghost use Rattle.omny_audit.specs.inside.Reports.{HasSummedFor, text_of};
@@ -18,16 +17,15 @@ ghost use Rattle.omny_audit.specs.Options.{files_of, named_file, table_files};
 ghost use Rattle.omny_audit.specs.Program.{AreGoodFieldsOfAll, AreGoodFieldsOfEach, AreWanted};
 ghost use Rattle.omny_audit.specs.Program.{AuditGaveUp, Audits, LoadsNamedFiles};
 ghost use Rattle.omny_audit.specs.Program.{LoadsReport};
-ghost use Rattle.omny_audit.specs.inside.Fault.{is_of_loading};
+ghost use Rattle.omny_audit.specs.inside.Fault.{IsRefusal, is_of_source};
 ghost use Rattle.omny_audit.specs.inside.Tables.{IsClassFault};
 ghost use Rattle.omny_audit.specs.inside.Traced.{HasReadAs, HaveNamed, uploads_in, wanted_by};
 ghost use Rattle.omny_audit.specs.Program.{IsFaultReported, IsRightAuditFault};
-ghost use Rattle.omny_audit.specs.Source.{OpensOne};
 ghost use Rattle.program_manners.specs.Loads.{Loaded, LoadsOne};
 ghost use Rattle.program_manners.specs.LineWritten.{LineWritten};
 ghost use Rattle.program_manners.specs.TableLoads.{LoadsTables};
 ghost use Rattle.program_manners.specs.TableViews.{names_of};
-ghost use Rattle.program_manners.specs.TableWords.{TableNames, date_text, wrong_word};
+ghost use Rattle.program_manners.specs.TableWords.{date_text, wrong_word};
 ghost use Rattle.program_manners.specs.Words.{IsRequest};
 ghost use Rattle.program_manners.specs.declared.table_words.DateFault.{DateFault};
 ghost use Rattle.settled_texts.specs.ClassFaults.{IsWrongAt};
@@ -36,28 +34,24 @@ use crate::audit::audit_over;
 use crate::fault::Fault;
 use crate::full_audit::full_audit_over;
 use crate::laws::audits_decide;
+use crate::ledger::{WholeLedger, open_ledger, read_head};
 use crate::options::Options;
 use crate::output::unwritten;
 use crate::report::ReportWithSums;
 use crate::source::Source;
 use crate::tables::{Tables, load_tables};
-use crate::traced::Trace;
+use crate::traced::TracedPieces;
 use clap::Error;
 use clap::error::ErrorKind;
-use ledger_check::{Balance, Places, has_traced_head, traced_head_line};
+use ledger_check::{Balance, Places, has_traced_head};
 use program_manners::{
-    Complaints, NamedClassLine, Output, STANDARD_INPUT, TableWord, TableWords, WrongWord,
-    show_answer,
+    Complaints, NamedClassLine, Output, TableWord, TableWords, WrongWord, show_answer,
 };
 use settled_texts::{ClassFault, ClassNames, WrongNames};
 use shard_book::HashSeed;
 use std::alloc::Global;
-use std::collections::VecDeque;
-use std::io::{Read, Write};
+use std::io::Write;
 use std::random::RandomSource;
-
-/// How many bytes one read asks for.
-const PIECE_BYTES: usize = 65_536;
 
 /// All bytes of the file of this name.
 pub(crate) fn load_named<'a, S: Source>(source: &mut S, name: &'a str) -> Result<Vec<u8>, Fault<'a>>
@@ -66,8 +60,9 @@ pub(crate) fn load_named<'a, S: Source>(source: &mut S, name: &'a str) -> Result
     ensures fault { IfErr result (λ fault. is_unwritten fault ≡ false) }
     ensures named { IfErr result (λ fault. IfSome (named_by fault)
         (λ reported. reported ≡ name.entry.now)) }
-    ensures right { IfErr result (λ fault. (table : TableNames) (loaded_before after : Option (List Loaded))
-        → IsRightFault table loaded_before after (S.refused source.new) fault) }
+    ensures well { IfOk result (λ _. S.refused source.new ≡ S.refused source.old) }
+    ensures right { IfErr result (IsRefusal (S.refused source.new)) }
+    ensures told { IfErr result (IsTold (S.refused source.old) (S.refused source.new)) }
 {
     match source.load(name) {
         Ok(bytes) => Ok(bytes),
@@ -90,8 +85,9 @@ fn load_uploads<'a, S: Source>(
         × HasUploads loaded.1 lists) }
     ensures fault { IfErr result (λ fault. is_unwritten fault ≡ false) }
     ensures named { IfErr result (λ fault. NamesOneOf (map (λ n. n.now) names.now) fault) }
-    ensures right { IfErr result (λ fault. (table : TableNames) (loaded_before after : Option (List Loaded))
-        → IsRightFault table loaded_before after (S.refused source.new) fault) }
+    ensures well { IfOk result (λ _. S.refused source.new ≡ S.refused source.old) }
+    ensures right { IfErr result (IsRefusal (S.refused source.new)) }
+    ensures told { IfErr result (IsTold (S.refused source.old) (S.refused source.new)) }
 {
     let mut balance = Balance::new(alloc);
     let mut places = Places::new(alloc);
@@ -113,22 +109,6 @@ fn kept_if(has_uploads: bool, places: Places) -> Option<Places>
     if has_uploads { Some(places) } else { None }
 }
 
-/// The ledger of this name, or standard input if none is named.
-fn open_ledger<'a, S: Source>(name: Option<&'a str>, source: &mut S) -> Result<S::Ledger, Fault<'a>>
-    ensures ok { IfOk result (λ ledger. OpensOne (S.loaded source.old) (S.loaded source.new)
-        (option_map (λ n. n.now) name.entry) (S.Ledger.remaining ledger)) }
-    ensures fault { IfErr result (λ fault. is_unwritten fault ≡ false) }
-    ensures named { IfErr result (λ fault. IfSome (named_by fault) (λ reported. reported
-        ≡ unwrap_or (option_map (λ n. n.now) name.entry) (codes "standard input"))) }
-    ensures right { IfErr result (λ fault. (table : TableNames) (loaded_before after : Option (List Loaded))
-        → IsRightFault table loaded_before after (S.refused source.new) fault) }
-{
-    match source.open(name) {
-        Ok(ledger) => Ok(ledger),
-        Err(fault) => Err(Fault::of_load(name.unwrap_or(STANDARD_INPUT), fault)),
-    }
-}
-
 /// The report of the file of this name, if one is named.
 fn load_report<'a, R: RandomSource, S: Source>(
     rt: &R,
@@ -142,8 +122,9 @@ fn load_report<'a, R: RandomSource, S: Source>(
     ensures fault { IfErr result (λ fault. is_unwritten fault ≡ false) }
     ensures named { IfErr result
         (λ fault. NamesOneOf (named_file (option_map (λ n. n.now) name.entry)) fault) }
-    ensures right { IfErr result (λ fault. (table : TableNames) (loaded_before after : Option (List Loaded))
-        → IsRightFault table loaded_before after (S.refused source.new) fault) }
+    ensures well { IfOk result (λ _. S.refused source.new ≡ S.refused source.old) }
+    ensures right { IfErr result (IsRefusal (S.refused source.new)) }
+    ensures told { IfErr result (IsTold (S.refused source.old) (S.refused source.new)) }
 {
     let Some(name) = name else {
         return Ok(None);
@@ -154,33 +135,8 @@ fn load_report<'a, R: RandomSource, S: Source>(
     Ok(Some(held))
 }
 
-/// The first bytes of the ledger, which show whether it is a traced one.
-fn read_head<R: Read>(alloc: Global, ledger: &mut R) -> Result<Vec<u8>, Fault<'static>>
-    ensures read { IfOk result (λ head.
-        Consumes (R.remaining ledger.old) (R.remaining ledger.new) head.items) }
-    ensures enough { IfOk result (λ head. IsAtEnd (R.remaining ledger.new)
-        ⊎ (length traced_head ≤ length head.items)) }
-    ensures fault { IfErr result (λ fault. is_unwritten fault ≡ false) }
-    ensures named { IfErr result (λ fault. named_by fault ≡ None) }
-    ensures later { IfErr result (λ fault. is_of_loading fault ≡ false) }
-{
-    let needed = traced_head_line().len();
-    let mut head = Vec::new(alloc);
-    let mut step = [0u8; PIECE_BYTES];
-    for _piece in 0..u64::MAX {
-        let Ok(count) = ledger.read(&mut step) else {
-            return Err(Fault::Ledger);
-        };
-        head.extend_from_slice(&step[..count])?;
-        if count == 0 || head.len() >= needed {
-            return Ok(head);
-        }
-    }
-    Err(Fault::Ledger)
-}
-
-/// Why the names of the classes are not had. The texts were read as fare tables before, so that each
-/// is TOML and names a default class.
+/// Why the names of the classes are not had. The texts were read as fare tables before, so that
+/// each is TOML and names a default class.
 fn of_names<'a>(words: &TableWords<'a>, wrong: WrongNames) -> Fault<'a>
     requires { wrong.place ≤ length (names_of words.now).later }
     ensures right { IsClassFault (names_of words.now) wrong result }
@@ -198,18 +154,19 @@ fn of_names<'a>(words: &TableWords<'a>, wrong: WrongNames) -> Fault<'a>
     }
 }
 
-/// What reads the columns of the ledger that begins so, if it is a traced one, under the fare tables
-/// of these words, and beside the places of the uploads' taps, if there are uploads.
+/// What reads the columns of the ledger that begins so, if it is a traced one, under the fare
+/// tables of these words, and beside the places of the uploads' taps, if there are uploads.
 fn trace_of<'a>(
     alloc: Global,
     head: &[u8],
     words: &TableWords<'a>,
     tables: &Tables,
     places: Option<Places>,
-) -> Result<Option<Trace>, Fault<'a>>
+) -> Result<Option<TracedPieces>, Fault<'a>>
     requires places { HaveNamed places [] }
-    requires loaded { (loaded_before after : Option (List Loaded)) × LoadsTables (names_of words.now) loaded_before
-        after (map (λ t. t.items) tables.now.texts.items) tables.now.fares }
+    requires loaded { (loaded_before after : Option (List Loaded))
+        × LoadsTables (names_of words.now) loaded_before after
+        (map (λ t. t.items) tables.now.texts.items) tables.now.fares }
     ensures wanted { IfOk result (λ trace. AreWanted tables.now.fares
         (map (λ t. t.items) tables.now.texts.items) (has_traced_head head.now)
         (uploads_in places) (wanted_by trace)) }
@@ -224,7 +181,7 @@ fn trace_of<'a>(
         return Ok(None);
     }
     match ClassNames::of_texts(alloc, &tables.fares, &tables.texts) {
-        Ok(names) => Ok(Some(Trace::new(alloc, names, places))),
+        Ok(names) => Ok(Some(TracedPieces::new(alloc, names, places))),
         Err(wrong) => Err(of_names(words, wrong)),
     }
 }
@@ -249,9 +206,10 @@ fn audit<'a, R: RandomSource, S: Source, W: Write>(
         → Keeps (W.contents out.old) (W.contents out.new)) }
     ensures named { IfErr result
         (λ fault. NamesOneOf (files_of (audit_asked_of options.now)) fault) }
+    ensures well { IfOk result (λ _. S.refused source.new ≡ S.refused source.old) }
     ensures right { IfErr result (λ fault. IsRightAuditFault (audit_asked_of options.now)
-        (S.loaded source.old) (S.loaded source.new) (S.refused source.new) fault
-        (W.contents out.old) (W.contents out.new)) }
+        (S.loaded source.old) (S.loaded source.new) (S.refused source.old) (S.refused source.new)
+        fault (W.contents out.old) (W.contents out.new)) }
 {
     let tables = load_tables(alloc, &options.table, source)?;
     let clock = tables.fares.clock(alloc)?;
@@ -260,10 +218,15 @@ fn audit<'a, R: RandomSource, S: Source, W: Write>(
     let has_uploads = !names.is_empty();
     let report = load_report(rt, alloc, options.report, source)?;
     let mut ledger = open_ledger(options.ledger, source)?;
-    let head = read_head(alloc, &mut ledger)?;
+    let head = read_head(alloc, options.ledger, source, &mut ledger)?;
+    let begun = head.as_slice();
     let kept = kept_if(has_uploads, places);
-    let trace = trace_of(alloc, head.as_slice(), &options.table, &tables, kept)?;
-    let mut whole = VecDeque::from(head).chain(ledger);
+    let trace = trace_of(alloc, begun, &options.table, &tables, kept)?;
+    let mut whole = WholeLedger {
+        name: options.ledger,
+        head: begun,
+        rest: ledger,
+    };
     // proof: all is well exactly if the ledger is right, and the report its own
     audits_decide();
     if options.all {
@@ -271,6 +234,7 @@ fn audit<'a, R: RandomSource, S: Source, W: Write>(
             alloc,
             &tables.fares,
             &clock,
+            source,
             &mut whole,
             balance,
             has_uploads,
@@ -283,6 +247,7 @@ fn audit<'a, R: RandomSource, S: Source, W: Write>(
         alloc,
         &tables.fares,
         &clock,
+        source,
         &mut whole,
         balance,
         has_uploads,
@@ -295,8 +260,8 @@ fn audit<'a, R: RandomSource, S: Source, W: Write>(
 /// Says why the program gives up, unless the reader has gone, and gives the status.
 fn report_fault<E: Write>(err: &mut Complaints<E>, fault: &Fault) -> u8
     ensures status { result ≡ 1 }
-    ensures reported { IsFaultReported fault.now (E.contents err.old.writer) (E.contents err.new.writer)
-        err.new.failed }
+    ensures reported { IsFaultReported fault.now (E.contents err.old.writer)
+        (E.contents err.new.writer) err.new.failed }
 {
     if !fault.is_quiet() {
         err.report_line(*fault);
@@ -308,8 +273,8 @@ fn report_fault<E: Write>(err: &mut Complaints<E>, fault: &Fault) -> u8
 /// status.
 fn report_wrong<E: Write>(err: &mut Complaints<E>, wrong: WrongWord<'_>) -> u8
     ensures status { result ≡ 2 }
-    ensures reported { LineWritten (E.contents err.old.writer) (E.contents err.new.writer) err.new.failed
-        (codes "fault: " ++ date_text wrong.entry.word.now wrong.entry.fault) }
+    ensures reported { LineWritten (E.contents err.old.writer) (E.contents err.new.writer)
+        err.new.failed (codes "fault: " ++ date_text wrong.entry.word.now wrong.entry.fault) }
 {
     err.report_line(Fault::Date(wrong));
     2
@@ -347,7 +312,7 @@ fn finish<W: Write, E: Write>(is_well: bool, out: &mut Output<W>, err: &mut Comp
     ensures ill { result ≡ 1 → ((is_well ≡ false) × (out.new.is_flushed ≡ true)
         × (err.new ≡ err.old))
         ⊎ ((fault : Fault) × (is_unwritten fault ≡ true) × (named_by fault ≡ None)
-        × (is_of_loading fault ≡ false) × IsFaultReported fault (E.contents err.old.writer)
+        × (is_of_source fault ≡ false) × IsFaultReported fault (E.contents err.old.writer)
         (E.contents err.new.writer) err.new.failed) }
     ensures status { result ≤ 1 }
 {
@@ -381,23 +346,27 @@ pub fn main_over<R: RandomSource, S: Source, W: Write, E: Write>(
 
     // With status 1 the finding was written and flushed, and says that not all is well, and nothing
     // was said on `err`; or a fault was reported, which names no other file than one that the words
-    // name, and nothing was written, unless a write or the flush failed or all wrong lines are asked
-    // for. The fault is the right one, and what a write that failed left is a beginning of the right
-    // text; if all wrong lines are asked for, what any fault left.
+    // name, and nothing was written, unless a write or the flush failed or all wrong lines are
+    // asked for. The fault is the right one, and what a write that failed left is a beginning of
+    // the right text; if all wrong lines are asked for, what any fault left.
     ensures faults { result ≡ 1
         → (ParsesForAudit (map string_bytes words.now)
         × Audits (audit_asked_by (map string_bytes words.now)) (S.loaded source.old)
         (S.loaded source.new) (W.contents out.old.writer) (W.contents out.new.writer) false
-        × (out.new.is_flushed ≡ true) × (err.new ≡ err.old))
+        × (out.new.is_flushed ≡ true) × (err.new ≡ err.old)
+        × (S.refused source.new ≡ S.refused source.old))
         ⊎ ((fault : Fault)
         × NamesOneOf (files_of (audit_asked_by (map string_bytes words.now))) fault
         × (ParsesForAudit (map string_bytes words.now)
         → IsRightAuditFault (audit_asked_by (map string_bytes words.now)) (S.loaded source.old)
-        (S.loaded source.new) (S.refused source.new) fault (W.contents out.old.writer)
-        (W.contents out.new.writer))
+        (S.loaded source.new) (S.refused source.old) (S.refused source.new) fault
+        (W.contents out.old.writer) (W.contents out.new.writer))
         × AuditGaveUp (audit_asked_by (map string_bytes words.now)).all fault
         (E.contents err.old.writer) (E.contents err.new.writer) err.new.failed
         (W.contents out.old.writer) (W.contents out.new.writer)) }
+
+    // What the source refused is reported: with any other status it refused nothing.
+    ensures told { result ≢ 1 → S.refused source.new ≡ S.refused source.old }
 
     // Words that are no command line end well only if they ask for help or the version.
     ensures helped { ¬ ParsesForAudit (map string_bytes words.now) → result ≡ 0
@@ -412,12 +381,14 @@ pub fn main_over<R: RandomSource, S: Source, W: Write, E: Write>(
         (W.contents out.old.writer) (W.contents out.new.writer)) }
 
     // The first word of a fare table with a wrong date, or with none if one is wanted, is reported.
-    ensures mis_dated { (word : List ℕ) (why : DateFault) → ParsesForAudit (map string_bytes words.now)
+    ensures mis_dated { (word : List ℕ) (why : DateFault)
+        → ParsesForAudit (map string_bytes words.now)
         → wrong_word (audit_asked_by (map string_bytes words.now)).table ≡ Some (word, why)
         → ((result ≡ 2) × LineWritten (E.contents err.old.writer) (E.contents err.new.writer)
         err.new.failed (codes "fault: " ++ date_text word why))
         ⊎ ((result ≡ 1) × AuditGaveUp false Fault.NoMemory (E.contents err.old.writer)
-        (E.contents err.new.writer) err.new.failed (W.contents out.old.writer) (W.contents out.new.writer)) }
+        (E.contents err.new.writer) err.new.failed (W.contents out.old.writer)
+        (W.contents out.new.writer)) }
 
     // Only such words have status 2.
     ensures right { result ≡ 2 → (¬ ParsesForAudit (map string_bytes words.now))
@@ -428,7 +399,8 @@ pub fn main_over<R: RandomSource, S: Source, W: Write, E: Write>(
 
     // A mistake in the words loads nothing and writes nothing to `out`.
     ensures unloaded { result ≡ 2 → S.loaded source.new ≡ S.loaded source.old }
-    ensures unwritten { result ≡ 2 → Keeps (W.contents out.old.writer) (W.contents out.new.writer) }
+    ensures unwritten { result ≡ 2 → Keeps (W.contents out.old.writer)
+        (W.contents out.new.writer) }
     ensures status { result ≤ 2 }
 {
     let options = match Options::read(alloc, words) {

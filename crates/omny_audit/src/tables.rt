@@ -1,9 +1,9 @@
 //! Fare tables that are loaded in the order of their words.
 ghost use Rattle.std.specs.Prelude.{◌≡◌, ◌++◌, ◌∷◌, [], ℕ, List, Option, None, Some, IfErr, IfOk};
 ghost use Rattle.std.specs.Prelude.{IfSome, OnOk, false, map};
-ghost use Rattle.omny_audit.specs.Fault.{IsRightFault, NamesOneOf, is_unwritten, named_by};
+ghost use Rattle.omny_audit.specs.Fault.{IsTold, NamesOneOf, is_unwritten, named_by};
 ghost use Rattle.omny_audit.specs.Options.{table_files};
-ghost use Rattle.omny_audit.specs.inside.Tables.{IsRightLater, IsRightNamed};
+ghost use Rattle.omny_audit.specs.inside.Tables.{IsRightLater, IsRightNamed, IsTablesFault};
 ghost use Rattle.program_manners.specs.Loads.{Loaded, LoadsOne};
 ghost use Rattle.program_manners.specs.TableLoads.{Follows, LoadsTables};
 ghost use Rattle.program_manners.specs.TableViews.{names_of};
@@ -69,14 +69,18 @@ fn load_next<'a, S: Source>(
 ) -> Result<Tables, Fault<'a>>
     requires { date_fault false word.now ≡ None }
     ensures ok { IfOk result (λ all. (text : List ℕ)
-        × LoadsOne (S.loaded source.old) (S.loaded source.new) (Some (file_named word.entry.now)) text
+        × LoadsOne (S.loaded source.old) (S.loaded source.new)
+        (Some (file_named word.entry.now)) text
         × Follows tables.fares word.entry.now text all.fares
-        × (map (λ t. t.items) all.texts.items ≡ map (λ t. t.items) tables.texts.items ++ text ∷ [])) }
+        × (map (λ t. t.items) all.texts.items
+        ≡ map (λ t. t.items) tables.texts.items ++ text ∷ [])) }
     ensures right { IfErr result (λ fault. (loaded : Option (List Loaded)) (words : TableNames)
         (before behind texts : List (List ℕ)) → words.later ≡ before ++ word.entry.now ∷ behind
         → LoadsTables (record { first = words.first; later = before }) loaded (S.loaded source.old)
         texts tables.fares
-        → IsRightFault words loaded (S.loaded source.new) (S.refused source.new) fault) }
+        → IsTablesFault words loaded (S.loaded source.new) (S.refused source.new) fault) }
+    ensures well { IfOk result (λ _. S.refused source.new ≡ S.refused source.old) }
+    ensures told { IfErr result (IsTold (S.refused source.old) (S.refused source.new)) }
     ensures file { IfErr result (λ fault. IfSome (named_by fault)
         (λ reported. reported ≡ file_named word.entry.now)) }
     ensures fault { IfErr result (λ fault. is_unwritten fault ≡ false) }
@@ -102,11 +106,14 @@ fn load_first<'a, S: Source>(
     words: &TableWords<'a>,
     source: &mut S,
 ) -> Result<Tables, Fault<'a>>
-    ensures ok { IfOk result (λ tables. LoadsTables (record { first = words.now.first.now; later = [] })
+    ensures ok { IfOk result (λ tables.
+        LoadsTables (record { first = words.now.first.now; later = [] })
         (S.loaded source.old) (S.loaded source.new) (map (λ t. t.items) tables.texts.items)
         tables.fares) }
-    ensures right { IfErr result (IsRightFault (names_of words.now) (S.loaded source.old)
+    ensures right { IfErr result (IsTablesFault (names_of words.now) (S.loaded source.old)
         (S.loaded source.new) (S.refused source.new)) }
+    ensures well { IfOk result (λ _. S.refused source.new ≡ S.refused source.old) }
+    ensures told { IfErr result (IsTold (S.refused source.old) (S.refused source.new)) }
     ensures file { IfErr result (λ fault. IfSome (named_by fault)
         (λ reported. reported ≡ words.now.first.now)) }
     ensures fault { IfErr result (λ fault. is_unwritten fault ≡ false) }
@@ -135,8 +142,10 @@ pub(crate) fn load_tables<'a, S: Source>(
     ensures ok { IfOk result (λ tables. LoadsTables (names_of words.now) (S.loaded source.old)
         (S.loaded source.new) (map (λ t. t.items) tables.texts.items) tables.fares) }
     ensures named { IfErr result (NamesOneOf (table_files (names_of words.now))) }
-    ensures right { IfErr result (IsRightFault (names_of words.now) (S.loaded source.old)
+    ensures right { IfErr result (IsTablesFault (names_of words.now) (S.loaded source.old)
         (S.loaded source.new) (S.refused source.new)) }
+    ensures well { IfOk result (λ _. S.refused source.new ≡ S.refused source.old) }
+    ensures told { IfErr result (IsTold (S.refused source.old) (S.refused source.new)) }
     ensures fault { IfErr result (λ fault. is_unwritten fault ≡ false) }
 {
     let mut tables = load_first(alloc, words, source)?;

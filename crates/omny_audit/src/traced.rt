@@ -1,21 +1,24 @@
 //! A traced ledger, read as a ledger, and what is wrong with its columns.
 
-ghost use Rattle.std.specs.Prelude.{◌≡◌, ◌+◌, ◌&&◌, ◌<◌, ◌++◌, ◌∷◌, [], ℕ, List, IfOk, IfSome, None};
-ghost use Rattle.std.specs.Prelude.{OnOk, Option, Some, false, is_some, length, not, option_map};
-ghost use Rattle.std.specs.Prelude.{string_bytes, true};
+ghost use Rattle.std.specs.Prelude.{◌≡◌, ◌+◌, ◌&&◌, ◌<◌, ◌++◌, ◌∷◌, [], ℕ, List, IfOk, IfSome};
+ghost use Rattle.std.specs.Prelude.{None, OnOk, Option, Some, false, is_some, length, not};
+ghost use Rattle.std.specs.Prelude.{option_map, string_bytes, true};
 ghost use Rattle.std.specs.Option.{option_or};
 ghost use Rattle.tap_views.specs.declared.encoder.TapFields.{TapFields as ATap};
 ghost use Rattle.settled_texts.specs.Names.{class_by};
-ghost use Rattle.ledger_check.specs.Columns.{TracedLine, cut_of, read_as, untraced_by, untraced_line};
+ghost use Rattle.ledger_check.specs.Columns.{TracedLine, cut_of, read_as, untraced_by};
+ghost use Rattle.ledger_check.specs.Columns.{untraced_line};
 ghost use Rattle.ledger_check.specs.Columns.{untraced_lines};
 ghost use Rattle.ledger_check.specs.Lines.{IsLine, lines_of};
 ghost use Rattle.ledger_check.specs.Places.{HasUploads, is_named, uploads_of};
 ghost use Rattle.ledger_check.specs.Taps.{IsTapOfLine};
-ghost use Rattle.omny_audit.specs.Traced.{AreColumnsReported, AreLinesOf, IsFaultBehind, IsPlaceFault};
+ghost use Rattle.omny_audit.specs.Traced.{AreColumnsReported, AreLinesOf, IsFaultBehind};
+ghost use Rattle.omny_audit.specs.Traced.{IsPlaceFault};
 ghost use Rattle.omny_audit.specs.Traced.{ReadLine, Wanted, class_fault, class_text, fault_by};
 ghost use Rattle.omny_audit.specs.Traced.{place_fault_text, place_text, traced_by};
 ghost use Rattle.omny_audit.specs.declared.traced.PlaceFault.{PlaceFault as AFault};
-ghost use Rattle.omny_audit.specs.declared.traced.PlaceFault.TheVariants.{NoLine, OtherTap, Repeated};
+ghost use Rattle.omny_audit.specs.declared.traced.PlaceFault.TheVariants.{NoLine, OtherTap};
+ghost use Rattle.omny_audit.specs.declared.traced.PlaceFault.TheVariants.{Repeated};
 ghost use Rattle.omny_audit.specs.inside.Traced.{HasColumns, HasLines, HasPlaces, HasReadAll};
 ghost use Rattle.omny_audit.specs.inside.Traced.{HasReadAs, HasTraced, HaveNamed, IsKeptOf};
 ghost use Rattle.omny_audit.specs.inside.Traced.{uploads_in, wanted_by, wanted_of, wrong_place_in};
@@ -174,8 +177,8 @@ fn name_place(
     fault_by(number, cut.upload, cut.place, finding)
 }
 
-/// What is wrong first with the places: the fault of the lines, or else the first place that no line
-/// has.
+/// What is wrong first with the places: the fault of the lines, or else the first place that no
+/// line has.
 fn first_fault(places: &Places, wrong: &Option<PlaceFault>) -> Option<PlaceFault>
     ensures { IsFaultBehind (uploads_of places.now) (is_named places.now) wrong.now result }
 {
@@ -222,7 +225,8 @@ impl LinesRead {
         self.wrong_class = self.wrong_class.or(fault);
     }
 
-    /// Looks at the place of a line with this number and this tap, if no earlier one has a wrong one.
+    /// Looks at the place of a line with this number and this tap, if no earlier one has a wrong
+    /// one.
     fn look_at_place(&mut self, number: u64, cut: &CutLine<'_>, tap: &Option<TapFields>)
         ensures places { (read : List ReadLine) (line : List ℕ)
             → HasPlaces self.old.places self.old.wrong_place read → number ≡ length read + 1
@@ -286,22 +290,22 @@ fn keep(kept: &mut Vec<u8>, text: &[u8]) -> Result<(), AllocError>
 
 /// A traced ledger that comes in pieces. It keeps no more of it than the beginning of a line.
 #[derive(Drop)]
-pub(crate) struct Trace {
+pub(crate) struct TracedPieces {
     /// The whole lines.
     so_far: LinesRead,
     /// The beginning of the line whose end has not come yet.
     begun: Vec<u8>,
 }
 
-impl Trace {
+impl TracedPieces {
     /// Nothing was read. The places, if there are uploads, are theirs, and none was named.
-    pub(crate) fn new(alloc: Global, names: ClassNames, places: Option<Places>) -> Trace
+    pub(crate) fn new(alloc: Global, names: ClassNames, places: Option<Places>) -> TracedPieces
         requires { HaveNamed places [] }
         ensures read { HasTraced result [] [] [] }
         ensures wanted { wanted_of result.so_far
             ≡ record { classes = class_by names; uploads = uploads_in places } }
     {
-        Trace {
+        TracedPieces {
             so_far: LinesRead {
                 names,
                 places,
@@ -386,7 +390,8 @@ impl Trace {
     /// Appends what is found of the places, if there are uploads. Says whether all are right.
     fn write_places(&self, alloc: Global, text: &mut Vec<u8>) -> Result<bool, AllocError>
         ensures { IfOk result (λ right. (fault : Option AFault)
-            × (text.new.items ≡ text.old.items ++ place_text (uploads_in self.now.so_far.places) fault)
+            × (text.new.items
+            ≡ text.old.items ++ place_text (uploads_in self.now.so_far.places) fault)
             × (right ≡ not (is_some fault))
             × ((read : List ReadLine)
             → HasPlaces self.now.so_far.places self.now.so_far.wrong_place read
@@ -477,7 +482,7 @@ fn place_line(alloc: Global, fault: &Option<PlaceFault>) -> Result<String, Alloc
 /// Reads the next piece of the ledger, and puts what is checked of it in place of the text: the
 /// piece, or without its columns what it ends of the lines of a traced ledger.
 pub(crate) fn read_piece(
-    trace: &mut Option<Trace>,
+    trace: &mut Option<TracedPieces>,
     piece: &[u8],
     text: &mut Vec<u8>,
 ) -> Result<(), AllocError>
@@ -499,7 +504,10 @@ pub(crate) fn read_piece(
 }
 
 /// Ends the ledger, and puts what is left to be checked of it in place of the text.
-pub(crate) fn read_end(trace: &mut Option<Trace>, text: &mut Vec<u8>) -> Result<(), AllocError>
+pub(crate) fn read_end(
+    trace: &mut Option<TracedPieces>,
+    text: &mut Vec<u8>,
+) -> Result<(), AllocError>
     ensures wanted { wanted_by trace.new ≡ wanted_by trace.old }
     ensures read { OnOk result ((file reported : List ℕ) → HasReadAs trace.old file reported
         → (reported ++ text.new.items ≡ read_as (is_some (wanted_by trace.new)) file)
@@ -521,9 +529,10 @@ pub(crate) fn write_columns(
     alloc: Global,
     text: &mut Vec<u8>,
     is_looked_at: bool,
-    trace: &Option<Trace>,
+    trace: &Option<TracedPieces>,
 ) -> Result<bool, AllocError>
-    ensures { IfOk result (λ right. (reported : List ℕ) × (text.new.items ≡ text.old.items ++ reported)
+    ensures { IfOk result (λ right. (reported : List ℕ)
+        × (text.new.items ≡ text.old.items ++ reported)
         × ((file : List ℕ) → (is_looked_at ≡ true → HasReadAll trace.now file)
         → (read : List ReadLine)
         × AreColumnsReported (wanted_by trace.now) is_looked_at file read reported right)) }

@@ -1,5 +1,6 @@
 -- Options: what private functions alone cite.
-use Rattle.std.specs.Prelude.{◌≡◌, ◌&&◌, Bool, List, codes, false, is_some, map, not, option_and_then}
+use Rattle.std.specs.Prelude.{◌≡◌, ◌&&◌, Bool, List, codes, false, is_some, map, not}
+use Rattle.std.specs.Prelude.{option_and_then}
 use Rattle.std.specs.Prelude.{option_map, true}
 use Rattle.std.specs.Option.{option_map_or}
 use Rattle.std.specs.Str.{bytes_eq}

@@ -1,16 +1,25 @@
 -- Fare tables that are loaded one after another: what private functions alone cite.
-use Rattle.std.specs.Prelude.{◌≡◌, ◌≢◌, ◌∷◌, [], ℕ, Bool, true, false, List, Some, map}
+use Rattle.std.specs.Prelude.{◌≡◌, ◌≢◌, ◌∷◌, [], ℕ, Bool, true, false, List, Option, Some, map}
 use Rattle.std.specs.Prelude.{slice_get}
 use Rattle.fare_table.specs.declared.fault.TableFault.{TableFault}
 use Rattle.fare_table.specs.declared.fault.TableFault.TheVariants as table
+use Rattle.program_manners.specs.Loads.{Loaded}
 use Rattle.program_manners.specs.TableWords.{TableNames, file_named}
+use Rattle.program_manners.specs.declared.loading.LoadFault.{LoadFault}
 use Rattle.program_manners.specs.declared.following.NextFault.{NextFault}
 use Rattle.program_manners.specs.declared.following.NextFault.TheVariants as next
 use Rattle.settled_texts.specs.declared.class_names.ClassFault.TheVariants as class
 use Rattle.settled_texts.specs.declared.class_names.WrongNames.{WrongNames}
+use Rattle.omny_audit.specs.Fault.{IsRightFault}
 use Rattle.omny_audit.specs.declared.fault.Fault.{Fault}
 use Rattle.omny_audit.specs.declared.fault.Fault.TheVariants.{ClassName, Follow, NamedClass}
 use Rattle.omny_audit.specs.declared.fault.Fault.TheVariants.{NamedTable, NoMemory, Table}
+
+-- The fault of tables that are loaded: the right one, whichever ledger would be read behind them.
+abbrev pub IsTablesFault : TableNames → Option (List Loaded) → Option (List Loaded)
+    → Option (Option (List ℕ) × LoadFault) → Fault → Type 0
+IsTablesFault tables loaded loaded' refused fault = (ledger : Option (List ℕ))
+    → IsRightFault tables ledger loaded loaded' refused fault
 
 -- the fault of a table's text, by its file's name if it is not the only table
 abbrev pub IsRightNamed : List ℕ → Bool → TableFault → Fault → Type 0

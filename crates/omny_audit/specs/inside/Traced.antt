@@ -10,7 +10,7 @@ use Rattle.omny_audit.specs.Traced.{AreLinesOf, AreRead, ReadLine, Wanted, have_
 use Rattle.omny_audit.specs.Traced.{wrong_class, wrong_place}
 use Rattle.omny_audit.specs.declared.traced.LinesRead.{LinesRead}
 use Rattle.omny_audit.specs.declared.traced.PlaceFault.{PlaceFault}
-use Rattle.omny_audit.specs.declared.traced.Trace.{Trace}
+use Rattle.omny_audit.specs.declared.traced.TracedPieces.{TracedPieces}
 
 -- the good taps of the uploads whose places are kept
 abbrev pub uploads_in : Option Places → Option (List (List TapFields))
@@ -50,21 +50,23 @@ IsKeptOf kept text = (kept ≡ text) ⊎ ((352 < length kept) × (352 < length t
 
 -- the trace has read this file: these whole lines, and some of the next one; and this was read in
 -- their place
-pub record HasTraced (trace : Trace) (file text : List ℕ) (read : List ReadLine) : Type 0 where
+pub record HasTraced (trace : TracedPieces) (file text : List ℕ) (read : List ReadLine)
+    : Type 0 where
   pub lines : HasLines trace.so_far read
   pub begun : List ℕ
   pub kept : IsKeptOf trace.begun.items begun
   pub lacks : Lacks 10 begun
-  pub split : (more : List ℕ) → lines_of (file ++ more) ≡ lines_read read ++ lines_of (begun ++ more)
+  pub split : (more : List ℕ)
+      → lines_of (file ++ more) ≡ lines_read read ++ lines_of (begun ++ more)
   pub reported : text ≡ untraced_lines (lines_read read)
 
 -- the file was read so far, and this in its place
-abbrev pub HasReadAs : Option Trace → List ℕ → List ℕ → Type 0
+abbrev pub HasReadAs : Option TracedPieces → List ℕ → List ℕ → Type 0
 HasReadAs None file text = text ≡ file
 HasReadAs (Some trace) file text = (read : List ReadLine) × HasTraced trace file text read
 
 -- the file was read whole
-abbrev pub HasReadAll : Option Trace → List ℕ → Type 0
+abbrev pub HasReadAll : Option TracedPieces → List ℕ → Type 0
 HasReadAll None file = Unit {0}
 HasReadAll (Some trace) file =
     (read : List ReadLine) × AreLinesOf file read × HasColumns trace.so_far read
@@ -75,5 +77,5 @@ wanted_of so_far =
     record { classes = class_by so_far.names; uploads = uploads_in so_far.places }
 
 -- what the columns are held against, if the ledger is traced
-abbrev pub wanted_by : Option Trace → Option Wanted
+abbrev pub wanted_by : Option TracedPieces → Option Wanted
 wanted_by trace = option_map (λ t. wanted_of t.so_far) trace

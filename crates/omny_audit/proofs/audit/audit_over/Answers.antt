@@ -1,4 +1,4 @@
-use Rattle.std.proofs.Common.{◌∙◌, ℕ, List, Option, Some, None, false, if◌then◌else◌, subst}
+use Rattle.std.proofs.Common.{ℕ, List, Option, Some, None, false, if◌then◌else◌, subst}
 use Rattle.std.specs.Prelude.{is_some}
 use Rattle.std.specs.Io.KnownBytes.{Appends}
 use Rattle.ledger_check.specs.Columns.{read_as}
@@ -8,6 +8,7 @@ use Rattle.omny_audit.specs.Traced.{Wanted}
 use Rattle.omny_audit.specs.inside.Reports.{text_of}
 use Rattle.omny_audit.specs.inside.Traced.{wanted_by}
 use Rattle.omny_audit.proofs.ProgramLemmas.{unwritten_on}
+use Rattle.omny_audit.proofs.RightFaults.{later_on, memory_on}
 use Rattle.omny_audit.proofs.audit.audit_over.Goals as goal
 
 pub audit_text-requires : goal.audit_text-requires
@@ -31,12 +32,14 @@ returns-clause-reported g c =
       found.0,
       found.1,
       λ good balanced.
-          let audit = c.in_ok-reported.ensures fares found.0 good found.2 decide (found.3 good balanced)
+          let audit = c.in_ok-reported.ensures fares found.0 good found.2 decide
+          (found.3 good balanced)
           found.4 found.5 in (
             reported.0.items,
             audit.0,
             subst (λ (cs : Option Wanted). IsAudit false fares cs found.0 audit.0
-                (if c.args.has_uploads then Some good else None) (text_of c.args.report) reported.0.items reported.1)
+                (if c.args.has_uploads then Some good else None) (text_of c.args.report)
+                reported.0.items reported.1)
                 c.verdict_of.ensures.wanted
                 (subst (λ (r : Option (List ℕ)). IsAudit false fares
                 (wanted_by c.verdict_of.new.trace) found.0 audit.0
@@ -58,13 +61,15 @@ returns-in_err-write_text-clause-begun g c =
       found.0,
       found.1,
       λ good balanced.
-          let audit = c.in_ok-reported.ensures fares found.0 good found.2 decide (found.3 good balanced)
+          let audit = c.in_ok-reported.ensures fares found.0 good found.2 decide
+          (found.3 good balanced)
           found.4 found.5 in (
             reported.0.items,
             reported.1,
             audit.0,
             subst (λ (cs : Option Wanted). IsAudit false fares cs found.0 audit.0
-                (if c.args.has_uploads then Some good else None) (text_of c.args.report) reported.0.items reported.1)
+                (if c.args.has_uploads then Some good else None) (text_of c.args.report)
+                reported.0.items reported.1)
                 c.verdict_of.ensures.wanted
                 (subst (λ (r : Option (List ℕ)). IsAudit false fares
                 (wanted_by c.verdict_of.new.trace) found.0 audit.0
@@ -75,3 +80,14 @@ returns-in_err-write_text-clause-begun g c =
                 c.in_err-write_text.ensures.begun,
           ),
     )
+
+pub returns-in_err-reported-clause-later : goal.returns-in_err-reported-clause-later
+returns-in_err-reported-clause-later g c =
+    memory_on _ _ _ c.from_residual-in_err-reported.result
+    c.from_residual-in_err-reported.ensures.1 c.in_ok-verdict.ensures.well
+
+pub returns-in_err-write_text-clause-later : goal.returns-in_err-write_text-clause-later
+returns-in_err-write_text-clause-later g c =
+    later_on _ _ _ c.from_residual-in_err-write_text.result c.in_err-write_text.field-0.0
+    c.from_residual-in_err-write_text.ensures.1
+    c.in_err-write_text.ensures.later c.in_ok-verdict.ensures.well

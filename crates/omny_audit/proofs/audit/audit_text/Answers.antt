@@ -1,4 +1,4 @@
-use Rattle.std.proofs.Common.{◌≡◌, ◌++◌, ◌∙◌, ℕ, Bool, List, sym, ap, subst, string_bytes}
+use Rattle.std.proofs.Common.{◌++◌, ◌∙◌, ℕ, Bool, List, sym, ap, subst, string_bytes}
 use Rattle.std.proofs.Common.{append_assoc}
 use Rattle.std.specs.Prelude.{◌&&◌, is_some}
 use Rattle.std.proofs.lemmas.Bool.{and_parts}
@@ -36,7 +36,8 @@ returns c = λ fares file good is decide balance sums all.
         is_legal = decide;
         columns = columns.0;
         right = right;
-        are_columns = subst (λ (b : Bool). AreColumnsReported (wanted_by trace) b file reported.0 columns.0
+        are_columns = subst
+            (λ (b : Bool). AreColumnsReported (wanted_by trace) b file reported.0 columns.0
             right) same reported.1;
         rest = wrote.0;
         fits = c.in_ok-fits.fits;

@@ -1,10 +1,7 @@
 -- What is left is checked like all before it.
 use Rattle.std.proofs.Common.{◌≡◌, ◌++◌, ◌∙◌, ℕ, List, [], true, false, sym, ap, subst, append-nil}
-use Rattle.std.specs.Prelude.{IsTrue, is_some}
-use Rattle.ledger_check.specs.Columns.{read_as}
 use Rattle.ledger_check.specs.Ledger.{IsLedgerOf}
-use Rattle.ledger_check.specs.Struck.{HasStruck}
-use Rattle.ledger_check.specs.Verdicts.{HasFed, IsVerdict, is_legal}
+use Rattle.ledger_check.specs.Verdicts.{IsVerdict}
 use Rattle.omny_audit.specs.inside.Reports.{HasSummedFor}
 use Rattle.omny_audit.proofs.audit.end_verdict.Goals as goal
 
@@ -37,16 +34,19 @@ returns-in-Some-clause-verdict c = λ file reported known fed.
 
 pub returns-in-Some-clause-struck : goal.returns-in-Some-clause-struck
 returns-in-Some-clause-struck c = λ file reported good known struck legal entries ledger.
-    absurd (false_true (sym (rw c.in-Some.is at (c.in_ok-verdict.ensures.struck reported good struck))
+    absurd (false_true
+    (sym (rw c.in-Some.is at (c.in_ok-verdict.ensures.struck reported good struck))
     ∙ legal))
 
 pub returns-in-Some-clause-sums : goal.returns-in-Some-clause-sums
 returns-in-Some-clause-sums c = λ file reported known sums legal good struck.
-    absurd (false_true (sym (rw c.in-Some.is at (c.in_ok-verdict.ensures.struck reported good struck))
+    absurd (false_true
+    (sym (rw c.in-Some.is at (c.in_ok-verdict.ensures.struck reported good struck))
     ∙ legal))
 
 pub returns-in-Some-clause-all : goal.returns-in-Some-clause-all
-returns-in-Some-clause-all c = λ file reported known. (c.in_ok-read_end.ensures.read file reported known).1
+returns-in-Some-clause-all c =
+    λ file reported known. (c.in_ok-read_end.ensures.read file reported known).1
 
 pub returns-clause-verdict : goal.returns-clause-verdict
 returns-clause-verdict c = λ file reported known fed.
@@ -61,7 +61,8 @@ returns-clause-struck c = λ file reported good known struck legal entries ledge
     let read = c.in_ok-read_end.ensures.read file reported known in
     let now = rw c.in_default.is at (c.in_ok-verdict.ensures.struck reported good struck) in
     let all = ap (λ (t : List ℕ). reported ++ t) c.as_slice-left.ensures.value ∙ read.0 in
-    c.finish.ensures.struck c.args.table.now (reported ++ c.as_slice-left.result.now) c.feed.new.balance
+    c.finish.ensures.struck c.args.table.now (reported ++ c.as_slice-left.result.now)
+    c.feed.new.balance
     good now legal entries
     (subst (λ (t : List ℕ). IsLedgerOf c.args.table.now entries t) (sym all) ledger)
 

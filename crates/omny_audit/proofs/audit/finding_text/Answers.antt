@@ -44,7 +44,8 @@ returns c = λ fares text good is balance.
       is_verdict = is;
       rest = wrote.0;
       shown = wrote.2 ∙ ap (λ (t : List ℕ). t ++ wrote.0) c.in_ok-text.ensures;
-      second = beside fares text good c.args.has_uploads (is_legal verdict) c.difference-reported.result
+      second = beside fares text good c.args.has_uploads (is_legal verdict)
+          c.difference-reported.result
           wrote.0 _ some legal wrote.1 c.is_even.ensures
           (λ entries ledger. c.difference-reported.ensures good _ (balance legal entries ledger));
     }

@@ -1,15 +1,18 @@
 -- What is read of what was read so far is what the checker was fed.
 use Rattle.std.proofs.Common.{◌≡◌, ◌++◌, ℕ, List, [], true, false, refl, take, sym, ap, subst, ◌∙◌}
-use Rattle.std.proofs.Common.{append-nil, arith}
+use Rattle.std.proofs.Common.{Bor, Option, append-nil, arith, option_map}
 use Rattle.std.specs.Prelude.{IsTrue, is_some}
 use Rattle.ledger_check.specs.Columns.{read_as}
 use Rattle.ledger_check.specs.Struck.{HasStruck}
 use Rattle.ledger_check.specs.Verdicts.{HasFed, IsVerdict, is_legal}
 use Rattle.omny_audit.specs.inside.Findings.{StrikesOut}
 use Rattle.omny_audit.specs.inside.Reports.{HasSummedFor}
-use Rattle.omny_audit.specs.inside.Traced.{HasReadAll, HasReadAs, wanted_by}
+use Rattle.omny_audit.specs.inside.Traced.{HasReadAll, wanted_by}
 use Rattle.std.proofs.KnownBytes.{Consumes-trans, Consumes-nil}
+use Rattle.program_manners.specs.Refusals.{Refuses}
+use Rattle.program_manners.specs.declared.loading.LoadFault.TheVariants.{Unread}
 use Rattle.omny_audit.proofs.ReadLemmas.{at_end, whatever_follows}
+use Rattle.omny_audit.proofs.RightFaults.{later_on, memory_on}
 use Rattle.omny_audit.proofs.TraceLemmas.{reads_more}
 use Rattle.omny_audit.proofs.audit.verdict_of.Goals as goal
 
@@ -22,6 +25,9 @@ loop-piece-init g c = record {
   fed = c.new-checker.ensures.fed c.args.table.now;
   struck = λ good is. c.new-checker.ensures.struck c.args.table.now c.args.balance.now good is;
   read = Consumes-nil _;
+  name = refl;
+  loaded = refl;
+  refused = refl;
   sums = c.requires.sums;
   report = refl;
 }
@@ -45,18 +51,19 @@ returns-then-count-eq0-clause-reported g c =
     let ended = c.in_ok-last.ensures in
     let traced = is_some (wanted_by c.end_verdict.new.trace) in
     let given = c.requires.good in
-    let none = ap (λ (n : ℕ). before.file ++ take n c.read.new.buf) c.if-count-eq0.true
+    let none = ap (λ (n : ℕ). before.file ++ take n c.read_on.new.piece) c.if-count-eq0.true
     ∙ append-nil before.file in
     let Is : List ℕ → Type 0 = λ file. IsVerdict fares (read_as traced file) last
     × StrikesOut fares (read_as traced file) c.args.balance.now c.end_verdict.new.balance last
     × (IsTrue (is_legal last) → HasSummedFor fares c.end_verdict.new.report (read_as traced file))
     × (IsTrue (is_legal last) → HasReadAll c.end_verdict.new.trace file) in
     let reported = at_end Is _ _ _
-    (Consumes-trans _ _ _ before.file (take c.in-Ok.count c.read.new.buf) before.read got.0)
+    (Consumes-trans _ _ _ before.file (take c.in-Ok.count c.read_on.new.piece) before.read got.0)
     (got.1 c.if-count-eq0.true (omega arith))
     (subst Is (sym none) (
       ended.verdict before.file before.reported before.as_reported before.fed,
-      λ good is legal entries ledger. ended.struck before.file before.reported good before.as_reported
+      λ good is legal entries ledger. ended.struck before.file before.reported good
+          before.as_reported
           (before.struck good is) legal entries ledger,
       λ legal. ended.sums before.file before.reported before.as_reported before.sums legal given.0
           (before.struck given.0 given.1),
@@ -72,8 +79,9 @@ returns-in-Some-clause-reported g c =
     let before = c.loop-piece.invariant in
     let fares = c.args.table.now in
     let got = c.in-Ok.ensures.bytes in
-    let piece = take c.in-Ok.count c.read.new.buf in
-    let as_reported = c.in_ok-read_piece.ensures.read before.file before.reported before.as_reported in
+    let piece = take c.in-Ok.count c.read_on.new.piece in
+    let as_reported = c.in_ok-read_piece.ensures.read before.file before.reported
+    before.as_reported in
     let fed = rw c.in-Some.is at (c.in_ok-verdict.ensures.fed before.reported before.fed) in
     let trace = c.read_piece.new.trace in
     let traced = is_some (wanted_by trace) in
@@ -88,7 +96,8 @@ returns-in-Some-clause-reported g c =
     let reported = whatever_follows Is _ _ _
     (Consumes-trans _ _ _ before.file piece before.read got.0)
     (λ more.
-    let rest = reads_more trace (before.file ++ piece) (before.reported ++ c.read_piece.new.text.items)
+    let rest = reads_more trace (before.file ++ piece)
+    (before.reported ++ c.read_piece.new.text.items)
     as_reported more in (
       subst (λ (t : List ℕ). IsVerdict fares t c.in-Some.verdict)
           (ap (λ (t : List ℕ). (before.reported ++ t) ++ rest.0) c.as_slice-part.ensures.value
@@ -121,7 +130,7 @@ loop-piece-preserved g c =
     let before = c.loop-piece.invariant in
     let got = c.in-Ok.ensures.bytes in
     record {
-      file = before.file ++ take c.in-Ok.count c.read.new.buf;
+      file = before.file ++ take c.in-Ok.count c.read_on.new.piece;
       reported = before.reported ++ c.read_piece.new.text.items;
       as_reported = c.in_ok-read_piece.ensures.read before.file before.reported before.as_reported;
       wanted = c.read_piece.ensures.wanted ∙ before.wanted;
@@ -132,9 +141,44 @@ loop-piece-preserved g c =
           c.feed.new.balance (before.reported ++ t) good) c.as_slice-part.ensures.value
           (rw c.in_default-2.is at (c.in_ok-verdict.ensures.struck before.reported good
           (before.struck good is)));
-      read = Consumes-trans _ _ _ before.file (take c.in-Ok.count c.read.new.buf) before.read got.0;
+      read = Consumes-trans _ _ _ before.file (take c.in-Ok.count c.read_on.new.piece) before.read
+          got.0;
+      name = c.read_on.ensures.name ∙ before.name;
+      loaded = c.read_on.ensures.loaded ∙ before.loaded;
+      refused = c.in-Ok.ensures.well ∙ before.refused;
       sums = subst (λ (t : List ℕ). HasSummedFor c.args.table.now c.add_piece.new.report
           (before.reported ++ t)) c.as_slice-part.ensures.value
           (c.in_ok-add_piece.ensures.sums before.reported before.sums);
       report = c.add_piece.ensures.text ∙ before.report;
     }
+
+-- a read failed
+pub returns-in_default-clause-later : goal.returns-in_default-clause-later
+returns-in_default-clause-later g c =
+    subst (λ (n : Option (Bor (List ℕ))). Refuses (g.S.Source.refused c.read_on.new.source)
+    (option_map (λ (b : Bor (List ℕ)). b.now) n) Unread) c.loop-piece.invariant.name
+    c.in_default.ensures.fault
+
+-- another fault came
+pub returns-in_err-last-clause-later : goal.returns-in_err-last-clause-later
+returns-in_err-last-clause-later g c =
+    later_on _ _ _ c.from_residual.result c.in_err-last.field-0.0 c.from_residual.ensures.1
+    c.in_err-last.ensures.later (c.in-Ok.ensures.well ∙ c.loop-piece.invariant.refused)
+
+pub returns-in_err-read_piece-clause-later : goal.returns-in_err-read_piece-clause-later
+returns-in_err-read_piece-clause-later g c =
+    memory_on _ _ _ c.from_residual-in_err-read_piece.result
+    c.from_residual-in_err-read_piece.ensures.1
+    (c.in-Ok.ensures.well ∙ c.loop-piece.invariant.refused)
+
+pub returns-in_err-verdict-clause-later : goal.returns-in_err-verdict-clause-later
+returns-in_err-verdict-clause-later g c =
+    memory_on _ _ _ c.from_residual-in_err-verdict.result
+    c.from_residual-in_err-verdict.ensures.1
+    (c.in-Ok.ensures.well ∙ c.loop-piece.invariant.refused)
+
+pub returns-in_err-add_piece-clause-later : goal.returns-in_err-add_piece-clause-later
+returns-in_err-add_piece-clause-later g c =
+    memory_on _ _ _ c.from_residual-in_err-add_piece.result
+    c.from_residual-in_err-add_piece.ensures.1
+    (c.in-Ok.ensures.well ∙ c.loop-piece.invariant.refused)

@@ -1,6 +1,5 @@
 -- What is left is recounted like all before it.
-use Rattle.std.proofs.Common.{◌≡◌, ◌++◌, ◌∙◌, ℕ, List, sym, ap, subst, append_assoc, string_bytes}
-use Rattle.std.specs.Prelude.{is_some}
+use Rattle.std.proofs.Common.{◌++◌, ◌∙◌, ℕ, List, sym, ap, subst, append_assoc, string_bytes}
 use Rattle.ledger_check.specs.Recounts.{IsRecount}
 use Rattle.omny_audit.specs.inside.Reports.{HasSummedFor}
 use Rattle.omny_audit.proofs.full_audit.end_recount.Goals as goal

@@ -1,5 +1,5 @@
-use Rattle.std.proofs.Common.{◌≡◌, ◌++◌, ◌∙◌, ℕ, Bool, List, Option, Some, None, inr, true}
-use Rattle.std.proofs.Common.{if◌then◌else◌, refl, sym, ap, subst}
+use Rattle.std.proofs.Common.{◌++◌, ◌∙◌, ℕ, List, Option, Some, None, inr, true}
+use Rattle.std.proofs.Common.{if◌then◌else◌, sym, subst}
 use Rattle.std.specs.Prelude.{◌&&◌, is_some}
 use Rattle.std.specs.Io.KnownBytes.{Appends}
 use Rattle.ledger_check.specs.Recounts.{recount_text, taps_from}
@@ -12,8 +12,10 @@ use Rattle.omny_audit.specs.inside.Traced.{wanted_by}
 use Rattle.ledger_check.specs.Columns.{read_as}
 use Rattle.std.proofs.KnownBytes.{Appends-trans}
 use Rattle.fare_texts.proofs.Beginnings.{begins_behind, begins_whole}
-use Rattle.omny_audit.proofs.BegunAudits.{after_any, begun_audit, full_audit_of}
+use Rattle.tap_views.proofs.Choices.{OnErr_any}
+use Rattle.omny_audit.proofs.BegunAudits.{begun_audit, full_audit_of}
 use Rattle.omny_audit.proofs.FullFindingLemmas.{recount_legal}
+use Rattle.omny_audit.proofs.RightFaults.{later_on, memory_on}
 use Rattle.omny_audit.proofs.full_audit.full_audit_over.Goals as goal
 
 pub recount_all-requires-clause-good : goal.recount_all-requires-clause-good
@@ -69,7 +71,7 @@ returns-clause-reported g c =
 pub returns-in_err-legal-clause-begun : goal.returns-in_err-legal-clause-begun
 returns-in_err-legal-clause-begun g c =
     let begun = c.in_err-legal.ensures.begun in
-    after_any c.from_residual.result _ (
+    OnErr_any c.from_residual.result _ (
       begun.0,
       begun.1,
       λ good balanced. begun_audit _ _ _ _ _ _ _ c.recounts_go_on.ensures begun.2,
@@ -79,7 +81,7 @@ returns-in_err-legal-clause-begun g c =
 pub returns-in_err-reported-clause-begun : goal.returns-in_err-reported-clause-begun
 returns-in_err-reported-clause-begun g c =
     let found = c.in_ok-legal.ensures.reported in
-    after_any c.from_residual-in_err-reported.result _ (
+    OnErr_any c.from_residual-in_err-reported.result _ (
       found.0,
       found.1,
       λ good balanced.
@@ -100,7 +102,7 @@ returns-in_err-write_text-clause-begun g c =
     let wanted = wanted_by c.recount_all.new.trace in
     let ledger = read_as (is_some wanted) found.0 in
     let parts = c.in_ok-reported.ensures in
-    after_any c.from_residual-in_err-write_text.result _ (
+    OnErr_any c.from_residual-in_err-write_text.result _ (
       found.0,
       found.1,
       λ good balanced some is_well audit.
@@ -129,3 +131,14 @@ returns-in_err-write_text-clause-begun g c =
                 c.in_err-write_text.ensures.begun),
           ),
     )
+
+pub returns-in_err-reported-clause-later : goal.returns-in_err-reported-clause-later
+returns-in_err-reported-clause-later g c =
+    memory_on _ _ _ c.from_residual-in_err-reported.result
+    c.from_residual-in_err-reported.ensures.1 c.in_ok-legal.ensures.well
+
+pub returns-in_err-write_text-clause-later : goal.returns-in_err-write_text-clause-later
+returns-in_err-write_text-clause-later g c =
+    later_on _ _ _ c.from_residual-in_err-write_text.result c.in_err-write_text.field-0.0
+    c.from_residual-in_err-write_text.ensures.1
+    c.in_err-write_text.ensures.later c.in_ok-legal.ensures.well

@@ -1,6 +1,6 @@
 -- What is read of what was read so far is what the recount was fed.
 use Rattle.std.proofs.Common.{◌≡◌, ◌++◌, ℕ, List, [], true, refl, take, sym, ap, subst, ◌∙◌}
-use Rattle.std.proofs.Common.{Option, append-nil, arith, inr}
+use Rattle.std.proofs.Common.{Bor, Option, append-nil, arith, inr, option_map}
 use Rattle.std.specs.Prelude.{is_some}
 use Rattle.std.specs.Io.KnownBytes.{Appends}
 use Rattle.ledger_check.specs.Columns.{read_as}
@@ -15,8 +15,12 @@ use Rattle.omny_audit.specs.inside.Findings.{HasBegunRecount, HasRecountedAll}
 use Rattle.omny_audit.specs.inside.Reports.{HasSummedFor}
 use Rattle.omny_audit.specs.inside.Traced.{HasReadAll, wanted_by}
 use Rattle.std.proofs.KnownBytes.{Consumes-trans, Consumes-nil, Appends-trans, Appends-nil}
-use Rattle.omny_audit.proofs.BegunAudits.{after_any, begun_so_far}
+use Rattle.tap_views.proofs.Choices.{OnErr_any}
+use Rattle.omny_audit.proofs.BegunAudits.{begun_so_far}
+use Rattle.program_manners.specs.Refusals.{Refuses}
+use Rattle.program_manners.specs.declared.loading.LoadFault.TheVariants.{Unread}
 use Rattle.omny_audit.proofs.ReadLemmas.{at_end}
+use Rattle.omny_audit.proofs.RightFaults.{later_on, memory_on}
 use Rattle.omny_audit.proofs.full_audit.recount_all.Goals as goal
 
 pub loop-piece-init : goal.loop-piece-init
@@ -26,6 +30,9 @@ loop-piece-init g c = record {
   as_text = c.requires.trace;
   wanted = refl;
   read = Consumes-nil _;
+  name = refl;
+  loaded = refl;
+  refused = refl;
   known = λ good struck. (
     [],
     c.new-recount.ensures c.args.table.now c.args.has_uploads
@@ -55,7 +62,7 @@ returns-then-count-eq0-clause-reported g c =
     let got = c.in-Ok.ensures.bytes in
     let legal = c.in_ok-legal.legal in
     let traced = is_some (wanted_by c.end_recount.new.trace) in
-    let none = ap (λ (n : ℕ). before.file ++ take n c.read.new.buf) c.if-count-eq0.true
+    let none = ap (λ (n : ℕ). before.file ++ take n c.read_on.new.piece) c.if-count-eq0.true
     ∙ append-nil before.file in
     let Is : List ℕ
     → Type 0 = λ file. ((good : List TapFields)
@@ -65,12 +72,13 @@ returns-then-count-eq0-clause-reported g c =
     × HasSummedFor fares c.end_recount.new.report (read_as traced file)
     × HasReadAll c.end_recount.new.trace file in
     let reported = at_end Is _ _ _
-    (Consumes-trans _ _ _ before.file (take c.in-Ok.count c.read.new.buf) before.read got.0)
+    (Consumes-trans _ _ _ before.file (take c.in-Ok.count c.read_on.new.piece) before.read got.0)
     (got.1 c.if-count-eq0.true (omega arith))
     (subst Is (sym none) (
       λ good struck.
           let now = before.known good struck in
-          let ended = c.in_ok-legal.ensures.reported before.file before.text now.0 good before.as_text
+          let ended = c.in_ok-legal.ensures.reported before.file before.text now.0 good
+          before.as_text
           now.1 in
           let more = ended.5 ∙ ap (λ (t : List ℕ). t ++ ended.4) c.clear.ensures.bytes in
           record {
@@ -109,11 +117,15 @@ loop-piece-preserved g c =
     let got = c.in-Ok.ensures.bytes in
     let part = c.as_slice-part.ensures.value in
     record {
-      file = before.file ++ take c.in-Ok.count c.read.new.buf;
+      file = before.file ++ take c.in-Ok.count c.read_on.new.piece;
       text = before.text ++ c.read_piece.new.text.items;
       as_text = c.in_ok-read_piece.ensures.read before.file before.text before.as_text;
       wanted = c.read_piece.ensures.wanted ∙ before.wanted;
-      read = Consumes-trans _ _ _ before.file (take c.in-Ok.count c.read.new.buf) before.read got.0;
+      read = Consumes-trans _ _ _ before.file (take c.in-Ok.count c.read_on.new.piece) before.read
+          got.0;
+      name = c.read_on.ensures.name ∙ before.name;
+      loaded = c.read_on.ensures.loaded ∙ before.loaded;
+      refused = c.in-Ok.ensures.well ∙ before.refused;
       known = λ good struck.
           let now = before.known good struck in
           let fed = c.in_ok-feed.ensures before.text now.0 good now.1 in
@@ -154,7 +166,7 @@ pub returns-in_err-legal-clause-begun : goal.returns-in_err-legal-clause-begun
 returns-in_err-legal-clause-begun g c =
     let before = c.loop-piece.invariant in
     let now = before.known c.requires.good.0 c.requires.good.1 in
-    after_any c.from_residual.result _
+    OnErr_any c.from_residual.result _
     (begun_so_far c.loop-piece.trace (wanted_by c.args.trace.now) c.args.table.now
     c.loop-piece.recount c.args.has_uploads c.loop-piece.full before.file before.text now.0
     c.requires.good.0 _ _ _ _ before.as_text before.wanted now.1 before.read
@@ -164,7 +176,7 @@ pub returns-in_err-read_piece-clause-begun : goal.returns-in_err-read_piece-clau
 returns-in_err-read_piece-clause-begun g c =
     let before = c.loop-piece.invariant in
     let now = before.known c.requires.good.0 c.requires.good.1 in
-    after_any c.from_residual-in_err-read_piece.result _
+    OnErr_any c.from_residual-in_err-read_piece.result _
     (begun_so_far c.loop-piece.trace (wanted_by c.args.trace.now) c.args.table.now
     c.loop-piece.recount c.args.has_uploads c.loop-piece.full before.file before.text now.0
     c.requires.good.0 _ _ _ _ before.as_text before.wanted now.1 before.read
@@ -174,7 +186,7 @@ pub returns-in_err-feed-clause-begun : goal.returns-in_err-feed-clause-begun
 returns-in_err-feed-clause-begun g c =
     let before = c.loop-piece.invariant in
     let now = before.known c.requires.good.0 c.requires.good.1 in
-    after_any c.from_residual-in_err-feed.result _
+    OnErr_any c.from_residual-in_err-feed.result _
     (begun_so_far c.loop-piece.trace (wanted_by c.args.trace.now) c.args.table.now
     c.loop-piece.recount c.args.has_uploads c.loop-piece.full before.file before.text now.0
     c.requires.good.0 _ _ _ _ before.as_text before.wanted now.1 before.read
@@ -184,7 +196,7 @@ pub returns-in_err-add_piece-clause-begun : goal.returns-in_err-add_piece-clause
 returns-in_err-add_piece-clause-begun g c =
     let before = c.loop-piece.invariant in
     let now = before.known c.requires.good.0 c.requires.good.1 in
-    after_any c.from_residual-in_err-add_piece.result _
+    OnErr_any c.from_residual-in_err-add_piece.result _
     (begun_so_far c.loop-piece.trace (wanted_by c.args.trace.now) c.args.table.now
     c.loop-piece.recount c.args.has_uploads c.loop-piece.full before.file before.text now.0
     c.requires.good.0 _ _ _ _ before.as_text before.wanted now.1 before.read
@@ -199,16 +211,16 @@ returns-in_err-write_text-clause-begun g c =
     let got = c.in-Ok.ensures.bytes in
     let out = g.W.Write.contents c.args.out.now in
     let last = g.W.Write.contents c.write_text.new.out in
-    let none = ap (λ (n : ℕ). before.file ++ take n c.read.new.buf) c.if-count-eq0.true
+    let none = ap (λ (n : ℕ). before.file ++ take n c.read_on.new.piece) c.if-count-eq0.true
     ∙ append-nil before.file in
     let Is : List ℕ → Type 0 = λ file. HasBegunRecount fares
     (read_as (is_some (wanted_by c.args.trace.now)) file) out last in
     let ended = c.in_ok-legal.ensures.reported before.file before.text now.0 c.requires.good.0
     before.as_text now.1 in
     let more = ended.5 ∙ ap (λ (t : List ℕ). t ++ ended.4) c.clear.ensures.bytes in
-    after_any c.from_residual-in_err-write_text.result _
+    OnErr_any c.from_residual-in_err-write_text.result _
     (at_end Is _ _ _
-    (Consumes-trans _ _ _ before.file (take c.in-Ok.count c.read.new.buf) before.read got.0)
+    (Consumes-trans _ _ _ before.file (take c.in-Ok.count c.read_on.new.piece) before.read got.0)
     (got.1 c.if-count-eq0.true (omega arith))
     (subst Is (sym none) (inr (
       ended.0,
@@ -229,16 +241,59 @@ returns-in_err-write_text-2-clause-begun g c =
     let got = c.in-Ok.ensures.bytes in
     let fed = c.in_ok-feed.ensures before.text now.0 c.requires.good.0 now.1 in
     let more = fed.1 ∙ ap (λ (t : List ℕ). t ++ fed.0) c.clear.ensures.bytes in
-    after_any c.from_residual-in_err-write_text-2.result _
+    OnErr_any c.from_residual-in_err-write_text-2.result _
     (begun_so_far c.read_piece.new.trace (wanted_by c.args.trace.now) fares c.feed.new.self
-    c.args.has_uploads c.feed.new.full (before.file ++ take c.in-Ok.count c.read.new.buf)
+    c.args.has_uploads c.feed.new.full (before.file ++ take c.in-Ok.count c.read_on.new.piece)
     (before.text ++ c.read_piece.new.text.items) (now.0 ++ fed.0) c.requires.good.0 _ _ _ _
     (c.in_ok-read_piece.ensures.read before.file before.text before.as_text)
     (c.read_piece.ensures.wanted ∙ before.wanted)
     (subst (λ (t : List ℕ). HasRecounted fares c.feed.new.self c.args.has_uploads c.feed.new.full
     (before.text ++ t) (now.0 ++ fed.0) c.requires.good.0) c.as_slice-part.ensures.value fed.2)
-    (Consumes-trans _ _ _ before.file (take c.in-Ok.count c.read.new.buf) before.read got.0)
+    (Consumes-trans _ _ _ before.file (take c.in-Ok.count c.read_on.new.piece) before.read got.0)
     (begins_behind _ _ _ now.0 fed.0 now.2
     (subst (λ (t : List ℕ). Begins (g.W.Write.contents c.loop-piece.out)
     (g.W.Write.contents c.write_text-in-loop-piece.new.out) t)
     (c.as_bytes-in-loop-piece.ensures.value ∙ more) c.in_err-write_text-2.ensures.begun)))
+
+-- a read failed
+pub returns-in_default-clause-later : goal.returns-in_default-clause-later
+returns-in_default-clause-later g c =
+    subst (λ (n : Option (Bor (List ℕ))). Refuses (g.S.Source.refused c.read_on.new.source)
+    (option_map (λ (b : Bor (List ℕ)). b.now) n) Unread) c.loop-piece.invariant.name
+    c.in_default.ensures.fault
+
+-- another fault came
+pub returns-in_err-legal-clause-later : goal.returns-in_err-legal-clause-later
+returns-in_err-legal-clause-later g c =
+    later_on _ _ _ c.from_residual.result c.in_err-legal.field-0.0 c.from_residual.ensures.1
+    c.in_err-legal.ensures.later (c.in-Ok.ensures.well ∙ c.loop-piece.invariant.refused)
+
+pub returns-in_err-write_text-clause-later : goal.returns-in_err-write_text-clause-later
+returns-in_err-write_text-clause-later g c =
+    later_on _ _ _ c.from_residual-in_err-write_text.result c.in_err-write_text.field-0.0
+    c.from_residual-in_err-write_text.ensures.1
+    c.in_err-write_text.ensures.later (c.in-Ok.ensures.well ∙ c.loop-piece.invariant.refused)
+
+pub returns-in_err-read_piece-clause-later : goal.returns-in_err-read_piece-clause-later
+returns-in_err-read_piece-clause-later g c =
+    memory_on _ _ _ c.from_residual-in_err-read_piece.result
+    c.from_residual-in_err-read_piece.ensures.1
+    (c.in-Ok.ensures.well ∙ c.loop-piece.invariant.refused)
+
+pub returns-in_err-feed-clause-later : goal.returns-in_err-feed-clause-later
+returns-in_err-feed-clause-later g c =
+    memory_on _ _ _ c.from_residual-in_err-feed.result
+    c.from_residual-in_err-feed.ensures.1
+    (c.in-Ok.ensures.well ∙ c.loop-piece.invariant.refused)
+
+pub returns-in_err-add_piece-clause-later : goal.returns-in_err-add_piece-clause-later
+returns-in_err-add_piece-clause-later g c =
+    memory_on _ _ _ c.from_residual-in_err-add_piece.result
+    c.from_residual-in_err-add_piece.ensures.1
+    (c.in-Ok.ensures.well ∙ c.loop-piece.invariant.refused)
+
+pub returns-in_err-write_text-2-clause-later : goal.returns-in_err-write_text-2-clause-later
+returns-in_err-write_text-2-clause-later g c =
+    later_on _ _ _ c.from_residual-in_err-write_text-2.result c.in_err-write_text-2.field-0.0
+    c.from_residual-in_err-write_text-2.ensures.1
+    c.in_err-write_text-2.ensures.later (c.in-Ok.ensures.well ∙ c.loop-piece.invariant.refused)

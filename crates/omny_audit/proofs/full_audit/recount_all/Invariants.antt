@@ -1,5 +1,5 @@
 use Rattle.std.proofs.Common.{◌≡◌, List, ℕ, [], true}
-use Rattle.std.specs.Io.KnownBytes.{Appends, Consumes}
+use Rattle.std.specs.Io.KnownBytes.{Appends, Consumes, prepend_known}
 use Rattle.ledger_check.specs.FullBalances.{IsFullBalance}
 use Rattle.tap_views.specs.declared.encoder.TapFields.{TapFields}
 use Rattle.ledger_check.specs.RecountStates.{HasRecounted}
@@ -7,14 +7,18 @@ use Rattle.omny_audit.specs.inside.Reports.{HasSummedFor, text_of}
 use Rattle.omny_audit.specs.inside.Traced.{HasReadAs, wanted_by}
 use Rattle.omny_audit.proofs.full_audit.recount_all.Given as goal
 
--- the recount has read what is read of what the reader has lost, and what it reported was written
+-- the recount has read what is read of what the ledger has lost, and what it reported was written
 abbrev pub invariant-loop-piece : goal.invariant-loop-piece
 invariant-loop-piece g l = record {
   file : List ℕ;
   text : List ℕ;
   as_text : HasReadAs l.trace file text;
   wanted : wanted_by l.trace ≡ wanted_by l.fn.trace;
-  read : Consumes (g.R.Read.remaining l.fn.reader) (g.R.Read.remaining l.reader) file;
+  read : Consumes (prepend_known l.fn.ledger.head.now (g.S.Ledger.Read.remaining l.fn.ledger.rest))
+      (prepend_known l.ledger.head.now (g.S.Ledger.Read.remaining l.ledger.rest)) file;
+  name : l.ledger.name ≡ l.fn.ledger.name;
+  loaded : g.S.Source.loaded l.source ≡ g.S.Source.loaded l.fn.source;
+  refused : g.S.Source.refused l.source ≡ g.S.Source.refused l.fn.source;
   known : (good : List TapFields) → (l.has_uploads ≡ true → IsFullBalance l.fn.full good [])
       → (written : List ℕ) × HasRecounted l.table l.recount l.has_uploads l.full text written good
       × Appends (g.W.Write.contents l.fn.out) (g.W.Write.contents l.out) written;

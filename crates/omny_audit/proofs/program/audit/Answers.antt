@@ -1,8 +1,7 @@
-use Rattle.std.proofs.Common.{◌∙◌, ℕ, Bool, Bor, Option, Some, List, ap, false, map, not, subst}
+use Rattle.std.proofs.Common.{◌∙◌, ℕ, Bool, Bor, Option, List, ap, false, map, not, subst}
 use Rattle.std.proofs.Common.{inr, sym, true}
 use Rattle.std.proofs.KnownBytes.{Keeps-refl}
 use Rattle.std.proofs.lemmas.Result.{IfOk-weaker}
-use Rattle.std.specs.Fmt.{option_append}
 use Rattle.tap_views.specs.declared.encoder.TapFields.{TapFields}
 use Rattle.omny_audit.specs.Fault.{NamesOneOf}
 use Rattle.omny_audit.specs.Options.{files_of}
@@ -13,11 +12,13 @@ use Rattle.omny_audit.specs.inside.Traced.{uploads_in, wanted_by}
 use Rattle.omny_audit.specs.Program.{IsRightAuditFault, compared}
 use Rattle.omny_audit.proofs.ProgramLemmas.{at_ledger, at_report, at_tables, at_uploads, both_err}
 use Rattle.omny_audit.proofs.ProgramLemmas.{compared_is, has_loaded, not_both}
-use Rattle.omny_audit.proofs.ProgramLemmas.{kept_all, kept_lists, loads_same, names_none, names_same}
-use Rattle.omny_audit.proofs.ProgramLemmas.{loaded_ledger, loaded_report, reads_ledger, right_later}
+use Rattle.omny_audit.proofs.ProgramLemmas.{kept_all, kept_lists, loads_same, names_none}
+use Rattle.omny_audit.proofs.ProgramLemmas.{names_same}
+use Rattle.omny_audit.proofs.ProgramLemmas.{loaded_ledger, loaded_report, reads_ledger}
 use Rattle.omny_audit.proofs.ProgramLemmas.{right_of_names, written_first}
+use Rattle.omny_audit.proofs.RightFaults.{right_of_ledger, right_refusal, told_of_ledger}
 use Rattle.program_manners.proofs.LoadsOn.{loads_more}
-use Rattle.omny_audit.proofs.Handing.{handed_on}
+use Rattle.tap_views.proofs.Choices.{IfErr_handed_on}
 use Rattle.omny_audit.proofs.program.audit.Goals as goal
 
 pub full_audit_over-requires-clause-good : goal.full_audit_over-requires-clause-good
@@ -45,23 +46,27 @@ returns-clause-ok g c =
     let same = compared_is c.as_slice-names.result.now loaded.1 _
     (ap not c.is_empty-has_uploads.ensures)
     ∙ ap (λ (ns : List (Bor (List ℕ))). compared (map (λ n. n.now) ns) loaded.1) names in
-    let reads = reads_ledger _ _ _ _ _ _ c.in_ok-head.head.items c.as_slice.result.now
+    let reads = reads_ledger _ _ _ _ _ _ c.in_ok-head.head.items c.as_slice-begun.result.now
     c.in_ok-tables.tables.fares
     (map (λ t. t.items) c.in_ok-tables.tables.texts.items) audited.0
-    (uploads_in c.kept_if-kept.result) (compared (map (λ n. n.now) c.args.options.now.uploads.items) loaded.5)
+    (uploads_in c.kept_if-kept.result)
+    (compared (map (λ n. n.now) c.args.options.now.uploads.items) loaded.5)
     (wanted_by c.in_ok-trace.trace)
-    c.in_ok-ledger.ensures.ok c.in_ok-head.ensures.read c.in_ok-head.ensures.enough
-    c.as_slice.ensures.value
+    c.in_ok-ledger.ensures.ok
+    (c.audit_over.ensures.loaded ∙ c.read_head.ensures.loaded)
+    c.in_ok-head.ensures.read c.in_ok-head.ensures.enough
+    c.as_slice-begun.ensures.value
     (kept_lists c.as_slice-names.result.now c.args.options.now.uploads.items _ _ _ loaded.5
     c.kept_if-kept.ensures.uploads loaded.7.taps (ap not c.is_empty-has_uploads.ensures) names)
-    (c.chain-whole.ensures.bytes
-    ∙ ap (λ (h : List ℕ). option_append (Some h)
-    (g.S.Ledger.Read.remaining c.read_head.new.ledger)) c.from.ensures.0) audited.1
+    audited.1
     c.in_ok-trace.ensures.wanted in
-    let files = has_loaded (audit_asked_of c.args.options.now) _ _ _ _ _ c.in_ok-tables.tables.fares _
-    loaded.0 loaded.1 loaded.5 (text_of c.in_ok-report.report) (wanted_by c.in_ok-trace.trace) audited.0
+    let files = has_loaded (audit_asked_of c.args.options.now) _ _ _ _ _ c.in_ok-tables.tables.fares
+    _
+    loaded.0 loaded.1 loaded.5 (text_of c.in_ok-report.report) (wanted_by c.in_ok-trace.trace)
+    audited.0
     c.in_ok-tables.ensures.ok
-    (loads_same c.as_slice-names.result.now c.args.options.now.uploads.items _ _ loaded.0 names loaded.2)
+    (loads_same c.as_slice-names.result.now c.args.options.now.uploads.items _ _ loaded.0 names
+    loaded.2)
     loaded.3 loaded.6 c.in_ok-report.ensures.ok reads in
     let found = subst (λ (good : Option (List TapFields)). IsAudit false files.fares files.wanted
     files.ledger finding.1 good files.report finding.0 well) same finding.2 in
@@ -88,23 +93,27 @@ returns-then-options-clause-ok g c =
     let same = compared_is c.as_slice-names.result.now loaded.1 _
     (ap not c.is_empty-has_uploads.ensures)
     ∙ ap (λ (ns : List (Bor (List ℕ))). compared (map (λ n. n.now) ns) loaded.1) names in
-    let reads = reads_ledger _ _ _ _ _ _ c.in_ok-head.head.items c.as_slice.result.now
+    let reads = reads_ledger _ _ _ _ _ _ c.in_ok-head.head.items c.as_slice-begun.result.now
     c.in_ok-tables.tables.fares
     (map (λ t. t.items) c.in_ok-tables.tables.texts.items) audited.0
-    (uploads_in c.kept_if-kept.result) (compared (map (λ n. n.now) c.args.options.now.uploads.items) loaded.5)
+    (uploads_in c.kept_if-kept.result)
+    (compared (map (λ n. n.now) c.args.options.now.uploads.items) loaded.5)
     (wanted_by c.in_ok-trace.trace)
-    c.in_ok-ledger.ensures.ok c.in_ok-head.ensures.read c.in_ok-head.ensures.enough
-    c.as_slice.ensures.value
+    c.in_ok-ledger.ensures.ok
+    (c.full_audit_over.ensures.loaded ∙ c.read_head.ensures.loaded)
+    c.in_ok-head.ensures.read c.in_ok-head.ensures.enough
+    c.as_slice-begun.ensures.value
     (kept_lists c.as_slice-names.result.now c.args.options.now.uploads.items _ _ _ loaded.5
     c.kept_if-kept.ensures.uploads loaded.7.taps (ap not c.is_empty-has_uploads.ensures) names)
-    (c.chain-whole.ensures.bytes
-    ∙ ap (λ (h : List ℕ). option_append (Some h)
-    (g.S.Ledger.Read.remaining c.read_head.new.ledger)) c.from.ensures.0) audited.1
+    audited.1
     c.in_ok-trace.ensures.wanted in
-    let files = has_loaded (audit_asked_of c.args.options.now) _ _ _ _ _ c.in_ok-tables.tables.fares _
-    loaded.0 loaded.1 loaded.5 (text_of c.in_ok-report.report) (wanted_by c.in_ok-trace.trace) audited.0
+    let files = has_loaded (audit_asked_of c.args.options.now) _ _ _ _ _ c.in_ok-tables.tables.fares
+    _
+    loaded.0 loaded.1 loaded.5 (text_of c.in_ok-report.report) (wanted_by c.in_ok-trace.trace)
+    audited.0
     c.in_ok-tables.ensures.ok
-    (loads_same c.as_slice-names.result.now c.args.options.now.uploads.items _ _ loaded.0 names loaded.2)
+    (loads_same c.as_slice-names.result.now c.args.options.now.uploads.items _ _ loaded.0 names
+    loaded.2)
     loaded.3 loaded.6 c.in_ok-report.ensures.ok reads in
     let found = subst (λ (good : Option (List TapFields)). IsAudit true files.fares files.wanted
     files.ledger finding.1 good files.report finding.0 well) same finding.2 in
@@ -126,7 +135,7 @@ pub returns-in_err-balance-clause-named : goal.returns-in_err-balance-clause-nam
 returns-in_err-balance-clause-named g c =
     let fault = c.in_err-balance.field-0.0 in
     let asked = audit_asked_of c.args.options.now in
-    handed_on c.from_residual-in_err-balance.result fault (λ f. NamesOneOf (files_of asked) f)
+    IfErr_handed_on c.from_residual-in_err-balance.result fault (λ f. NamesOneOf (files_of asked) f)
     c.from_residual-in_err-balance.ensures.1
     (at_uploads asked fault
     (names_same c.as_slice-names.result.now c.args.options.now.uploads.items fault
@@ -136,7 +145,7 @@ pub returns-in_err-report-clause-named : goal.returns-in_err-report-clause-named
 returns-in_err-report-clause-named g c =
     let fault = c.in_err-report.field-0.0 in
     let asked = audit_asked_of c.args.options.now in
-    handed_on c.from_residual-in_err-report.result fault (λ f. NamesOneOf (files_of asked) f)
+    IfErr_handed_on c.from_residual-in_err-report.result fault (λ f. NamesOneOf (files_of asked) f)
     c.from_residual-in_err-report.ensures.1
     (at_report asked fault c.in_err-report.ensures.named)
 
@@ -144,7 +153,7 @@ pub returns-in_err-ledger-clause-named : goal.returns-in_err-ledger-clause-named
 returns-in_err-ledger-clause-named g c =
     let fault = c.in_err-ledger.field-0.0 in
     let asked = audit_asked_of c.args.options.now in
-    handed_on c.from_residual-in_err-ledger.result fault (λ f. NamesOneOf (files_of asked) f)
+    IfErr_handed_on c.from_residual-in_err-ledger.result fault (λ f. NamesOneOf (files_of asked) f)
     c.from_residual-in_err-ledger.ensures.1
     (at_ledger asked fault c.in_err-ledger.ensures.named)
 
@@ -152,28 +161,34 @@ pub returns-in_err-balance-clause-right : goal.returns-in_err-balance-clause-rig
 returns-in_err-balance-clause-right g c =
     let fault = c.in_err-balance.field-0.0 in
     let asked = audit_asked_of c.args.options.now in
-    handed_on c.from_residual-in_err-balance.result fault (λ f. IsRightAuditFault asked _ _ _ f _ _)
-    c.from_residual-in_err-balance.ensures.1
-    (written_first asked _ _ _ fault _ _ c.in_err-balance.ensures.fault (Keeps-refl _)
-    (c.in_err-balance.ensures.right asked.table _ _))
+    IfErr_handed_on c.from_residual-in_err-balance.result fault
+    (λ f. IsRightAuditFault asked _ _ _ _ f _ _) c.from_residual-in_err-balance.ensures.1
+    (written_first asked _ _ _ _ fault _ _ c.in_err-balance.ensures.fault (Keeps-refl _)
+    (right_refusal asked.table asked.ledger _ _ _ fault c.in_err-balance.ensures.right)
+    (λ no. c.in_err-balance.ensures.told no ∙ c.in_ok-tables.ensures.well))
 
 pub returns-in_err-report-clause-right : goal.returns-in_err-report-clause-right
 returns-in_err-report-clause-right g c =
     let fault = c.in_err-report.field-0.0 in
     let asked = audit_asked_of c.args.options.now in
-    handed_on c.from_residual-in_err-report.result fault (λ f. IsRightAuditFault asked _ _ _ f _ _)
-    c.from_residual-in_err-report.ensures.1
-    (written_first asked _ _ _ fault _ _ c.in_err-report.ensures.fault (Keeps-refl _)
-    (c.in_err-report.ensures.right asked.table _ _))
+    IfErr_handed_on c.from_residual-in_err-report.result fault
+    (λ f. IsRightAuditFault asked _ _ _ _ f _ _) c.from_residual-in_err-report.ensures.1
+    (written_first asked _ _ _ _ fault _ _ c.in_err-report.ensures.fault (Keeps-refl _)
+    (right_refusal asked.table asked.ledger _ _ _ fault c.in_err-report.ensures.right)
+    (λ no. c.in_err-report.ensures.told no ∙ c.in_ok-balance.ensures.well
+    ∙ c.in_ok-tables.ensures.well))
 
 pub returns-in_err-ledger-clause-right : goal.returns-in_err-ledger-clause-right
 returns-in_err-ledger-clause-right g c =
     let fault = c.in_err-ledger.field-0.0 in
     let asked = audit_asked_of c.args.options.now in
-    handed_on c.from_residual-in_err-ledger.result fault (λ f. IsRightAuditFault asked _ _ _ f _ _)
-    c.from_residual-in_err-ledger.ensures.1
-    (written_first asked _ _ _ fault _ _ c.in_err-ledger.ensures.fault (Keeps-refl _)
-    (c.in_err-ledger.ensures.right asked.table _ _))
+    IfErr_handed_on c.from_residual-in_err-ledger.result fault
+    (λ f. IsRightAuditFault asked _ _ _ _ f _ _) c.from_residual-in_err-ledger.ensures.1
+    (written_first asked _ _ _ _ fault _ _ c.in_err-ledger.ensures.fault (Keeps-refl _)
+    (right_refusal asked.table asked.ledger _ _ _ fault c.in_err-ledger.ensures.right)
+    (λ no. c.in_err-ledger.ensures.told no ∙ c.in_ok-report.ensures.well
+    ∙ c.in_ok-balance.ensures.well
+    ∙ c.in_ok-tables.ensures.well))
 
 -- the ledger was read, and what a write that failed left is a beginning of the right text
 pub returns-clause-right : goal.returns-clause-right
@@ -181,7 +196,10 @@ returns-clause-right g c =
     let loaded = c.in_ok-balance.ensures.ok in
     both_err c.audit_over.result _ _ _ (λ fault later begun.
     record {
-      right = right_later _ _ _ _ fault later;
+      right = right_of_ledger _ _ _ _ _ _ fault later;
+      told = λ no. told_of_ledger _ _ _ fault later no ∙ c.in_ok-head.ensures.well
+          ∙ c.in_ok-ledger.ensures.well ∙ c.in_ok-report.ensures.well
+          ∙ c.in_ok-balance.ensures.well ∙ c.in_ok-tables.ensures.well;
       begun = λ all un.
           let audited = begun un in
           let finding = audited.2 loaded.1 loaded.4 in
@@ -189,25 +207,31 @@ returns-clause-right g c =
           let same = compared_is c.as_slice-names.result.now loaded.1 _
           (ap not c.is_empty-has_uploads.ensures)
           ∙ ap (λ (ns : List (Bor (List ℕ))). compared (map (λ n. n.now) ns) loaded.1) names in
-          let reads = reads_ledger _ _ _ _ _ _ c.in_ok-head.head.items c.as_slice.result.now
+          let reads = reads_ledger _ _ _ _ _ _ c.in_ok-head.head.items c.as_slice-begun.result.now
           c.in_ok-tables.tables.fares
           (map (λ t. t.items) c.in_ok-tables.tables.texts.items) audited.0
-          (uploads_in c.kept_if-kept.result) (compared (map (λ n. n.now) c.args.options.now.uploads.items) loaded.5)
+          (uploads_in c.kept_if-kept.result)
+          (compared (map (λ n. n.now) c.args.options.now.uploads.items) loaded.5)
           (wanted_by c.in_ok-trace.trace)
-          c.in_ok-ledger.ensures.ok c.in_ok-head.ensures.read c.in_ok-head.ensures.enough
-          c.as_slice.ensures.value
+          c.in_ok-ledger.ensures.ok
+          (c.audit_over.ensures.loaded ∙ c.read_head.ensures.loaded)
+          c.in_ok-head.ensures.read c.in_ok-head.ensures.enough
+          c.as_slice-begun.ensures.value
           (kept_lists c.as_slice-names.result.now c.args.options.now.uploads.items _ _ _ loaded.5
-          c.kept_if-kept.ensures.uploads loaded.7.taps (ap not c.is_empty-has_uploads.ensures) names)
-          (c.chain-whole.ensures.bytes
-          ∙ ap (λ (h : List ℕ). option_append (Some h)
-          (g.S.Ledger.Read.remaining c.read_head.new.ledger)) c.from.ensures.0) audited.1
+          c.kept_if-kept.ensures.uploads loaded.7.taps (ap not c.is_empty-has_uploads.ensures)
+          names)
+          audited.1
           c.in_ok-trace.ensures.wanted in
-          let files = has_loaded (audit_asked_of c.args.options.now) _ _ _ _ _ c.in_ok-tables.tables.fares _
-          loaded.0 loaded.1 loaded.5 (text_of c.in_ok-report.report) (wanted_by c.in_ok-trace.trace) audited.0
+          let files = has_loaded (audit_asked_of c.args.options.now) _ _ _ _ _
+          c.in_ok-tables.tables.fares _
+          loaded.0 loaded.1 loaded.5 (text_of c.in_ok-report.report) (wanted_by c.in_ok-trace.trace)
+          audited.0
           c.in_ok-tables.ensures.ok
-          (loads_same c.as_slice-names.result.now c.args.options.now.uploads.items _ _ loaded.0 names loaded.2)
+          (loads_same c.as_slice-names.result.now c.args.options.now.uploads.items _ _ loaded.0
+          names loaded.2)
           loaded.3 loaded.6 c.in_ok-report.ensures.ok reads in
-          let found = subst (λ (good : Option (List TapFields)). IsAudit false files.fares files.wanted
+          let found = subst
+          (λ (good : Option (List TapFields)). IsAudit false files.fares files.wanted
           files.ledger finding.2 good files.report finding.0 finding.1) same finding.3 in
           record {
             text = finding.0;
@@ -216,7 +240,8 @@ returns-clause-right g c =
               files = files;
               read = finding.2;
               audit = subst (λ (b : Bool). IsAudit b files.fares files.wanted files.ledger finding.2
-                  (compared (map (λ n. n.now) c.args.options.now.uploads.items) loaded.1) files.report
+                  (compared (map (λ n. n.now) c.args.options.now.uploads.items) loaded.1)
+                  files.report
                   finding.0 finding.1) (sym c.if-options.false) found;
               right = c.audits_decide.ensures _ _ _ _ _ _ _ _ _ found;
             };
@@ -235,26 +260,33 @@ returns-then-options-clause-right g c =
     let same = compared_is c.as_slice-names.result.now loaded.1 _
     (ap not c.is_empty-has_uploads.ensures)
     ∙ ap (λ (ns : List (Bor (List ℕ))). compared (map (λ n. n.now) ns) loaded.1) names in
-    let reads = reads_ledger _ _ _ _ _ _ c.in_ok-head.head.items c.as_slice.result.now
+    let reads = reads_ledger _ _ _ _ _ _ c.in_ok-head.head.items c.as_slice-begun.result.now
     c.in_ok-tables.tables.fares
     (map (λ t. t.items) c.in_ok-tables.tables.texts.items) begun.0
-    (uploads_in c.kept_if-kept.result) (compared (map (λ n. n.now) c.args.options.now.uploads.items) loaded.5)
+    (uploads_in c.kept_if-kept.result)
+    (compared (map (λ n. n.now) c.args.options.now.uploads.items) loaded.5)
     (wanted_by c.in_ok-trace.trace)
-    c.in_ok-ledger.ensures.ok c.in_ok-head.ensures.read c.in_ok-head.ensures.enough
-    c.as_slice.ensures.value
+    c.in_ok-ledger.ensures.ok
+    (c.full_audit_over.ensures.loaded ∙ c.read_head.ensures.loaded)
+    c.in_ok-head.ensures.read c.in_ok-head.ensures.enough
+    c.as_slice-begun.ensures.value
     (kept_lists c.as_slice-names.result.now c.args.options.now.uploads.items _ _ _ loaded.5
     c.kept_if-kept.ensures.uploads loaded.7.taps (ap not c.is_empty-has_uploads.ensures) names)
-    (c.chain-whole.ensures.bytes
-    ∙ ap (λ (h : List ℕ). option_append (Some h)
-    (g.S.Ledger.Read.remaining c.read_head.new.ledger)) c.from.ensures.0) begun.1
+    begun.1
     c.in_ok-trace.ensures.wanted in
-    let files = has_loaded (audit_asked_of c.args.options.now) _ _ _ _ _ c.in_ok-tables.tables.fares _
-    loaded.0 loaded.1 loaded.5 (text_of c.in_ok-report.report) (wanted_by c.in_ok-trace.trace) begun.0
+    let files = has_loaded (audit_asked_of c.args.options.now) _ _ _ _ _ c.in_ok-tables.tables.fares
+    _
+    loaded.0 loaded.1 loaded.5 (text_of c.in_ok-report.report) (wanted_by c.in_ok-trace.trace)
+    begun.0
     c.in_ok-tables.ensures.ok
-    (loads_same c.as_slice-names.result.now c.args.options.now.uploads.items _ _ loaded.0 names loaded.2)
+    (loads_same c.as_slice-names.result.now c.args.options.now.uploads.items _ _ loaded.0 names
+    loaded.2)
     loaded.3 loaded.6 c.in_ok-report.ensures.ok reads in
     record {
-      right = right_later _ _ _ _ fault later;
+      right = right_of_ledger _ _ _ _ _ _ fault later;
+      told = λ no. told_of_ledger _ _ _ fault later no ∙ c.in_ok-head.ensures.well
+          ∙ c.in_ok-ledger.ensures.well ∙ c.in_ok-report.ensures.well
+          ∙ c.in_ok-balance.ensures.well ∙ c.in_ok-tables.ensures.well;
       begun = λ all un. absurd (not_both c.args.options.now.all all c.if-options.true);
       begun_of_all = λ all. inr (record {
         files = files;
@@ -277,7 +309,7 @@ pub returns-in_err-head-clause-named : goal.returns-in_err-head-clause-named
 returns-in_err-head-clause-named g c =
     let fault = c.in_err-head.field-0.0 in
     let asked = audit_asked_of c.args.options.now in
-    handed_on c.from_residual-in_err-head.result fault (λ f. NamesOneOf (files_of asked) f)
+    IfErr_handed_on c.from_residual-in_err-head.result fault (λ f. NamesOneOf (files_of asked) f)
     c.from_residual-in_err-head.ensures.1
     (names_none (files_of asked) fault c.in_err-head.ensures.named)
 
@@ -285,7 +317,7 @@ pub returns-in_err-trace-clause-named : goal.returns-in_err-trace-clause-named
 returns-in_err-trace-clause-named g c =
     let fault = c.in_err-trace.field-0.0 in
     let asked = audit_asked_of c.args.options.now in
-    handed_on c.from_residual-in_err-trace.result fault (λ f. NamesOneOf (files_of asked) f)
+    IfErr_handed_on c.from_residual-in_err-trace.result fault (λ f. NamesOneOf (files_of asked) f)
     c.from_residual-in_err-trace.ensures.1
     (at_tables asked fault c.in_err-trace.ensures.named)
 
@@ -293,10 +325,13 @@ pub returns-in_err-head-clause-right : goal.returns-in_err-head-clause-right
 returns-in_err-head-clause-right g c =
     let fault = c.in_err-head.field-0.0 in
     let asked = audit_asked_of c.args.options.now in
-    handed_on c.from_residual-in_err-head.result fault (λ f. IsRightAuditFault asked _ _ _ f _ _)
-    c.from_residual-in_err-head.ensures.1
-    (written_first asked _ _ _ fault _ _ c.in_err-head.ensures.fault (Keeps-refl _)
-    (right_later asked.table _ _ _ fault c.in_err-head.ensures.later))
+    IfErr_handed_on c.from_residual-in_err-head.result fault
+    (λ f. IsRightAuditFault asked _ _ _ _ f _ _) c.from_residual-in_err-head.ensures.1
+    (written_first asked _ _ _ _ fault _ _ c.in_err-head.ensures.fault (Keeps-refl _)
+    (right_of_ledger asked.table asked.ledger _ _ _ _ fault c.in_err-head.ensures.later)
+    (λ no. told_of_ledger _ _ asked.ledger fault c.in_err-head.ensures.later no
+    ∙ c.in_ok-ledger.ensures.well ∙ c.in_ok-report.ensures.well ∙ c.in_ok-balance.ensures.well
+    ∙ c.in_ok-tables.ensures.well))
 
 -- the tables were loaded first, and then the uploads, the report and the ledger
 pub returns-in_err-trace-clause-right : goal.returns-in_err-trace-clause-right
@@ -304,14 +339,16 @@ returns-in_err-trace-clause-right g c =
     let fault = c.in_err-trace.field-0.0 in
     let asked = audit_asked_of c.args.options.now in
     let report = loaded_report _ _ _ _ c.in_ok-report.ensures.ok in
-    let ledger = loaded_ledger _ _ _ _ c.in_ok-ledger.ensures.ok in
+    let ledger = loaded_ledger _ _ _ _ _ c.in_ok-ledger.ensures.ok c.read_head.ensures.loaded in
     let uploads = c.in_ok-balance.ensures.ok.2 in
     let wrong = c.in_err-trace.ensures.right in
     let behind = loads_more _ _ _ _ _ uploads.is_loaded (loads_more _ _ _ _ _ report.1 ledger.1) in
-    handed_on c.from_residual-in_err-trace.result fault (λ f. IsRightAuditFault asked _ _ _ f _ _)
-    c.from_residual-in_err-trace.ensures.1
-    (right_of_names asked _ _ _ _ _ c.in_ok-tables.tables.fares c.in_ok-tables.ensures.ok _ behind
-    wrong.0 wrong.1 fault _ _ wrong.2 c.in_err-trace.ensures.fault (Keeps-refl _))
+    IfErr_handed_on c.from_residual-in_err-trace.result fault
+    (λ f. IsRightAuditFault asked _ _ _ _ f _ _) c.from_residual-in_err-trace.ensures.1
+    (right_of_names asked _ _ _ _ _ _ c.in_ok-tables.tables.fares c.in_ok-tables.ensures.ok _
+    behind wrong.0 wrong.1 fault _ _ wrong.2 c.in_err-trace.ensures.fault (Keeps-refl _)
+    (c.in_ok-head.ensures.well ∙ c.in_ok-ledger.ensures.well ∙ c.in_ok-report.ensures.well
+    ∙ c.in_ok-balance.ensures.well ∙ c.in_ok-tables.ensures.well))
 
 pub returns-in_err-head-clause-fault : goal.returns-in_err-head-clause-fault
 returns-in_err-head-clause-fault g c = λ all. kept_all c.from_residual-in_err-head.result
@@ -328,14 +365,14 @@ pub returns-in_err-tables-clause-named : goal.returns-in_err-tables-clause-named
 returns-in_err-tables-clause-named g c =
     let fault = c.in_err-tables.field-0.0 in
     let asked = audit_asked_of c.args.options.now in
-    handed_on c.from_residual.result fault (λ f. NamesOneOf (files_of asked) f)
+    IfErr_handed_on c.from_residual.result fault (λ f. NamesOneOf (files_of asked) f)
     c.from_residual.ensures.1 (at_tables asked fault c.in_err-tables.ensures.named)
 
 pub returns-in_err-tables-clause-right : goal.returns-in_err-tables-clause-right
 returns-in_err-tables-clause-right g c =
     let fault = c.in_err-tables.field-0.0 in
     let asked = audit_asked_of c.args.options.now in
-    handed_on c.from_residual.result fault (λ f. IsRightAuditFault asked _ _ _ f _ _)
+    IfErr_handed_on c.from_residual.result fault (λ f. IsRightAuditFault asked _ _ _ _ f _ _)
     c.from_residual.ensures.1
-    (written_first asked _ _ _ fault _ _ c.in_err-tables.ensures.fault (Keeps-refl _)
-    c.in_err-tables.ensures.right)
+    (written_first asked _ _ _ _ fault _ _ c.in_err-tables.ensures.fault (Keeps-refl _)
+    (c.in_err-tables.ensures.right asked.ledger) c.in_err-tables.ensures.told)

@@ -1,4 +1,4 @@
-use Rattle.std.proofs.Common.{ℕ, List, [], map, take}
+use Rattle.std.proofs.Common.{◌≡◌, ℕ, List, [], map, take}
 use Rattle.ledger_check.specs.Balances.{IsBalance}
 use Rattle.tap_views.specs.declared.encoder.TapFields.{TapFields}
 use Rattle.ledger_check.specs.Places.{HasUploads}
@@ -7,9 +7,12 @@ use Rattle.omny_audit.proofs.program.load_uploads.Given as goal
 
 -- so far these were loaded, and the balance and the places have their taps
 abbrev pub invariant-loop-name : goal.invariant-loop-name
-invariant-loop-name g l =
-    (files : List (List ℕ)) × (good : List TapFields)
-    × LoadsNamedFiles (map (λ n. n.now) (take l.name-index l.names)) (g.S.Source.loaded l.fn.source)
-    (g.S.Source.loaded l.source) files
-    × AreGoodFieldsOfAll files good × IsBalance l.balance good []
-    × (lists : List (List TapFields)) × AreGoodFieldsOfEach files lists × HasUploads l.places lists
+invariant-loop-name g l = record {
+  taps : (files : List (List ℕ)) × (good : List TapFields)
+      × LoadsNamedFiles (map (λ n. n.now) (take l.name-index l.names))
+      (g.S.Source.loaded l.fn.source) (g.S.Source.loaded l.source) files
+      × AreGoodFieldsOfAll files good × IsBalance l.balance good []
+      × (lists : List (List TapFields)) × AreGoodFieldsOfEach files lists
+      × HasUploads l.places lists;
+  refused : g.S.Source.refused l.source ≡ g.S.Source.refused l.fn.source;
+}

@@ -27,6 +27,7 @@ returns-in-Err-clause-faults g c = λ one.
       tt,
       λ parses. record {
         right = tt;
+        told = λ no. refl;
         begun = λ all un. absurd (cc);
         begun_of_all = λ all. inl (refl, reported.1.kept refl refl);
       },
@@ -36,7 +37,8 @@ returns-in-Err-clause-faults g c = λ one.
     let reported = c.show.ensures.fault one in
     inr (
       reported.0,
-      names_none (files_of (audit_asked_by (map string_bytes c.args.words.now))) reported.0 reported.1,
+      names_none (files_of (audit_asked_by (map string_bytes c.args.words.now))) reported.0
+          reported.1,
       λ parses. absurd (none_among _ _ parses among),
       record { line_reported = reported.2.line_reported; kept = λ all un. reported.2.kept refl un },
     ))
@@ -66,8 +68,10 @@ returns-in-Ok-audit-clause-faults g c = λ one.
     let mine = audit_asked_of c.in-Ok.options in
     let asked = audit_asked_by (map string_bytes c.args.words.now) in
     let well = c.in-Ok-audit.is_well in
-    let done = subst (λ (a : AuditAsked). Audits a loaded loaded' out last well) c.in-Ok.ensures.asked
-    (audits_kept mine loaded loaded' out mid last well c.finish.ensures.kept c.in-Ok-audit.ensures.ok)
+    let done = subst (λ (a : AuditAsked). Audits a loaded loaded' out last well)
+    c.in-Ok.ensures.asked
+    (audits_kept mine loaded loaded' out mid last well c.finish.ensures.kept
+    c.in-Ok-audit.ensures.ok)
     in
     ⊎_elim
     (λ ill. inl (
@@ -75,12 +79,14 @@ returns-in-Ok-audit-clause-faults g c = λ one.
       subst (λ (b : Bool). Audits asked loaded loaded' out last b) ill.0 done,
       ill.1,
       ill.2,
+      c.in-Ok-audit.ensures.well,
     ))
     (λ failed. inr (
       failed.0,
       names_none (files_of asked) failed.0 failed.2,
-      λ parses. unflushed asked loaded loaded' (g.S.Source.refused c.audit.new.source) failed.0 out last
-          well failed.3 done,
+      λ parses. unflushed asked loaded loaded' (g.S.Source.refused c.args.source.now)
+          (g.S.Source.refused c.audit.new.source) failed.0 out last well failed.3
+          c.in-Ok-audit.ensures.well done,
       record {
         line_reported = failed.4;
         kept = λ all un. absurd (apart (sym un ∙ failed.1));

@@ -1,5 +1,6 @@
 -- The file of the table whose class is wrong.
-use Rattle.std.proofs.Common.{◌≡◌, ◌∙◌, ◌==◌, ◌-◌, ◌<◌, ◌∷◌, Bor, List, ℕ, ap, arith, false, length, map}
+use Rattle.std.proofs.Common.{◌≡◌, ◌∙◌, ◌==◌, ◌-◌, ◌<◌, ◌∷◌, Bor, List, ℕ, ap, arith, false, length}
+use Rattle.std.proofs.Common.{map}
 use Rattle.std.proofs.Common.{refl, subst, sym}
 use Rattle.std.proofs.lemmas.List.{length-map}
 use Rattle.std.proofs.lemmas.Option.{slice_get_read}
@@ -14,7 +15,8 @@ returns-in-Name-3-clause-right c =
     let words = c.args.words.now.later.items in
     let place = c.args.wrong.place in
     let counted = length-map words (λ (w : Bor (List ℕ)). w.now) in
-    let within : place - 1 < length words = omega (arith, counted, c.requires, c.if-wrong-eq0.false) in
+    let within : place - 1 < length words =
+    omega (arith, counted, c.requires, c.if-wrong-eq0.false) in
     let is : false ≡ (length words == 0) = c.if-is_empty.ensures
     ∙ ap (λ (ws : List (Bor (List ℕ))). length ws == 0) c.as_slice.ensures.value in (
       c.in-Name-3.is,
@@ -34,7 +36,8 @@ returns-in-Name-3-clause-named c =
     let words = c.args.words.now.later.items in
     let place = c.args.wrong.place in
     let counted = length-map words (λ (w : Bor (List ℕ)). w.now) in
-    let within : place - 1 < length words = omega (arith, counted, c.requires, c.if-wrong-eq0.false) in
+    let within : place - 1 < length words =
+    omega (arith, counted, c.requires, c.if-wrong-eq0.false) in
     subst (λ (n : List ℕ). IsOneOf n (first ∷ map file_named (map (λ w. w.now) words)))
     (sym (c.of.ensures.name
     ∙ ap (λ (w : Bor (List ℕ)). file_named w.now) c.index-word.ensures))

@@ -1,4 +1,4 @@
-use Rattle.std.proofs.Common.{◌≡◌, arith, refl}
+use Rattle.std.proofs.Common.{arith, refl}
 use Rattle.omny_audit.specs.declared.fault.Fault.TheVariants.{NoMemory}
 use Rattle.omny_audit.proofs.program.show.Goals as goal
 

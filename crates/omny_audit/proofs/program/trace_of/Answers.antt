@@ -1,4 +1,5 @@
-use Rattle.std.proofs.Common.{◌≡◌, ◌∙◌, ◌+◌, ◌<◌, [], Bool, Global, List, Some, Vec, ap, arith, length, map}
+use Rattle.std.proofs.Common.{◌≡◌, ◌∙◌, Bool, Global, List, Some, Vec, ap, arith}
+use Rattle.std.proofs.Common.{length, map}
 use Rattle.std.proofs.Common.{refl, rules, subst, sym, tests, true, ℕ}
 use Rattle.std.proofs.lemmas.List.{length-map}
 use Rattle.std.proofs.lemmas.Option.{slice_get_within}

@@ -1,11 +1,14 @@
-use Rattle.std.proofs.Common.{map, take}
+use Rattle.std.proofs.Common.{◌≡◌, map, take}
 use Rattle.program_manners.specs.TableLoads.{LoadsTables}
 use Rattle.omny_audit.proofs.tables.load_tables.Given as goal
 
--- the tables of the words so far were loaded
+-- the tables of the words so far were loaded, and nothing was refused
 abbrev pub invariant-loop-word : goal.invariant-loop-word
-invariant-loop-word g l = LoadsTables (record {
-  first = l.words.first.now;
-  later = map (λ w. w.now) (take l.word-index l.words.later.items);
-}) (g.S.Source.loaded l.fn.source) (g.S.Source.loaded l.source)
-    (map (λ t. t.items) l.tables.texts.items) l.tables.fares
+invariant-loop-word g l = record {
+  loads : LoadsTables (record {
+    first = l.words.first.now;
+    later = map (λ w. w.now) (take l.word-index l.words.later.items);
+  }) (g.S.Source.loaded l.fn.source) (g.S.Source.loaded l.source)
+      (map (λ t. t.items) l.tables.texts.items) l.tables.fares;
+  refused : g.S.Source.refused l.source ≡ g.S.Source.refused l.fn.source;
+}

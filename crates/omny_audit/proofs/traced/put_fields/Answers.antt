@@ -1,5 +1,5 @@
-use Rattle.std.proofs.Common.{◌≡◌, ◌∙◌, ◌++◌, ◌∷◌, ◌<◌, ◌≤◌, ◌+◌, [], ℕ, List, length}
-use Rattle.std.proofs.Common.{length-append, sym, ap, subst, arith}
+use Rattle.std.proofs.Common.{◌≡◌, ◌∙◌, ◌++◌, ◌∷◌, ◌<◌, ◌≤◌, [], ℕ, List, length}
+use Rattle.std.proofs.Common.{length-append, ap, subst, arith}
 use Rattle.ledger_check.specs.Taps.{IsTapOfLine}
 use Rattle.omny_audit.proofs.traced.put_fields.Goals as goal
 

@@ -1,4 +1,4 @@
-use Rattle.std.proofs.Common.{◌≡◌, ◌∙◌, ◌++◌, ℕ, List, sym, ap, subst, true, false, rules, tests}
+use Rattle.std.proofs.Common.{◌≡◌, ◌∙◌, ◌++◌, ℕ, List, sym, ap}
 use Rattle.std.proofs.lemmas.Bool.{false≢true}
 use Rattle.ledger_check.specs.Columns.{traced_head}
 use Rattle.omny_audit.proofs.TraceLemmas.{other_head, other_line}
@@ -8,7 +8,8 @@ pub returns-then-same_bytes : goal.returns-then-same_bytes
 returns-then-same_bytes c =
     let is = c.same_bytes.ensures.0 c.if-same_bytes.true ∙ c.traced_head_line.ensures in
     c.in_ok-extend_from_slice.ensures.items
-    ∙ ap (λ (t : List ℕ). c.args.text.now.items ++ t) (c.as_bytes.ensures.value ∙ c.head_line.ensures
+    ∙ ap (λ (t : List ℕ). c.args.text.now.items ++ t)
+    (c.as_bytes.ensures.value ∙ c.head_line.ensures
     ∙ sym (other_head c.args.line.now is))
 
 pub returns : goal.returns

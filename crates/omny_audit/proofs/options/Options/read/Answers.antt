@@ -1,4 +1,4 @@
-use Rattle.std.proofs.Common.{◌≡◌, ◌∙◌, ℕ, List, [], Option, None, Some, refl, ap, codes, Bor, map}
+use Rattle.std.proofs.Common.{◌∙◌, ℕ, List, [], ap, codes, Bor, map}
 use Rattle.std.specs.Prelude.{option_and_then, unwrap_or}
 use Rattle.clap.specs.Words.{all_of, first_of, found_of}
 use Rattle.clap.proofs.WalkLemmas.{first_value-rows}

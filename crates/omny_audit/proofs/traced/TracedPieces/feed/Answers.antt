@@ -4,14 +4,15 @@ use Rattle.std.proofs.Common.{append-nil, arith, rules, tests}
 use Rattle.std.proofs.lemmas.Bool.Decides.{nat_tests}
 use Rattle.ledger_check.proofs.CheckerLemmas.{empty_list}
 use Rattle.omny_audit.proofs.TraceLemmas.{Traced, traced_none, traced_on, traced_part}
-use Rattle.omny_audit.proofs.traced.Trace.feed.Goals as goal
+use Rattle.omny_audit.proofs.traced.TracedPieces.feed.Goals as goal
 
 pub loop-rest-init : goal.loop-rest-init
 loop-rest-init c = record {
   consumed = [];
   whole = refl;
   wanted = refl;
-  read = λ file reported read is. traced_none c.args.self.now file reported c.args.text.now.items read is;
+  read = λ file reported read is. traced_none c.args.self.now file reported c.args.text.now.items
+      read is;
 }
 
 pub loop-rest-preserved : goal.loop-rest-preserved

@@ -1,22 +1,23 @@
-use Rattle.std.proofs.Common.{◌≡◌, ◌<◌, ◌≤◌, ◌++◌, List, ℕ, [], length, sym, subst, arith, rules}
-use Rattle.std.proofs.Common.{tests}
+use Rattle.std.proofs.Common.{◌<◌, ◌≤◌, List, ℕ, length, sym, subst, arith}
 use Rattle.std.proofs.lemmas.Bool.Decides.{nat_tests}
 use Rattle.ledger_check.proofs.CheckerLemmas.{empty_list}
 use Rattle.omny_audit.specs.inside.Traced.{IsKeptOf}
 use Rattle.omny_audit.proofs.TraceLemmas.{ended_cut, ended_whole}
-use Rattle.omny_audit.proofs.traced.Trace.finish.Goals as goal
+use Rattle.omny_audit.proofs.traced.TracedPieces.finish.Goals as goal
 
 pub returns-then-is_empty-clause-read : goal.returns-then-is_empty-clause-read
 returns-then-is_empty-clause-read c = λ file reported read is.
     let trace = c.args.self.now in
     let none : length trace.begun.items ≤ 0 = grind (arith, nat_tests, trace.begun.ok.0) in
-    ended_whole trace file reported c.args.text.now.items read is (empty_list trace.begun.items none)
+    ended_whole trace file reported c.args.text.now.items read is
+    (empty_list trace.begun.items none)
 
 pub returns-clause-read : goal.returns-clause-read
 returns-clause-read c = λ file reported read is.
     let trace = c.args.self.now in
     let some : 0 < length trace.begun.items = grind (arith, nat_tests, trace.begun.ok.0) in
     let kept = subst (λ (k : List ℕ). IsKeptOf k is.begun) (sym c.as_slice.ensures.value) is.kept in
-    ended_cut trace (record trace { so_far = c.take.new.self }) file reported c.args.text.now.items _ read is some
+    ended_cut trace (record trace { so_far = c.take.new.self }) file reported c.args.text.now.items
+    _ read is some
     (c.in_ok-take.ensures.read is.begun read kept is.lines)
     (c.in_ok-take.ensures.text is.begun kept)

@@ -2,7 +2,7 @@ use Rattle.std.proofs.Common.{◌≡◌, List, ℕ, ◌++◌, length}
 use Rattle.omny_audit.specs.Traced.{ReadLine}
 use Rattle.omny_audit.specs.inside.Traced.{HasTraced, wanted_of}
 use Rattle.omny_audit.proofs.TraceLemmas.{Traced}
-use Rattle.omny_audit.proofs.traced.Trace.feed.Given as goal
+use Rattle.omny_audit.proofs.traced.TracedPieces.feed.Given as goal
 
 -- a front of the piece was read
 abbrev pub invariant-loop-rest : goal.invariant-loop-rest

@@ -1,10 +1,10 @@
-use Rattle.std.proofs.Common.{◌≡◌, ◌≤◌, ◌++◌, List, ℕ, [], length, inl, refl, sym, ap, subst, ◌∙◌}
+use Rattle.std.proofs.Common.{◌≡◌, ◌≤◌, ◌++◌, List, ℕ, [], length, inl, sym, ap, subst}
 use Rattle.std.proofs.Common.{arith}
 use Rattle.std.proofs.lemmas.Bool.Decides.{nat_tests}
 use Rattle.ledger_check.proofs.CheckerLemmas.{empty_list}
 use Rattle.omny_audit.specs.inside.Traced.{IsKeptOf}
 use Rattle.omny_audit.proofs.TraceLemmas.{kept_none, took_line}
-use Rattle.omny_audit.proofs.traced.Trace.end_line.Goals as goal
+use Rattle.omny_audit.proofs.traced.TracedPieces.end_line.Goals as goal
 
 pub returns-then-is_empty-clause-read : goal.returns-then-is_empty-clause-read
 returns-then-is_empty-clause-read c = λ file reported read is.

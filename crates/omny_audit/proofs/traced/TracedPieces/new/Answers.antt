@@ -1,7 +1,7 @@
 use Rattle.std.proofs.Common.{[], inl, refl}
 use Rattle.omny_audit.specs.inside.Traced.{uploads_in}
 use Rattle.omny_audit.proofs.TraceLemmas.{none_wrong}
-use Rattle.omny_audit.proofs.traced.Trace.new.Goals as goal
+use Rattle.omny_audit.proofs.traced.TracedPieces.new.Goals as goal
 
 pub returns-clause-read : goal.returns-clause-read
 returns-clause-read c = record {

@@ -1,0 +1,112 @@
+-- What is told of a fault is right, by what was done when it came.
+use Rattle.std.proofs.Common.{◌≡◌, ◌∙◌, ℕ, false, List, Option, Result, Ok, Err, refl}
+use Rattle.std.proofs.lemmas.Bool.{true≢false}
+use Rattle.std.specs.Prelude.{IfErr, IsErrAnd}
+use Rattle.tap_views.proofs.Choices.{IfErr_handed_on}
+use Rattle.program_manners.specs.Loads.{Loaded}
+use Rattle.program_manners.specs.TableWords.{TableNames}
+use Rattle.program_manners.specs.declared.loading.LoadFault.{LoadFault}
+use Rattle.omny_audit.specs.Fault.{IsRightFault, IsTold}
+use Rattle.omny_audit.specs.declared.fault.Fault.{Fault}
+use Rattle.omny_audit.specs.declared.fault.Fault.TheVariants.{ClassName, Closed, Date, File, Follow}
+use Rattle.omny_audit.specs.declared.fault.Fault.TheVariants.{Ledger, NamedClass, NamedTable}
+use Rattle.omny_audit.specs.declared.fault.Fault.TheVariants.{NoMemory, Table, Write}
+use Rattle.omny_audit.specs.inside.Fault.{IsLedgerFault, IsRefusal, is_of_source}
+
+module _ (tables : TableNames) (ledger : Option (List ℕ)) (before after : Option (List Loaded))
+    (refused : Option (Option (List ℕ) × LoadFault)) where
+  -- a file was refused, or memory
+  pub right_refusal : (fault : Fault) → IsRefusal refused fault
+      → IsRightFault tables ledger before after refused fault
+  right_refusal (File file) is = is
+  right_refusal NoMemory is = tt
+  right_refusal _ is = absurd is
+
+  -- a fault that comes after all files were loaded and read
+  pub right_later : (fault : Fault) → is_of_source fault ≡ false
+      → IsRightFault tables ledger before after refused fault
+  right_later (File file) later = absurd (true≢false later)
+  right_later Ledger later = absurd (true≢false later)
+  right_later (Date wrong) later = absurd (true≢false later)
+  right_later (Table fault) later = absurd (true≢false later)
+  right_later (NamedTable line) later = absurd (true≢false later)
+  right_later (Follow line) later = absurd (true≢false later)
+  right_later ClassName later = absurd (true≢false later)
+  right_later (NamedClass line) later = absurd (true≢false later)
+  right_later Write later = tt
+  right_later Closed later = tt
+  right_later NoMemory later = tt
+
+  -- a fault that comes after the ledger was opened
+  pub right_of_ledger : (refused_before : Option (Option (List ℕ) × LoadFault)) (fault : Fault)
+      → IsLedgerFault refused_before refused ledger fault
+      → IsRightFault tables ledger before after refused fault
+  right_of_ledger refused_before (File file) is = right_later (File file) is.0
+  right_of_ledger refused_before Ledger is = is
+  right_of_ledger refused_before (Date wrong) is = right_later (Date wrong) is.0
+  right_of_ledger refused_before (Table fault) is = right_later (Table fault) is.0
+  right_of_ledger refused_before (NamedTable line) is = right_later (NamedTable line) is.0
+  right_of_ledger refused_before (Follow line) is = right_later (Follow line) is.0
+  right_of_ledger refused_before ClassName is = right_later ClassName is.0
+  right_of_ledger refused_before (NamedClass line) is = right_later (NamedClass line) is.0
+  right_of_ledger refused_before Write is = tt
+  right_of_ledger refused_before Closed is = tt
+  right_of_ledger refused_before NoMemory is = tt
+
+module _ (refused refused' : Option (Option (List ℕ) × LoadFault)) where
+  -- nothing was refused
+  pub told_same : {A : Type 0} (r : Result A Fault) → refused' ≡ refused
+      → IfErr r (IsTold refused refused')
+  told_same (Ok x) same = tt
+  told_same (Err e) same = λ no. same
+
+  -- what was refused behind what was not is told by the fault that is handed on
+  pub told_on : {A : Type 0} (r : Result A Fault) (fault : Fault)
+      (between : Option (Option (List ℕ) × LoadFault)) → IsErrAnd r (λ e. e ≡ fault)
+      → between ≡ refused → IsTold between refused' fault → IfErr r (IsTold refused refused')
+  told_on r fault between is same told =
+      IfErr_handed_on r fault (IsTold refused refused') is (λ no. told no ∙ same)
+
+  -- what was refused of the ledger is told
+  pub told_of_ledger : (name : Option (List ℕ)) (fault : Fault)
+      → IsLedgerFault refused refused' name fault → IsTold refused refused' fault
+  told_of_ledger name (File file) is = λ no. is.1
+  told_of_ledger name Ledger is = λ no. absurd (true≢false no)
+  told_of_ledger name (Date wrong) is = λ no. is.1
+  told_of_ledger name (Table fault) is = λ no. is.1
+  told_of_ledger name (NamedTable line) is = λ no. is.1
+  told_of_ledger name (Follow line) is = λ no. is.1
+  told_of_ledger name ClassName is = λ no. is.1
+  told_of_ledger name (NamedClass line) is = λ no. is.1
+  told_of_ledger name Write is = λ no. is.1
+  told_of_ledger name Closed is = λ no. is.1
+  told_of_ledger name NoMemory is = λ no. is.1
+
+module _ (refused refused' : Option (Option (List ℕ) × LoadFault)) (name : Option (List ℕ)) where
+  -- a fault that comes behind a read that ended well
+  pub later_fault : (fault : Fault) → is_of_source fault ≡ false → refused' ≡ refused
+      → IsLedgerFault refused refused' name fault
+  later_fault (File file) later same = (later, same)
+  later_fault Ledger later same = absurd (true≢false later)
+  later_fault (Date wrong) later same = (later, same)
+  later_fault (Table fault) later same = (later, same)
+  later_fault (NamedTable line) later same = (later, same)
+  later_fault (Follow line) later same = (later, same)
+  later_fault ClassName later same = (later, same)
+  later_fault (NamedClass line) later same = (later, same)
+  later_fault Write later same = (later, same)
+  later_fault Closed later same = (later, same)
+  later_fault NoMemory later same = (later, same)
+
+  -- such a fault that is handed on
+  pub later_on : {A : Type 0} (r : Result A Fault) (fault : Fault) → IsErrAnd r (λ e. e ≡ fault)
+      → is_of_source fault ≡ false → refused' ≡ refused
+      → IfErr r (IsLedgerFault refused refused' name)
+  later_on r fault is later same =
+      IfErr_handed_on r fault (IsLedgerFault refused refused' name) is
+      (later_fault fault later same)
+
+  -- want of memory behind a read that ended well
+  pub memory_on : {A : Type 0} (r : Result A Fault) → IsErrAnd r (λ e. e ≡ NoMemory)
+      → refused' ≡ refused → IfErr r (IsLedgerFault refused refused' name)
+  memory_on r is same = later_on r NoMemory is refl same

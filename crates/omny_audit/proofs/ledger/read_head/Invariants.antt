@@ -1,0 +1,12 @@
+use Rattle.std.proofs.Common.{◌≡◌}
+use Rattle.std.specs.Io.KnownBytes.{Consumes}
+use Rattle.omny_audit.proofs.ledger.read_head.Given as goal
+
+-- what the ledger has lost was read, and no read failed
+abbrev pub invariant-loop-piece : goal.invariant-loop-piece
+invariant-loop-piece g l = record {
+  read : Consumes (g.S.Ledger.Read.remaining l.fn.ledger) (g.S.Ledger.Read.remaining l.ledger)
+      l.head.items;
+  loaded : g.S.Source.loaded l.source ≡ g.S.Source.loaded l.fn.source;
+  refused : g.S.Source.refused l.source ≡ g.S.Source.refused l.fn.source;
+}

@@ -1,0 +1,111 @@
+//! The ledger, read from its beginning.
+
+ghost use Rattle.std.specs.Prelude.{◌≡◌, ◌⊎◌, ◌≤◌, IfErr, IfOk, List, None, OnErr, OnOk, Option, ℕ};
+ghost use Rattle.std.specs.Prelude.{IfSome, codes, false, length, option_map, unwrap_or};
+ghost use Rattle.std.specs.Io.{ReadsAtMost};
+ghost use Rattle.std.specs.Io.KnownBytes.{Consumes, IsAtEnd, ReadConsumes, prepend_known};
+ghost use Rattle.ledger_check.specs.Columns.{traced_head};
+ghost use Rattle.program_manners.specs.Refusals.{Refuses};
+ghost use Rattle.program_manners.specs.declared.loading.LoadFault.TheVariants.{Unread};
+ghost use Rattle.omny_audit.specs.Fault.{IsTold, is_unwritten, named_by};
+ghost use Rattle.omny_audit.specs.Source.{OpensOne};
+ghost use Rattle.omny_audit.specs.inside.Fault.{IsLedgerFault, IsRefusal};
+
+use crate::fault::Fault;
+use crate::source::Source;
+use ledger_check::traced_head_line;
+use program_manners::STANDARD_INPUT;
+use std::alloc::Global;
+use std::io;
+use std::io::Read;
+
+/// How many bytes one read asks for.
+pub(crate) const PIECE_BYTES: usize = 65_536;
+
+/// A ledger that is read again from its beginning: first the bytes that were read of it, and then
+/// the rest.
+#[derive(Drop)]
+pub(crate) struct WholeLedger<'a, L: Drop> {
+    /// Its name. Standard input has none.
+    pub(crate) name: Option<&'a str>,
+    /// The bytes that were read, but for those that were given again.
+    pub(crate) head: &'a [u8],
+    /// What is read behind them.
+    pub(crate) rest: L,
+}
+
+/// Reads on in the ledger, which the source opened.
+pub(crate) fn read_on<S: Source>(
+    source: &mut S,
+    ledger: &mut WholeLedger<'_, S::Ledger>,
+    piece: &mut [u8],
+) -> io::Result<usize>
+    ensures bound { ReadsAtMost result piece.new }
+    ensures bytes { ReadConsumes
+        (prepend_known ledger.old.head.now (S.Ledger.remaining ledger.old.rest))
+        (prepend_known ledger.new.head.now (S.Ledger.remaining ledger.new.rest)) result piece.new }
+    ensures name { ledger.new.name ≡ ledger.old.name }
+    ensures loaded { S.loaded source.new ≡ S.loaded source.old }
+    ensures well { OnOk result (S.refused source.new ≡ S.refused source.old) }
+    ensures fault { OnErr result (Refuses (S.refused source.new)
+        (option_map (λ n. n.now) ledger.old.name) Unread) }
+{
+    if !ledger.head.is_empty() {
+        return ledger.head.read(piece);
+    }
+    source.read_ledger(ledger.name, &mut ledger.rest, piece)
+}
+
+/// The ledger of this name, or standard input if none is named.
+pub(crate) fn open_ledger<'a, S: Source>(
+    name: Option<&'a str>,
+    source: &mut S,
+) -> Result<S::Ledger, Fault<'a>>
+    ensures ok { IfOk result (λ ledger. OpensOne (S.loaded source.old) (S.loaded source.new)
+        (option_map (λ n. n.now) name.entry) (S.Ledger.remaining ledger)) }
+    ensures fault { IfErr result (λ fault. is_unwritten fault ≡ false) }
+    ensures named { IfErr result (λ fault. IfSome (named_by fault) (λ reported. reported
+        ≡ unwrap_or (option_map (λ n. n.now) name.entry) (codes "standard input"))) }
+    ensures well { IfOk result (λ _. S.refused source.new ≡ S.refused source.old) }
+    ensures right { IfErr result (IsRefusal (S.refused source.new)) }
+    ensures told { IfErr result (IsTold (S.refused source.old) (S.refused source.new)) }
+{
+    match source.open(name) {
+        Ok(ledger) => Ok(ledger),
+        Err(fault) => Err(Fault::of_load(name.unwrap_or(STANDARD_INPUT), fault)),
+    }
+}
+
+/// The first bytes of the ledger of this name, which show whether it is a traced one.
+pub(crate) fn read_head<S: Source>(
+    alloc: Global,
+    name: Option<&str>,
+    source: &mut S,
+    ledger: &mut S::Ledger,
+) -> Result<Vec<u8>, Fault<'static>>
+    ensures read { IfOk result (λ head. Consumes (S.Ledger.remaining ledger.old)
+        (S.Ledger.remaining ledger.new) head.items) }
+    ensures enough { IfOk result (λ head. IsAtEnd (S.Ledger.remaining ledger.new)
+        ⊎ (length traced_head ≤ length head.items)) }
+    ensures loaded { S.loaded source.new ≡ S.loaded source.old }
+    ensures well { IfOk result (λ _. S.refused source.new ≡ S.refused source.old) }
+    ensures fault { IfErr result (λ fault. is_unwritten fault ≡ false) }
+    ensures named { IfErr result (λ fault. named_by fault ≡ None) }
+    ensures later { IfErr result (IsLedgerFault (S.refused source.old) (S.refused source.new)
+        (option_map (λ n. n.now) name.entry)) }
+{
+    let needed = traced_head_line().len();
+    let mut head = Vec::new(alloc);
+    let mut step = [0u8; PIECE_BYTES];
+    for _piece in 0..u64::MAX {
+        let Ok(count) = source.read_ledger(name, ledger, &mut step) else {
+            return Err(Fault::Ledger);
+        };
+        head.extend_from_slice(&step[..count])?;
+        if count == 0 || head.len() >= needed {
+            return Ok(head);
+        }
+    }
+    // no run makes so many reads
+    Err(Fault::NoMemory)
+}
