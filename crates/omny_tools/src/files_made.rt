@@ -16,8 +16,8 @@ const WRITE_BYTES: usize = 0;
 pub(crate) enum BegunName {
     /// Its own name and a dot.
     Dot,
-    /// Its own name, a dot and the number of the process, so that no two runs write to one file. Only
-    /// a regular file is replaced, and no device.
+    /// Its own name, a dot and the number of the process, so that no two runs write to one file.
+    /// Only a regular file is replaced, and no device.
     DotProcess,
 }
 

@@ -1,5 +1,6 @@
 -- Rows of an agency's CSV that were encoded, or not.
-use Rattle.std.proofs.Common.{◌≡◌, ◌≢◌, ◌⊎◌, ℕ, Err, List, [], ◌∷◌, Option, None, Some, inl, inr, refl}
+use Rattle.std.proofs.Common.{◌≡◌, ◌≢◌, ◌⊎◌, ℕ, Err, List, [], ◌∷◌, Option, None, Some, inl, inr}
+use Rattle.std.proofs.Common.{refl}
 use Rattle.std.proofs.Common.{Bor, Ok, Result, append-nil, option_map, subst, sym}
 use Rattle.std.specs.Option.{option_copied}
 use Rattle.std.specs.Prelude.{IfErr, IfOk, IfSome}
@@ -28,7 +29,7 @@ use Rattle.program_manners.specs.declared.loading.LoadFault.{LoadFault}
 use Rattle.tool_program.specs.Sink.{IsEmptyFile, IsNotMade, Made, Makes, MakesOne, RefusesNew}
 use Rattle.tool_program.specs.Sink.{StopsFile}
 use Rattle.tool_program.specs.Source.{HasOpened}
-use Rattle.tool_program.specs.declared.encode_rows.RowsWords.{RowsWords}
+use Rattle.tool_words.specs.declared.task.RowsWords.{RowsWords}
 use Rattle.tool_program.specs.declared.fault.Fault.{Fault}
 use Rattle.tool_program.specs.declared.fault.Fault.TheVariants.{Closed, Devices, Exists, NoMemory}
 use Rattle.tool_program.specs.declared.fault.Fault.TheVariants.{Rows, SomeChanged, Unmade, Unread}
@@ -398,7 +399,8 @@ once_stops words name word choice loaded loaded' unread unbegun failed end refus
       again = off.text;
       reads = (off.opened, refl);
       stops = record {
-        right = right_weaker words (Some name) word choice off.text off.text end (refused_end ≢ None)
+        right = right_weaker words (Some name) word choice off.text off.text end
+            (refused_end ≢ None)
             (IsNotMade failed name) fault out out' stopped off.stops.right;
         begun = off.stops.begun;
       };

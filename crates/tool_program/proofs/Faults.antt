@@ -1,8 +1,9 @@
 -- Faults of texts that were not opened, or that were.
 use Rattle.std.proofs.Common.{◌≡◌, ◌∙◌, ◌<◌, ◌+◌, ◌^◌, ◌⊎◌, ℕ, List, [], ◌∷◌, ◌++◌, length}
-use Rattle.std.proofs.Common.{arith, inl, inr, refl, subst, sym, None, Option, Some}
+use Rattle.std.proofs.Common.{arith, inl, inr, refl, subst, sym, Err, None, Ok, Option, Result}
+use Rattle.std.proofs.Common.{Some}
 use Rattle.std.proofs.lemmas.Option.{slice_get_within}
-use Rattle.std.specs.Prelude.{slice_get}
+use Rattle.std.specs.Prelude.{IfErr, IfOk, slice_get}
 use Rattle.part_reports.specs.Faults.{number_from}
 use Rattle.part_reports.specs.FirstWrongLines.{IsFirstWrongOfEnds, IsFirstWrongOfReport}
 use Rattle.part_reports.specs.FirstWrongLines.{NamesFirstWrong}
@@ -96,3 +97,18 @@ right_merge words ends reports end merge.Write reported few is of first taps =
     right_write words ends reports end reported is
 right_merge words ends reports end merge.NoMemory NoMemory few is of first taps = tt
 right_merge words ends reports end fault reported few is of first taps = absurd is
+
+-- how it ended, if what was written went out, or did not
+pub ended_after : {T : Type 0} (before : Result T Fault) (fault : Fault)
+    (end end' : Option WriteEnd) (Done : T → Type 0) (Stops : Fault → Type 0) (Ends : Type 0)
+    → IfOk before Done → IfErr before Stops
+    → (fault ≡ failed_as end') ⊎ ((before ≡ Err fault) × (end' ≡ end))
+    → ((value : T) → Done value → fault ≡ failed_as end' → Ends)
+    → ((first : Fault) → Stops first → fault ≡ failed_as end' → Ends)
+    → (Stops fault → end' ≡ end → Ends) → Ends
+ended_after {T} (Ok value) fault end end' Done Stops Ends done stops (inl is) whole again kept =
+    whole value done is
+ended_after {T} (Err first) fault end end' Done Stops Ends done stops (inl is) whole again kept =
+    again first stops is
+ended_after {T} before fault end end' Done Stops Ends done stops (inr (is, same)) whole again kept =
+    kept (subst (λ (r : Result T Fault). IfErr r Stops) is stops) same

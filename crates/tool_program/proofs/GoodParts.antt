@@ -10,7 +10,7 @@ use Rattle.tool_program.specs.Sink.{IsNotMade, Made, RefusesNew, StopsFile}
 use Rattle.tool_program.specs.Uploads.{GivesUpUploads, Listed, ListsUploads}
 use Rattle.tool_program.specs.declared.fault.Fault.{Fault}
 use Rattle.tool_program.specs.declared.fault.Fault.TheVariants.{Exists, NoMemory, Unmade, Write}
-use Rattle.tool_program.specs.declared.good_part.GoodPartWords.{GoodPartWords}
+use Rattle.tool_words.specs.declared.task.GoodPartWords.{GoodPartWords}
 use Rattle.tool_program.specs.declared.output.WriteEnd.{WriteEnd}
 use Rattle.tool_program.specs.declared.sink.MakeFault.{MakeFault}
 use Rattle.tool_program.specs.declared.sink.MakeFault.TheVariants as make

@@ -8,7 +8,6 @@ pub mod Faults
 pub mod FilesMade
 pub mod FoundRows
 pub mod GoodParts
-pub mod LaterWords
 pub mod LedgerFaults
 pub mod Listing
 pub mod ListingWith
@@ -16,6 +15,7 @@ pub mod LookEnds
 pub mod Looking
 pub mod MergedUploads
 pub mod Opened
+pub mod SeenUploads
 pub mod Sorting
 pub mod Splitting
 pub mod TableEnds

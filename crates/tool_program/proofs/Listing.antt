@@ -39,7 +39,8 @@ listed_push words word listed one named is =
     ∙ ap (λ (w : List ℕ). words ++ w ∷ []) is
 
 -- what was loaded, with one upload more
-pub listed_opened : (words : List (List ℕ)) (word : List ℕ) (loaded loaded' loaded'' : Option (List Loaded))
+pub listed_opened : (words : List (List ℕ)) (word : List ℕ)
+    (loaded loaded' loaded'' : Option (List Loaded))
     (listed : List Listed) (one : Listed)
     → HasOpened words loaded loaded' (listed_uploads listed)
     → LoadsOne loaded' loaded'' (file_named word) one.upload
@@ -92,7 +93,8 @@ pub lists_more : (words : List (List ℕ)) (number : ℕ) (word : List ℕ)
     → ListsUploads words loaded loaded' out out' listed → length listed ≡ number
     → (one : ListsOne number word loaded' loaded'' out' out'' bytes well)
     → ListsUploads (words ++ word ∷ []) loaded loaded'' out out'' (listed ++ one.one ∷ [])
-lists_more words number word loaded loaded' loaded'' out out' out'' listed bytes well all count one =
+lists_more words number word loaded loaded' loaded'' out out' out'' listed bytes well all count
+    one =
     record {
       named = listed_push words word listed one.one all.named one.named;
       opened = listed_opened words word loaded loaded' loaded'' listed one.one all.opened
@@ -236,19 +238,20 @@ pub gives_up_kept : (words : List (List ℕ)) (loaded : Option (List Loaded))
     (fault : Fault) (out mid out' : Option (List ℕ))
     → GivesUpUploads words loaded refused end fault out mid → refused' ≡ refused → Keeps mid out'
     → end' ≡ end → GivesUpUploads words loaded refused' end' fault out out'
-gives_up_kept words loaded refused refused' end end' fault out mid out' stops of kept same = record {
-  listed = stops.listed;
-  rest = stops.rest;
-  between = stops.between;
-  named = stops.named;
-  opened = stops.opened;
-  texts = stops.texts;
-  written = written_kept fault out mid out' (listed_text stops.listed) stops.written kept;
-  right = subst (λ (e : Option WriteEnd). IsRightDecodeFault refused' stops.rest e fault)
-      (sym same)
-      (subst (λ (r : Option (Option (List ℕ) × LoadFault)). IsRightDecodeFault r stops.rest end
-      fault) (sym of) stops.right);
-}
+gives_up_kept words loaded refused refused' end end' fault out mid out' stops of kept same =
+    record {
+      listed = stops.listed;
+      rest = stops.rest;
+      between = stops.between;
+      named = stops.named;
+      opened = stops.opened;
+      texts = stops.texts;
+      written = written_kept fault out mid out' (listed_text stops.listed) stops.written kept;
+      right = subst (λ (e : Option WriteEnd). IsRightDecodeFault refused' stops.rest e fault)
+          (sym same)
+          (subst (λ (r : Option (Option (List ℕ) × LoadFault)). IsRightDecodeFault r stops.rest end
+          fault) (sym of) stops.right);
+    }
 
 -- and has not
 pub gives_up_again : (words : List (List ℕ)) (loaded : Option (List Loaded))

@@ -109,7 +109,8 @@ pub with_fault_kept : (has_tokens : Bool) (words : List (List ℕ)) (loaded : Op
 with_fault_kept false words loaded refused end end' fault out mid out' stops kept same =
     gives_up_kept words loaded refused refused end end' fault out mid out' stops refl kept same
 with_fault_kept true words loaded refused end end' fault out mid out' (inl stops) kept same =
-    inl (gives_up_kept words loaded refused refused end end' fault out mid out' stops refl kept same)
+    inl (gives_up_kept words loaded refused refused end end' fault out mid out' stops refl kept
+    same)
 with_fault_kept true words loaded refused end end' fault out mid out' (inr stops) kept same =
     inr (record {
       listed = stops.listed;
@@ -136,7 +137,8 @@ pub with_fault_again : (has_tokens : Bool) (words : List (List ℕ)) (loaded : O
 with_fault_again false words loaded refused end end' fault unwritten out mid out' stops kept is =
     gives_up_again words loaded refused refused end end' fault unwritten out mid out' stops kept is
 with_fault_again true words loaded refused end end' fault unwritten out mid out' (inl stops) kept
-    is = inl (gives_up_again words loaded refused refused end end' fault unwritten out mid out' stops
+    is = inl (gives_up_again words loaded refused refused end end' fault unwritten out mid out'
+    stops
     kept is)
 with_fault_again true words loaded refused end end' fault unwritten out mid out' (inr stops) kept
     is = inr (record {

@@ -14,7 +14,7 @@ use Rattle.tool_program.specs.Names.{file_named}
 use Rattle.tool_program.specs.Uploads.{Listed}
 use Rattle.tool_program.specs.declared.fault.Fault.{Fault}
 use Rattle.tool_program.specs.declared.fault.Fault.TheVariants.{FareTable, NoMemory}
-use Rattle.tool_program.specs.declared.look.LookWords.{LookWords}
+use Rattle.tool_words.specs.declared.task.LookWords.{LookWords}
 use Rattle.tool_program.specs.declared.output.WriteEnd.{WriteEnd}
 use Rattle.tool_program.specs.inside.Look.{IsTableFault, LooksThrough, StopsAll}
 use Rattle.tool_program.proofs.DecodedTables.{line_of_report}

@@ -24,7 +24,7 @@ use Rattle.tool_program.specs.Names.{file_named}
 use Rattle.tool_program.specs.Source.{HasOpened}
 use Rattle.tool_program.specs.Uploads.{Listed, listed_text, listed_uploads, listed_words}
 use Rattle.tool_program.specs.declared.fault.Fault.{Fault}
-use Rattle.tool_program.specs.declared.look.LookWords.{LookWords}
+use Rattle.tool_words.specs.declared.task.LookWords.{LookWords}
 use Rattle.tool_program.specs.declared.output.WriteEnd.{WriteEnd}
 use Rattle.tool_program.specs.inside.Decode.{IsOfWriting}
 use Rattle.tool_program.specs.inside.Look.{BeginsFound, BreaksOffShowing, LooksThrough}
@@ -123,7 +123,8 @@ showing_stop list number word upload facts loaded loaded' refused end fault out 
         is_text = is;
         is_loaded = one;
         begun = begun;
-        reported = λ well. subst (λ (l : Bool). Appends said said (reported_line l word facts.fault))
+        reported = λ well. subst
+            (λ (l : Bool). Appends said said (reported_line l word facts.fault))
             (sym short) (Appends-nil said);
       },
     )
@@ -276,26 +277,28 @@ found_stop words names meaning loaded loaded' refused end fault out out' out'' s
       lines = all.reported;
     }
 
-pub begins_found : (words : LookWords) (meaning : Option TableMeaning) (names uploads : List (List ℕ))
+pub begins_found : (words : LookWords) (meaning : Option TableMeaning)
+    (names uploads : List (List ℕ))
     (found : Findings) (silent : Option SilentDays) (out out' : Option (List ℕ))
     → AreFindings words.within (span_of words) uploads found
     → AreSilent words meaning (taps_of found) silent → (text : List ℕ)
     → (text ≡ []) ⊎ IsShownSo words names uploads found silent text → Begins out out' text
     → BeginsFound words meaning names uploads out out'
-begins_found words meaning names uploads found silent out out' are_found are_silent text is begun = (
-  text,
-  elim is [
-    | inl none ↦ inl none
-    | inr shown ↦ inr (record {
-      found = found;
-      are_found = are_found;
-      silent = silent;
-      are_silent = are_silent;
-      shown = shown;
-    })
-  ],
-  begun,
-)
+begins_found words meaning names uploads found silent out out' are_found are_silent text is
+    begun = (
+      text,
+      elim is [
+        | inl none ↦ inl none
+        | inr shown ↦ inr (record {
+          found = found;
+          are_found = are_found;
+          silent = silent;
+          are_silent = are_silent;
+          shown = shown;
+        })
+      ],
+      begun,
+    )
 
 -- ---- what was written goes out
 pub through_kept : (words : LookWords) (names : List (List ℕ)) (meaning : Option TableMeaning)

@@ -76,7 +76,8 @@ right_file words known index word fault said at first is = absurd is
 -- a file that was not opened is one of them
 pub right_unopened : (words : List (List ℕ)) (word : List ℕ) (said : Fault) → IsOneOf word words
     → IsOpenFault word said → IsUnopened words said
-right_unopened words word (Unread named) one is = subst (λ (w : List ℕ). IsOneOf w words) (sym is) one
+right_unopened words word (Unread named) one is =
+    subst (λ (w : List ℕ). IsOneOf w words) (sym is) one
 right_unopened words word (TooManyOpen named) one is =
     subst (λ (w : List ℕ). IsOneOf w words) (sym is) one
 right_unopened words word NoMemory one is = tt

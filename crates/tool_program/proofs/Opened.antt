@@ -18,7 +18,8 @@ opened_none loaded = record { loads = []; named = refl; bytes = refl; is_loaded 
 
 -- a source that keeps what it opened goes on to keep it
 pub still_kept : (words : List (List ℕ)) (kept : List Loaded)
-    (loaded loaded' : Option (List Loaded)) (texts : List (List ℕ)) → loaded ≡ Some kept → HasOpened words loaded loaded' texts
+    (loaded loaded' : Option (List Loaded)) (texts : List (List ℕ)) → loaded ≡ Some kept
+    → HasOpened words loaded loaded' texts
     → (now : List Loaded) × (loaded' ≡ Some now)
 still_kept words kept loaded None texts is all =
     absurd (subst (λ (t : Option (List Loaded)). LoadsAll t None all.loads) is all.is_loaded)

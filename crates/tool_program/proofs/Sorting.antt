@@ -1,6 +1,7 @@
 -- Uploads that are loaded and sorted, and the lines of their layout faults.
 use Rattle.std.proofs.Common.{◌≡◌, ◌∙◌, ◌<◌, ◌+◌, ℕ, List, [], ◌∷◌, ◌++◌, ◌&&◌, Bool, Bor, true}
-use Rattle.std.proofs.Common.{false, None, Option, Some, append-nil, append_assoc, ap, arith, get_or}
+use Rattle.std.proofs.Common.{false, None, Option, Some, append-nil, append_assoc, ap, arith}
+use Rattle.std.proofs.Common.{get_or}
 use Rattle.std.proofs.Common.{length-take}
 use Rattle.std.proofs.lemmas.List.{take_more}
 use Rattle.std.proofs.Common.{length, map, refl, subst, sym, take}

@@ -1,11 +1,10 @@
 -- Fare tables that are read, and what is reported of them.
-use Rattle.std.proofs.Common.{◌≡◌, ◌∙◌, ◌<◌, ◌+◌, ◌⊎◌, ℕ, Bool, true, false, List, [], ◌∷◌, ◌++◌}
-use Rattle.std.proofs.Common.{None, Option, Some, ap, append-nil, drop}
+use Rattle.std.proofs.Common.{◌≡◌, ◌∙◌, ◌<◌, ◌+◌, ℕ, Bool, true, false, List, [], ◌∷◌, ◌++◌}
+use Rattle.std.proofs.Common.{Bor, None, Option, Some, ap, append-nil, drop, eqb}
 use Rattle.std.proofs.Common.{arith, get_or, inl, inr, length, map, refl, subst, suc, sym, take}
 use Rattle.std.proofs.Common.{zero}
-use Rattle.std.specs.Prelude.{◌&&◌, ◌≢◌, Err, IfSome, IsUtf8, Ok, is_none, is_some, option_map}
+use Rattle.std.specs.Prelude.{◌&&◌, ◌≢◌, Err, IsUtf8, Ok, is_none}
 use Rattle.std.specs.Io.KnownBytes.{Appends}
-use Rattle.std.specs.List.{AllByRecursion}
 use Rattle.std.proofs.KnownBytes.{Appends-nil, Appends-trans}
 use Rattle.std.proofs.lemmas.List.{map-append, take_more}
 use Rattle.std.proofs.lemmas.List.Concat.{flat_map-append}
@@ -19,33 +18,31 @@ use Rattle.program_manners.specs.Refusals.{IsFirstTableFault}
 use Rattle.program_manners.specs.TableLoads.{Follows}
 use Rattle.program_manners.specs.declared.loading.LoadFault.{LoadFault}
 use Rattle.table_report.specs.ReadTable.{IsFareTable, IsReadFrom, ReadTable}
-use Rattle.table_report.specs.Ignored.{ignored_in}
 use Rattle.table_report.specs.SqlText.{has_names_in_line, sql_text}
-use Rattle.table_report.specs.Warned.{count_of, ignored_keys_of, ignored_of, warned_count}
-use Rattle.toml.specs.Data.{Members}
-use Rattle.toml.specs.Parse.{parse_document}
+use Rattle.tap_views.specs.declared.span.MomentSpan.{MomentSpan}
 use Rattle.tool_program.specs.Decode.{AreReported, layout_line}
 use Rattle.tool_program.specs.Fault.{IsRefusal}
 use Rattle.tool_program.specs.Source.{HasOpened}
 use Rattle.tool_program.specs.Table.{AreReadFrom, Checked, FollowEach}
-use Rattle.tool_program.specs.Table.{HasNoIgnored, HasNoTable, HasReported}
+use Rattle.tool_program.specs.Table.{HasNoTable, HasReported}
 use Rattle.tool_program.specs.Table.{HasSqlName, IsRightTableFault}
-use Rattle.tool_program.specs.Table.{checked_lines, checked_uploads}
+use Rattle.tool_program.specs.Table.{checked_lines, checked_uploads, checked_words}
 use Rattle.tool_program.specs.Table.{have_no_fault, sql_of}
 use Rattle.tool_program.specs.declared.fault.Fault.{Fault}
 use Rattle.tool_program.specs.declared.fault.Fault.TheVariants.{Closed, TooLong, Unread, Write}
 use Rattle.tool_program.specs.declared.output.WriteEnd.{WriteEnd}
 use Rattle.tool_program.specs.declared.output.WriteEnd.TheVariants as writes
+use Rattle.tool_program.specs.declared.table.seen.SeenAt.{SeenAt}
 use Rattle.tool_program.specs.declared.table.understood.Stopped.{Stopped}
 use Rattle.tool_program.specs.declared.table.understood.Stopped.TheVariants as stopped
 use Rattle.tool_program.specs.inside.Decode.{IsOfWriting}
-use Rattle.tool_program.specs.inside.Table.{AddsText, AreReadSoFar, AreWarnedSoFar, ChecksEach}
-use Rattle.tool_program.specs.inside.Table.{ChecksOne, IsWarnedOf}
+use Rattle.tool_program.specs.inside.Table.{AddsText, AreReadSoFar, AreSeen, AreSeenEach}
+use Rattle.tool_program.specs.inside.Table.{AreWarnedSoFar, ChecksEach, ChecksOne, IsWarnedOf}
 use Rattle.tool_program.specs.inside.Table.{IsStopped, IsStoppedAt}
 use Rattle.tool_program.proofs.Decoding.{loaded_push}
 use Rattle.tool_program.proofs.Faults.{one_among}
 use Rattle.tool_program.proofs.Opened.{opened_none}
-use Rattle.part_reports.proofs.Risings.{each_push}
+use Rattle.tool_program.proofs.SeenUploads.{none_push, seen_more, seen_of, some_front, some_last}
 use Rattle.tool_program.proofs.Sorting.{both_true}
 
 -- ---- what is reported
@@ -109,16 +106,6 @@ pub map_more_of : {T : Type 0} (f : T → List ℕ) (xs : List T) (k : ℕ) (d :
     → map f (take (k + 1) xs) ≡ map f (take k xs) ++ f (get_or xs k d) ∷ []
 map_more_of f xs k d within =
     ap (map f) (take_more xs k d within) ∙ map-append f (take k xs) _
-
-all_front : {T : Type 0} (P : T → Type 0) (xs : List T) (x : T)
-    → AllByRecursion P (xs ++ x ∷ []) → AllByRecursion P xs
-all_front P [] x all = tt
-all_front P (first ∷ xs) x all = (all.0, all_front P xs x all.1)
-
-all_last : {T : Type 0} (P : T → Type 0) (xs : List T) (x : T)
-    → AllByRecursion P (xs ++ x ∷ []) → P x
-all_last P [] x all = all.0
-all_last P (first ∷ xs) x all = all_last P xs x all.1
 
 -- ---- texts of tables
 read_push : (texts : List (List ℕ)) (text : List ℕ) (tables : List ReadTable) (table : ReadTable)
@@ -218,15 +205,54 @@ follow_push first (other ∷ words) word (before ∷ texts) text all next (secon
     (second, follows, follow_push second words word texts text all next each one)
 
 -- ---- uploads
-pub checks_none : (loaded : Option (List Loaded)) (said : Option (List ℕ)) (failed : Bool)
-    (Still : Type 0) → Still → ChecksEach [] loaded loaded said said failed true Still
-checks_none loaded said failed Still still = record {
+pub checks_none : (loaded : Option (List Loaded)) (Seen : List (List ℕ) → Type 0)
+    (said : Option (List ℕ)) (failed : Bool) (Still : Type 0) → Seen [] → Still
+    → ChecksEach [] loaded loaded Seen said said failed true Still
+checks_none loaded Seen said failed Still none still = record {
   checked = [];
   uploads = record { named = refl; opened = opened_none loaded };
+  seen = none;
   well_is = refl;
   reported = λ well. Appends-nil said;
   still = λ well. still;
 }
+
+-- there are words
+pub some_words : (words : List (Bor (List ℕ))) → eqb (length words) 0 ≡ false
+    → map (λ w. w.now) words ≢ []
+some_words [] some = λ none. absurd (cc)
+some_words (word ∷ words) some = λ none. absurd (cc)
+
+-- there are uploads
+pub checks_some : (words : List (List ℕ)) (loaded loaded' : Option (List Loaded))
+    (spans : List MomentSpan) (seen : List SeenAt) (said said' : Option (List ℕ))
+    (failed well : Bool) (Still : Type 0) → words ≢ []
+    → ChecksEach words loaded loaded' (AreSeenEach spans seen) said said' failed well Still
+    → ChecksEach words loaded loaded' (AreSeen spans seen) said said' failed well Still
+checks_some words loaded loaded' spans seen said said' failed well Still some each = record {
+  checked = each.checked;
+  uploads = each.uploads;
+  seen = by each.checked each.uploads.named each.seen;
+  well_is = each.well_is;
+  reported = each.reported;
+  still = each.still;
+}
+  where
+    by : (checked : List Checked) → checked_words checked ≡ words
+        → AreSeenEach spans seen (checked_uploads checked)
+        → AreSeen spans seen (checked_uploads checked)
+    by [] named is = absurd (some (sym named))
+    by (one ∷ checked) named is = is
+
+-- what is shown of a count is taken away
+pub checks_ended : (words : List (List ℕ)) (loaded loaded' loaded'' : Option (List Loaded))
+    (Seen : List (List ℕ) → Type 0) (said said' : Option (List ℕ)) (failed well : Bool)
+    (Still : Type 0) → loaded'' ≡ loaded'
+    → ChecksEach words loaded loaded' Seen said said' failed well Still
+    → ChecksEach words loaded loaded'' Seen said said' failed well Still
+checks_ended words loaded loaded' loaded'' Seen said said' failed well Still same each =
+    subst (λ (l : Option (List Loaded)). ChecksEach words loaded l Seen said said' failed well
+    Still) (sym same) each
 
 sound_push : (checked : List Checked) (one : Checked)
     → have_no_fault (checked ++ one ∷ []) ≡ (have_no_fault checked && is_none one.facts.fault)
@@ -247,14 +273,14 @@ sound_push (first ∷ checked) one =
 pub checks_more : (words : List (List ℕ)) (word : List ℕ)
     (loaded loaded' loaded'' : Option (List Loaded)) (said said' said'' : Option (List ℕ))
     (failed failed' well is : Bool) (Quiet QuietNext QuietAll : Type 0)
-    → (Quiet → QuietNext → QuietAll)
-    → ChecksEach words loaded loaded' said said' failed well Quiet
-    → ChecksOne word loaded' loaded'' said' said'' failed' is QuietNext
+    (spans : List MomentSpan) (seen seen' : List SeenAt) → (Quiet → QuietNext → QuietAll)
+    → ChecksEach words loaded loaded' (AreSeenEach spans seen) said said' failed well Quiet
+    → ChecksOne word loaded' loaded'' seen seen' said' said'' failed' is QuietNext
     → (failed' ≡ false → failed ≡ false)
-    → ChecksEach (words ++ word ∷ []) loaded loaded'' said said'' failed' (well && is) QuietAll
+    → ChecksEach (words ++ word ∷ []) loaded loaded'' (AreSeenEach spans seen') said said''
+    failed' (well && is) QuietAll
 checks_more words word loaded loaded' loaded'' said said' said'' failed failed' well is Quiet
-    QuietNext QuietAll ss
-    each one kept = record {
+    QuietNext QuietAll spans seen seen' ss each one kept = record {
       checked = each.checked ++ one.one ∷ [];
       uploads = record {
         named = map-append (λ (d : Checked). d.word) each.checked (one.one ∷ [])
@@ -265,6 +291,10 @@ checks_more words word loaded loaded' loaded'' said said' said'' failed failed' 
             (loaded_push words word loaded loaded' loaded'' (checked_uploads each.checked)
             one.one.upload each.uploads.opened one.is_loaded);
       };
+      seen = subst (AreSeenEach spans seen')
+          (sym (map-append (λ (d : Checked). d.upload) each.checked (one.one ∷ [])))
+          (seen_more spans seen seen' (checked_uploads each.checked) one.one.upload each.seen
+          one.added);
       well_is = ap (λ (b : Bool). b && is) each.well_is
           ∙ ap (λ (b : Bool). have_no_fault each.checked && b) one.well_is
           ∙ sym (sound_push each.checked one.one);
@@ -284,95 +314,45 @@ checks_more words word loaded loaded' loaded'' said said' said'' failed failed' 
         ∙ ap (λ (w : List ℕ). layout_line w one.one.facts.fault) one.named)
 
 -- ---- warnings
-no_length : {T : Type 0} (xs : List T) → length xs ≡ 0 → xs ≡ []
-no_length [] is = refl
-no_length (x ∷ xs) is = absurd (omega (arith, is))
-
-none_ignored : (tree : Option Members) (fares : Fares) (seen : Option (List ℕ))
-    → count_of fares seen tree ≡ 0 → ignored_of tree ≡ []
-none_ignored None fares seen is = refl
-none_ignored (Some tree) fares seen is = no_length (ignored_in tree) (omega (arith, is))
-
--- without uploads there is no other warning
-none_counted : (tree : Option Members) (fares : Fares) → ignored_of tree ≡ []
-    → count_of fares None tree ≡ 0
-none_counted None fares is = refl
-none_counted (Some tree) fares is =
-    let e : length (ignored_in tree) ≡ 0 = ap length is in omega (arith, e)
-
--- without a warning no key is ignored
-pub silent_table : (table : ReadTable) (seen : Option (List ℕ)) → warned_count table seen ≡ 0
-    → HasNoIgnored table
-silent_table table seen is = none_ignored (parse_document table.text) table.fares seen is
-
--- a warning has a cause
-pub cause_of : {T : Type 0} (f : T → List ℕ) (table : ReadTable) (entry : Option T)
-    → (warned_count table (option_map f entry) ≡ 0 → ⊥)
-    → (ignored_keys_of table ≢ []) ⊎ (is_some entry ≡ true)
-cause_of f table None some =
-    inl (λ none. some (none_counted (parse_document table.text) table.fares none))
-cause_of f table (Some seen) some = inr refl
-
-pub warned_push : (tables : List ReadTable) (table : ReadTable) (has_seen silent is : Bool)
-    (Quiet QuietNext QuietAll Said SaidNext SaidAll : Type 0) → (Quiet → QuietNext → QuietAll)
-    → (Quiet → SaidNext → SaidAll)
+pub warned_push : (tables : List ReadTable) (table : ReadTable) (seen : List SeenAt)
+    (silent is : Bool) (Quiet QuietNext QuietAll Said SaidNext SaidAll : Type 0)
+    → (Quiet → QuietNext → QuietAll) → (Quiet → SaidNext → SaidAll)
     → (Said → QuietNext → SaidAll) → (Said → SaidNext → SaidAll)
-    → AreWarnedSoFar silent tables has_seen Quiet Said
-    → IsWarnedOf is table has_seen QuietNext SaidNext
-    → AreWarnedSoFar (silent && is) (tables ++ table ∷ []) has_seen QuietAll SaidAll
-warned_push tables table has_seen true true Quiet QuietNext QuietAll Said SaidNext SaidAll ss sr rs
-    rr all one =
-    (each_push HasNoIgnored tables table all.0 one.0, ss all.1 one.1)
-warned_push tables table has_seen true false Quiet QuietNext QuietAll Said SaidNext SaidAll ss sr rs
-    rr all one = (
-      elim one.0 [
-        | inl some ↦ inl (λ none. some (all_last HasNoIgnored tables table none))
-        | inr seen ↦ inr seen
-      ],
-      sr all.1 one.1,
-    )
-warned_push tables table has_seen false true Quiet QuietNext QuietAll Said SaidNext SaidAll ss sr rs
-    rr all one = (
-      elim all.0 [
-        | inl some ↦ inl (λ none. some (all_front HasNoIgnored tables table none))
-        | inr seen ↦ inr seen
-      ],
-      rs all.1 one.1,
-    )
-warned_push tables table has_seen false false Quiet QuietNext QuietAll Said SaidNext SaidAll ss sr
-    rs rr all one = (
-      elim all.0 [
-        | inl some ↦ inl (λ none. some (all_front HasNoIgnored tables table none))
-        | inr seen ↦ inr seen
-      ],
-      rr all.1 one.1,
-    )
+    → AreWarnedSoFar silent tables seen Quiet Said
+    → IsWarnedOf is table (seen_of seen (length tables)) QuietNext SaidNext
+    → AreWarnedSoFar (silent && is) (tables ++ table ∷ []) seen QuietAll SaidAll
+warned_push tables table seen true true Quiet QuietNext QuietAll Said SaidNext SaidAll ss sr rs rr
+    all one =
+    (none_push tables table seen all.0 one.0, ss all.1 one.1)
+warned_push tables table seen true false Quiet QuietNext QuietAll Said SaidNext SaidAll ss sr rs rr
+    all one =
+    (some_last tables table seen one.0, sr all.1 one.1)
+warned_push tables table seen false true Quiet QuietNext QuietAll Said SaidNext SaidAll ss sr rs rr
+    all one =
+    (some_front tables table seen all.0, rs all.1 one.1)
+warned_push tables table seen false false Quiet QuietNext QuietAll Said SaidNext SaidAll ss sr rs rr
+    all one =
+    (some_front tables table seen all.0, rr all.1 one.1)
 
 -- the same, of what is reported
 pub warned_on : (said said' said'' : Option (List ℕ)) (failed failed' : Bool)
-    (tables : List ReadTable) (table : ReadTable) (has_seen silent is : Bool)
+    (tables : List ReadTable) (table : ReadTable) (seen : List SeenAt) (silent is : Bool)
     (Quiet QuietNext QuietAll : Type 0) → (Quiet → QuietNext → QuietAll) → (Quiet → said' ≡ said)
     → (QuietNext → (said'' ≡ said') × (failed' ≡ failed)) → (failed' ≡ false → failed ≡ false)
-    → AreWarnedSoFar silent tables has_seen Quiet (HasReported said said' failed)
-    → IsWarnedOf is table has_seen QuietNext (HasReported said' said'' failed')
-    → AreWarnedSoFar (silent && is) (tables ++ table ∷ []) has_seen QuietAll
+    → AreWarnedSoFar silent tables seen Quiet (HasReported said said' failed)
+    → IsWarnedOf is table (seen_of seen (length tables)) QuietNext
+    (HasReported said' said'' failed')
+    → AreWarnedSoFar (silent && is) (tables ++ table ∷ []) seen QuietAll
     (HasReported said said'' failed')
-warned_on said said' said'' failed failed' tables table has_seen silent is Quiet QuietNext QuietAll
-    ss from to kept
-    all one =
-    warned_push tables table has_seen silent is Quiet QuietNext QuietAll
+warned_on said said' said'' failed failed' tables table seen silent is Quiet QuietNext QuietAll ss
+    from to kept all one =
+    warned_push tables table seen silent is Quiet QuietNext QuietAll
     (HasReported said said' failed)
     (HasReported said' said'' failed') (HasReported said said'' failed') ss
     (λ still more. reported_from said said' said'' failed' (from still) more)
     (λ some still. let p = to still in
     reported_to said said' said'' failed failed' p.0 p.1 some)
     (λ some more. reported_both said said' said'' failed failed' some more kept) all one
-
--- what is known of a value that is there
-pub of_some : {T : Type 0} (entry : Option T) (P : Type 0) → IfSome entry (λ s. P)
-    → is_some entry ≡ true → P
-of_some None P all is = cc
-of_some (Some one) P all is = all
 
 -- ---- SQL
 pub sql_push : (out out' out'' : Option (List ℕ)) (tables : List ReadTable) (table : ReadTable)

@@ -22,7 +22,7 @@ use Rattle.tool_program.specs.Fault.{IsRefusal}
 use Rattle.tool_program.specs.Sink.{IsNewName, IsNotMade, Made, Makes, RefusesNew}
 use Rattle.tool_program.specs.Source.{HasOpened}
 use Rattle.tool_program.specs.Uploads.{IsMomentOrDash}
-use Rattle.tool_program.specs.declared.encode_rows.RowsWords.{RowsWords}
+use Rattle.tool_words.specs.declared.task.RowsWords.{RowsWords}
 use Rattle.tool_program.specs.declared.fault.Fault.{Fault}
 use Rattle.tool_program.specs.declared.fault.Fault.TheVariants.{Closed, Devices, Exists, NoMemory}
 use Rattle.tool_program.specs.declared.fault.Fault.TheVariants.{Rows, SomeChanged, Unmade, Unread}

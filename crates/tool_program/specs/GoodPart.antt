@@ -8,7 +8,7 @@ use Rattle.tool_program.specs.Sink.{IsNotMade, Made, MakesOne, RefusesNew}
 use Rattle.tool_program.specs.Uploads.{GivesUpWith, Listed, ListsWith}
 use Rattle.tool_program.specs.declared.fault.Fault.{Fault}
 use Rattle.tool_program.specs.declared.fault.Fault.TheVariants.{Exists, NoMemory, Unmade, Write}
-use Rattle.tool_program.specs.declared.good_part.GoodPartWords.{GoodPartWords}
+use Rattle.tool_words.specs.declared.task.GoodPartWords.{GoodPartWords}
 use Rattle.tool_program.specs.declared.output.WriteEnd.{WriteEnd}
 use Rattle.tool_program.specs.declared.sink.NewFault.{NewFault}
 use Rattle.tool_program.specs.declared.sink.NewFault.TheVariants as newly

@@ -25,7 +25,7 @@ use Rattle.tool_program.specs.Uploads.{IsUploadText, Listed, are_sound, listed_t
 use Rattle.tool_program.specs.Uploads.{listed_uploads, listed_words}
 use Rattle.tool_program.specs.declared.fault.Fault.{Fault}
 use Rattle.tool_program.specs.declared.fault.Fault.TheVariants.{FareTable}
-use Rattle.tool_program.specs.declared.look.LookWords.{LookWords}
+use Rattle.tool_words.specs.declared.task.LookWords.{LookWords}
 use Rattle.tool_program.specs.declared.output.WriteEnd.{WriteEnd}
 
 -- the word of the fare table, if one is named

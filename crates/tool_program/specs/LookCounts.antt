@@ -10,7 +10,7 @@ use Rattle.upload_checks.specs.declared.silent_days.SilentDays.{SilentDays}
 use Rattle.upload_checks.specs.declared.silent_days.SilentRun.{SilentRun}
 use Rattle.tool_program.specs.FoundTexts.{IsDayText, IsTapText}
 use Rattle.tool_program.specs.UploadTokens.{tokens_lines}
-use Rattle.tool_program.specs.declared.look.LookWords.{LookWords}
+use Rattle.tool_words.specs.declared.task.LookWords.{LookWords}
 
 -- the first tap that is found; `-` if there is none
 abbrev pub IsFirstTap : Option TapFields → List ℕ → Type 0
@@ -50,7 +50,8 @@ IsFirstRun (Some run) text = (day : List ℕ) × IsDayText run.day day
 -- asked for; else nothing
 abbrev pub IsSilentLine : Option SilentDays → List ℕ → Type 0
 IsSilentLine None text = text ≡ []
-IsSilentLine (Some silent) text = (first : List ℕ) × IsFirstRun (slice_get silent.runs.items 0) first
+IsSilentLine (Some silent) text =
+    (first : List ℕ) × IsFirstRun (slice_get silent.runs.items 0) first
     × (text ≡ codes "silent " ++ (decimal silent.number ++ (codes " first "
     ++ (first ++ codes "\n"))))
 
@@ -61,8 +62,9 @@ IsTokensText false uploads text = text ≡ []
 IsTokensText true uploads text = (counts : List CommonCounts) × AreCommonCounts uploads counts
     × (text ≡ tokens_lines 0 counts)
 
--- The lines of tokens, and then a line for each kind that is looked for: near doubles, taps before the span and after it if its
--- ends are given, repeated uploads, and validators without a tap if a fare table is given.
+-- The lines of tokens, and then a line for each kind that is looked for: near doubles, taps before
+-- the span and after it if its ends are given, repeated uploads, and validators without a tap if a
+-- fare table is given.
 pub record AreCounts (words : LookWords) (uploads : List (List ℕ)) (found : Findings)
     (silent : Option SilentDays) (text : List ℕ) : Type 0 where
   pub tokens : List ℕ

@@ -94,7 +94,8 @@ pub record StopsLedgers (words ledger_texts report_texts : List (List ℕ)) (end
 
 -- all texts were opened, and the merge was broken off
 pub record BreaksOffLedgers (ledgers reports : List (List ℕ))
-    (loaded loaded' : Option (List Loaded)) (end : Option WriteEnd) (fault : Fault) (out out' : Option (List ℕ)) : Type 0 where
+    (loaded loaded' : Option (List Loaded)) (end : Option WriteEnd) (fault : Fault)
+    (out out' : Option (List ℕ)) : Type 0 where
   pub ledger_texts : List (List ℕ)
   pub report_texts : List (List ℕ)
   pub opened : OpensBoth ledgers reports loaded loaded' ledger_texts report_texts

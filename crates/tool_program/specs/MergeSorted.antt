@@ -1,12 +1,11 @@
 -- What `sort --merge` does: of the words of its files, and of what is known of the uploads' bytes.
-use Rattle.std.specs.Prelude.{◌≡◌, ◌⊎◌, ⊤, ℕ, List, Option, Some, flat_map, length, map, slice_get}
+use Rattle.std.specs.Prelude.{◌≡◌, ◌⊎◌, ⊤, ℕ, List, Option, Some, flat_map, length, map}
 use Rattle.program_manners.specs.Refusals.{IsOneOf}
 use Rattle.report_texts.specs.declared.upload_end.UploadEnd.{UploadEnd}
 use Rattle.report_texts.specs.declared.upload_end.UploadEnd.TheVariants.{Posted}
-use Rattle.sorted_taps.specs.Checked.{IsFirstFault}
+use Rattle.sorted_taps.specs.Checked.{IsFirstUnsorted}
 use Rattle.sorted_taps.specs.Merges.{AreSortedFiles}
 use Rattle.sorted_taps.specs.Written.{IsInBatchesOf512}
-use Rattle.sorted_taps.specs.declared.fault.SortedFault.{SortedFault}
 use Rattle.sorted_taps.specs.declared.fault.SortedFault.TheVariants as sorted
 use Rattle.tap_parts.specs.Canonical.{IsCanonical}
 use Rattle.tap_views.specs.declared.encoder.TapFields.{TapFields}
@@ -36,15 +35,6 @@ pub record Merges (words : SortWords) (known : List (Option (List ℕ)))
   pub some : (file : List ℕ) × Makes made made' (files_of words ends file)
   pub whole : (uploads : List (List ℕ)) → known ≡ map Some uploads → (file : List ℕ)
       × IsMergeOf uploads ends file × Makes made made' (files_of words ends file)
-
--- Of files under these words, of which this is known, that of this word is the first that is not
--- sorted, for this reason.
-pub record IsFirstUnsorted (words : List (List ℕ)) (known : List (Option (List ℕ)))
-    (word : List ℕ) (fault : SortedFault) : Type 0 where
-  pub index : ℕ
-  pub named : slice_get words index ≡ Some word
-  pub first : (files : List (List ℕ)) → known ≡ map Some files
-      → IsFirstFault files (record { index = index; fault = fault })
 
 -- The fault is the right one of files under these words, of which this is known: the first that is
 -- not sorted, or one that could not be opened or read. Any may have changed after it was checked,

@@ -1,32 +1,49 @@
 -- The whole program: what is asked for was done, or why it was not.
-use Rattle.std.specs.Prelude.{◌≡◌, ◌⊎◌, ⊤, ℕ, Bool, true, false, MatchBool, List, map, Option, Some}
+use Rattle.std.specs.Prelude.{◌≡◌, ◌⊎◌, ⊤, ◌++◌, ℕ, Bool, true, false, MatchBool, List, map}
+use Rattle.std.specs.Prelude.{Option, None, Some, codes, is_none}
 use Rattle.report_texts.specs.UploadEnds.{are_posted}
 use Rattle.report_texts.specs.declared.upload_end.UploadEnd.{UploadEnd}
 use Rattle.program_manners.specs.Loads.{Loaded}
+use Rattle.program_manners.specs.TableWords.{date_text}
 use Rattle.program_manners.specs.declared.loading.LoadFault.{LoadFault}
+use Rattle.program_manners.specs.declared.table_words.DateFault.{DateFault}
+use Rattle.tap_rows.specs.declared.agency.summary.Summary.{Summary}
 use Rattle.tool_program.specs.Corrections.{Corrects, GivesUpCorrections, IsWarned}
 use Rattle.tool_program.specs.Decode.{AreReported, Decoded, Decodes, DecodesFaulty, GivesUpDecode}
 use Rattle.tool_program.specs.Decode.{are_whole}
 use Rattle.tool_program.specs.Encode.{EncodesTable, GivesUpEncode}
+use Rattle.tool_program.specs.EncodeRows.{EncodesRows, GivesUpRows, IsSummaryReported}
 use Rattle.tool_program.specs.Fault.{IsFaultReported}
+use Rattle.tool_program.specs.GoodPart.{GivesUpGoodPart, KeepsGoodPart}
+use Rattle.tool_program.specs.Look.{GivesUpLook, Looks, LooksFaulty}
 use Rattle.tool_program.specs.Merge.{GivesUpMerge, MergesReports}
 use Rattle.tool_program.specs.MergeLedgers.{GivesUpLedgers, MergesLedgers}
 use Rattle.tool_program.specs.MergeSorted.{GivesUpMergeSorted, Merges}
+use Rattle.tool_program.specs.Names.{escaped}
 use Rattle.tool_program.specs.Sink.{Made}
 use Rattle.tool_program.specs.Sort.{GivesUpSort, Sorts, ends_name, refused_lines}
 use Rattle.tool_program.specs.Split.{GivesUpSplit, Splits}
+use Rattle.tool_program.specs.Table.{EndsIll, EndsWell}
 use Rattle.tool_program.specs.Uploads.{GivesUpWith, Listed, ListsFaulty, ListsWith, are_sound}
 use Rattle.tool_program.specs.declared.fault.Fault.{Fault}
+use Rattle.tool_program.specs.declared.fault.Fault.TheVariants.{NoMemory}
 use Rattle.tool_program.specs.declared.output.WriteEnd.{WriteEnd}
+use Rattle.tool_program.specs.declared.sink.NewFault.{NewFault}
 use Rattle.tool_program.specs.declared.sort.SortWords.{SortWords}
 use Rattle.tool_program.specs.declared.split.SplitWords.{SplitWords}
 use Rattle.tool_words.specs.Asked.{Asked, CorrectionsAsked, SortAsked, SplitAsked, corrections}
-use Rattle.tool_words.specs.Asked.{decode, encode, merge, merge_ledgers, mistake, other, sort}
-use Rattle.tool_words.specs.Asked.{split, uploads}
+use Rattle.tool_words.specs.Asked.{decode, encode, encode_rows, good_part, look, merge}
+use Rattle.tool_words.specs.Asked.{merge_ledgers, mistake, sort, split, table, uploads, wrong_date}
+use Rattle.tool_words.specs.Mistakes.{mistake_text}
+use Rattle.tool_words.specs.Tasks.{good_part_of, look_of, rows_words_of, table_of}
+use Rattle.tool_words.specs.declared.task.GoodPartWords.{GoodPartWords}
+use Rattle.tool_words.specs.declared.task.LookWords.{LookWords}
+use Rattle.tool_words.specs.declared.task.RowsWords.{RowsWords}
+use Rattle.tool_words.specs.declared.task.TableQuestion.{TableQuestion}
 
 -- What is known of a run, before it and behind it: what the source loaded and last refused, what
--- the files have that are read at any offset, what the sink made and last could not make, what was
--- written, and what was said.
+-- the files have that are read at any offset, what the sink made and last could not begin or make,
+-- what was written, and what was said.
 pub record Run : Type 0 where
   pub loaded : Option (List Loaded)
   pub loaded' : Option (List Loaded)
@@ -34,6 +51,8 @@ pub record Run : Type 0 where
   pub bytes_under : List ℕ → Option (List ℕ)
   pub made : Option (List Made)
   pub made' : Option (List Made)
+  -- the new file that was last not begun, and why
+  pub unbegun : Option (List ℕ × NewFault)
   pub unmade : Option (List ℕ)
   pub out : Option (List ℕ)
   pub out' : Option (List ℕ)
@@ -84,12 +103,26 @@ abbrev pub IsDone : Asked → Run → Type 0 → Type 0
 IsDone (encode word) run Silent =
     IfKept run (EncodesTable word run.loaded run.loaded' run.out run.out')
     × (run.is_flushed ≡ true) × Silent
+IsDone (encode_rows word asked) run Silent = IfKept run ((words : RowsWords)
+    × (rows_words_of words ≡ asked) × (summary : Summary)
+    × EncodesRows words word run.loaded run.loaded' run.made run.made' run.out run.out' summary
+    × IsSummaryReported summary run.said run.said' run.unsaid) × (run.is_flushed ≡ true)
 IsDone (decode words) run Silent = ((decoded : List Decoded)
     × Decodes words run.loaded run.loaded' run.out run.out' decoded
     × (are_whole decoded ≡ true)) × (run.is_flushed ≡ true) × Silent
 IsDone (uploads words has_tokens) run Silent = ((listed : List Listed)
     × ListsWith has_tokens words run.loaded run.loaded' run.out run.out' listed
     × (are_sound listed ≡ true)) × (run.is_flushed ≡ true) × Silent
+IsDone (good_part asked) run Silent = ((words : GoodPartWords) × (good_part_of words ≡ asked)
+    × (one : Listed)
+    × KeepsGoodPart words run.loaded run.loaded' run.made run.made' run.out run.out' one
+    × (is_none one.facts.fault ≡ true)) × (run.is_flushed ≡ true) × Silent
+IsDone (look asked names) run Silent = ((words : LookWords) × (look_of words ≡ asked)
+    × (listed : List Listed) × Looks words names run.loaded run.loaded' run.out run.out' run.said
+    run.said' run.unsaid listed × (are_sound listed ≡ true)) × (run.is_flushed ≡ true) × Silent
+IsDone (table asked) run Silent = ((question : TableQuestion) × (table_of question ≡ asked)
+    × EndsWell question run.loaded run.loaded' run.out run.out' run.said run.said' run.unsaid
+    Silent) × (run.is_flushed ≡ true)
 IsDone (sort asked) run Silent =
     MatchBool asked.is_merge (MergesAll asked run) (IfKept run (SortsAll asked run true)) × Silent
 IsDone (split asked) run Silent = IfKept run ((words : SplitWords) × AreSplitWords asked words
@@ -104,8 +137,8 @@ IsDone (merge_ledgers ledgers reports) run Silent =
 IsDone (corrections ledgers) run Silent = (run.is_flushed ≡ true) × IfKept run ((removed : ℕ)
     × Corrects ledgers.is_by_token ledgers.old ledgers.new run.loaded run.loaded' run.out run.out'
     removed × IsWarned ledgers.old ledgers.new removed run.said run.said' run.unsaid Silent)
-IsDone (other name rows) run Silent = ⊤
 IsDone (mistake why) run Silent = ⊥
+IsDone (wrong_date word why) run Silent = ⊥
 
 -- It was done, with status 3: an upload has a layout fault, which `sort` reports, or was refused.
 abbrev pub IsPartlyDone : Asked → Run → Type 0
@@ -114,7 +147,6 @@ IsPartlyDone (sort asked) run =
 IsPartlyDone (merge ends reports) run =
     IfKept run (MergesReports ends reports run.loaded run.loaded' run.out run.out' false)
     × (run.is_flushed ≡ true)
-IsPartlyDone (other name rows) run = ⊤
 IsPartlyDone asked run = ⊥
 
 -- a fault was reported, of which this holds
@@ -125,15 +157,33 @@ Faults run Why = (fault : Fault) × IsFaultReported fault run.said run.said' run
 abbrev pub IsGivenUp : Asked → Run → Type 0 → Type 0
 IsGivenUp (encode word) run Silent = Faults run (λ fault. IfKept run
     (GivesUpEncode word run.loaded run.loaded' run.refused run.end fault run.out run.out'))
+IsGivenUp (encode_rows word asked) run Silent = Faults run (λ fault. (words : RowsWords)
+    × (rows_words_of words ≡ asked) × IfKept run (GivesUpRows words word run.loaded run.loaded'
+    run.refused run.made run.made' run.unbegun run.unmade run.end fault run.out run.out'))
 IsGivenUp (decode words) run Silent =
     (DecodesFaulty words run.loaded run.loaded' run.out run.out' run.said run.said' run.unsaid
-    × (run.is_flushed ≡ true)) ⊎ ((fault : Fault) × GivesUpDecode words run.loaded run.refused run.end fault run.out run.out'
+    × (run.is_flushed ≡ true))
+    ⊎ ((fault : Fault) × GivesUpDecode words run.loaded run.refused run.end fault run.out run.out'
     run.said run.said' run.unsaid)
 IsGivenUp (uploads words has_tokens) run Silent =
     (ListsFaulty has_tokens words run.loaded run.loaded' run.out run.out'
     × (run.is_flushed ≡ true) × Silent)
     ⊎ Faults run (λ fault.
     GivesUpWith has_tokens words run.loaded run.refused run.end fault run.out run.out')
+IsGivenUp (good_part asked) run Silent = (words : GoodPartWords) × (good_part_of words ≡ asked)
+    × (((one : Listed)
+    × KeepsGoodPart words run.loaded run.loaded' run.made run.made' run.out run.out' one
+    × (is_none one.facts.fault ≡ false) × (run.is_flushed ≡ true) × Silent)
+    ⊎ Faults run (λ fault. GivesUpGoodPart words run.loaded run.loaded' run.refused run.made
+    run.made' run.unmade run.unbegun run.end fault run.out run.out'))
+IsGivenUp (look asked names) run Silent = (words : LookWords) × (look_of words ≡ asked)
+    × ((LooksFaulty words names run.loaded run.loaded' run.out run.out' run.said run.said'
+    run.unsaid × (run.is_flushed ≡ true))
+    ⊎ ((fault : Fault) × GivesUpLook words names run.loaded run.loaded' run.refused
+    run.end fault run.out run.out' run.said run.said' run.unsaid))
+IsGivenUp (table asked) run Silent = (question : TableQuestion) × (table_of question ≡ asked)
+    × EndsIll question run.loaded run.loaded' run.refused run.end run.is_flushed run.out run.out'
+    run.said run.said' run.unsaid
 IsGivenUp (sort asked) run Silent = Faults run (λ fault. (words : SortWords)
     × AreSortWords asked words × MatchBool asked.is_merge
     (GivesUpMergeSorted words asked.uploads (known_of run asked.uploads) run.made run.made'
@@ -149,34 +199,43 @@ IsGivenUp (merge_ledgers ledgers reports) run Silent = Faults run (λ fault. IfK
     (GivesUpLedgers ledgers reports run.loaded run.loaded' run.refused run.end fault run.out
     run.out'))
 IsGivenUp (corrections ledgers) run Silent = Faults run (λ fault. IfKept run
-    (GivesUpCorrections ledgers.is_by_token ledgers.old ledgers.new run.loaded run.loaded' run.refused run.end fault
+    (GivesUpCorrections ledgers.is_by_token ledgers.old ledgers.new run.loaded run.loaded'
+    run.refused run.end fault
     run.out run.out'))
-IsGivenUp (other name rows) run Silent = ⊤
 IsGivenUp (mistake why) run Silent = ⊥
+IsGivenUp (wrong_date word why) run Silent =
+    IsFaultReported NoMemory run.said run.said' run.unsaid
 
--- what is asked for is no task of this library
-abbrev pub IsOther : Asked → Type 0
-IsOther (other name rows) = ⊤
-IsOther asked = ⊥
+-- the line of a later table's word with a wrong date
+abbrev pub wrong_date_text : List ℕ → DateFault → List ℕ
+wrong_date_text word why = codes "error: " ++ date_text (escaped word) why
+
+-- the line of a mistake in what is asked for, if there is one
+abbrev pub mistake_line : Asked → Option (List ℕ)
+mistake_line (mistake why) = Some (mistake_text why)
+mistake_line (wrong_date word why) = Some (wrong_date_text word why)
+mistake_line asked = None
 
 -- a run of these fields, in their order
 abbrev pub run_of : Option (List Loaded) → Option (List Loaded)
     → Option (Option (List ℕ) × LoadFault) → (List ℕ → Option (List ℕ)) → Option (List Made)
-    → Option (List Made) → Option (List ℕ) → Option (List ℕ) → Option (List ℕ) → Option WriteEnd
-    → Bool → Option (List ℕ) → Option (List ℕ) → Bool → Run
-run_of loaded loaded' refused bytes_under made made' unmade out out' end is_flushed said said' unsaid = record {
-  loaded = loaded;
-  loaded' = loaded';
-  refused = refused;
-  bytes_under = bytes_under;
-  made = made;
-  made' = made';
-  unmade = unmade;
-  out = out;
-  out' = out';
-  end = end;
-  is_flushed = is_flushed;
-  said = said;
-  said' = said';
-  unsaid = unsaid;
-}
+    → Option (List Made) → Option (List ℕ × NewFault) → Option (List ℕ) → Option (List ℕ)
+    → Option (List ℕ) → Option WriteEnd → Bool → Option (List ℕ) → Option (List ℕ) → Bool → Run
+run_of loaded loaded' refused bytes_under made made' unbegun unmade out out' end is_flushed said
+    said' unsaid = record {
+      loaded = loaded;
+      loaded' = loaded';
+      refused = refused;
+      bytes_under = bytes_under;
+      made = made;
+      made' = made';
+      unbegun = unbegun;
+      unmade = unmade;
+      out = out;
+      out' = out';
+      end = end;
+      is_flushed = is_flushed;
+      said = said;
+      said' = said';
+      unsaid = unsaid;
+    }

@@ -1,9 +1,10 @@
 -- What `table` does: of the words of fare tables, and of those of uploads.
-use Rattle.std.specs.Prelude.{◌≡◌, ◌≢◌, ◌⊎◌, ⊤, ℕ, Bool, true, false, List, [], ◌∷◌, ◌++◌, ◌&&◌}
-use Rattle.std.specs.Prelude.{Option, Some, codes, flat_map, is_none, map}
+use Rattle.std.specs.Prelude.{◌≡◌, ◌≢◌, ◌⊎◌, ⊤, ℕ, ◌-◌, Bool, true, false, List, [], ◌∷◌, ◌++◌}
+use Rattle.std.specs.Prelude.{◌&&◌, Option, Some, codes, flat_map, is_none, map}
 use Rattle.std.specs.Io.KnownBytes.{Appends, Keeps}
-use Rattle.std.specs.List.{AllByRecursion}
+use Rattle.std.specs.List.{list_any}
 use Rattle.fare_table.specs.Fares.{Fares}
+use Rattle.fare_table.specs.TableMeaning.{TableMeaning}
 use Rattle.fare_table.specs.declared.follow_fault.FollowFault.{FollowFault}
 use Rattle.program_manners.specs.LineWritten.{LineWritten}
 use Rattle.program_manners.specs.Lines.{follow_text}
@@ -13,10 +14,14 @@ use Rattle.program_manners.specs.TableWords.{TableNames, file_named, written_dat
 use Rattle.program_manners.specs.declared.loading.LoadFault.{LoadFault}
 use Rattle.program_manners.specs.declared.table_words.WrittenDate.{WrittenDate}
 use Rattle.table_report.specs.ReadTable.{IsFareTable, IsReadFrom, ReadTable}
+use Rattle.table_report.specs.SeenValidators.{has_tap_at, is_among}
 use Rattle.table_report.specs.SqlText.{has_names_in_line, sql_text}
-use Rattle.table_report.specs.Warned.{ignored_keys_of}
+use Rattle.table_report.specs.Warned.{ignored_keys_of, warned_count}
 use Rattle.tap_views.specs.Facts.{AreFacts}
+use Rattle.tap_views.specs.Files.{AreGoodTapsOfEach}
+use Rattle.tap_views.specs.Layout.{Tap}
 use Rattle.tap_views.specs.declared.facts.Facts.{Facts}
+use Rattle.tap_views.specs.declared.span.MomentSpan.{MomentSpan}
 use Rattle.tool_program.specs.Decode.{AreReported, layout_line}
 use Rattle.tool_program.specs.Fault.{IsFaultReported, IsRefusal}
 use Rattle.tool_program.specs.Names.{called, escaped}
@@ -25,7 +30,7 @@ use Rattle.tool_program.specs.declared.fault.Fault.{Fault}
 use Rattle.tool_program.specs.declared.fault.Fault.TheVariants.{Closed, Write}
 use Rattle.tool_program.specs.declared.output.WriteEnd.{WriteEnd}
 use Rattle.tool_program.specs.declared.output.WriteEnd.TheVariants as writes
-use Rattle.tool_program.specs.declared.table.TableQuestion.{TableQuestion}
+use Rattle.tool_words.specs.declared.task.TableQuestion.{TableQuestion}
 
 -- ---- the words
 -- those of the tables
@@ -69,9 +74,10 @@ FollowEach fares (word ∷ words) (text ∷ texts) all =
     (next : Fares) × Follows fares word text next × FollowEach next words texts all
 FollowEach fares _ _ all = ⊥
 
--- the texts of these words mean these fare tables, which follow one another
+-- the texts of these words mean these fare tables, which follow one another, and these are all of
+-- them
 pub record AreTables (names : TableNames) (texts : List (List ℕ)) (tables : List ReadTable)
-    : Type 0 where
+    (fares : Fares) : Type 0 where
   pub are_read : AreReadFrom texts tables
   pub first : ReadTable
   pub rest : List ReadTable
@@ -79,8 +85,18 @@ pub record AreTables (names : TableNames) (texts : List (List ℕ)) (tables : Li
   pub text : List ℕ
   pub behind : List (List ℕ)
   pub texts_are : texts ≡ text ∷ behind
-  pub fares : Fares
   pub follow : FollowEach first.fares names.later behind fares
+
+-- the moments of tables, the first of which is valid from this moment on: each is valid until the
+-- next one is
+abbrev pub spans_from : ℕ → List (ℕ × TableMeaning) → List MomentSpan
+spans_from first [] = record { first = first; last = 18_446_744_073_709_551_615 } ∷ []
+spans_from first (next ∷ later) =
+    record { first = first; last = next.0 - 1 } ∷ spans_from next.0 later
+
+-- the moments at which each of the tables is valid, in their order
+abbrev pub spans_of : Fares → List MomentSpan
+spans_of fares = spans_from 0 fares.later
 
 -- The text means a table that cannot follow the fares from the date of its word on, and the line
 -- that says why was reported, unless a write of it failed.
@@ -108,10 +124,6 @@ pub record RefusesNext (first : Fares) (words texts : List (List ℕ)) (said sai
   pub follow : FollowEach first before texts_before fares
   pub refused : ((¬ IsFareTable text) × HasReported said said' failed)
       ⊎ IsNoNext fares word text said said' failed
-
--- the rules ignore no key of the text
-abbrev pub HasNoIgnored : ReadTable → Type 0
-HasNoIgnored table = ignored_keys_of table ≡ []
 
 -- a class of one of the tables has a name that SQL does not take
 abbrev pub HasSqlName : List ReadTable → Type 0
@@ -153,41 +165,83 @@ pub record LoadsUploads (words : List (List ℕ)) (loaded loaded' : Option (List
   pub named : checked_words checked ≡ words
   pub opened : HasOpened words loaded loaded' (checked_uploads checked)
 
+-- ---- what is warned of
+-- the validators are those of the uploads' good taps at moments of the span
+pub record AreValidatorsAt (span : MomentSpan) (uploads : List (List ℕ)) (validators : List ℕ)
+    : Type 0 where
+  pub taps : List (List Tap)
+  pub are_good : AreGoodTapsOfEach uploads taps
+  pub same : (validator : ℕ)
+      → is_among validators validator ≡ list_any (λ one. has_tap_at span one validator) taps
+
+-- Nothing is to be warned of a table that is valid at the moments of the span: each key of its text
+-- has a meaning. If there are uploads, each of its ranges has one of their validators, too, and
+-- each of these is in a range.
+abbrev pub HasNoWarning : List (List ℕ) → ReadTable → MomentSpan → Type 0
+HasNoWarning [] table span = ignored_keys_of table ≡ []
+HasNoWarning uploads table span = (validators : List ℕ)
+    × AreValidatorsAt span uploads validators × (warned_count table (Some validators) ≡ 0)
+
+-- there is something
+abbrev pub HasWarning : List (List ℕ) → ReadTable → MomentSpan → Type 0
+HasWarning [] table span = ignored_keys_of table ≢ []
+HasWarning uploads table span = (validators : List ℕ)
+    × AreValidatorsAt span uploads validators × (warned_count table (Some validators) ≢ 0)
+
+-- nothing is to be warned of each of these tables, which are valid at these moments
+abbrev pub HaveNoWarning : List (List ℕ) → List ReadTable → List MomentSpan → Type 0
+HaveNoWarning uploads [] [] = ⊤
+HaveNoWarning uploads (table ∷ tables) (span ∷ spans) =
+    HasNoWarning uploads table span × HaveNoWarning uploads tables spans
+HaveNoWarning uploads tables spans = ⊥
+
+-- there is something of one of them
+abbrev pub HaveWarning : List (List ℕ) → List ReadTable → List MomentSpan → Type 0
+HaveWarning uploads (table ∷ tables) (span ∷ spans) =
+    HasWarning uploads table span ⊎ HaveWarning uploads tables spans
+HaveWarning uploads tables spans = ⊥
+
+-- these are lines of the warnings: none exactly if nothing is to be warned of
+abbrev pub AreWarnings : List (List ℕ) → List ReadTable → List MomentSpan → List ℕ → Type 0
+AreWarnings uploads tables spans lines = (HaveNoWarning uploads tables spans × (lines ≡ []))
+    ⊎ (HaveWarning uploads tables spans × (lines ≢ []))
+
 -- ---- how it ends
--- The tables were loaded, and then the uploads. Each text of a table is one, and they follow one
--- another.
+-- The tables were loaded, and then the uploads. Each text of a table is one, they follow one
+-- another, and these are all of them.
 pub record LoadsBoth (asked : TableQuestion) (loaded loaded' : Option (List Loaded))
-    (tables : List ReadTable) (checked : List Checked) : Type 0 where
+    (tables : List ReadTable) (fares : Fares) (checked : List Checked) : Type 0 where
   pub texts : List (List ℕ)
   pub between : Option (List Loaded)
   pub opened : HasOpened (files_of (tables_asked asked)) loaded between texts
-  pub are_tables : AreTables (tables_asked asked) texts tables
+  pub are_tables : AreTables (tables_asked asked) texts tables fares
   pub uploads : LoadsUploads (uploads_asked asked) between loaded' checked
 
 -- The same. As SQL, what was written is whole.
 pub record Understands (asked : TableQuestion) (loaded loaded' : Option (List Loaded))
-    (out out' : Option (List ℕ)) (tables : List ReadTable) (checked : List Checked) : Type 0 where
-  pub loads : LoadsBoth asked loaded loaded' tables checked
+    (out out' : Option (List ℕ)) (tables : List ReadTable) (fares : Fares)
+    (checked : List Checked) : Type 0 where
+  pub loads : LoadsBoth asked loaded loaded' tables fares checked
   pub written : asked.is_sql ≡ true → Appends out out' (sql_of tables)
 
--- a line was reported; there are uploads, or a text has a key that the rules ignore
+-- There is something to be warned of, and a line was reported.
 pub record HasWarned (uploads : List (List ℕ)) (tables : List ReadTable)
-    (said said' : Option (List ℕ)) (failed : Bool) : Type 0 where
-  pub cause : (uploads ≢ []) ⊎ (¬ AllByRecursion HasNoIgnored tables)
+    (spans : List MomentSpan) (said said' : Option (List ℕ)) (failed : Bool) : Type 0 where
+  pub cause : HaveWarning uploads tables spans
   pub reported : HasReported said said' failed
 
--- All is well: no upload has a layout fault. Nothing was reported, and the rules ignore no key of a
--- text; or there was a warning, which is no fault here. If nothing was reported, this holds:
--- `Still`.
+-- All is well: no upload has a layout fault. Nothing is to be warned of, and nothing was reported;
+-- or there was a warning, which is no fault here. If nothing was reported, this holds: `Still`.
 pub record EndsWell (asked : TableQuestion) (loaded loaded' : Option (List Loaded))
     (out out' said said' : Option (List ℕ)) (failed : Bool) (Still : Type 0) : Type 0 where
   pub tables : List ReadTable
+  pub fares : Fares
   pub checked : List Checked
-  pub understands : Understands asked loaded loaded' out out' tables checked
+  pub understands : Understands asked loaded loaded' out out' tables fares checked
   pub sound : have_no_fault checked ≡ true
-  pub warned : (AllByRecursion HasNoIgnored tables × Still)
+  pub warned : (HaveNoWarning (checked_uploads checked) tables (spans_of fares) × Still)
       ⊎ ((asked.is_strict ≡ false)
-      × HasWarned (uploads_asked asked) tables said said' failed)
+      × HasWarned (checked_uploads checked) tables (spans_of fares) said said' failed)
 
 -- The tables were loaded. A text is none, and a line was reported. Nothing was written.
 pub record RefusesText (asked : TableQuestion) (loaded loaded' : Option (List Loaded))
@@ -210,24 +264,28 @@ pub record RefusesLater (asked : TableQuestion) (loaded loaded' : Option (List L
   pub refuses : RefusesNext first.fares (tables_asked asked).later behind said said' failed
   pub kept : Keeps out out'
 
--- An upload has a layout fault. The lines of these faults were reported, and then those of warnings.
+-- An upload has a layout fault. The lines of these faults were reported, and then those of
+-- warnings.
 pub record HasFaultyUpload (asked : TableQuestion) (loaded loaded' : Option (List Loaded))
     (out out' said said' : Option (List ℕ)) (failed : Bool) : Type 0 where
   pub tables : List ReadTable
+  pub fares : Fares
   pub checked : List Checked
-  pub understands : Understands asked loaded loaded' out out' tables checked
+  pub understands : Understands asked loaded loaded' out out' tables fares checked
   pub faulty : have_no_fault checked ≡ false
   pub warnings : List ℕ
+  pub are_warnings : AreWarnings (checked_uploads checked) tables (spans_of fares) warnings
   pub reported : AreReported said said' failed (checked_lines checked ++ warnings)
 
 -- There was a warning, which is a fault.
 pub record HasStrictWarning (asked : TableQuestion) (loaded loaded' : Option (List Loaded))
     (out out' said said' : Option (List ℕ)) (failed : Bool) : Type 0 where
   pub tables : List ReadTable
+  pub fares : Fares
   pub checked : List Checked
-  pub understands : Understands asked loaded loaded' out out' tables checked
+  pub understands : Understands asked loaded loaded' out out' tables fares checked
   pub strict : asked.is_strict ≡ true
-  pub warned : HasWarned (uploads_asked asked) tables said said' failed
+  pub warned : HasWarned (checked_uploads checked) tables (spans_of fares) said said' failed
 
 -- The fault is the right one: the source refused the file of one of these words; or a write failed,
 -- as the writer remembers it. Memory may be refused at any time.
@@ -256,21 +314,23 @@ sql_name_text word = codes "fault: " ++ (called word
 pub record RefusesSql (asked : TableQuestion) (loaded loaded' : Option (List Loaded))
     (said' : Option (List ℕ)) (failed : Bool) : Type 0 where
   pub tables : List ReadTable
+  pub fares : Fares
   pub checked : List Checked
-  pub loads : LoadsBoth asked loaded loaded' tables checked
+  pub loads : LoadsBoth asked loaded loaded' tables fares checked
   pub sql : asked.is_sql ≡ true
   pub name : HasSqlName tables
   pub before : Option (List ℕ)
   pub reported : LineWritten before said' failed (sql_name_text asked.table.now)
 
--- It ended ill, for one of these reasons.
+-- It ended ill, for one of these reasons. If the tables were understood, all that was written was
+-- flushed.
 abbrev pub EndsIll : TableQuestion → Option (List Loaded) → Option (List Loaded)
-    → Option (Option (List ℕ) × LoadFault) → Option WriteEnd → Option (List ℕ)
+    → Option (Option (List ℕ) × LoadFault) → Option WriteEnd → Bool → Option (List ℕ)
     → Option (List ℕ) → Option (List ℕ) → Option (List ℕ) → Bool → Type 0
-EndsIll asked loaded loaded' refused end out out' said said' failed =
+EndsIll asked loaded loaded' refused end flushed out out' said said' failed =
     RefusesText asked loaded loaded' out out' said said' failed
     ⊎ RefusesLater asked loaded loaded' out out' said said' failed
-    ⊎ HasFaultyUpload asked loaded loaded' out out' said said' failed
-    ⊎ HasStrictWarning asked loaded loaded' out out' said said' failed
+    ⊎ (HasFaultyUpload asked loaded loaded' out out' said said' failed × (flushed ≡ true))
+    ⊎ (HasStrictWarning asked loaded loaded' out out' said said' failed × (flushed ≡ true))
     ⊎ RefusesSql asked loaded loaded' said' failed
     ⊎ GivesUpTable asked refused end said' failed

@@ -1,6 +1,7 @@
 -- What `uploads` writes: of the words of its uploads.
 use Rattle.std.specs.Prelude.{◌≡◌, ◌⊎◌, ⊤, ℕ, ◌+◌, Bool, true, false, List, [], ◌∷◌, ◌++◌, ◌&&◌}
-use Rattle.std.specs.Prelude.{Option, None, Some, codes, decimal, flat_map, is_none, map, option_map}
+use Rattle.std.specs.Prelude.{Option, None, Some, codes, decimal, flat_map, is_none, map}
+use Rattle.std.specs.Prelude.{option_map}
 use Rattle.std.specs.Io.KnownBytes.{Appends}
 use Rattle.fare_texts.specs.Moments.{IsMomentText}
 use Rattle.program_manners.specs.Loads.{Loaded}

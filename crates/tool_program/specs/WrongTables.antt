@@ -1,5 +1,5 @@
--- What is wrong with a tap table, with an agency's CSV, with a device table or with a fare table, in
--- words.
+-- What is wrong with a tap table, with an agency's CSV, with a device table or with a fare table,
+-- in words.
 use Rattle.std.specs.Prelude.{ℕ, List, ◌++◌, codes, decimal}
 use Rattle.fare_table.specs.Key.{key_name}
 use Rattle.fare_table.specs.declared.fault.TableFault.{TableFault}

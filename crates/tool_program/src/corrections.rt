@@ -22,33 +22,21 @@ use part_reports::Wrong;
 use program_manners::Complaints;
 use std::alloc::Global;
 use std::io::{BufRead, Write};
+use tool_words::CorrectionsWords;
 
-/// The two ledgers that corrections lead from and to, by their words, and what is written of them.
-#[derive(Clone, Copy, Debug)]
-pub struct CorrectedLedgers<'a> {
-    /// The ledger of the bill that was issued.
-    pub old: &'a str,
-    /// The ledger of the bill that takes its place.
-    pub new: &'a str,
-    /// Whether the corrections are summed by token.
-    pub is_by_token: bool,
-}
-
-impl<'a> CorrectedLedgers<'a> {
-    /// The word of a bill's ledger.
-    fn word_of(&self, bill: Bill) -> &'a str
-        ensures { result.now ≡ word_of self.now.old.now self.now.new.now bill }
-    {
-        match bill {
-            Bill::Old => self.old,
-            Bill::New => self.new,
-        }
+/// The word of a bill's ledger.
+fn word_of<'a>(ledgers: &CorrectionsWords<'a>, bill: Bill) -> &'a str
+    ensures { result.now ≡ word_of ledgers.now.old.now ledgers.now.new.now bill }
+{
+    match bill {
+        Bill::Old => ledgers.old,
+        Bill::New => ledgers.new,
     }
 }
 
 /// Why the corrections were not written. The writer remembers `end`.
 fn fault_of<'a>(
-    ledgers: &CorrectedLedgers<'a>,
+    ledgers: &CorrectionsWords<'a>,
     fault: CorrectionsFault,
     end: Option<WriteEnd>,
 ) -> Fault<'a>
@@ -56,10 +44,10 @@ fn fault_of<'a>(
 {
     match fault {
         CorrectionsFault::Form(bill, number) => {
-            Fault::Line(ledgers.word_of(bill), number, Wrong::Form)
+            Fault::Line(word_of(ledgers, bill), number, Wrong::Form)
         }
-        CorrectionsFault::Order(bill, number) => Fault::Unsettled(ledgers.word_of(bill), number),
-        CorrectionsFault::Unread(bill) => Fault::Unread(ledgers.word_of(bill)),
+        CorrectionsFault::Order(bill, number) => Fault::Unsettled(word_of(ledgers, bill), number),
+        CorrectionsFault::Unread(bill) => Fault::Unread(word_of(ledgers, bill)),
         CorrectionsFault::Write => Fault::of_write(end),
         CorrectionsFault::NoMemory => Fault::NoMemory,
     }
@@ -103,7 +91,7 @@ fn write_corrections<R: BufRead + Drop, W: Write>(
 /// lines are removed.
 fn correct_texts<'a, R: BufRead + Drop, W: Write + Drop>(
     alloc: Global,
-    ledgers: &CorrectedLedgers<'a>,
+    ledgers: &CorrectionsWords<'a>,
     old: R,
     new: R,
     out: &mut Output<W>,
@@ -135,7 +123,7 @@ fn correct_texts<'a, R: BufRead + Drop, W: Write + Drop>(
 /// the old ledger has them, and the new one does not.
 fn correct<'a, S: Source, W: Write + Drop>(
     alloc: Global,
-    ledgers: &CorrectedLedgers<'a>,
+    ledgers: &CorrectionsWords<'a>,
     source: &mut S,
     out: &mut Output<W>,
 ) -> Result<u64, Fault<'a>>
@@ -157,7 +145,7 @@ fn correct<'a, S: Source, W: Write + Drop>(
 }
 
 /// Says how many lines are removed, if there are such.
-fn warn<E: Write>(ledgers: &CorrectedLedgers<'_>, removed: u64, err: &mut Complaints<E>)
+fn warn<E: Write>(ledgers: &CorrectionsWords<'_>, removed: u64, err: &mut Complaints<E>)
     ensures { IsWarned ledgers.now.old.now ledgers.now.new.now removed
         (E.contents err.old.writer) (E.contents err.new.writer) err.new.failed
         (err.new ≡ err.old) }
@@ -175,7 +163,7 @@ fn warn<E: Write>(ledgers: &CorrectedLedgers<'_>, removed: u64, err: &mut Compla
 /// on `err`, too. Gives the status: 0 if all is written, 1 after a fault.
 pub fn corrections_over<S: Source, W: Write + Drop, E: Write>(
     alloc: Global,
-    ledgers: &CorrectedLedgers<'_>,
+    ledgers: &CorrectionsWords<'_>,
     source: &mut S,
     out: &mut Output<W>,
     err: &mut Complaints<E>,

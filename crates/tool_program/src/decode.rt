@@ -1,13 +1,12 @@
 //! `decode`.
-ghost use Rattle.std.specs.Prelude.{◌≡◌, ◌≤◌, ◌⊎◌, IfErr, IfOk, List, OnOk, false, is_none, map};
-ghost use Rattle.std.specs.Prelude.{true};
+ghost use Rattle.std.specs.Prelude.{◌≡◌, ◌≤◌, ◌⊎◌, IfErr, IfOk, List, false, is_none, map, true};
 ghost use Rattle.tool_program.specs.Decode.{AreReported, Decoded, Decodes, DecodesFaulty};
 ghost use Rattle.tool_program.specs.Decode.{GivesUpDecode, are_whole, layout_line, layout_lines};
 ghost use Rattle.tool_program.specs.declared.fault.Fault.{Fault as AFault};
 ghost use Rattle.tool_program.specs.inside.Decode.{DecodesEach, DecodesOne, IsOfWriting};
 ghost use Rattle.tool_program.specs.inside.Decode.{StopsDecode, StopsEach, StopsOne};
 
-use crate::fault::{Fault, finish, say};
+use crate::fault::{Fault, finish_after, say};
 use crate::output::{Output, WriteEnd};
 use crate::source::{Source, load_upload};
 use program_manners::Complaints;
@@ -130,38 +129,6 @@ fn decode_table<'a, S: Source, W: Write + Drop, E: Write>(
     }
 }
 
-/// The same, and lets all that was written go out.
-fn decode<'a, S: Source, W: Write + Drop, E: Write>(
-    alloc: Global,
-    words: &[&'a str],
-    source: &mut S,
-    out: &mut Output<W>,
-    err: &mut Complaints<E>,
-) -> Result<bool, Fault<'a>>
-    ensures done { IfOk result (λ well. (decoded : List Decoded)
-        × Decodes (map (λ w. w.now) words.now) (S.loaded source.old) (S.loaded source.new)
-        (W.contents out.old.inner) (W.contents out.new.inner) decoded
-        × (well ≡ are_whole decoded) × AreReported (E.contents err.old.writer)
-        (E.contents err.new.writer) err.new.failed (layout_lines decoded)) }
-    ensures quiet { IfOk result (λ well. well ≡ true → err.new ≡ err.old) }
-    ensures stops { IfErr result (λ fault. StopsDecode (map (λ w. w.now) words.now)
-        (S.loaded source.old) (S.refused source.new) out.new.end fault
-        (W.contents out.old.inner) (W.contents out.new.inner) (E.contents err.old.writer)
-        (E.contents err.new.writer) err.new.failed) }
-    ensures flushed { OnOk result (out.new.is_flushed ≡ true) }
-{
-    match decode_table(alloc, words, source, out, err) {
-        Ok(well) => match finish(out) {
-            Ok(()) => Ok(well),
-            Err(unwritten) => Err(unwritten),
-        },
-        Err(fault) => match finish(out) {
-            Ok(()) => Err(fault),
-            Err(unwritten) => Err(unwritten),
-        },
-    }
-}
-
 /// Decodes the uploads that the words name, `-` being standard input: writes the tap table of their
 /// taps to `out`. Of an upload with a layout fault the taps before it are written, the fault is
 /// reported on `err`, and the next upload follows. Another fault ends it, and is reported, too.
@@ -182,8 +149,8 @@ pub fn decode_over<S: Source, W: Write + Drop, E: Write>(
     ensures flushed { result ≡ 0 → out.new.is_flushed ≡ true }
     // Nothing is reported beside the table of uploads without a fault.
     ensures quiet { result ≡ 0 → err.new ≡ err.old }
-    // With status 1 the whole table was written and flushed, and the layout faults were reported; or
-    // a fault ended it, which was reported behind them and is the right one.
+    // With status 1 the whole table was written and flushed, and the layout faults were reported;
+    // or a fault ended it, which was reported behind them and is the right one.
     ensures faults { result ≡ 1 → (DecodesFaulty (map (λ w. w.now) words.now)
         (S.loaded source.old) (S.loaded source.new) (W.contents out.old.inner)
         (W.contents out.new.inner) (E.contents err.old.writer) (E.contents err.new.writer)
@@ -194,7 +161,8 @@ pub fn decode_over<S: Source, W: Write + Drop, E: Write>(
         (E.contents err.new.writer) err.new.failed) }
     ensures status { result ≤ 1 }
 {
-    match decode(alloc, words, source, out, err) {
+    let decoded = decode_table(alloc, words, source, out, err);
+    match finish_after(decoded, out) {
         Ok(well) => if well { 0 } else { 1 },
         Err(fault) => {
             say(err, &fault);

@@ -1,26 +1,26 @@
 //! `encode` of an agency's own CSV.
-ghost use Rattle.std.specs.Prelude.{◌≡◌, ◌≢◌, ◌≤◌, ◌⊎◌, ℕ, Err, List, None, Ok, Option, Some};
-ghost use Rattle.std.specs.Prelude.{IfErr, IfOk, OnOk, option_map, string_bytes};
+ghost use Rattle.std.specs.Prelude.{◌≡◌, ◌≢◌, ◌≤◌, ℕ, IfErr, IfOk, List, None, Ok, OnOk, Option};
+ghost use Rattle.std.specs.Prelude.{Some, option_map, string_bytes, true};
 ghost use Rattle.std.specs.Io.KnownBytes.{Keeps};
 ghost use Rattle.program_manners.specs.Loads.{Loaded};
 ghost use Rattle.program_manners.specs.Refusals.{IsOneOf};
 ghost use Rattle.tap_rows.specs.Agencies.{IsRowsEncoded};
 ghost use Rattle.tap_rows.specs.Devices.{devices_of};
 ghost use Rattle.tap_rows.specs.declared.agency.summary.Summary.{Summary as ASummary};
-ghost use Rattle.tool_program.specs.EncodeRows.{EncodesRows, EncodesText, GivesUpRows, GivesUpText};
+ghost use Rattle.tool_program.specs.EncodeRows.{EncodesRows, GivesUpRows};
 ghost use Rattle.tool_program.specs.EncodeRows.{HasDevices, IsChoice, IsColumnName};
 ghost use Rattle.tool_program.specs.EncodeRows.{IsSummaryLine, IsSummaryReported, StopsDevices};
 ghost use Rattle.tool_program.specs.EncodeRows.{StopsRows, word_in};
-ghost use Rattle.tool_program.specs.Fault.{IsFaultReported, IsRefusal, failed_as};
+ghost use Rattle.tool_program.specs.Fault.{IsFaultReported, IsRefusal};
 ghost use Rattle.tool_program.specs.Names.{file_named};
-ghost use Rattle.tool_program.specs.Sink.{Made};
 ghost use Rattle.tool_program.specs.Source.{OpensOne};
 ghost use Rattle.tool_program.specs.declared.fault.Fault.{Fault as AFault};
 ghost use Rattle.tool_program.specs.declared.output.WriteEnd.{WriteEnd as AnEnd};
-ghost use Rattle.tool_program.specs.declared.sink.NewFault.{NewFault as ANewFault};
-ghost use Rattle.tool_program.specs.inside.EncodeRows.{EncodesOnce, EndsRows, HasLoadedDevices};
-ghost use Rattle.tool_program.specs.inside.EncodeRows.{IsNamedDevicesFault, IsNewFault, IsRowsFault};
-ghost use Rattle.tool_program.specs.inside.EncodeRows.{IsUnfinished, StopsOnce};
+ghost use Rattle.tool_program.specs.inside.EncodeRows.{EncodesOnce, EndsRows, HasEncoded};
+ghost use Rattle.tool_program.specs.inside.EncodeRows.{HasEncodedAll, HasGivenUp, HasGivenUpAll};
+ghost use Rattle.tool_program.specs.inside.EncodeRows.{HasLoadedDevices, IsNamedDevicesFault};
+ghost use Rattle.tool_program.specs.inside.EncodeRows.{IsNewFault, IsRowsFault, IsUnfinished};
+ghost use Rattle.tool_program.specs.inside.EncodeRows.{StopsOnce};
 
 use crate::fault::{Fault, finish, say};
 use crate::names::file_of;
@@ -34,65 +34,44 @@ use std::alloc::{AllocError, Global};
 use std::hash::RandomState;
 use std::io::{Read, Write};
 use tap_rows::{
-    AgencyFault, Choice, Condition, DeviceTable, DevicesFault, Separator, Summary, Wanted,
-    encode_rows, encode_some_rows, read_devices,
+    AgencyFault, Choice, DeviceTable, DevicesFault, Separator, Summary, Wanted, encode_rows,
+    encode_some_rows, read_devices,
 };
+use tool_words::RowsWords;
 
-/// How an agency's CSV is read, and what is done with the rows that are no taps.
-#[derive(Drop)]
-pub struct RowsWords<'a> {
-    /// The name of the column of tokens.
-    pub token: &'a str,
-    /// The name of the column of validators.
-    pub validator: &'a str,
-    /// The name of the column of moments.
-    pub moment: &'a str,
-    /// The file of devices and their validators; none if the rows have the validators' numbers.
-    pub devices: Option<&'a str>,
-    /// What stands between two fields.
-    pub separator: Separator,
-    /// Which rows are kept.
-    pub only: Vec<Condition<'a>>,
-    /// The file of the rows that are no taps; none if the first of them ends the encoding.
-    pub refused: Option<&'a str>,
+/// The choice that the words make, with the devices that they name.
+fn choice<'c>(words: &'c RowsWords<'_>, devices: Option<&'c DeviceTable>) -> Choice<'c>
+    ensures { IsChoice words.entry.now (option_map (λ d. devices_of d.now) devices.entry) result }
+{
+    Choice {
+        separator: words.separator,
+        token: words.token.as_bytes(),
+        validator: words.validator.as_bytes(),
+        devices,
+        moment: words.moment.as_bytes(),
+        only: &words.only,
+    }
 }
 
-impl<'a> RowsWords<'a> {
-    /// The choice that the words make, with the devices that they name.
-    fn choice<'c>(&'c self, devices: Option<&'c DeviceTable>) -> Choice<'c>
-        ensures { IsChoice self.entry.now (option_map (λ d. devices_of d.now) devices.entry)
-            result }
-    {
-        Choice {
-            separator: self.separator,
-            token: self.token.as_bytes(),
-            validator: self.validator.as_bytes(),
-            devices,
-            moment: self.moment.as_bytes(),
-            only: &self.only,
-        }
+/// The name of the column of the condition at this place.
+fn only_column<'a>(words: &RowsWords<'a>, place: usize) -> &'a str
+    ensures { IsColumnName words.now (Wanted.Only place) result.now }
+{
+    match words.only.get(place) {
+        Some(condition) => condition.column,
+        None => "",
     }
+}
 
-    /// The name of the column of the condition at this place.
-    fn only_column(&self, place: usize) -> &'a str
-        ensures { IsColumnName self.now (Wanted.Only place) result.now }
-    {
-        match self.only.get(place) {
-            Some(condition) => condition.column,
-            None => "",
-        }
-    }
-
-    /// The name of a column.
-    fn name_of(&self, wanted: Wanted) -> &'a str
-        ensures { IsColumnName self.now wanted result.now }
-    {
-        match wanted {
-            Wanted::Token => self.token,
-            Wanted::Validator => self.validator,
-            Wanted::Moment => self.moment,
-            Wanted::Only(place) => self.only_column(place),
-        }
+/// The name of a column.
+fn name_of<'a>(words: &RowsWords<'a>, wanted: Wanted) -> &'a str
+    ensures { IsColumnName words.now wanted result.now }
+{
+    match wanted {
+        Wanted::Token => words.token,
+        Wanted::Validator => words.validator,
+        Wanted::Moment => words.moment,
+        Wanted::Only(place) => only_column(words, place),
     }
 }
 
@@ -168,8 +147,8 @@ fn summary_line(alloc: Global, summary: &Summary) -> Result<String, AllocError>
     Ok(line)
 }
 
-/// Why the refused rows were not written, as their writer remembers it. If it remembers no write that
-/// failed, memory was refused.
+/// Why the refused rows were not written, as their writer remembers it. If it remembers no write
+/// that failed, memory was refused.
 fn fault_of_refused<'a>(refused_end: Option<WriteEnd>) -> Fault<'a>
     ensures { (words : RowsWords) (word : List ℕ) (end : Option AnEnd)
         → IsRowsFault words word end refused_end AgencyFault.RefusedWrite result }
@@ -192,7 +171,7 @@ fn fault_of<'a>(
     ensures { IsRowsFault words.now word.entry.now end refused_end fault result }
 {
     match fault {
-        AgencyFault::Column(wanted) => Fault::Rows(word, WrongRows::Column(words.name_of(wanted))),
+        AgencyFault::Column(wanted) => Fault::Rows(word, WrongRows::Column(name_of(words, wanted))),
         AgencyFault::Row { number, reason } => Fault::Rows(word, WrongRows::Row(number, reason)),
         AgencyFault::Unread => Fault::Unread(word),
         AgencyFault::Changed => Fault::SomeChanged,
@@ -217,6 +196,7 @@ fn end_rows<'a, W: Write + Drop>(
         × IsSummaryLine summary (string_bytes line)) }
     ensures fault { IfErr result (EndsRows words.now word.entry.now encoded out.new.end
         refused_end) }
+    ensures flushed { OnOk result (out.new.is_flushed ≡ true) }
 {
     match finish(out) {
         Err(unwritten) => Err(unwritten),
@@ -249,6 +229,7 @@ fn encode_twice<'a, R: Read + Drop, T: Read + Drop, W: Write + Drop>(
         → T.remaining again ≡ Some later
         → StopsRows words.now None word.entry.now choice.now bytes later out.new.end ⊥ fault
         (W.contents out.old.inner) (W.contents out.new.inner)) }
+    ensures flushed { OnOk result (out.new.is_flushed ≡ true) }
 {
     let encoded = encode_rows(alloc, choice, text, again, out);
     end_rows(alloc, words, word, encoded, None, out)
@@ -272,6 +253,7 @@ fn encode_once<'a, R: Read + Drop, W: Write + Drop, X: Write + Drop>(
     ensures stops { IfErr result (λ fault. (bytes name : List ℕ) → R.remaining text ≡ Some bytes
         → StopsRows words.now (Some name) word.entry.now choice.now bytes bytes out.new.end
         (refused.new.end ≢ None) fault (W.contents out.old.inner) (W.contents out.new.inner)) }
+    ensures flushed { OnOk result (out.new.is_flushed ≡ true) }
 {
     let encoded = encode_some_rows(alloc, choice, text, out, refused);
     end_rows(alloc, words, word, encoded, refused.end(), out)
@@ -287,17 +269,13 @@ fn encode_file<'a, S: Source, W: Write + Drop>(
     source: &mut S,
     out: &mut Output<W>,
 ) -> Result<String, Fault<'a>>
-    ensures done { IfOk result (λ line. (kept : List Loaded) (made : Option (List Made))
-        → S.loaded source.old ≡ Some kept → (summary : ASummary)
-        × IsSummaryLine summary (string_bytes line)
-        × EncodesText None word.entry.now choice.now (S.loaded source.old) (S.loaded source.new)
-        made made (W.contents out.old.inner) (W.contents out.new.inner) summary) }
-    ensures stops { IfErr result (λ fault. (kept : List Loaded)
-        (unbegun : Option (List ℕ × ANewFault)) (failed : Option (List ℕ))
-        → S.loaded source.old ≡ Some kept
-        → GivesUpText words.now None word.entry.now choice.now (S.loaded source.old)
-        (S.loaded source.new) (S.refused source.new) unbegun failed out.new.end fault
+    ensures done { IfOk result (λ line. HasEncodedAll word.entry.now choice.now
+        (S.loaded source.old) (S.loaded source.new) (W.contents out.old.inner)
+        (W.contents out.new.inner) (string_bytes line)) }
+    ensures stops { IfErr result (λ fault. HasGivenUpAll words.now word.entry.now choice.now
+        (S.loaded source.old) (S.loaded source.new) (S.refused source.new) out.new.end fault
         (W.contents out.old.inner) (W.contents out.new.inner)) }
+    ensures flushed { OnOk result (out.new.is_flushed ≡ true) }
 {
     let checked = Shown {
         bytes,
@@ -324,17 +302,13 @@ fn encode_loaded<'a, S: Source, W: Write + Drop>(
     source: &mut S,
     out: &mut Output<W>,
 ) -> Result<String, Fault<'a>>
-    ensures done { IfOk result (λ line. (kept : List Loaded) (made : Option (List Made))
-        → S.loaded source.old ≡ Some kept → (summary : ASummary)
-        × IsSummaryLine summary (string_bytes line)
-        × EncodesText None word.entry.now choice.now (S.loaded source.old) (S.loaded source.new)
-        made made (W.contents out.old.inner) (W.contents out.new.inner) summary) }
-    ensures stops { IfErr result (λ fault. (kept : List Loaded)
-        (unbegun : Option (List ℕ × ANewFault)) (failed : Option (List ℕ))
-        → S.loaded source.old ≡ Some kept
-        → GivesUpText words.now None word.entry.now choice.now (S.loaded source.old)
-        (S.loaded source.new) (S.refused source.new) unbegun failed out.new.end fault
+    ensures done { IfOk result (λ line. HasEncodedAll word.entry.now choice.now
+        (S.loaded source.old) (S.loaded source.new) (W.contents out.old.inner)
+        (W.contents out.new.inner) (string_bytes line)) }
+    ensures stops { IfErr result (λ fault. HasGivenUpAll words.now word.entry.now choice.now
+        (S.loaded source.old) (S.loaded source.new) (S.refused source.new) out.new.end fault
         (W.contents out.old.inner) (W.contents out.new.inner)) }
+    ensures flushed { OnOk result (out.new.is_flushed ≡ true) }
 {
     let text = load_text(alloc, source, word)?;
     let checked = text.as_slice();
@@ -352,17 +326,13 @@ fn encode_all<'a, S: Source, W: Write + Drop>(
     source: &mut S,
     out: &mut Output<W>,
 ) -> Result<String, Fault<'a>>
-    ensures done { IfOk result (λ line. (kept : List Loaded) (made : Option (List Made))
-        → S.loaded source.old ≡ Some kept → (summary : ASummary)
-        × IsSummaryLine summary (string_bytes line)
-        × EncodesText None word.entry.now choice.now (S.loaded source.old) (S.loaded source.new)
-        made made (W.contents out.old.inner) (W.contents out.new.inner) summary) }
-    ensures stops { IfErr result (λ fault. (kept : List Loaded)
-        (unbegun : Option (List ℕ × ANewFault)) (failed : Option (List ℕ))
-        → S.loaded source.old ≡ Some kept
-        → GivesUpText words.now None word.entry.now choice.now (S.loaded source.old)
-        (S.loaded source.new) (S.refused source.new) unbegun failed out.new.end fault
+    ensures done { IfOk result (λ line. HasEncodedAll word.entry.now choice.now
+        (S.loaded source.old) (S.loaded source.new) (W.contents out.old.inner)
+        (W.contents out.new.inner) (string_bytes line)) }
+    ensures stops { IfErr result (λ fault. HasGivenUpAll words.now word.entry.now choice.now
+        (S.loaded source.old) (S.loaded source.new) (S.refused source.new) out.new.end fault
         (W.contents out.old.inner) (W.contents out.new.inner)) }
+    ensures flushed { OnOk result (out.new.is_flushed ≡ true) }
 {
     match source.plain_bytes(file_of(word)) {
         Some(bytes) => encode_file(alloc, choice, words, word, bytes, source, out),
@@ -389,8 +359,8 @@ fn open_once<'a, S: Source>(source: &mut S, word: &'a str) -> Result<S::Text, Fa
     }
 }
 
-/// Encodes the rows of the file that the word names, and writes the refused rows to `refused`. Gives
-/// the line of the summary.
+/// Encodes the rows of the file that the word names, and writes the refused rows to `refused`.
+/// Gives the line of the summary.
 fn encode_some<'a, S: Source, W: Write + Drop, X: Write + Drop>(
     alloc: Global,
     choice: &Choice<'_>,
@@ -409,6 +379,7 @@ fn encode_some<'a, S: Source, W: Write + Drop, X: Write + Drop>(
         → StopsOnce words.now name word.entry.now choice.now (S.loaded source.old)
         (S.loaded source.new) (S.refused source.new) out.new.end refused.new.end fault
         (W.contents out.old.inner) (W.contents out.new.inner)) }
+    ensures flushed { OnOk result (out.new.is_flushed ≡ true) }
 {
     let mut text = open_once(source, word)?;
     let done = encode_once(alloc, choice, words, word, &mut text, out, refused);
@@ -437,8 +408,8 @@ pub(crate) fn fault_of_unfinished<'a>(fault: MakeFault) -> Fault<'a>
     }
 }
 
-/// Encodes the rows of the file that the word names, and makes the file of the refused rows. After a
-/// fault there is no such file. Gives the line of the summary.
+/// Encodes the rows of the file that the word names, and makes the file of the refused rows. After
+/// a fault there is no such file. Gives the line of the summary.
 fn encode_and_refuse<'a, S: Source, K: Sink, W: Write + Drop>(
     alloc: Global,
     choice: &Choice<'_>,
@@ -449,17 +420,16 @@ fn encode_and_refuse<'a, S: Source, K: Sink, W: Write + Drop>(
     sink: &mut K,
     out: &mut Output<W>,
 ) -> Result<String, Fault<'a>>
-    ensures done { IfOk result (λ line. (kept : List Loaded) → S.loaded source.old ≡ Some kept
-        → (summary : ASummary) × IsSummaryLine summary (string_bytes line)
-        × EncodesText (Some refused.entry.now) word.entry.now choice.now (S.loaded source.old)
-        (S.loaded source.new) (K.made sink.old) (K.made sink.new) (W.contents out.old.inner)
-        (W.contents out.new.inner) summary) }
+    ensures done { IfOk result (λ line. HasEncoded (Some refused.entry.now) word.entry.now
+        choice.now (S.loaded source.old) (S.loaded source.new) (K.made sink.old)
+        (K.made sink.new) (W.contents out.old.inner) (W.contents out.new.inner)
+        (string_bytes line)) }
     ensures kept { IfErr result (λ _. K.made sink.new ≡ K.made sink.old) }
-    ensures stops { IfErr result (λ fault. (kept : List Loaded) → S.loaded source.old ≡ Some kept
-        → GivesUpText words.now (Some refused.entry.now) word.entry.now choice.now
-        (S.loaded source.old) (S.loaded source.new) (S.refused source.new) (K.unbegun sink.new)
-        (K.failed sink.new) out.new.end fault (W.contents out.old.inner)
-        (W.contents out.new.inner)) }
+    ensures stops { IfErr result (λ fault. HasGivenUp words.now (Some refused.entry.now)
+        word.entry.now choice.now (S.loaded source.old) (S.loaded source.new)
+        (S.refused source.new) (K.unbegun sink.new) (K.failed sink.new) out.new.end fault
+        (W.contents out.old.inner) (W.contents out.new.inner)) }
+    ensures flushed { OnOk result (out.new.is_flushed ≡ true) }
 {
     let mut file = match sink.begin_new(alloc, refused) {
         Ok(file) => file,
@@ -488,17 +458,16 @@ fn encode_text<'a, S: Source, K: Sink, W: Write + Drop>(
     sink: &mut K,
     out: &mut Output<W>,
 ) -> Result<String, Fault<'a>>
-    ensures done { IfOk result (λ line. (kept : List Loaded) → S.loaded source.old ≡ Some kept
-        → (summary : ASummary) × IsSummaryLine summary (string_bytes line)
-        × EncodesText (word_in words.now.refused) word.entry.now choice.now
-        (S.loaded source.old) (S.loaded source.new) (K.made sink.old) (K.made sink.new)
-        (W.contents out.old.inner) (W.contents out.new.inner) summary) }
+    ensures done { IfOk result (λ line. HasEncoded (word_in words.now.refused) word.entry.now
+        choice.now (S.loaded source.old) (S.loaded source.new) (K.made sink.old)
+        (K.made sink.new) (W.contents out.old.inner) (W.contents out.new.inner)
+        (string_bytes line)) }
     ensures kept { IfErr result (λ _. K.made sink.new ≡ K.made sink.old) }
-    ensures stops { IfErr result (λ fault. (kept : List Loaded) → S.loaded source.old ≡ Some kept
-        → GivesUpText words.now (word_in words.now.refused) word.entry.now choice.now
-        (S.loaded source.old) (S.loaded source.new) (S.refused source.new) (K.unbegun sink.new)
-        (K.failed sink.new) out.new.end fault (W.contents out.old.inner)
-        (W.contents out.new.inner)) }
+    ensures stops { IfErr result (λ fault. HasGivenUp words.now (word_in words.now.refused)
+        word.entry.now choice.now (S.loaded source.old) (S.loaded source.new)
+        (S.refused source.new) (K.unbegun sink.new) (K.failed sink.new) out.new.end fault
+        (W.contents out.old.inner) (W.contents out.new.inner)) }
+    ensures flushed { OnOk result (out.new.is_flushed ≡ true) }
 {
     match words.refused {
         Some(refused) => {
@@ -529,18 +498,19 @@ fn encode<'a, S: Source, K: Sink, W: Write + Drop>(
         (S.refused source.new) (K.made sink.old) (K.made sink.new) (K.unbegun sink.new)
         (K.failed sink.new) out.new.end fault (W.contents out.old.inner)
         (W.contents out.new.inner)) }
+    ensures flushed { OnOk result (out.new.is_flushed ≡ true) }
 {
     let devices = devices_in(alloc, seed, words, source)?;
-    let choice = words.choice(devices.as_ref());
+    let choice = choice(words, devices.as_ref());
     encode_text(alloc, &choice, words, word, source, sink, out)
 }
 
 /// Encodes the rows of the agency's CSV that the word names, `-` being standard input, as the words
 /// say: loads the device table, if they name one, writes the upload of the rows that are kept to
-/// `out`, makes the file of the refused rows, if they name one, and then says on `err` how many rows
-/// there are of each kind. A fault is said on `err`, too. `seed` is random, so that no file can
-/// choose names of devices that are found slowly. Gives the status: 0 if all is written, 1 after a
-/// fault.
+/// `out`, makes the file of the refused rows, if they name one, and then says on `err` how many
+/// rows there are of each kind. A fault is said on `err`, too. `seed` is random, so that no file
+/// can choose names of devices that are found slowly. Gives the status: 0 if all is written, 1
+/// after a fault.
 pub fn encode_rows_over<S: Source, K: Sink, W: Write + Drop, E: Write>(
     alloc: Global,
     seed: RandomState,
@@ -559,6 +529,8 @@ pub fn encode_rows_over<S: Source, K: Sink, W: Write + Drop, E: Write>(
         (W.contents out.new.inner) summary
         × IsSummaryReported summary (E.contents err.old.writer) (E.contents err.new.writer)
         err.new.failed }
+    // And all that was written was flushed.
+    ensures flushed { result ≡ 0 → out.new.is_flushed ≡ true }
     // With status 1 the line of a fault was reported, which is the right one, and no file was made.
     ensures faults { result ≡ 1 → (fault : AFault) × IsFaultReported fault
         (E.contents err.old.writer) (E.contents err.new.writer) err.new.failed

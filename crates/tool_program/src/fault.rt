@@ -1,11 +1,11 @@
 //! Why a subcommand is given up, and the line that says so.
-ghost use Rattle.std.specs.Prelude.{◌≡◌, ◌≢◌, ℕ, IfErr, List, None, OnErr, OnOk, Option, Some};
-ghost use Rattle.std.specs.Prelude.{false, true};
+ghost use Rattle.std.specs.Prelude.{◌≡◌, ◌≢◌, ◌⊎◌, ℕ, Err, IfErr, IfOk, List, None, Ok, OnErr};
+ghost use Rattle.std.specs.Prelude.{OnOk, Option, Some, false, true};
 ghost use Rattle.std.specs.Io.KnownBytes.{Keeps};
 ghost use Rattle.program_manners.specs.Refusals.{IsOneOf, Refuses};
 ghost use Rattle.program_manners.specs.declared.loading.LoadFault.{LoadFault as ALoadFault};
-ghost use Rattle.tool_program.specs.Fault.{IsFaultReported, IsRefusal, failed_as, fault_text, is_quiet};
-ghost use Rattle.tool_program.specs.Fault.{wrong_text};
+ghost use Rattle.tool_program.specs.Fault.{IsFaultReported, IsRefusal, failed_as, fault_text};
+ghost use Rattle.tool_program.specs.Fault.{is_quiet, wrong_text};
 ghost use Rattle.tool_program.specs.Names.{file_named};
 
 use crate::layout::{Cause, Remedy};
@@ -235,5 +235,22 @@ pub fn finish<'a, W: Write + Drop>(out: &mut Output<W>) -> Result<(), Fault<'a>>
     match out.flush() {
         Ok(()) => Ok(()),
         Err(_) => Err(Fault::of_write(out.end())),
+    }
+}
+
+/// Lets all that was written go out. Gives what was given before, or why it did not go out.
+pub(crate) fn finish_after<'a, W: Write + Drop>(
+    before: Result<bool, Fault<'a>>,
+    out: &mut Output<W>,
+) -> Result<bool, Fault<'a>>
+    ensures kept { Keeps (W.contents out.old.inner) (W.contents out.new.inner) }
+    ensures same { IfOk result (λ well. before.entry ≡ Ok well) }
+    ensures flushed { OnOk result (out.new.is_flushed ≡ true) }
+    ensures fault { IfErr result (λ fault. (fault ≡ failed_as out.new.end)
+        ⊎ ((before.entry ≡ Err fault) × (out.new.end ≡ out.old.end))) }
+{
+    match finish(out) {
+        Ok(()) => before,
+        Err(unwritten) => Err(unwritten),
     }
 }

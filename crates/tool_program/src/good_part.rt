@@ -1,4 +1,4 @@
-//! `uploads --good-part`: the lines of an upload, and a file of its batches before its layout fault.
+//! `uploads --good-part`: lines of an upload, and a file of its batches before its layout fault.
 ghost use Rattle.std.specs.Prelude.{◌≡◌, ◌≤◌, ◌⊎◌, ◌∷◌, [], IfErr, IfOk, OnOk, Some, false};
 ghost use Rattle.std.specs.Prelude.{is_none, true};
 ghost use Rattle.tool_program.specs.Fault.{IsFaultReported};
@@ -9,7 +9,7 @@ ghost use Rattle.tool_program.specs.declared.fault.Fault.{Fault as AFault};
 ghost use Rattle.tool_program.specs.inside.GoodPart.{unwritten_as};
 
 use crate::encode_rows::{fault_of_new, fault_of_unfinished};
-use crate::fault::{Fault, finish, say};
+use crate::fault::{Fault, finish_after, say};
 use crate::output::{Output, WriteEnd};
 use crate::sink::Sink;
 use crate::source::Source;
@@ -20,17 +20,7 @@ use program_manners::Complaints;
 use std::alloc::Global;
 use std::io::Write;
 use tap_views::good_part;
-
-/// What is asked for.
-#[derive(Clone, Copy, Debug)]
-pub struct GoodPartWords<'a> {
-    /// The upload.
-    pub upload: &'a str,
-    /// The file that is made.
-    pub out: &'a str,
-    /// Whether its tokens are counted.
-    pub has_tokens: bool,
-}
+use tool_words::GoodPartWords;
 
 /// Writes the lines of the upload and of its tokens, if these are counted.
 fn list_upload<'a, S: Source, W: Write + Drop>(
@@ -116,35 +106,6 @@ fn list_and_make<'a, S: Source, K: Sink, W: Write + Drop>(
     Ok(upload.is_sound)
 }
 
-/// The same, and lets all that was written go out.
-fn keep_good_part<'a, S: Source, K: Sink, W: Write + Drop>(
-    alloc: Global,
-    words: &GoodPartWords<'a>,
-    source: &mut S,
-    sink: &mut K,
-    out: &mut Output<W>,
-) -> Result<bool, Fault<'a>>
-    ensures done { IfOk result (λ well. (one : Listed)
-        × KeepsGoodPart words.now (S.loaded source.old) (S.loaded source.new) (K.made sink.old)
-        (K.made sink.new) (W.contents out.old.inner) (W.contents out.new.inner) one
-        × (well ≡ is_none one.facts.fault)) }
-    ensures stops { IfErr result (λ fault. GivesUpGoodPart words.now (S.loaded source.old)
-        (S.loaded source.new) (S.refused source.new) (K.made sink.old) (K.made sink.new)
-        (K.failed sink.new) (K.unbegun sink.new) out.new.end fault (W.contents out.old.inner)
-        (W.contents out.new.inner)) }
-{
-    match list_and_make(alloc, words, source, sink, out) {
-        Ok(well) => match finish(out) {
-            Ok(()) => Ok(well),
-            Err(unwritten) => Err(unwritten),
-        },
-        Err(fault) => match finish(out) {
-            Ok(()) => Err(fault),
-            Err(unwritten) => Err(unwritten),
-        },
-    }
-}
-
 /// Writes to `out` what the upload has that the word names, `-` being standard input: its lines,
 /// and if that is asked for, how many different tokens it has. Then makes the file of its batches
 /// before its first layout fault. A fault that ends it is reported on `err`. Gives the status: 0 if
@@ -162,14 +123,17 @@ pub fn good_part_over<S: Source, K: Sink, W: Write + Drop, E: Write>(
         × KeepsGoodPart words.now (S.loaded source.old) (S.loaded source.new) (K.made sink.old)
         (K.made sink.new) (W.contents out.old.inner) (W.contents out.new.inner) one
         × (is_none one.facts.fault ≡ true) }
+    // And all that was written was flushed.
+    ensures flushed { result ≡ 0 → out.new.is_flushed ≡ true }
     // Nothing is reported beside the lines of an upload without a fault.
     ensures quiet { result ≡ 0 → err.new ≡ err.old }
-    // With status 1 the same was done for an upload with a layout fault, and nothing was reported;
-    // or a fault ended it, which was reported and is the right one.
+    // With status 1 the same was done and flushed for an upload with a layout fault, and nothing
+    // was reported; or a fault ended it, which was reported and is the right one.
     ensures faults { result ≡ 1 → ((one : Listed)
         × KeepsGoodPart words.now (S.loaded source.old) (S.loaded source.new) (K.made sink.old)
         (K.made sink.new) (W.contents out.old.inner) (W.contents out.new.inner) one
-        × (is_none one.facts.fault ≡ false) × (err.new ≡ err.old)) ⊎ ((fault : AFault)
+        × (is_none one.facts.fault ≡ false) × (out.new.is_flushed ≡ true)
+        × (err.new ≡ err.old)) ⊎ ((fault : AFault)
         × GivesUpGoodPart words.now (S.loaded source.old) (S.loaded source.new)
         (S.refused source.new) (K.made sink.old) (K.made sink.new) (K.failed sink.new)
         (K.unbegun sink.new) out.new.end fault (W.contents out.old.inner)
@@ -177,7 +141,8 @@ pub fn good_part_over<S: Source, K: Sink, W: Write + Drop, E: Write>(
         (E.contents err.new.writer) err.new.failed) }
     ensures status { result ≤ 1 }
 {
-    match keep_good_part(alloc, words, source, sink, out) {
+    let made = list_and_make(alloc, words, source, sink, out);
+    match finish_after(made, out) {
         Ok(well) => if well { 0 } else { 1 },
         Err(fault) => {
             say(err, &fault);

@@ -7,7 +7,6 @@ ghost use Rattle.fare_table.specs.TableMeaning.{TableMeaning, meaning_in};
 ghost use Rattle.fare_table.specs.Validators.{stand_apart};
 ghost use Rattle.fare_texts.specs.WrittenOut.{Begins};
 ghost use Rattle.program_manners.specs.Refusals.{IsFirstTableFault};
-ghost use Rattle.tap_views.specs.Facts.{AreFacts};
 ghost use Rattle.upload_checks.specs.Findings.{AreFindings, taps_of};
 ghost use Rattle.tool_program.specs.Decode.{AreReported};
 ghost use Rattle.tool_program.specs.Look as spec;
@@ -24,7 +23,7 @@ ghost use Rattle.tool_program.specs.inside.Look.{StopsReading, StopsTaking};
 ghost use Rattle.tool_program.specs.inside.Look.{TakesEach, TakesOne};
 
 use crate::decode::report_layout;
-use crate::fault::{Fault, finish, say};
+use crate::fault::{Fault, finish_after, say};
 use crate::look::counts::counts_of;
 use crate::look::rows::write_table;
 use crate::output::{Output, WriteEnd};
@@ -39,6 +38,7 @@ use std::io::Write;
 use std::marker::Sync;
 use std::thread::Threads;
 use tap_views::{Facts, MOMENT_LIMIT_MS, MomentSpan, NoMemory, TapFields, facts_of};
+use tool_words::LookWords;
 use upload_checks::{Findings, SilentDays, find_silent_days, look};
 
 mod counts;
@@ -48,51 +48,32 @@ mod rows;
 /// How many threads order taps.
 const WORKERS: u32 = 4;
 
-/// What a look at uploads is asked for, beside the uploads.
-#[derive(Clone, Copy, Debug)]
-pub struct LookWords<'a> {
-    /// How many milliseconds at most a near double is later than the tap before it.
-    pub within: u64,
-    /// The first moment that is looked at, in milliseconds since 1970-01-01T00:00Z, if it is given.
-    pub first: Option<u64>,
-    /// The last one, if it is given.
-    pub last: Option<u64>,
-    /// The word of the fare table whose validators are looked at, if one is given.
-    pub table: Option<&'a str>,
-    /// Whether all that is found is listed, and not only counted.
-    pub has_list: bool,
-    /// Whether it is printed how many tokens the uploads have and share. A list has no such lines.
-    pub has_tokens: bool,
+/// The moments that are looked at.
+fn span_of(words: &LookWords<'_>) -> MomentSpan
+    ensures { result ≡ spec.span_of words.now }
+{
+    MomentSpan {
+        first: words.first.unwrap_or(0),
+        last: words.last.unwrap_or(u64::MAX),
+    }
 }
 
-impl LookWords<'_> {
-    /// The moments that are looked at.
-    fn span(&self) -> MomentSpan
-        ensures { result ≡ spec.span_of self.now }
-    {
-        MomentSpan {
-            first: self.first.unwrap_or(0),
-            last: self.last.unwrap_or(u64::MAX),
-        }
+/// The moments among whose days validators without a tap are looked for.
+fn days_of(words: &LookWords<'_>) -> MomentSpan
+    ensures span { result ≡ spec.days_of words.now }
+    ensures limit { result.last ≤ 4_102_444_799_999 }
+{
+    MomentSpan {
+        first: words.first.unwrap_or(0),
+        last: words.last.unwrap_or(u64::MAX).min(MOMENT_LIMIT_MS - 1),
     }
+}
 
-    /// The moments among whose days validators without a tap are looked for.
-    fn days(&self) -> MomentSpan
-        ensures span { result ≡ spec.days_of self.now }
-        ensures limit { result.last ≤ 4_102_444_799_999 }
-    {
-        MomentSpan {
-            first: self.first.unwrap_or(0),
-            last: self.last.unwrap_or(u64::MAX).min(MOMENT_LIMIT_MS - 1),
-        }
-    }
-
-    /// Whether each day is looked at, and not only those that have a tap.
-    fn has_every_day(&self) -> bool
-        ensures { result ≡ every_day self.now }
-    {
-        self.first.is_some() && self.last.is_some()
-    }
+/// Whether each day is looked at, and not only those that have a tap.
+fn has_every_day(words: &LookWords<'_>) -> bool
+    ensures { result ≡ every_day words.now }
+{
+    words.first.is_some() && words.last.is_some()
 }
 
 /// Reads the fare table of a text.
@@ -303,33 +284,6 @@ fn take_each<'a, S: Source, W: Write + Drop, E: Write>(
     Ok(AllTaken { uploads, is_well })
 }
 
-/// The same, and takes away what is shown of a count.
-fn take_all<'a, S: Source, W: Write + Drop, E: Write>(
-    alloc: Global,
-    words: &LookWords<'a>,
-    names: &[&'a str],
-    source: &mut S,
-    out: &mut Output<W>,
-    err: &mut Complaints<E>,
-) -> Result<AllTaken, Fault<'a>>
-    ensures done { IfOk result (λ all. (listed : List Listed)
-        × TakesEach words.now.has_list (map (λ w. w.now) names.now) (S.loaded source.old)
-        (S.loaded source.new) (W.contents out.old.inner) (W.contents out.new.inner)
-        (E.contents err.old.writer) (E.contents err.new.writer) err.new.failed listed
-        × (map (λ u. u.items) all.uploads.items ≡ listed_uploads listed)
-        × (all.is_well ≡ are_sound listed)) }
-    ensures quiet { IfOk result (λ all. all.is_well ≡ true → err.new ≡ err.old) }
-    ensures stops { IfErr result (λ fault. (meaning : Option TableMeaning)
-        → StopsLook words.now (map (λ w. w.now) names.now) meaning (S.loaded source.old)
-        (S.refused source.new) out.new.end fault (W.contents out.old.inner)
-        (W.contents out.new.inner) (E.contents err.old.writer) (E.contents err.new.writer)
-        err.new.failed) }
-{
-    let done = take_each(alloc, words, names, source, out, err);
-    source.end_count();
-    done
-}
-
 /// Finds the validators of the table that have no tap on a day, if there is a table.
 fn silent_of(
     alloc: Global,
@@ -347,8 +301,8 @@ fn silent_of(
     let silent = find_silent_days(
         alloc,
         table.first(),
-        words.days(),
-        words.has_every_day(),
+        days_of(words),
+        has_every_day(words),
         lists,
     )?;
     Ok(Some(silent))
@@ -376,7 +330,14 @@ fn find<R: Threads + Sync>(
     ensures silent { IfOk result (λ found. AreSilent words.now
         (option_map (λ t. t.meaning) table.now) (taps_of found.taps) found.silent) }
 {
-    let taps = look(threads, alloc, uploads, words.within, words.span(), WORKERS)?;
+    let taps = look(
+        threads,
+        alloc,
+        uploads,
+        words.within,
+        span_of(words),
+        WORKERS,
+    )?;
     let silent = silent_of(alloc, words, table, taps.lists.as_slice())?;
     Ok(Found { taps, silent })
 }
@@ -493,7 +454,9 @@ fn look_at<'a, R: Threads + Sync, S: Source, W: Write + Drop, E: Write>(
         out.new.end fault (W.contents out.old.inner) (W.contents out.new.inner)
         (E.contents err.old.writer) (E.contents err.new.writer) err.new.failed) }
 {
-    let all = take_all(alloc, words, names, source, out, err)?;
+    let taken = take_each(alloc, words, names, source, out, err);
+    source.end_count();
+    let all = taken?;
     let uploads = all.uploads.as_slice();
     match write_found(threads, alloc, words, table, names, uploads, out) {
         Ok(()) => Ok(all.is_well),
@@ -501,42 +464,7 @@ fn look_at<'a, R: Threads + Sync, S: Source, W: Write + Drop, E: Write>(
     }
 }
 
-/// The same, and lets all that was written go out.
-fn look_through<'a, R: Threads + Sync, S: Source, W: Write + Drop, E: Write>(
-    threads: &R,
-    alloc: Global,
-    words: &LookWords<'a>,
-    table: &Option<FareTable>,
-    names: &[&'a str],
-    source: &mut S,
-    out: &mut Output<W>,
-    err: &mut Complaints<E>,
-) -> Result<bool, Fault<'a>>
-    requires { IfSome table.now (λ t. stand_apart t.meaning.ranges ≡ true) }
-    ensures done { IfOk result (λ well. (listed : List Listed) × LooksThrough words.now
-        (map (λ w. w.now) names.now) (option_map (λ t. t.meaning) table.now)
-        (S.loaded source.old) (S.loaded source.new) (W.contents out.old.inner)
-        (W.contents out.new.inner) (E.contents err.old.writer) (E.contents err.new.writer)
-        err.new.failed listed × (well ≡ are_sound listed)) }
-    ensures quiet { IfOk result (λ well. well ≡ true → err.new ≡ err.old) }
-    ensures stops { IfErr result (λ fault. StopsLook words.now (map (λ w. w.now) names.now)
-        (option_map (λ t. t.meaning) table.now) (S.loaded source.old) (S.refused source.new)
-        out.new.end fault (W.contents out.old.inner) (W.contents out.new.inner)
-        (E.contents err.old.writer) (E.contents err.new.writer) err.new.failed) }
-{
-    match look_at(threads, alloc, words, table, names, source, out, err) {
-        Ok(well) => match finish(out) {
-            Ok(()) => Ok(well),
-            Err(unwritten) => Err(unwritten),
-        },
-        Err(fault) => match finish(out) {
-            Ok(()) => Err(fault),
-            Err(unwritten) => Err(unwritten),
-        },
-    }
-}
-
-/// Reads the fare table, if one is named, and does the same.
+/// Reads the fare table, if one is named, does the same, and lets all that was written go out.
 fn look_all<'a, R: Threads + Sync, S: Source, W: Write + Drop, E: Write>(
     threads: &R,
     alloc: Global,
@@ -555,18 +483,17 @@ fn look_all<'a, R: Threads + Sync, S: Source, W: Write + Drop, E: Write>(
         (S.loaded source.old) (S.loaded source.new) (S.refused source.new) out.new.end fault
         (W.contents out.old.inner) (W.contents out.new.inner) (E.contents err.old.writer)
         (E.contents err.new.writer) err.new.failed) }
+    ensures flushed { OnOk result (out.new.is_flushed ≡ true) }
 {
     let table = read_table(alloc, words, source)?;
-    match look_through(threads, alloc, words, &table, names, source, out, err) {
-        Ok(well) => Ok(well),
-        Err(fault) => Err(fault),
-    }
+    let looked = look_at(threads, alloc, words, &table, names, source, out, err);
+    finish_after(looked, out)
 }
 
 /// Writes to `out` what the uploads have that the words name, `-` being standard input, and what is
 /// found in them of what is asked for: how much, or if it is to be listed all of it, and then the
-/// uploads' layout faults are reported on `err` and nothing else is written. A fault that ends it is
-/// reported, too. All taps are in memory, and threads order them. Gives the status: 0 if all is
+/// uploads' layout faults are reported on `err` and nothing else is written. A fault that ends it
+/// is reported, too. All taps are in memory, and threads order them. Gives the status: 0 if all is
 /// written and no upload has a layout fault, else 1.
 pub fn look_over<R: Threads + Sync, S: Source, W: Write + Drop, E: Write>(
     threads: &R,
@@ -583,14 +510,17 @@ pub fn look_over<R: Threads + Sync, S: Source, W: Write + Drop, E: Write>(
         (map (λ w. w.now) names.now) (S.loaded source.old) (S.loaded source.new)
         (W.contents out.old.inner) (W.contents out.new.inner) (E.contents err.old.writer)
         (E.contents err.new.writer) err.new.failed listed × (are_sound listed ≡ true) }
+    // And all that was written was flushed.
+    ensures flushed { result ≡ 0 → out.new.is_flushed ≡ true }
     // Nothing is reported beside what is found in uploads without a fault.
     ensures quiet { result ≡ 0 → err.new ≡ err.old }
-    // With status 1 all was written, and an upload has a layout fault, which was written or
-    // reported; or a fault ended it, which was reported and is the right one.
-    ensures faults { result ≡ 1 → LooksFaulty words.now (map (λ w. w.now) names.now)
+    // With status 1 all was written and flushed, and an upload has a layout fault, which was
+    // written or reported; or a fault ended it, which was reported and is the right one.
+    ensures faults { result ≡ 1 → (LooksFaulty words.now (map (λ w. w.now) names.now)
         (S.loaded source.old) (S.loaded source.new) (W.contents out.old.inner)
         (W.contents out.new.inner) (E.contents err.old.writer) (E.contents err.new.writer)
-        err.new.failed ⊎ ((fault : AFault) × GivesUpLook words.now (map (λ w. w.now) names.now)
+        err.new.failed × (out.new.is_flushed ≡ true))
+        ⊎ ((fault : AFault) × GivesUpLook words.now (map (λ w. w.now) names.now)
         (S.loaded source.old) (S.loaded source.new) (S.refused source.new) out.new.end fault
         (W.contents out.old.inner) (W.contents out.new.inner) (E.contents err.old.writer)
         (E.contents err.new.writer) err.new.failed) }

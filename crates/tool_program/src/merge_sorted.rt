@@ -67,8 +67,8 @@ fn posted_ends(alloc: Global, numbers: &[u64]) -> Result<Vec<UploadEnd>, AllocEr
     Ok(ends)
 }
 
-/// Opens the uploads and writes all their taps to the file that is to have the name `out`. Gives how
-/// each upload ended.
+/// Opens the uploads and writes all their taps to the file that is to have the name `out`. Gives
+/// how each upload ended.
 fn merge_all<'a, D: PlacedFiles, W: Write + Drop>(
     alloc: Global,
     out: &'a str,

@@ -28,7 +28,7 @@ impl WriteEnd {
     }
 }
 
-/// A writer that remembers why a write to it failed, and knows whether all that it took was flushed.
+/// A writer that remembers why a write to it failed, and whether all that it took was flushed.
 #[derive(Drop)]
 pub struct Output<W: Write + Drop> {
     /// Where the bytes go.

@@ -1,55 +1,45 @@
 //! The whole program, from the words to the status.
-ghost use Rattle.std.specs.Prelude.{◌≡◌, ◌⊎◌, ◌≤◌, ℕ, Bool, List, Option, map, string_bytes};
+ghost use Rattle.std.specs.Prelude.{◌≡◌, ◌⊎◌, ◌≤◌, ℕ, Bool, List, Option, Some, map};
+ghost use Rattle.std.specs.Prelude.{string_bytes};
 ghost use Rattle.program_manners.specs.LineWritten.{LineWritten};
 ghost use Rattle.tool_program.specs.Fault.{IsFaultReported};
-ghost use Rattle.tool_program.specs.Program.{IsDone, IsGivenUp, IsOther, IsPartlyDone, run_of};
+ghost use Rattle.tool_program.specs.Program.{IsDone, IsGivenUp, IsPartlyDone, mistake_line};
+ghost use Rattle.tool_program.specs.Program.{run_of, wrong_date_text};
 ghost use Rattle.tool_program.specs.declared.fault.Fault.TheVariants.{NoMemory};
 ghost use Rattle.tool_program.specs.declared.output.WriteEnd.{WriteEnd as AWriteEnd};
-ghost use Rattle.tool_words.specs.Asked.{asked_by, mistake, sort};
+ghost use Rattle.tool_words.specs.Asked.{asked_by, sort};
 ghost use Rattle.tool_words.specs.Mistakes.{mistake_text};
 ghost use Rattle.tool_words.specs.Tasks.{asked_of, sorting_of};
 ghost use Rattle.tool_words.specs.ToolLine.{AsksForText, Parses};
-ghost use Rattle.tool_words.specs.declared.mistake.Mistake.{Mistake as AMistake};
 
 use crate::answers::show;
-use crate::corrections::{CorrectedLedgers, corrections_over};
+use crate::corrections::corrections_over;
 use crate::decode::decode_over;
 use crate::encode::encode_over;
+use crate::encode_rows::encode_rows_over;
+use crate::fault::{Fault, say};
+use crate::good_part::good_part_over;
+use crate::look::look_over;
 use crate::merge::merge_over;
 use crate::merge_ledgers::merge_ledgers_over;
 use crate::merge_sorted::merge_sorted_over;
+use crate::names::Escaped;
 use crate::output::Output;
 use crate::placed::PlacedFiles;
 use crate::sink::Sink;
 use crate::sort::{SortWords, sort_over};
 use crate::source::Source;
 use crate::split::{SplitWords, split_over};
+use crate::table::table_over;
 use crate::uploads::uploads_over;
-use clap::ArgMatches;
-use program_manners::Complaints;
+use jiff::Timestamp;
+use program_manners::{Complaints, WrongWord};
 use std::alloc::Global;
+use std::hash::RandomState;
 use std::io::Write;
 use std::marker::Sync;
 use std::thread::Threads;
 use tool_words::{Mistake, SortingWords, Task, read};
-
-/// What does the tasks that this library has not: `encode` with columns, `uploads` with a look
-/// or a good part, and `table`. Nothing is proved of them.
-pub trait Others<W: Write + Drop, E: Write> {
-    ghost use Rattle.std.specs.Thread.{IsSync};
-
-    /// Does what the subcommand of this name is given, with threads if they help, and gives the
-    /// status.
-    fn other<R: Threads + Sync>(
-        &mut self,
-        threads: &R,
-        name: &str,
-        matches: &ArgMatches<'_>,
-        out: &mut Output<W>,
-        err: &mut Complaints<E>,
-    ) -> u8
-        requires { IsSync R.row };
-}
 
 /// Says what is wrong with the words, and gives the status.
 fn report_mistake<E: Write>(err: &mut Complaints<E>, mistake: Mistake) -> u8
@@ -58,6 +48,28 @@ fn report_mistake<E: Write>(err: &mut Complaints<E>, mistake: Mistake) -> u8
         err.new.failed (mistake_text mistake) }
 {
     err.report_line(mistake);
+    2
+}
+
+/// Says which word of a later table has a wrong date, or none, and gives the status.
+fn report_wrong_date<E: Write>(alloc: Global, err: &mut Complaints<E>, wrong: &WrongWord<'_>) -> u8
+    ensures line { result ≡ 2 → LineWritten (E.contents err.old.writer)
+        (E.contents err.new.writer) err.new.failed
+        (wrong_date_text wrong.now.word.now wrong.now.fault) }
+    ensures memory { result ≡ 1 → IsFaultReported NoMemory (E.contents err.old.writer)
+        (E.contents err.new.writer) err.new.failed }
+    ensures status { (result ≡ 1) ⊎ (result ≡ 2) }
+{
+    let shown = Escaped(wrong.word);
+    let Ok(word) = format!(in alloc; "{shown}") else {
+        say(err, &Fault::NoMemory);
+        return 1;
+    };
+    let line = WrongWord {
+        word: &word,
+        fault: wrong.fault,
+    };
+    err.report_line(format_args!("error: {line}"));
     2
 }
 
@@ -71,21 +83,23 @@ fn sort_task<R: Threads + Sync, S: Source, D: PlacedFiles, K: Sink, E: Write>(
     sink: &mut K,
     err: &mut Complaints<E>,
 ) -> u8
-    ensures done { (o o' : Option (List ℕ)) (end : Option AWriteEnd) (flushed : Bool) → result ≡ 0
-        → IsDone (sort (sorting_of words.now)) (run_of (S.loaded source.old)
+    ensures done { (o o' : Option (List ℕ)) (end : Option AWriteEnd) (flushed : Bool)
+        → result ≡ 0 → IsDone (sort (sorting_of words.now)) (run_of (S.loaded source.old)
         (S.loaded source.new) (S.refused source.new) (D.bytes_under files.now) (K.made sink.old)
-        (K.made sink.new) (K.failed sink.new) o o' end flushed (E.contents err.old.writer)
-        (E.contents err.new.writer) err.new.failed) (err.new ≡ err.old) }
-    ensures partly { (o o' : Option (List ℕ)) (end : Option AWriteEnd) (flushed : Bool) → result ≡ 3
-        → IsPartlyDone (sort (sorting_of words.now)) (run_of (S.loaded source.old)
+        (K.made sink.new) (K.unbegun sink.new) (K.failed sink.new) o o' end flushed
+        (E.contents err.old.writer) (E.contents err.new.writer) err.new.failed)
+        (err.new ≡ err.old) }
+    ensures partly { (o o' : Option (List ℕ)) (end : Option AWriteEnd) (flushed : Bool)
+        → result ≡ 3 → IsPartlyDone (sort (sorting_of words.now)) (run_of (S.loaded source.old)
         (S.loaded source.new) (S.refused source.new) (D.bytes_under files.now) (K.made sink.old)
-        (K.made sink.new) (K.failed sink.new) o o' end flushed (E.contents err.old.writer)
-        (E.contents err.new.writer) err.new.failed) }
-    ensures given_up { (o o' : Option (List ℕ)) (end : Option AWriteEnd) (flushed : Bool) → result ≡ 1
-        → IsGivenUp (sort (sorting_of words.now)) (run_of (S.loaded source.old)
+        (K.made sink.new) (K.unbegun sink.new) (K.failed sink.new) o o' end flushed
+        (E.contents err.old.writer) (E.contents err.new.writer) err.new.failed) }
+    ensures given_up { (o o' : Option (List ℕ)) (end : Option AWriteEnd) (flushed : Bool)
+        → result ≡ 1 → IsGivenUp (sort (sorting_of words.now)) (run_of (S.loaded source.old)
         (S.loaded source.new) (S.refused source.new) (D.bytes_under files.now) (K.made sink.old)
-        (K.made sink.new) (K.failed sink.new) o o' end flushed (E.contents err.old.writer)
-        (E.contents err.new.writer) err.new.failed) (err.new ≡ err.old) }
+        (K.made sink.new) (K.unbegun sink.new) (K.failed sink.new) o o' end flushed
+        (E.contents err.old.writer) (E.contents err.new.writer) err.new.failed)
+        (err.new ≡ err.old) }
     ensures status { (result ≡ 0) ⊎ ((result ≡ 1) ⊎ (result ≡ 3)) }
 {
     let asked = SortWords {
@@ -99,56 +113,55 @@ fn sort_task<R: Threads + Sync, S: Source, D: PlacedFiles, K: Sink, E: Write>(
 }
 
 /// Does what is asked for, and gives the status.
-fn task_over<
-    R: Threads + Sync,
-    S: Source,
-    D: PlacedFiles,
-    K: Sink,
-    W: Write + Drop,
-    E: Write,
-    H: Others<W, E>,
->(
+fn task_over<R: Threads + Sync, S: Source, D: PlacedFiles, K: Sink, W: Write + Drop, E: Write>(
     threads: &R,
     alloc: Global,
+    seed: RandomState,
+    moment: Timestamp,
     task: Task<'_>,
     source: &mut S,
     files: &D,
     sink: &mut K,
-    others: &mut H,
     out: &mut Output<W>,
     err: &mut Complaints<E>,
 ) -> u8
     ensures done { result ≡ 0 → IsDone (asked_of task.entry) (run_of (S.loaded source.old)
         (S.loaded source.new) (S.refused source.new) (D.bytes_under files.now) (K.made sink.old)
-        (K.made sink.new) (K.failed sink.new) (W.contents out.old.inner)
+        (K.made sink.new) (K.unbegun sink.new) (K.failed sink.new) (W.contents out.old.inner)
         (W.contents out.new.inner) out.new.end out.new.is_flushed (E.contents err.old.writer)
         (E.contents err.new.writer) err.new.failed) (err.new ≡ err.old) }
     ensures partly { result ≡ 3 → IsPartlyDone (asked_of task.entry) (run_of (S.loaded source.old)
         (S.loaded source.new) (S.refused source.new) (D.bytes_under files.now) (K.made sink.old)
-        (K.made sink.new) (K.failed sink.new) (W.contents out.old.inner)
+        (K.made sink.new) (K.unbegun sink.new) (K.failed sink.new) (W.contents out.old.inner)
         (W.contents out.new.inner) out.new.end out.new.is_flushed (E.contents err.old.writer)
         (E.contents err.new.writer) err.new.failed) }
     ensures given_up { result ≡ 1 → IsGivenUp (asked_of task.entry) (run_of (S.loaded source.old)
         (S.loaded source.new) (S.refused source.new) (D.bytes_under files.now) (K.made sink.old)
-        (K.made sink.new) (K.failed sink.new) (W.contents out.old.inner)
+        (K.made sink.new) (K.unbegun sink.new) (K.failed sink.new) (W.contents out.old.inner)
         (W.contents out.new.inner) out.new.end out.new.is_flushed (E.contents err.old.writer)
         (E.contents err.new.writer) err.new.failed) (err.new ≡ err.old) }
-    ensures mistaken { (why : AMistake) → asked_of task.entry ≡ mistake why → (result ≡ 2)
-        × LineWritten (E.contents err.old.writer) (E.contents err.new.writer) err.new.failed
-        (mistake_text why) }
-    ensures right { result ≡ 2 → ((why : AMistake) × (asked_of task.entry ≡ mistake why))
-        ⊎ IsOther (asked_of task.entry) }
-    ensures untouched { result ≡ 2 → ((out.new ≡ out.old)
-        × (S.loaded source.new ≡ S.loaded source.old) × (K.made sink.new ≡ K.made sink.old))
-        ⊎ IsOther (asked_of task.entry) }
-    ensures status { (result ≤ 3) ⊎ IsOther (asked_of task.entry) }
+    ensures mistaken { (line : List ℕ) → mistake_line (asked_of task.entry) ≡ Some line
+        → ((result ≡ 2) × LineWritten (E.contents err.old.writer) (E.contents err.new.writer)
+        err.new.failed line) ⊎ ((result ≡ 1) × IsFaultReported NoMemory
+        (E.contents err.old.writer) (E.contents err.new.writer) err.new.failed) }
+    ensures right { result ≡ 2
+        → (line : List ℕ) × (mistake_line (asked_of task.entry) ≡ Some line) }
+    ensures untouched { result ≡ 2 → (out.new ≡ out.old)
+        × (S.loaded source.new ≡ S.loaded source.old) × (K.made sink.new ≡ K.made sink.old) }
+    ensures status { result ≤ 3 }
 {
     match task {
         Task::Encode(word) => encode_over(alloc, word, source, out, err),
+        Task::EncodeRows(word, words) => {
+            encode_rows_over(alloc, seed, &words, word, source, sink, out, err)
+        }
         Task::Decode(words) => decode_over(alloc, &words, source, out, err),
         Task::Uploads(words, has_tokens) => {
             uploads_over(alloc, &words, has_tokens, source, out, err)
         }
+        Task::GoodPart(words) => good_part_over(alloc, &words, source, sink, out, err),
+        Task::Look(words, names) => look_over(threads, alloc, &words, &names, source, out, err),
+        Task::Table(question) => table_over(alloc, &question, moment, source, out, err),
         Task::Sort(words) => sort_task(threads, alloc, &words, source, files, sink, err),
         Task::Split(words) => {
             let asked = SplitWords {
@@ -162,40 +175,28 @@ fn task_over<
         Task::MergeLedgers(words) => {
             merge_ledgers_over(alloc, &words.ledgers, &words.reports, source, out, err)
         }
-        Task::Corrections(words) => {
-            let ledgers = CorrectedLedgers {
-                old: words.old,
-                new: words.new,
-                is_by_token: words.is_by_token,
-            };
-            corrections_over(alloc, &ledgers, source, out, err)
-        }
-        Task::Other(name, matches) => others.other(threads, name, &matches, out, err),
+        Task::Corrections(words) => corrections_over(alloc, &words, source, out, err),
         Task::Mistake(mistake) => report_mistake(err, mistake),
+        Task::WrongDate(wrong) => report_wrong_date(alloc, err, &wrong),
     }
 }
 
 /// The whole program: reads the words, of which the first is the program's name, and does what they
-/// ask for. What uploads and texts have comes from the source, and files that are merged are read at
-/// any offset. Files are made in the sink, text goes to `out`, and mistakes, faults and warnings to
-/// `err`. Gives the status: 0 if all is well, 1 after a fault, 2 if the words are no command line, 3
-/// if an upload has a layout fault and yet all is written.
-pub fn main_over<
-    R: Threads + Sync,
-    S: Source,
-    D: PlacedFiles,
-    K: Sink,
-    W: Write + Drop,
-    E: Write,
-    H: Others<W, E>,
->(
+/// ask for. What uploads and texts have comes from the source, and files that are merged are read
+/// at any offset. Files are made in the sink, text goes to `out`, and mistakes, faults and warnings
+/// to `err`. `seed` is random, so that no file can choose names of devices that are found slowly.
+/// `table` prints the changes of clocks after `moment`, unless the words name another one. Gives
+/// the status: 0 if all is well, 1 after a fault, 2 if the words are no command line, 3 if an upload
+/// has a layout fault and yet all is written.
+pub fn main_over<R: Threads + Sync, S: Source, D: PlacedFiles, K: Sink, W: Write + Drop, E: Write>(
     threads: &R,
     alloc: Global,
+    seed: RandomState,
+    moment: Timestamp,
     words: &[String],
     source: &mut S,
     files: &D,
     sink: &mut K,
-    others: &mut H,
     out: &mut Output<W>,
     err: &mut Complaints<E>,
 ) -> u8
@@ -203,7 +204,7 @@ pub fn main_over<
     ensures done { Parses (map string_bytes words.now) → result ≡ 0
         → IsDone (asked_by (map string_bytes words.now)) (run_of (S.loaded source.old)
         (S.loaded source.new) (S.refused source.new) (D.bytes_under files.now) (K.made sink.old)
-        (K.made sink.new) (K.failed sink.new) (W.contents out.old.inner)
+        (K.made sink.new) (K.unbegun sink.new) (K.failed sink.new) (W.contents out.old.inner)
         (W.contents out.new.inner) out.new.end out.new.is_flushed (E.contents err.old.writer)
         (E.contents err.new.writer) err.new.failed) (err.new ≡ err.old) }
 
@@ -216,7 +217,7 @@ pub fn main_over<
     ensures partly { Parses (map string_bytes words.now) → result ≡ 3
         → IsPartlyDone (asked_by (map string_bytes words.now)) (run_of (S.loaded source.old)
         (S.loaded source.new) (S.refused source.new) (D.bytes_under files.now) (K.made sink.old)
-        (K.made sink.new) (K.failed sink.new) (W.contents out.old.inner)
+        (K.made sink.new) (K.unbegun sink.new) (K.failed sink.new) (W.contents out.old.inner)
         (W.contents out.new.inner) out.new.end out.new.is_flushed (E.contents err.old.writer)
         (E.contents err.new.writer) err.new.failed) }
 
@@ -225,7 +226,7 @@ pub fn main_over<
     ensures given_up { Parses (map string_bytes words.now) → result ≡ 1
         → IsGivenUp (asked_by (map string_bytes words.now)) (run_of (S.loaded source.old)
         (S.loaded source.new) (S.refused source.new) (D.bytes_under files.now) (K.made sink.old)
-        (K.made sink.new) (K.failed sink.new) (W.contents out.old.inner)
+        (K.made sink.new) (K.unbegun sink.new) (K.failed sink.new) (W.contents out.old.inner)
         (W.contents out.new.inner) out.new.end out.new.is_flushed (E.contents err.old.writer)
         (E.contents err.new.writer) err.new.failed) (err.new ≡ err.old)
         ⊎ IsFaultReported NoMemory
@@ -239,27 +240,26 @@ pub fn main_over<
         (E.contents err.old.writer) (E.contents err.new.writer) err.new.failed) }
 
     // A mistake in what is asked for is reported by its line, with status 2. Only want of memory,
-    // while the words are read, may come before it.
-    ensures mistaken { (why : AMistake) → Parses (map string_bytes words.now)
-        → asked_by (map string_bytes words.now) ≡ mistake why → ((result ≡ 2)
-        × LineWritten (E.contents err.old.writer) (E.contents err.new.writer) err.new.failed
-        (mistake_text why)) ⊎ ((result ≡ 1)
-        × IsFaultReported NoMemory
+    // while the words are read or the line is made, may come before it.
+    ensures mistaken { (line : List ℕ) → Parses (map string_bytes words.now)
+        → mistake_line (asked_by (map string_bytes words.now)) ≡ Some line → ((result ≡ 2)
+        × LineWritten (E.contents err.old.writer) (E.contents err.new.writer) err.new.failed line)
+        ⊎ ((result ≡ 1) × IsFaultReported NoMemory
         (E.contents err.old.writer) (E.contents err.new.writer) err.new.failed) }
 
-    // Only such words have status 2, where the task is one of this library.
+    // Only such words have status 2.
     ensures right { result ≡ 2 → (¬ Parses (map string_bytes words.now))
-        ⊎ (((why : AMistake) × (asked_by (map string_bytes words.now) ≡ mistake why))
-        ⊎ IsOther (asked_by (map string_bytes words.now))) }
+        ⊎ ((line : List ℕ) × (mistake_line (asked_by (map string_bytes words.now)) ≡ Some line)) }
 
     // A mistake in the words loads nothing, makes nothing and writes nothing to `out`.
-    ensures untouched { result ≡ 2 → ((out.new ≡ out.old)
-        × (S.loaded source.new ≡ S.loaded source.old) × (K.made sink.new ≡ K.made sink.old))
-        ⊎ IsOther (asked_by (map string_bytes words.now)) }
-    ensures status { (result ≤ 3) ⊎ IsOther (asked_by (map string_bytes words.now)) }
+    ensures untouched { result ≡ 2 → (out.new ≡ out.old)
+        × (S.loaded source.new ≡ S.loaded source.old) × (K.made sink.new ≡ K.made sink.old) }
+    ensures status { result ≤ 3 }
 {
     match read(alloc, words) {
-        Ok(task) => task_over(threads, alloc, task, source, files, sink, others, out, err),
+        Ok(task) => task_over(
+            threads, alloc, seed, moment, task, source, files, sink, out, err,
+        ),
         Err(error) => show(alloc, &error, out, err),
     }
 }

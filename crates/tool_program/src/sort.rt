@@ -282,8 +282,8 @@ fn are_posted(ends: &[UploadEnd]) -> bool
 
 /// Makes the file of the good taps of the uploads that the words name, `-` being standard input, in
 /// canonical order, and before it that of a line for each upload, if it has a name. Reports layout
-/// faults and a fault on `err`. Gives the status: 0 if the files are made and no upload has a layout
-/// fault, 3 if they are made and one has, 1 after a fault.
+/// faults and a fault on `err`. Gives the status: 0 if the files are made and no upload has a
+/// layout fault, 3 if they are made and one has, 1 after a fault.
 pub fn sort_over<R: Threads + Sync, S: Source, K: Sink, E: Write>(
     threads: &R,
     alloc: Global,

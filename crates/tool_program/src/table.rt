@@ -1,6 +1,6 @@
 //! `table`: fare tables as they are understood, what their rules ignore, and their faults.
 ghost use Rattle.std.specs.Prelude.{◌≡◌, ◌≤◌, ◌+◌, List, IfErr, IfOk, IfSome, None, Option, OnErr};
-ghost use Rattle.std.specs.Prelude.{◌&&◌, ◌||◌, false, length, map, not};
+ghost use Rattle.std.specs.Prelude.{◌&&◌, ◌||◌, false, length, map, not, true};
 ghost use Rattle.program_manners.specs.LineWritten.{LineWritten};
 ghost use Rattle.program_manners.specs.Loads.{Loaded};
 ghost use Rattle.tool_program.specs.Source.{HasOpened};
@@ -11,7 +11,6 @@ ghost use Rattle.tool_program.specs.inside.Table.{EndsAs, RefusesBehind, StopsTa
 ghost use Rattle.tool_program.specs.inside.Table.{IsStopReported, WritesAll};
 
 mod following;
-mod later;
 mod lines;
 mod seen;
 mod texts;
@@ -24,7 +23,6 @@ use crate::source::{Source, load_all};
 use fare_table::FareTable;
 use following::{joined, spans_of};
 use jiff::Timestamp;
-pub use later::LaterTable;
 use program_manners::Complaints;
 use seen::seen_in;
 use std::alloc::{AllocError, Global};
@@ -32,26 +30,8 @@ use std::io::Write;
 use table_report::TableText;
 use tap_views::MomentSpan;
 use texts::read_texts;
+use tool_words::TableQuestion;
 use understood::{Stopped, write_tables};
-
-/// What `table` is asked for. Files are named by words of the command line.
-#[derive(Drop)]
-pub struct TableQuestion<'a> {
-    /// The table that is valid first.
-    pub table: &'a str,
-    /// Those that follow it, in order.
-    pub later: Vec<LaterTable<'a>>,
-    /// The uploads whose validators are held against the tables.
-    pub uploads: Vec<&'a str>,
-    /// Whether a warning is a fault.
-    pub is_strict: bool,
-    /// Whether each rider is printed.
-    pub has_riders: bool,
-    /// The moment after which changes of clocks are printed; none: now.
-    pub from: Option<Timestamp>,
-    /// Whether the table is written as SQL, in place of its lines.
-    pub is_sql: bool,
-}
 
 /// The words of the tables' files, in order.
 fn files_of<'a>(alloc: Global, question: &TableQuestion<'a>) -> Result<Vec<&'a str>, AllocError>
@@ -86,10 +66,11 @@ fn write_understood<'a, S: Source, W: Write + Drop, E: Write>(
     out: &mut Output<W>,
     err: &mut Complaints<E>,
 ) -> Result<bool, Stopped<'a>>
-    ensures done { IfOk result (λ well. WritesAll question.now tables.now (S.loaded source.old)
-        (S.loaded source.new) (W.contents out.old.inner) (W.contents out.new.inner)
-        (E.contents err.old.writer) (E.contents err.new.writer) err.new.failed well
-        (err.new ≡ err.old)) }
+    requires { length tables.now ≡ length spans.now }
+    ensures done { IfOk result (λ well. WritesAll question.now tables.now spans.now
+        (S.loaded source.old) (S.loaded source.new) (W.contents out.old.inner)
+        (W.contents out.new.inner) (E.contents err.old.writer) (E.contents err.new.writer)
+        err.new.failed well (err.new ≡ err.old)) }
     ensures stops { IfErr result (λ stopped. StopsWriting question.now tables.now
         (S.loaded source.old) (S.loaded source.new) (S.refused source.new) out.new.end stopped) }
 {
@@ -122,7 +103,7 @@ fn fares_of<'a, E: Write>(
 ) -> Result<Option<FareTable>, Fault<'a>>
     requires texts { length texts.now ≡ length question.now.later.items + 1 }
     requires read { AreReadFrom (map (λ t. t.items) texts.now) tables.now }
-    ensures follow { IfOk result (λ fares. IfSome fares (λ all. AreTables
+    ensures follow { IfOk result (λ fares. IfSome fares (AreTables
         (tables_asked question.now) (map (λ t. t.items) texts.now) tables.now)) }
     ensures refused { IfOk result (λ fares. fares ≡ None → RefusesBehind question.now
         (map (λ t. t.items) texts.now) (E.contents err.old.writer) (E.contents err.new.writer)
@@ -207,34 +188,6 @@ fn load_and_write<'a, S: Source, W: Write + Drop, E: Write>(
     write_texts(alloc, question, now, &words, &texts, source, out, err)
 }
 
-/// The same, and lets all that was written go out.
-fn write_and_finish<'a, S: Source, W: Write + Drop, E: Write>(
-    alloc: Global,
-    question: &TableQuestion<'a>,
-    now: Timestamp,
-    source: &mut S,
-    out: &mut Output<W>,
-    err: &mut Complaints<E>,
-) -> Result<bool, Stopped<'a>>
-    ensures done { IfOk result (λ well. EndsAs question.now (S.loaded source.old)
-        (S.loaded source.new) (W.contents out.old.inner) (W.contents out.new.inner)
-        (E.contents err.old.writer) (E.contents err.new.writer) err.new.failed well
-        (err.new ≡ err.old)) }
-    ensures stops { IfErr result (λ stopped. StopsTable question.now (S.loaded source.old)
-        (S.loaded source.new) (S.refused source.new) out.new.end stopped) }
-{
-    match load_and_write(alloc, question, now, source, out, err) {
-        Ok(well) => match finish(out) {
-            Ok(()) => Ok(well),
-            Err(unwritten) => Err(Stopped::Fault(unwritten)),
-        },
-        Err(stopped) => match finish(out) {
-            Ok(()) => Err(stopped),
-            Err(unwritten) => Err(Stopped::Fault(unwritten)),
-        },
-    }
-}
-
 /// Reports that a class of the table has a name that SQL does not take.
 fn say_sql_name<E: Write>(err: &mut Complaints<E>, word: &str)
     ensures { LineWritten (E.contents err.old.writer) (E.contents err.new.writer) err.new.failed
@@ -271,22 +224,32 @@ pub fn table_over<S: Source, W: Write + Drop, E: Write>(
     err: &mut Complaints<E>,
 ) -> u8
     // With status 0 the files that the words name were loaded. Each text of a table is one, they
-    // follow one another, and no upload has a layout fault. Nothing was reported, or there was a
-    // warning that is no fault.
+    // follow one another, and no upload has a layout fault. Nothing is to be warned of, and nothing
+    // was reported; or there was a warning that is no fault.
     ensures done { result ≡ 0 → EndsWell question.now (S.loaded source.old) (S.loaded source.new)
         (W.contents out.old.inner) (W.contents out.new.inner) (E.contents err.old.writer)
         (E.contents err.new.writer) err.new.failed (err.new ≡ err.old) }
-    // With status 1 there is a reason, which was reported.
+    // And all that was written was flushed.
+    ensures flushed { result ≡ 0 → out.new.is_flushed ≡ true }
+    // With status 1 there is a reason, which was reported. If there is a warning or an upload has a
+    // layout fault, all that was written was flushed.
     ensures faults { result ≡ 1 → EndsIll question.now (S.loaded source.old)
-        (S.loaded source.new) (S.refused source.new) out.new.end (W.contents out.old.inner)
-        (W.contents out.new.inner) (E.contents err.old.writer) (E.contents err.new.writer)
-        err.new.failed }
+        (S.loaded source.new) (S.refused source.new) out.new.end out.new.is_flushed
+        (W.contents out.old.inner) (W.contents out.new.inner) (E.contents err.old.writer)
+        (E.contents err.new.writer) err.new.failed }
     ensures status { result ≤ 1 }
 {
-    match write_and_finish(alloc, question, now, source, out, err) {
-        Ok(well) => if well { 0 } else { 1 },
-        Err(stopped) => {
-            say_stopped(err, question.table, stopped);
+    let written = load_and_write(alloc, question, now, source, out, err);
+    match finish(out) {
+        Ok(()) => match written {
+            Ok(well) => if well { 0 } else { 1 },
+            Err(stopped) => {
+                say_stopped(err, question.table, stopped);
+                1
+            }
+        },
+        Err(unwritten) => {
+            say(err, &unwritten);
             1
         }
     }

@@ -9,7 +9,7 @@ ghost use Rattle.tool_program.specs.Uploads.{ListsWith, are_sound, damage_text, 
 ghost use Rattle.tool_program.specs.declared.fault.Fault.{Fault as AFault};
 ghost use Rattle.tool_program.specs.inside.Uploads.{ListsOne, StopsListing};
 
-use crate::fault::{Fault, finish, say};
+use crate::fault::{Fault, finish_after, say};
 use crate::layout::{AtTap, Cause, Remedy};
 use crate::names::Name;
 use crate::output::Output;
@@ -164,36 +164,6 @@ fn list_all<'a, S: Source, W: Write + Drop>(
     Ok(is_well)
 }
 
-/// The same, and lets all that was written go out.
-fn list<'a, S: Source, W: Write + Drop>(
-    alloc: Global,
-    words: &[&'a str],
-    has_tokens: bool,
-    source: &mut S,
-    out: &mut Output<W>,
-) -> Result<bool, Fault<'a>>
-    ensures done { IfOk result (λ well. (listed : List Listed)
-        × ListsWith has_tokens (map (λ w. w.now) words.now) (S.loaded source.old)
-        (S.loaded source.new) (W.contents out.old.inner) (W.contents out.new.inner) listed
-        × (well ≡ are_sound listed)) }
-    ensures stops { IfErr result (λ fault. GivesUpWith has_tokens (map (λ w. w.now) words.now)
-        (S.loaded source.old) (S.refused source.new) out.new.end fault
-        (W.contents out.old.inner) (W.contents out.new.inner)) }
-    ensures flushed { OnOk result (out.new.is_flushed ≡ true) }
-{
-    let done = list_all(alloc, words, has_tokens, source, out);
-    match done {
-        Ok(well) => match finish(out) {
-            Ok(()) => Ok(well),
-            Err(unwritten) => Err(unwritten),
-        },
-        Err(fault) => match finish(out) {
-            Ok(()) => Err(fault),
-            Err(unwritten) => Err(unwritten),
-        },
-    }
-}
-
 /// Writes to `out` what the uploads have that the words name, `-` being standard input: the lines
 /// of each, in their order; and if `has_tokens` is set, then a line for each, of how many different
 /// tokens it has and how many of these another one has, too. A fault that ends it is reported on
@@ -216,8 +186,8 @@ pub fn uploads_over<S: Source, W: Write + Drop, E: Write>(
     ensures flushed { result ≡ 0 → out.new.is_flushed ≡ true }
     // Nothing is reported beside the lines of uploads without a fault.
     ensures quiet { result ≡ 0 → err.new ≡ err.old }
-    // With status 1 all lines were written and flushed, also that of a layout fault, and nothing was
-    // reported; or a fault ended it, which was reported and is the right one.
+    // With status 1 all lines were written and flushed, also that of a layout fault, and nothing
+    // was reported; or a fault ended it, which was reported and is the right one.
     ensures faults { result ≡ 1 → (ListsFaulty has_tokens (map (λ w. w.now) words.now)
         (S.loaded source.old) (S.loaded source.new) (W.contents out.old.inner)
         (W.contents out.new.inner) × (out.new.is_flushed ≡ true) × (err.new ≡ err.old))
@@ -228,7 +198,8 @@ pub fn uploads_over<S: Source, W: Write + Drop, E: Write>(
         (E.contents err.new.writer) err.new.failed) }
     ensures status { result ≤ 1 }
 {
-    match list(alloc, words, has_tokens, source, out) {
+    let listed = list_all(alloc, words, has_tokens, source, out);
+    match finish_after(listed, out) {
         Ok(well) => if well { 0 } else { 1 },
         Err(fault) => {
             say(err, &fault);

@@ -1,9 +1,9 @@
 -- The subcommand that a parse entered.
-use Rattle.std.proofs.Common.{◌≡◌, ◌∙◌, Bor, List, ℕ, Option, None, Some, refl, sym, ap}
+use Rattle.std.proofs.Common.{◌≡◌, Bor, Option, None, Some, refl, sym}
 use Rattle.std.specs.Prelude.{Box, option_map}
 use Rattle.std.specs.Box.{box_value}
 use Rattle.clap.specs.Simple.{subcommand_rows}
-use Rattle.clap.specs.Words.{Row, Text, found_of, rows_of}
+use Rattle.clap.specs.Words.{Text, found_of, rows_of}
 use Rattle.clap.specs.declared.parser.matches.ArgMatches.{ArgMatches}
 use Rattle.clap.specs.declared.parser.matches.ArgMatches.TheViews.{out-SubCommand}
 use Rattle.clap.specs.declared.parser.matches.SubCommand.{SubCommand}
@@ -11,7 +11,8 @@ use Rattle.clap.specs.declared.parser.matches.SubCommand.{SubCommand}
 none_some : {X : Type 0} (x : X) → None ≡ Some x → ⊥
 none_some x is = cc
 
-some_is : {X : Type 0} (x y : X) → Some x ≡ Some y → x ≡ y
+-- what is there is the same
+pub some_is : {X : Type 0} (x y : X) → Some x ≡ Some y → x ≡ y
 some_is x y is = cc
 
 -- a name and the rows under it are the pair

@@ -1,4 +1,6 @@
+pub mod Columns
 pub mod Entered
+pub mod LaterWords
 pub mod Locals
 pub mod Numbers
 pub mod Refused

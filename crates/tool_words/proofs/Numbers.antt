@@ -1,6 +1,7 @@
 -- The number that is given under a name.
-use Rattle.std.proofs.Common.{◌≡◌, ◌∙◌, ◌<◌, ◌^◌, ◌&&◌, ℕ, Bool, true, false, refl, sym, ap, List, []}
-use Rattle.std.proofs.Common.{◌∷◌, Option, None, Some, Result, Ok, Err, length, nat_lt, lt-ltb}
+use Rattle.std.proofs.Common.{◌≡◌, ◌^◌, ℕ, Bool, true, false, refl, ap, List}
+use Rattle.std.proofs.Common.{[]}
+use Rattle.std.proofs.Common.{◌∷◌, Option, None, Some, Result, length, nat_lt, lt-ltb}
 use Rattle.std.proofs.Common.{ltb-true}
 use Rattle.std.specs.Prelude.{unwrap_or}
 use Rattle.std.specs.Char.{digit_value}

@@ -1,19 +1,74 @@
 -- Tasks, as what is asked for.
-use Rattle.std.specs.Prelude.{List, map, option_map}
+use Rattle.std.specs.Prelude.{List, Option, map, option_map}
 use Rattle.std.specs.Borrow.{Bor}
-use Rattle.clap.specs.Words.{Text, found_of, rows_of}
-use Rattle.tool_words.specs.Asked.{Asked, CorrectionsAsked, SortAsked, SplitAsked, corrections}
-use Rattle.tool_words.specs.Asked.{decode, encode, merge, merge_ledgers, mistake, other, sort}
-use Rattle.tool_words.specs.Asked.{split, uploads}
+use Rattle.clap.specs.Words.{Text}
+use Rattle.tap_rows.specs.declared.agency.choice.Condition.{Condition}
+use Rattle.tool_words.specs.Asked.{Asked, CorrectionsAsked, GoodPartAsked, LookAsked, RowsAsked}
+use Rattle.tool_words.specs.Asked.{SortAsked, SplitAsked, TableAsked, corrections, decode, encode}
+use Rattle.tool_words.specs.Asked.{encode_rows, good_part, look, merge, merge_ledgers, mistake}
+use Rattle.tool_words.specs.Asked.{sort, split, table, uploads, wrong_date}
 use Rattle.tool_words.specs.declared.task.CorrectionsWords.{CorrectionsWords}
+use Rattle.tool_words.specs.declared.task.GoodPartWords.{GoodPartWords}
+use Rattle.tool_words.specs.declared.task.LookWords.{LookWords}
+use Rattle.tool_words.specs.declared.task.RowsWords.{RowsWords}
 use Rattle.tool_words.specs.declared.task.SortingWords.{SortingWords}
 use Rattle.tool_words.specs.declared.task.SplittingWords.{SplittingWords}
+use Rattle.tool_words.specs.declared.task.TableQuestion.{TableQuestion}
 use Rattle.tool_words.specs.declared.task.Task.{Task}
 use Rattle.tool_words.specs.declared.task.Task.TheVariants as task
 
 -- the texts behind references
 abbrev pub texts_of : List (Bor Text) → List Text
 texts_of = map (λ word. word.now)
+
+-- the text behind a reference, if there is one
+abbrev pub text_in : Option (Bor Text) → Option Text
+text_in word = option_map (λ w. w.now) word
+
+-- the column and the value of a condition
+abbrev pub condition_of : Condition → Text × Text
+condition_of condition = (condition.column.now, condition.value.now)
+
+abbrev pub rows_words_of : RowsWords → RowsAsked
+rows_words_of words = record {
+  columns = record {
+    token = words.token.now;
+    validator = words.validator.now;
+    moment = words.moment.now;
+  };
+  devices = text_in words.devices;
+  separator = words.separator;
+  only = map condition_of words.only.items;
+  refused = text_in words.refused;
+}
+
+abbrev pub good_part_of : GoodPartWords → GoodPartAsked
+good_part_of words = record {
+  upload = words.upload.now;
+  out = words.out.now;
+  has_tokens = words.has_tokens;
+}
+
+abbrev pub look_of : LookWords → LookAsked
+look_of words = record {
+  within = words.within;
+  first = words.first;
+  last = words.last;
+  table = text_in words.table;
+  has_list = words.has_list;
+  has_tokens = words.has_tokens;
+}
+
+abbrev pub table_of : TableQuestion → TableAsked
+table_of question = record {
+  table = question.table.now;
+  later = map (λ later. later.word.now) question.later.items;
+  uploads = texts_of question.uploads.items;
+  is_strict = question.is_strict;
+  has_riders = question.has_riders;
+  from = option_map (λ moment. moment.nanosecond) question.from;
+  is_sql = question.is_sql;
+}
 
 abbrev pub sorting_of : SortingWords → SortAsked
 sorting_of words = record {
@@ -41,13 +96,17 @@ corrections_of words = record {
 -- what a task is
 abbrev pub asked_of : Task → Asked
 asked_of (task.Encode word) = encode word.now
+asked_of (task.EncodeRows word words) = encode_rows word.now (rows_words_of words)
 asked_of (task.Decode words) = decode (texts_of words.items)
 asked_of (task.Uploads words has_tokens) = uploads (texts_of words.items) has_tokens
+asked_of (task.GoodPart words) = good_part (good_part_of words)
+asked_of (task.Look words names) = look (look_of words) (texts_of names.items)
+asked_of (task.Table question) = table (table_of question)
 asked_of (task.Sort words) = sort (sorting_of words)
 asked_of (task.Split words) = split (splitting_of words)
 asked_of (task.Merge words) = merge (texts_of words.ends.items) (texts_of words.reports.items)
 asked_of (task.MergeLedgers words) =
     merge_ledgers (texts_of words.ledgers.items) (texts_of words.reports.items)
 asked_of (task.Corrections words) = corrections (corrections_of words)
-asked_of (task.Other name matches) = other name.now (rows_of (found_of matches))
 asked_of (task.Mistake why) = mistake why
+asked_of (task.WrongDate wrong) = wrong_date wrong.word.now wrong.fault

@@ -1,7 +1,8 @@
 //! The arguments of a subcommand, as rows of a table.
 ghost use Rattle.std.specs.Prelude.{◌≡◌, IfOk, false};
 ghost use Rattle.clap.specs.Words.{app_of, new_app, rule_of};
-ghost use Rattle.tool_words.specs.inside.Rows.{rule_by, rules_of, taken_rule, with_rows, with_rules};
+ghost use Rattle.tool_words.specs.inside.Rows.{rule_by, rules_of, taken_rule, with_rows};
+ghost use Rattle.tool_words.specs.inside.Rows.{with_rules};
 
 use clap::builder::ValueParser;
 use clap::{Arg, ArgAction, Command};

@@ -9,6 +9,10 @@
 //! | `program` | the whole command line |
 //! | `rules` | the rules between the arguments of a subcommand |
 //! | `reading` | what is given to a subcommand |
+//! | `encode_words` | what `encode` is asked for with columns |
+//! | `uploads_words` | what `uploads` is asked for with a good part or a look |
+//! | `table_words` | what `table` is asked for |
+//! | `later_table` | words of tables that follow others, each from a date on |
 //! | `task` | what is asked for |
 //! | `mistake` | what is wrong with words that clap takes |
 //! | `words` | from the words to what they ask for |
@@ -19,6 +23,8 @@ mod arguments;
 mod corrections;
 mod decode;
 mod encode;
+mod encode_words;
+mod later_table;
 mod merge;
 mod merge_ledgers;
 mod mistake;
@@ -29,12 +35,18 @@ mod rules;
 mod sort;
 mod split;
 mod table;
+mod table_words;
 mod task;
 mod uploads;
+mod uploads_words;
 mod words;
 
+pub use later_table::LaterTable;
 pub use mistake::Mistake;
 pub use named_list::list_words;
 pub use reading::is_input;
-pub use task::{CorrectionsWords, LedgersWords, MergeWords, SortingWords, SplittingWords, Task};
+pub use task::{
+    CorrectionsWords, GoodPartWords, LedgersWords, LookWords, MergeWords, RowsWords, SortingWords,
+    SplittingWords, TableQuestion, Task,
+};
 pub use words::read;

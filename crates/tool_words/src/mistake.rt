@@ -16,6 +16,22 @@ pub enum Mistake {
     NoColumns,
     /// `--validators` needs `--columns`.
     NoColumnsForValidators,
+    /// `--columns` does not name each column once.
+    Columns,
+    /// `--separator` is none.
+    Separator,
+    /// `--only` has no `=`.
+    Condition,
+    /// A good part is asked for, and not of one upload.
+    NotOneUpload,
+    /// What `--from` gives is no moment.
+    From,
+    /// What `--until` gives is no moment.
+    Until,
+    /// What `--until` gives is not after what `--from` gives.
+    Order,
+    /// Several fare tables are to be written as SQL.
+    TablesAsSql,
     /// Arguments do not go together, or files are missing. clap says so first, in its own words.
     Arguments,
     /// No subcommand. clap says so first, in its own words.
@@ -39,6 +55,20 @@ impl fmt::Display for Mistake {
                 f.write_str("error: --only, --separator and --refused need --columns")
             }
             Mistake::NoColumnsForValidators => f.write_str("error: --validators needs --columns"),
+            Mistake::Columns => f.write_str(
+                "error: --columns needs token=NAME,validator=NAME,moment=NAME, each once",
+            ),
+            Mistake::Separator => f.write_str("error: --separator is one of , ; tab"),
+            Mistake::Condition => f.write_str("error: --only needs COLUMN=VALUE"),
+            Mistake::NotOneUpload => f.write_str("error: --good-part needs one FILE"),
+            Mistake::From => {
+                f.write_str("error: --from needs a moment, as 2026-03-01T00:00:00Z")
+            }
+            Mistake::Until => {
+                f.write_str("error: --until needs a moment, as 2026-03-01T00:00:00Z")
+            }
+            Mistake::Order => f.write_str("error: --until needs a moment after --from"),
+            Mistake::TablesAsSql => f.write_str("error: --table cannot be used with --sql"),
             Mistake::Arguments => {
                 f.write_str("error: arguments do not go together, or files are missing")
             }

@@ -17,8 +17,8 @@ fn option_of(name: &str) -> Option<&'static str> {
 }
 
 /// The list of files that the words name, if they name one, and the option that takes its names, if
-/// they are no positional arguments. Words that are no command line name none: the program says why,
-/// or shows its help.
+/// they are no positional arguments. Words that are no command line name none: the program says
+/// why, or shows its help.
 ///
 /// # Errors
 ///

@@ -1,8 +1,10 @@
 //! What is given to a subcommand.
-ghost use Rattle.std.specs.Prelude.{◌≡◌, ◌≤◌, map, option_map};
+ghost use Rattle.std.specs.Prelude.{◌≡◌, ◌≤◌, false, map, option_map};
 ghost use Rattle.std.specs.List.{list_any};
+ghost use Rattle.std.specs.Option.{option_map_or};
 ghost use Rattle.clap.specs.Words.{first_of, found_of, rows_of};
-ghost use Rattle.tool_words.specs.Asked.{as_parts, has_input_twice, inputs_in, is_input, names_input};
+ghost use Rattle.tool_words.specs.Asked.{as_parts, has_input_twice, inputs_in, is_input};
+ghost use Rattle.tool_words.specs.Asked.{names_input};
 ghost use Rattle.tool_words.specs.Asked.{number_in};
 ghost use Rattle.tool_words.specs.ToolLine.{has_value};
 
@@ -19,6 +21,16 @@ pub fn is_input(word: &str) -> bool
     ensures { result ≡ is_input word.now }
 {
     word == INPUT_WORD
+}
+
+/// Whether there is a word, and it stands for standard input.
+pub(crate) fn is_input_given(word: Option<&str>) -> bool
+    ensures { result ≡ option_map_or is_input (option_map (λ w. w.now) word.entry) false }
+{
+    match word {
+        Some(word) => is_input(word),
+        None => false,
+    }
 }
 
 /// How many of the words stand for standard input.

@@ -1,8 +1,77 @@
 //! What is asked for.
 ghost use Rattle.std.specs.Prelude.{◌≤◌};
 
+use crate::later_table::LaterTable;
 use crate::mistake::Mistake;
-use clap::ArgMatches;
+use jiff::Timestamp;
+use program_manners::WrongWord;
+use tap_rows::{Condition, Separator};
+
+/// How an agency's CSV is read, and what is done with the rows that are no taps.
+#[derive(Drop)]
+pub struct RowsWords<'a> {
+    /// The name of the column of tokens.
+    pub token: &'a str,
+    /// The name of the column of validators.
+    pub validator: &'a str,
+    /// The name of the column of moments.
+    pub moment: &'a str,
+    /// The file of devices and their validators; none if the rows have the validators' numbers.
+    pub devices: Option<&'a str>,
+    /// What stands between two fields.
+    pub separator: Separator,
+    /// Which rows are kept.
+    pub only: Vec<Condition<'a>>,
+    /// The file of the rows that are no taps; none if the first of them ends the encoding.
+    pub refused: Option<&'a str>,
+}
+
+/// What `uploads --good-part` is asked for.
+#[derive(Clone, Copy, Debug)]
+pub struct GoodPartWords<'a> {
+    /// The upload.
+    pub upload: &'a str,
+    /// The file that is made.
+    pub out: &'a str,
+    /// Whether its tokens are counted.
+    pub has_tokens: bool,
+}
+
+/// What a look at uploads is asked for, beside the uploads.
+#[derive(Clone, Copy, Debug)]
+pub struct LookWords<'a> {
+    /// How many milliseconds at most a near double is later than the tap before it.
+    pub within: u64,
+    /// The first moment that is looked at, in milliseconds since 1970-01-01T00:00Z, if it is given.
+    pub first: Option<u64>,
+    /// The last one, if it is given.
+    pub last: Option<u64>,
+    /// The word of the fare table whose validators are looked at, if one is given.
+    pub table: Option<&'a str>,
+    /// Whether all that is found is listed, and not only counted.
+    pub has_list: bool,
+    /// Whether it is printed how many tokens the uploads have and share. A list has no such lines.
+    pub has_tokens: bool,
+}
+
+/// What `table` is asked for. Files are named by words of the command line.
+#[derive(Drop)]
+pub struct TableQuestion<'a> {
+    /// The table that is valid first.
+    pub table: &'a str,
+    /// Those that follow it, in order.
+    pub later: Vec<LaterTable<'a>>,
+    /// The uploads whose validators are held against the tables.
+    pub uploads: Vec<&'a str>,
+    /// Whether a warning is a fault.
+    pub is_strict: bool,
+    /// Whether each rider is printed.
+    pub has_riders: bool,
+    /// The moment after which changes of clocks are printed; none: now.
+    pub from: Option<Timestamp>,
+    /// Whether the table is written as SQL, in place of its lines.
+    pub is_sql: bool,
+}
 
 /// What `sort` is asked for.
 #[derive(Drop)]
@@ -66,10 +135,18 @@ pub struct CorrectionsWords<'a> {
 pub enum Task<'a> {
     /// The upload of a tap table.
     Encode(&'a str),
+    /// The upload of the rows of an agency's CSV.
+    EncodeRows(&'a str, RowsWords<'a>),
     /// The tap table of uploads.
     Decode(Vec<&'a str>),
     /// What uploads have, and how many tokens they share, if that is asked for.
     Uploads(Vec<&'a str>, bool),
+    /// What one upload has, and a file of its good part.
+    GoodPart(GoodPartWords<'a>),
+    /// What uploads have, and what is found in them.
+    Look(LookWords<'a>, Vec<&'a str>),
+    /// What fare tables are understood as.
+    Table(TableQuestion<'a>),
     /// Uploads in one order.
     Sort(SortingWords<'a>),
     /// Uploads in parts.
@@ -80,9 +157,8 @@ pub enum Task<'a> {
     MergeLedgers(LedgersWords<'a>),
     /// The corrections from one ledger to another.
     Corrections(CorrectionsWords<'a>),
-    /// The subcommand of this name, with what it is given: `encode` with columns, `uploads` with a
-    /// look or a good part, and `table`.
-    Other(&'a str, ArgMatches<'a>),
     /// Nothing, since the words are wrong in this way.
     Mistake(Mistake),
+    /// Nothing, since the word of a later table has a wrong date, or none.
+    WrongDate(WrongWord<'a>),
 }

@@ -4,43 +4,46 @@ ghost use Rattle.std.specs.Prelude.{string_bytes};
 ghost use Rattle.clap.specs.Words.{FailsBy, fault_of, found_of, kind_of, matches_of, rows_of};
 ghost use Rattle.clap.specs.Words.{subcommand_of, subcommand_rows_of};
 ghost use Rattle.program_manners.specs.Words.{IsRequest};
-ghost use Rattle.tool_words.specs.Asked.{asked_by, asked_of_name, asked_once, corrections_asked, decode, encode_asked};
+ghost use Rattle.tool_words.specs.Asked.{asked_by, asked_of_name, asked_once, corrections_asked};
+ghost use Rattle.tool_words.specs.Asked.{decode, encode_asked};
 ghost use Rattle.tool_words.specs.Asked.{merge_asked, merge_ledgers_asked, named, or_input};
 ghost use Rattle.tool_words.specs.Asked.{sort_asked, split_asked, uploads_asked};
 ghost use Rattle.tool_words.specs.Asked.{ledgers_named};
 ghost use Rattle.tool_words.specs.Tasks.{asked_of, corrections_of, texts_of};
 ghost use Rattle.tool_words.specs.ToolLine.{AsksForText, Parses, program};
 
+use crate::encode_words::{encoded_file, rows_task};
 use crate::mistake::Mistake;
 use crate::program::command;
 use crate::reading::{
     as_parts, has_input_twice, has_value, inputs_in, is_input, number_in, value_in,
 };
 use crate::rules::{breaks_rule, looks};
+use crate::table_words::table_task;
 use crate::task::{CorrectionsWords, LedgersWords, MergeWords, SortingWords, SplittingWords, Task};
+use crate::uploads_words::{good_part_task, look_task};
 use clap::error::ErrorKind;
 use clap::{ArgMatches, Error};
 use program_manners::{flag_in, names_in};
 use std::alloc::{AllocError, Global};
 
 /// What `encode` is asked for.
-fn encode_task<'a>(name: &'a str, matches: ArgMatches<'a>) -> Task<'a>
-    requires { name.now ≡ codes "encode" }
-    ensures { asked_of result ≡ encode_asked (rows_of (found_of matches.entry)) }
+fn encode_task<'a>(alloc: Global, matches: &ArgMatches<'a>) -> Result<Task<'a>, AllocError>
+    ensures { IfOk result (λ task. asked_of task ≡ encode_asked (rows_of (found_of matches.now))) }
 {
-    if has_value(&matches, "columns") {
-        return Task::Other(name, matches);
+    if has_value(matches, "columns") {
+        return rows_task(alloc, matches);
     }
-    if has_value(&matches, "only")
-        || has_value(&matches, "separator")
-        || has_value(&matches, "refused")
+    if has_value(matches, "only")
+        || has_value(matches, "separator")
+        || has_value(matches, "refused")
     {
-        return Task::Mistake(Mistake::NoColumns);
+        return Ok(Task::Mistake(Mistake::NoColumns));
     }
-    if has_value(&matches, "validators") {
-        return Task::Mistake(Mistake::NoColumnsForValidators);
+    if has_value(matches, "validators") {
+        return Ok(Task::Mistake(Mistake::NoColumnsForValidators));
     }
-    Task::Encode(value_in(&matches, "FILE").unwrap_or("-"))
+    Ok(Task::Encode(encoded_file(matches)))
 }
 
 /// What `decode` is asked for: standard input if no upload is named.
@@ -56,20 +59,18 @@ fn decode_task<'a>(alloc: Global, matches: &ArgMatches<'a>) -> Result<Task<'a>, 
 }
 
 /// What `uploads` is asked for.
-fn uploads_task<'a>(
-    alloc: Global,
-    name: &'a str,
-    matches: ArgMatches<'a>,
-) -> Result<Task<'a>, AllocError>
-    requires { name.now ≡ codes "uploads" }
-    ensures { IfOk result (λ task. asked_of task
-        ≡ uploads_asked (rows_of (found_of matches.entry))) }
+fn uploads_task<'a>(alloc: Global, matches: &ArgMatches<'a>) -> Result<Task<'a>, AllocError>
+    ensures { IfOk result (λ task. asked_of task ≡ uploads_asked (rows_of (found_of matches.now))) }
 {
-    if looks(&matches) || has_value(&matches, "good-part") {
-        return Ok(Task::Other(name, matches));
+    if let Some(out) = value_in(matches, "good-part") {
+        let words = names_in(alloc, matches, "FILE")?;
+        return Ok(good_part_task(out, flag_in(matches, "tokens"), &words));
     }
-    let has_tokens = flag_in(&matches, "tokens");
-    Ok(Task::Uploads(names_in(alloc, &matches, "FILE")?, has_tokens))
+    if looks(matches) {
+        return look_task(alloc, matches);
+    }
+    let has_tokens = flag_in(matches, "tokens");
+    Ok(Task::Uploads(names_in(alloc, matches, "FILE")?, has_tokens))
 }
 
 /// What `sort` is asked for. Uploads that are merged are read at any offset.
@@ -161,13 +162,13 @@ fn task_of_name<'a>(
         ≡ asked_of_name name.entry.now (rows_of (found_of matches.entry))) }
 {
     if name == "encode" {
-        return Ok(encode_task(name, matches));
+        return encode_task(alloc, &matches);
     }
     if name == "decode" {
         return decode_task(alloc, &matches);
     }
     if name == "uploads" {
-        return uploads_task(alloc, name, matches);
+        return uploads_task(alloc, &matches);
     }
     if name == "sort" {
         return sort_task(alloc, &matches);
@@ -190,7 +191,7 @@ fn task_of_name<'a>(
     if name == "corrections" {
         return Ok(corrections_task(ledgers_in(&matches)));
     }
-    Ok(Task::Other(name, matches))
+    table_task(alloc, &matches)
 }
 
 /// The words read by clap, without the rules between arguments.
@@ -261,8 +262,8 @@ fn task_in<'a>(
     task_of_name(alloc, name, matches)
 }
 
-/// What the words ask for, of which the first is the program's name; else clap's error, which may be
-/// a call for help.
+/// What the words ask for, of which the first is the program's name; else clap's error, which may
+/// be a call for help.
 pub fn read<'a>(alloc: Global, words: &'a [String]) -> Result<Task<'a>, Error>
     ensures asked { IfOk result (λ task.
         (fault_of program (map string_bytes words.entry.now) ≡ [])

@@ -12,10 +12,12 @@ use Rattle.tap_rows.specs.declared.agency.fault.AgencyFault.TheVariants as agenc
 use Rattle.tap_rows.specs.declared.agency.summary.Summary.{Summary}
 use Rattle.tap_rows.specs.declared.devices.fault.DevicesFault.{DevicesFault}
 use Rattle.tap_rows.specs.declared.devices.fault.DevicesFault.TheVariants as devices
-use Rattle.tool_program.specs.EncodeRows.{IsColumnName, IsSummaryLine, StopsRows}
+use Rattle.tool_program.specs.EncodeRows.{EncodesText, GivesUpText, IsColumnName, IsSummaryLine}
+use Rattle.tool_program.specs.EncodeRows.{StopsRows}
 use Rattle.tool_program.specs.Fault.{IsRefusal, failed_as}
+use Rattle.tool_program.specs.Sink.{Made}
 use Rattle.tool_program.specs.Source.{HasOpened}
-use Rattle.tool_program.specs.declared.encode_rows.RowsWords.{RowsWords}
+use Rattle.tool_words.specs.declared.task.RowsWords.{RowsWords}
 use Rattle.tool_program.specs.declared.fault.Fault.{Fault}
 use Rattle.tool_program.specs.declared.fault.Fault.TheVariants.{Devices, Exists, NoMemory, Rows}
 use Rattle.tool_program.specs.declared.fault.Fault.TheVariants.{SomeChanged, Unmade, Unread, Write}
@@ -92,6 +94,39 @@ abbrev pub StopsOnce : RowsWords → List ℕ → List ℕ → Choice → Option
 StopsOnce words name word choice loaded loaded' unread end refused_end fault out out' =
     (IsRefusal unread (word ∷ []) fault × Keeps out out')
     ⊎ BreaksOffOnce words name word choice loaded loaded' end refused_end fault out out'
+
+-- Of a source that keeps what it opened: the text was encoded whole, and this is the line of its
+-- summary.
+abbrev pub HasEncoded : Option (List ℕ) → List ℕ → Choice → Option (List Loaded)
+    → Option (List Loaded) → Option (List Made) → Option (List Made) → Option (List ℕ)
+    → Option (List ℕ) → List ℕ → Type 0
+HasEncoded refused word choice loaded loaded' made made' out out' line = (kept : List Loaded)
+    → loaded ≡ Some kept → (summary : Summary) × IsSummaryLine summary line
+    × EncodesText refused word choice loaded loaded' made made' out out' summary
+
+-- the same of a text of which no row is refused, so that no file is made
+abbrev pub HasEncodedAll : List ℕ → Choice → Option (List Loaded) → Option (List Loaded)
+    → Option (List ℕ) → Option (List ℕ) → List ℕ → Type 0
+HasEncodedAll word choice loaded loaded' out out' line = (kept : List Loaded)
+    (made : Option (List Made)) → loaded ≡ Some kept → (summary : Summary)
+    × IsSummaryLine summary line
+    × EncodesText None word choice loaded loaded' made made out out' summary
+
+-- of a source that keeps what it opened: the encoding was given up
+abbrev pub HasGivenUp : RowsWords → Option (List ℕ) → List ℕ → Choice → Option (List Loaded)
+    → Option (List Loaded) → Option (Option (List ℕ) × LoadFault) → Option (List ℕ × NewFault)
+    → Option (List ℕ) → Option WriteEnd → Fault → Option (List ℕ) → Option (List ℕ) → Type 0
+HasGivenUp words refused word choice loaded loaded' unread unbegun failed end fault out out' =
+    (kept : List Loaded) → loaded ≡ Some kept
+    → GivesUpText words refused word choice loaded loaded' unread unbegun failed end fault out out'
+
+-- the same of a text of which no row may be refused, so that no file is to be made
+abbrev pub HasGivenUpAll : RowsWords → List ℕ → Choice → Option (List Loaded)
+    → Option (List Loaded) → Option (Option (List ℕ) × LoadFault) → Option WriteEnd → Fault
+    → Option (List ℕ) → Option (List ℕ) → Type 0
+HasGivenUpAll words word choice loaded loaded' unread end fault out out' = (kept : List Loaded)
+    (unbegun : Option (List ℕ × NewFault)) (failed : Option (List ℕ)) → loaded ≡ Some kept
+    → GivesUpText words None word choice loaded loaded' unread unbegun failed end fault out out'
 
 -- the second fault is the first one, of the file of this word
 abbrev pub IsNewFault : List ℕ → NewFault → Fault → Type 0

@@ -4,8 +4,8 @@ use Rattle.tool_program.specs.declared.fault.Fault.{Fault}
 use Rattle.tool_program.specs.declared.fault.Fault.TheVariants.{NoMemory, Write}
 use Rattle.tool_program.specs.declared.output.WriteEnd.{WriteEnd}
 
--- The fault of the writer of a file, which nobody reads, as it remembers its writes. If it remembers
--- none that failed, the fault is that memory was refused.
+-- The fault of the writer of a file, which nobody reads, as it remembers its writes. If it
+-- remembers none that failed, the fault is that memory was refused.
 abbrev pub unwritten_as : Option WriteEnd → Fault
 unwritten_as (Some end) = Write
 unwritten_as None = NoMemory

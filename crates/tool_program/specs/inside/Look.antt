@@ -10,14 +10,15 @@ use Rattle.program_manners.specs.declared.loading.LoadFault.{LoadFault}
 use Rattle.tap_views.specs.declared.facts.Facts.{Facts}
 use Rattle.tool_program.specs.Decode.{AreReported, IsRightDecodeFault, IsWrittenUpTo}
 use Rattle.tool_program.specs.Fault.{IsRefusal}
-use Rattle.tool_program.specs.Look.{AreShown, IsFoundText, IsFareTableFault, IsShownText, ReadsTable}
+use Rattle.tool_program.specs.Look.{AreShown, IsFoundText, IsFareTableFault, IsShownText}
+use Rattle.tool_program.specs.Look.{ReadsTable}
 use Rattle.tool_program.specs.Look.{reported_line, reported_lines, table_word}
 use Rattle.tool_program.specs.Names.{file_named}
 use Rattle.tool_program.specs.Source.{HasOpened}
 use Rattle.tool_program.specs.Uploads.{Listed, listed_text, listed_uploads, listed_words}
 use Rattle.tool_program.specs.declared.fault.Fault.{Fault}
 use Rattle.tool_program.specs.declared.fault.Fault.TheVariants.{FareTable, NoMemory}
-use Rattle.tool_program.specs.declared.look.LookWords.{LookWords}
+use Rattle.tool_words.specs.declared.task.LookWords.{LookWords}
 use Rattle.tool_program.specs.declared.output.WriteEnd.{WriteEnd}
 use Rattle.tool_program.specs.inside.Decode.{IsOfWriting}
 
@@ -35,7 +36,8 @@ BreaksOffShowing list number word facts end fault out out' =
     × Begins out out' text))
 
 -- the upload of the word was loaded, shown and reported; whether it has no layout fault
-pub record TakesOne (list : Bool) (number : ℕ) (word : List ℕ) (loaded loaded' : Option (List Loaded))
+pub record TakesOne (list : Bool) (number : ℕ) (word : List ℕ)
+    (loaded loaded' : Option (List Loaded))
     (out out' said said' : Option (List ℕ)) (failed : Bool) (upload : List ℕ) (well : Bool)
     : Type 0 where
   pub one : Listed

@@ -17,7 +17,8 @@ IsSplitSoFar parts uploads None = uploads ≡ []
 IsSplitSoFar parts uploads (Some split) = AreInPlaces parts uploads split
 
 -- the uploads of these words were loaded and split, and the text has a line for each
-pub record HasSplit (first parts : ℕ) (words : List (List ℕ)) (loaded loaded' : Option (List Loaded))
+pub record HasSplit (first parts : ℕ) (words : List (List ℕ))
+    (loaded loaded' : Option (List Loaded))
     (split : Option SplitView) (text : List ℕ) : Type 0 where
   pub bytes : List (List ℕ)
   pub opened : HasOpened words loaded loaded' bytes

@@ -1,8 +1,8 @@
 -- `table`: what private functions alone cite.
-use Rattle.std.specs.Prelude.{◌≡◌, ◌≢◌, ◌⊎◌, ℕ, Bool, true, false, List, [], ◌∷◌, ◌++◌, Option}
-use Rattle.std.specs.Prelude.{is_none}
+use Rattle.std.specs.Prelude.{◌≡◌, ◌≢◌, ◌⊎◌, ⊤, ℕ, Bool, true, false, List, [], ◌∷◌, ◌++◌, Option}
+use Rattle.std.specs.Prelude.{None, Some, is_none, map}
 use Rattle.std.specs.Io.KnownBytes.{Appends}
-use Rattle.std.specs.List.{AllByRecursion}
+use Rattle.std.specs.List.{AllByRecursion, AllZip}
 use Rattle.fare_table.specs.Fares.{Fares}
 use Rattle.fare_table.specs.declared.fault.TableFault.TheVariants as faults
 use Rattle.program_manners.specs.LineWritten.{LineWritten}
@@ -12,19 +12,23 @@ use Rattle.program_manners.specs.declared.following.NextFault.{NextFault}
 use Rattle.program_manners.specs.declared.following.NextFault.TheVariants.{Follow, Table}
 use Rattle.program_manners.specs.declared.loading.LoadFault.{LoadFault}
 use Rattle.table_report.specs.ReadTable.{IsFareTable, IsReadFrom, ReadTable}
+use Rattle.table_report.specs.SeenValidators.{AddsValidators}
 use Rattle.table_report.specs.SqlText.{has_names_in_line}
-use Rattle.table_report.specs.Warned.{ignored_keys_of}
+use Rattle.table_report.specs.Warned.{warned_count}
+use Rattle.tap_views.specs.declared.span.MomentSpan.{MomentSpan}
 use Rattle.tool_program.specs.Decode.{AreReported, layout_line}
 use Rattle.tool_program.specs.Fault.{IsFaultReported}
 use Rattle.tool_program.specs.Names.{escaped, file_named}
-use Rattle.tool_program.specs.Table.{AreReadFrom, Checked, HasFaultyUpload, HasNoIgnored, HasNoTable}
-use Rattle.tool_program.specs.Table.{EndsWell, HasReported, HasSqlName, HasStrictWarning, HasWarned}
+use Rattle.tool_program.specs.Table.{AreReadFrom, AreValidatorsAt, AreWarnings, Checked, EndsWell}
+use Rattle.tool_program.specs.Table.{HasFaultyUpload, HasNoTable, HasReported, HasSqlName}
+use Rattle.tool_program.specs.Table.{HasStrictWarning, HasWarned, HaveNoWarning}
 use Rattle.tool_program.specs.Table.{IsNoNext, IsRightTableFault, LoadsBoth, LoadsUploads}
 use Rattle.tool_program.specs.Table.{RefusesLater, RefusesNext, RefusesText}
-use Rattle.tool_program.specs.Table.{checked_lines, files_of, have_no_fault, sql_name_text, sql_of}
-use Rattle.tool_program.specs.Table.{tables_asked, uploads_asked}
+use Rattle.tool_program.specs.Table.{checked_lines, checked_uploads, files_of, have_no_fault}
+use Rattle.tool_program.specs.Table.{sql_name_text, sql_of, tables_asked, uploads_asked}
 use Rattle.tool_program.specs.declared.output.WriteEnd.{WriteEnd}
-use Rattle.tool_program.specs.declared.table.TableQuestion.{TableQuestion}
+use Rattle.tool_program.specs.declared.table.seen.SeenAt.{SeenAt}
+use Rattle.tool_words.specs.declared.task.TableQuestion.{TableQuestion}
 use Rattle.tool_program.specs.declared.table.understood.Stopped.{Stopped}
 use Rattle.tool_program.specs.declared.table.understood.Stopped.TheVariants as stopped
 use Rattle.tool_program.specs.inside.Decode.{IsOfWriting}
@@ -68,41 +72,78 @@ pub record RefusesBehind (asked : TableQuestion) (texts : List (List ℕ))
   pub is_read : IsReadFrom text first
   pub refuses : RefusesNext first.fares (tables_asked asked).later behind said said' failed
 
+-- ---- validators of uploads
+-- the upload's validators were added at the moments of a span
+pub record AddsAt (upload : List ℕ) (old new : SeenAt) : Type 0 where
+  pub same : new.span ≡ old.span
+  pub added : AddsValidators old.span old.seen upload new.seen
+
+-- the same of each span
+abbrev pub AddsEach : List ℕ → List SeenAt → List SeenAt → Type 0
+AddsEach upload old new = AllZip (AddsAt upload) old new
+
+-- the validators of the uploads at the moments of each of these spans
+pub record AreSeenEach (spans : List MomentSpan) (seen : List SeenAt) (uploads : List (List ℕ))
+    : Type 0 where
+  pub same : map (λ at. at.span) seen ≡ spans
+  pub each : AllByRecursion (λ at. AreValidatorsAt at.span uploads at.seen) seen
+
+-- the same, if there are uploads
+abbrev pub AreSeen : List MomentSpan → List SeenAt → List (List ℕ) → Type 0
+AreSeen spans seen [] = seen ≡ []
+AreSeen spans seen (upload ∷ uploads) = AreSeenEach spans seen (upload ∷ uploads)
+
 -- ---- uploads
--- The upload of the word was loaded, and its layout fault was reported, if it has one. If it has
--- none, nothing was reported: `Still`.
+-- The upload of the word was loaded, its validators were added, and its layout fault was reported,
+-- if it has one. If it has none, nothing was reported: `Still`.
 pub record ChecksOne (word : List ℕ) (loaded loaded' : Option (List Loaded))
-    (said said' : Option (List ℕ)) (failed well : Bool) (Still : Type 0) : Type 0 where
+    (seen seen' : List SeenAt) (said said' : Option (List ℕ)) (failed well : Bool)
+    (Still : Type 0) : Type 0 where
   pub one : Checked
   pub named : one.word ≡ word
   pub is_loaded : LoadsOne loaded loaded' (file_named word) one.upload
+  pub added : AddsEach one.upload seen seen'
   pub well_is : well ≡ is_none one.facts.fault
   pub reported : AreReported said said' failed (layout_line word one.facts.fault)
   pub still : well ≡ true → Still
 
--- the same of the uploads of several words
+-- The same of the uploads of several words. Of the uploads this holds: `Seen`.
 pub record ChecksEach (words : List (List ℕ)) (loaded loaded' : Option (List Loaded))
-    (said said' : Option (List ℕ)) (failed well : Bool) (Still : Type 0) : Type 0 where
+    (Seen : List (List ℕ) → Type 0) (said said' : Option (List ℕ)) (failed well : Bool)
+    (Still : Type 0) : Type 0 where
   pub checked : List Checked
   pub uploads : LoadsUploads words loaded loaded' checked
+  pub seen : Seen (checked_uploads checked)
   pub well_is : well ≡ have_no_fault checked
   pub reported : AreReported said said' failed (checked_lines checked)
   pub still : well ≡ true → Still
 
 -- ---- warnings
--- The rules ignore no key of the table's text, and nothing was reported: `Still`; or they do, or
--- there are uploads, and there was a warning: `Reported`.
-abbrev pub IsWarnedOf : Bool → ReadTable → Bool → Type 0 → Type 0 → Type 0
-IsWarnedOf true table has_seen Still Reported = HasNoIgnored table × Still
-IsWarnedOf false table has_seen Still Reported =
-    ((ignored_keys_of table ≢ []) ⊎ (has_seen ≡ true)) × Reported
+-- Nothing is to be warned of the table, and nothing was reported: `Still`; or there is something,
+-- and there was a warning: `Reported`.
+abbrev pub IsWarnedOf : Bool → ReadTable → Option (List ℕ) → Type 0 → Type 0 → Type 0
+IsWarnedOf true table seen Still Reported = (warned_count table seen ≡ 0) × Still
+IsWarnedOf false table seen Still Reported = (warned_count table seen ≢ 0) × Reported
 
--- the same of several tables
-abbrev pub AreWarnedSoFar : Bool → List ReadTable → Bool → Type 0 → Type 0 → Type 0
-AreWarnedSoFar true tables has_seen Still Reported =
-    AllByRecursion HasNoIgnored tables × Still
-AreWarnedSoFar false tables has_seen Still Reported =
-    ((¬ AllByRecursion HasNoIgnored tables) ⊎ (has_seen ≡ true)) × Reported
+-- nothing is to be warned of each table, of which these are the validators
+abbrev pub NoneWarned : List ReadTable → List SeenAt → Type 0
+NoneWarned [] seen = ⊤
+NoneWarned (table ∷ tables) [] = (warned_count table None ≡ 0) × NoneWarned tables []
+NoneWarned (table ∷ tables) (at ∷ seen) =
+    (warned_count table (Some at.seen) ≡ 0) × NoneWarned tables seen
+
+-- there is something of one of them
+abbrev pub SomeWarned : List ReadTable → List SeenAt → Type 0
+SomeWarned [] seen = ⊥
+SomeWarned (table ∷ tables) [] = (warned_count table None ≢ 0) ⊎ SomeWarned tables []
+SomeWarned (table ∷ tables) (at ∷ seen) =
+    (warned_count table (Some at.seen) ≢ 0) ⊎ SomeWarned tables seen
+
+-- Nothing is to be warned of each table, and nothing was reported: `Still`; or there is something,
+-- and there was a warning: `Reported`.
+abbrev pub AreWarnedSoFar : Bool → List ReadTable → List SeenAt → Type 0 → Type 0 → Type 0
+AreWarnedSoFar true tables seen Still Reported = NoneWarned tables seen × Still
+AreWarnedSoFar false tables seen Still Reported = SomeWarned tables seen × Reported
 
 -- ---- tables that are not written
 -- a write failed, or memory was refused; or a class of the table has a name that SQL does not take
@@ -125,36 +166,43 @@ IsStopReported word stopped.SqlName said said' failed =
 
 -- ---- how it ends
 -- All is well: no upload has a layout fault, and there was no warning, or it is no fault.
-abbrev pub IsWell : TableQuestion → List ReadTable → List Checked → Option (List ℕ)
-    → Option (List ℕ) → Bool → Type 0 → Type 0
-IsWell asked tables checked said said' failed Still = (have_no_fault checked ≡ true)
-    × ((AllByRecursion HasNoIgnored tables × Still) ⊎ ((asked.is_strict ≡ false)
-    × HasWarned (uploads_asked asked) tables said said' failed))
+abbrev pub IsWell : TableQuestion → List ReadTable → List MomentSpan → List Checked
+    → Option (List ℕ) → Option (List ℕ) → Bool → Type 0 → Type 0
+IsWell asked tables spans checked said said' failed Still = (have_no_fault checked ≡ true)
+    × ((HaveNoWarning (checked_uploads checked) tables spans × Still) ⊎ ((asked.is_strict ≡ false)
+    × HasWarned (checked_uploads checked) tables spans said said' failed))
+
+-- the lines of layout faults, and then of warnings, were reported
+pub record ReportsBoth (tables : List ReadTable) (spans : List MomentSpan)
+    (checked : List Checked) (said said' : Option (List ℕ)) (failed : Bool) : Type 0 where
+  pub warnings : List ℕ
+  pub are_warnings : AreWarnings (checked_uploads checked) tables spans warnings
+  pub reported : AreReported said said' failed (checked_lines checked ++ warnings)
 
 -- an upload has a layout fault, which was reported, or there was a warning that is a fault
-abbrev pub IsIll : TableQuestion → List ReadTable → List Checked → Option (List ℕ)
-    → Option (List ℕ) → Bool → Type 0
-IsIll asked tables checked said said' failed =
-    ((have_no_fault checked ≡ false)
-    × ((warnings : List ℕ) × AreReported said said' failed (checked_lines checked ++ warnings)))
-    ⊎ ((asked.is_strict ≡ true) × HasWarned (uploads_asked asked) tables said said' failed)
+abbrev pub IsIll : TableQuestion → List ReadTable → List MomentSpan → List Checked
+    → Option (List ℕ) → Option (List ℕ) → Bool → Type 0
+IsIll asked tables spans checked said said' failed =
+    ((have_no_fault checked ≡ false) × ReportsBoth tables spans checked said said' failed)
+    ⊎ ((asked.is_strict ≡ true)
+    × HasWarned (checked_uploads checked) tables spans said said' failed)
 
 -- which of both holds
-abbrev pub IsWellOrIll : Bool → TableQuestion → List ReadTable → List Checked → Option (List ℕ)
-    → Option (List ℕ) → Bool → Type 0 → Type 0
-IsWellOrIll true asked tables checked said said' failed Still =
-    IsWell asked tables checked said said' failed Still
-IsWellOrIll false asked tables checked said said' failed Still =
-    IsIll asked tables checked said said' failed
+abbrev pub IsWellOrIll : Bool → TableQuestion → List ReadTable → List MomentSpan → List Checked
+    → Option (List ℕ) → Option (List ℕ) → Bool → Type 0 → Type 0
+IsWellOrIll true asked tables spans checked said said' failed Still =
+    IsWell asked tables spans checked said said' failed Still
+IsWellOrIll false asked tables spans checked said said' failed Still =
+    IsIll asked tables spans checked said said' failed
 
--- The uploads were loaded, and all tables were written.
-pub record WritesAll (asked : TableQuestion) (tables : List ReadTable)
+-- The uploads were loaded, and all tables were written, which are valid at these moments.
+pub record WritesAll (asked : TableQuestion) (tables : List ReadTable) (spans : List MomentSpan)
     (loaded loaded' : Option (List Loaded)) (out out' said said' : Option (List ℕ))
     (failed well : Bool) (Still : Type 0) : Type 0 where
   pub checked : List Checked
   pub uploads : LoadsUploads (uploads_asked asked) loaded loaded' checked
   pub written : asked.is_sql ≡ true → Appends out out' (sql_of tables)
-  pub ended : IsWellOrIll well asked tables checked said said' failed Still
+  pub ended : IsWellOrIll well asked tables spans checked said said' failed Still
 
 -- the uploads were loaded, and a class has a name that SQL does not take
 pub record FindsSqlName (asked : TableQuestion) (tables : List ReadTable)
@@ -189,8 +237,9 @@ EndsAs asked loaded loaded' out out' said said' failed false Still =
 pub record LoadsSqlName (asked : TableQuestion) (loaded loaded' : Option (List Loaded))
     : Type 0 where
   pub tables : List ReadTable
+  pub fares : Fares
   pub checked : List Checked
-  pub loads : LoadsBoth asked loaded loaded' tables checked
+  pub loads : LoadsBoth asked loaded loaded' tables fares checked
   pub sql : asked.is_sql ≡ true
   pub name : HasSqlName tables
 

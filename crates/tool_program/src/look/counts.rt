@@ -7,11 +7,11 @@ ghost use Rattle.tool_program.specs.LookCounts.{IsSilentLine, IsTapsLine, IsToke
 ghost use Rattle.tool_program.specs.LookCounts.{first_repeat};
 ghost use Rattle.tool_program.specs.LookCounts.{repeated_line};
 
-use crate::look::LookWords;
 use crate::look::found_texts::{push_day, push_tap};
 use crate::upload_tokens::tokens_text;
 use std::alloc::{AllocError, Global};
 use tap_views::{NoMemory, TapFields};
+use tool_words::LookWords;
 use upload_checks::{CommonTokens, Findings, NearDouble, Repeat, SilentDays, SilentRun};
 
 /// Appends the first tap that is found, or `-` if there is none.

@@ -1,19 +1,20 @@
 //! Tables that follow others.
 ghost use Rattle.std.specs.Prelude.{◌≡◌, IfErr, IfOk, IfSome, None, OnErr, OnOk, length, map};
 ghost use Rattle.program_manners.specs.TableLoads.{Follows};
+ghost use Rattle.tool_program.specs.Table as spec;
 ghost use Rattle.tool_program.specs.Table.{FollowEach, RefusesNext};
 ghost use Rattle.tool_program.specs.declared.fault.Fault.TheVariants.{NoMemory as ForMemory};
 ghost use Rattle.tool_program.specs.inside.Table.{IsNotNext, IsSaidOfNext};
 
 use crate::fault::Fault;
 use crate::names::Escaped;
-use crate::table::later::LaterTable;
 use crate::table::lines::say_lines;
 use fare_table::{FareTable, FollowFault, TableFault};
 use program_manners::{Complaints, FollowLine, NextFault, TableWord, table_behind};
 use std::alloc::{AllocError, Global};
 use std::io::Write;
 use tap_views::MomentSpan;
+use tool_words::LaterTable;
 
 /// Says why the table of this word does not follow those before it.
 fn say_next<'a, E: Write>(
@@ -74,8 +75,8 @@ fn table_next<'a, E: Write>(
     }
 }
 
-/// The tables of these texts as one, if each follows those before it. Nothing if one does not, which
-/// is said.
+/// The tables of these texts as one, if each follows those before it. Nothing if one does not,
+/// which is said.
 pub(crate) fn joined<'a, E: Write>(
     alloc: Global,
     first: FareTable,
@@ -104,7 +105,9 @@ pub(crate) fn joined<'a, E: Write>(
 }
 
 /// The moments at which each of the tables is valid, in their order.
-pub(crate) fn spans_of(alloc: Global, fares: &FareTable) -> Result<Vec<MomentSpan>, AllocError> {
+pub(crate) fn spans_of(alloc: Global, fares: &FareTable) -> Result<Vec<MomentSpan>, AllocError>
+    ensures { IfOk result (λ spans. spans.items ≡ spec.spans_of fares.now) }
+{
     let mut spans = Vec::new(alloc);
     let mut first = 0;
     for place in 0..fares.later_len() {

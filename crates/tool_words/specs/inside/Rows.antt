@@ -1,5 +1,5 @@
 -- The rows of the table of arguments, as clap's rules.
-use Rattle.std.specs.Prelude.{List, [], ◌∷◌, Some}
+use Rattle.std.specs.Prelude.{List, [], ◌∷◌}
 use Rattle.clap.specs.Words.{App, Rule, Text, new_app, with_rule}
 use Rattle.program_manners.specs.Words.{files_rule, flag_rule, list_option, null_flag, option_rule}
 use Rattle.program_manners.specs.Words.{repeated_rule}

@@ -1,7 +1,8 @@
 use Rattle.std.proofs.Common.{◌∙◌, inl, inr, refl}
 use Rattle.std.proofs.KnownBytes.{Keeps-refl}
 use Rattle.tool_program.specs.EncodeRows.{IsRightRowsFault}
-use Rattle.tool_program.proofs.EncodedRows.{not_begun, once_stops, refused_made, stopped, unfinished}
+use Rattle.tool_program.proofs.EncodedRows.{not_begun, once_stops, refused_made, stopped}
+use Rattle.tool_program.proofs.EncodedRows.{unfinished}
 use Rattle.tap_rows.proofs.AgencyBegunLemmas.{whole_begun}
 use Rattle.tool_program.proofs.encode_rows.encode_and_refuse.Goals as goal
 

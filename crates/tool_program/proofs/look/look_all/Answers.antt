@@ -1,7 +1,10 @@
 use Rattle.std.proofs.Common.{inl, inr, map, refl}
 use Rattle.std.specs.Option.{option_map}
-use Rattle.std.proofs.lemmas.Result.{err_from_is_err_and}
+use Rattle.std.proofs.lemmas.Result.{IfErr-weaker, IfOk-weaker, err_from_is_err_and}
+use Rattle.tool_program.proofs.EncodedRows.{of_ok}
+use Rattle.tool_program.proofs.Faults.{ended_after}
 use Rattle.tool_program.proofs.LookEnds.{looks_done}
+use Rattle.tool_program.proofs.Looking.{stop_again, stop_kept, through_kept, through_stop}
 use Rattle.tool_program.proofs.look.look_all.Goals as goal
 
 pub returns-in_err-table-clause-stops : goal.returns-in_err-table-clause-stops
@@ -9,25 +12,62 @@ returns-in_err-table-clause-stops g c =
     let p = err_from_is_err_and c.from_residual.result c.from_residual.ensures.1 in
     rw (p.1, p.2) (inl (c.in_err-table.ensures.stops, refl, refl))
 
-pub returns-in-Ok-clause-done : goal.returns-in-Ok-clause-done
-returns-in-Ok-clause-done g c =
-    let all = c.in-Ok.ensures.done in (
+pub returns-clause-done : goal.returns-clause-done
+returns-clause-done g c =
+    let words = c.args.words.now in
+    let names = map (λ w. w.now) c.args.names.now in
+    let meaning = option_map (λ t. t.meaning) c.in_ok-table.table in
+    let between = g.S.Source.loaded c.read_table.new.source in
+    let loaded' = g.S.Source.loaded c.look_at-looked.new.source in
+    let out = g.W.Write.contents c.args.out.now.inner in
+    let mid = g.W.Write.contents c.look_at-looked.new.out.inner in
+    let out' = g.W.Write.contents c.finish_after.new.out.inner in
+    let said = g.E.Write.contents c.args.err.now.writer in
+    let said' = g.E.Write.contents c.look_at-looked.new.err.writer in
+    let failed = c.look_at-looked.new.err.failed in
+    IfOk-weaker c.finish_after.result _ _ (λ well same.
+    let all = of_ok c.look_at-looked.result well _ same c.look_at-looked.ensures.done in (
       all.0,
-      looks_done c.args.words.now (map (λ w. w.now) c.args.names.now)
-          (option_map (λ t. t.meaning) c.in_ok-table.table) (g.S.Source.loaded c.args.source.now)
-          (g.S.Source.loaded c.read_table.new.source) (g.S.Source.loaded c.look_through.new.source)
-          (g.W.Write.contents c.args.out.now.inner)
-          (g.W.Write.contents c.look_through.new.out.inner)
-          (g.E.Write.contents c.args.err.now.writer)
-          (g.E.Write.contents c.look_through.new.err.writer) c.look_through.new.err.failed all.0
-          c.in_ok-table.ensures.read all.1,
+      looks_done words names meaning (g.S.Source.loaded c.args.source.now) between loaded' out out'
+          said said' failed all.0 c.in_ok-table.ensures.read
+          (through_kept words names meaning between loaded' out mid out' said said' failed all.0
+          all.1 c.finish_after.ensures.kept),
       all.2,
-    )
+    )) c.finish_after.ensures.same
+
+pub returns-clause-quiet : goal.returns-clause-quiet
+returns-clause-quiet g c =
+    IfOk-weaker c.finish_after.result _ _ (λ well same.
+    of_ok c.look_at-looked.result well _ same c.look_at-looked.ensures.quiet)
+    c.finish_after.ensures.same
 
 pub returns-clause-stops : goal.returns-clause-stops
-returns-clause-stops g c = inr (
-  option_map (λ t. t.meaning) c.in_ok-table.table,
-  g.S.Source.loaded c.read_table.new.source,
-  c.in_ok-table.ensures.read,
-  c.in-Err.ensures.stops,
-)
+returns-clause-stops g c =
+    let words = c.args.words.now in
+    let names = map (λ w. w.now) c.args.names.now in
+    let meaning = option_map (λ t. t.meaning) c.in_ok-table.table in
+    let between = g.S.Source.loaded c.read_table.new.source in
+    let loaded' = g.S.Source.loaded c.look_at-looked.new.source in
+    let refused = g.S.Source.refused c.look_at-looked.new.source in
+    let end = c.look_at-looked.new.out.end in
+    let end' = c.finish_after.new.out.end in
+    let out = g.W.Write.contents c.args.out.now.inner in
+    let mid = g.W.Write.contents c.look_at-looked.new.out.inner in
+    let out' = g.W.Write.contents c.finish_after.new.out.inner in
+    let said = g.E.Write.contents c.args.err.now.writer in
+    let said' = g.E.Write.contents c.look_at-looked.new.err.writer in
+    let failed = c.look_at-looked.new.err.failed in
+    let kept = c.finish_after.ensures.kept in
+    IfErr-weaker c.finish_after.result _ _ (λ fault why. inr (
+      meaning,
+      between,
+      c.in_ok-table.ensures.read,
+      ended_after c.look_at-looked.result fault end end' _ _ _ c.look_at-looked.ensures.done
+          c.look_at-looked.ensures.stops why
+          (λ well all is. through_stop words names meaning between loaded' refused end' fault out
+          mid out' said said' failed all.0 all.1 kept is)
+          (λ first stops is. stop_again words names meaning between refused end end' first fault out
+          mid out' said said' failed stops kept is)
+          (λ stops same. stop_kept words names meaning between refused end end' fault out mid out'
+          said said' failed stops kept same),
+    )) c.finish_after.ensures.fault

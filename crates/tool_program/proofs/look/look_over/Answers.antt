@@ -9,7 +9,10 @@ returns-then-well-clause-done g c = λ zero.
 pub returns-else-well-clause-faults : goal.returns-else-well-clause-faults
 returns-else-well-clause-faults g c = λ one.
     let all = c.in-Ok.ensures.done in
-    inl (record { listed = all.0; looks = all.1; faulty = sym all.2 ∙ c.if-well.false })
+    inl (
+      record { listed = all.0; looks = all.1; faulty = sym all.2 ∙ c.if-well.false },
+      c.in-Ok.ensures.flushed,
+    )
 
 pub returns-in-Err-clause-faults : goal.returns-in-Err-clause-faults
 returns-in-Err-clause-faults g c = λ one. inr (

@@ -1,5 +1,6 @@
 use Rattle.std.proofs.Common.{◌≡◌, ◌∙◌, ◌+◌, ◌++◌, ◌∷◌, [], ℕ, List, Bor, Bool, Option, ap, drop}
-use Rattle.std.proofs.Common.{append_assoc, get_or, inr, map, refl, subst, sym, take, take_all, true}
+use Rattle.std.proofs.Common.{append_assoc, get_or, inr, map, refl, subst, sym, take, take_all}
+use Rattle.std.proofs.Common.{true}
 use Rattle.std.specs.Prelude.{◌&&◌, is_none}
 use Rattle.std.proofs.lemmas.Bool.{and_parts}
 use Rattle.std.proofs.lemmas.List.{map-append}

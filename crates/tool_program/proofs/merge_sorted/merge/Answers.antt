@@ -27,7 +27,8 @@ returns-in-Ok-make_both-clause-done g c =
           let merged = c.in-Ok-merge_all.ensures.merged uploads known in
           let file = merged.2.written.file in
           let bytes = subst (λ (b : Option (List Made)). HasBytes b written file)
-          (sym c.in-Ok.ensures.made) (has_bytes (made c.args.sink.now) (contents begun.inner) written
+          (sym c.in-Ok.ensures.made)
+          (has_bytes (made c.args.sink.now) (contents begun.inner) written
           file c.in-Ok.ensures.empty merged.2.written.appended) in (
             file,
             merge_of uploads merged.0 ends (contents begun.inner) written merged.2

@@ -1,5 +1,7 @@
-use Rattle.std.proofs.Common.{◌∙◌, arith, inl, map, string_bytes}
+use Rattle.std.proofs.Common.{◌∙◌, Some, ap, arith, inl, inr, map, string_bytes}
+use Rattle.tool_words.specs.Mistakes.{mistake_text}
 use Rattle.tool_words.specs.declared.mistake.Mistake.TheVariants.{Arguments}
+use Rattle.tool_program.specs.Program.{mistake_line}
 use Rattle.tool_program.proofs.Asking.{unparsed}
 use Rattle.tool_program.proofs.program.main_over.Goals as goal
 
@@ -7,12 +9,17 @@ use Rattle.tool_program.proofs.program.main_over.Goals as goal
 pub returns-in-Ok-clause-helped : goal.returns-in-Ok-clause-helped
 returns-in-Ok-clause-helped g c = λ not_so zero.
     let asked = c.in-Ok.ensures.asked in
-    let two = (c.task_over.ensures.mistaken Arguments
-    (asked.1 ∙ unparsed (map string_bytes c.args.words.now) asked.0 not_so)).0 in
-    absurd (omega (arith, zero, two))
+    elim (c.task_over.ensures.mistaken (mistake_text Arguments)
+    (ap mistake_line (asked.1 ∙ unparsed (map string_bytes c.args.words.now) asked.0 not_so))) [
+      | inl mistaken ↦ absurd (omega (arith, zero, mistaken.0))
+      | inr memory ↦ absurd (omega (arith, zero, memory.0))
+    ]
 
 pub returns-in-Ok-clause-wrong_words : goal.returns-in-Ok-clause-wrong_words
 returns-in-Ok-clause-wrong_words g c = λ not_so asks_not.
     let asked = c.in-Ok.ensures.asked in
-    inl (c.task_over.ensures.mistaken Arguments
-    (asked.1 ∙ unparsed (map string_bytes c.args.words.now) asked.0 not_so)).0
+    elim (c.task_over.ensures.mistaken (mistake_text Arguments)
+    (ap mistake_line (asked.1 ∙ unparsed (map string_bytes c.args.words.now) asked.0 not_so))) [
+      | inl mistaken ↦ inl mistaken.0
+      | inr memory ↦ inr memory
+    ]

@@ -1,12 +1,19 @@
-use Rattle.std.proofs.Common.{◌≡◌, Bor, List, None, false, map, refl, subst, ℕ}
+use Rattle.std.proofs.Common.{◌≡◌, ◌∙◌, Bor, List, None, ap, false, inl, inr, map, refl, subst}
+use Rattle.std.proofs.Common.{sym, ℕ}
+use Rattle.program_manners.specs.LineWritten.{LineWritten}
+use Rattle.tool_words.specs.Mistakes.{mistake_text}
+use Rattle.tool_words.specs.Tasks.{asked_of}
+use Rattle.tool_words.proofs.Entered.{some_is}
 use Rattle.tool_program.specs.Merge.{GivesUpMerge}
 use Rattle.tool_program.specs.MergeLedgers.{GivesUpLedgers}
+use Rattle.tool_program.specs.Program.{mistake_line, wrong_date_text}
 use Rattle.tool_program.specs.Split.{GivesUpSplit}
 use Rattle.tool_program.specs.declared.split.SplitWords.{SplitWords}
 use Rattle.tool_program.proofs.program.task_over.Goals as goal
 
 pub returns-in-Sort-clause-done : goal.returns-in-Sort-clause-done
-returns-in-Sort-clause-done g c = λ zero. rw c.in-Sort.is (c.sort_task.ensures.done None None None false zero)
+returns-in-Sort-clause-done g c =
+    λ zero. rw c.in-Sort.is (c.sort_task.ensures.done None None None false zero)
 
 pub returns-in-Sort-clause-partly : goal.returns-in-Sort-clause-partly
 returns-in-Sort-clause-partly g c = λ three.
@@ -83,3 +90,103 @@ returns-in-MergeLedgers-clause-given_up g c = λ one.
           (g.W.Write.contents c.merge_ledgers_over.new.out.inner))
           c.deref-in-MergeLedgers-2.ensures.value (gives kept keeps))),
     )
+
+pub returns-in-EncodeRows-clause-done : goal.returns-in-EncodeRows-clause-done
+returns-in-EncodeRows-clause-done g c = λ zero. rw c.in-EncodeRows.is (
+  (λ kept keeps. let done = c.encode_rows_over.ensures.done kept keeps zero in
+      (c.in-EncodeRows.words, refl, done.0, done.1, done.2)),
+  c.encode_rows_over.ensures.flushed zero,
+)
+
+pub returns-in-EncodeRows-clause-given_up : goal.returns-in-EncodeRows-clause-given_up
+returns-in-EncodeRows-clause-given_up g c = λ one.
+    let (fault, reported, gives) = c.encode_rows_over.ensures.faults one in
+    rw c.in-EncodeRows.is (fault, reported, (c.in-EncodeRows.words, refl, gives))
+
+pub returns-in-GoodPart-clause-done : goal.returns-in-GoodPart-clause-done
+returns-in-GoodPart-clause-done g c = λ zero.
+    let done = c.good_part_over.ensures.done zero in
+    rw c.in-GoodPart.is (
+      (c.in-GoodPart.words, refl, done.0, done.1, done.2),
+      c.good_part_over.ensures.flushed zero,
+      c.good_part_over.ensures.quiet zero,
+    )
+
+pub returns-in-GoodPart-clause-given_up : goal.returns-in-GoodPart-clause-given_up
+returns-in-GoodPart-clause-given_up g c = λ one.
+    rw c.in-GoodPart.is (
+      c.in-GoodPart.words,
+      refl,
+      elim (c.good_part_over.ensures.faults one) [
+        | inl faulty ↦ inl faulty
+        | inr stopped ↦ inr (stopped.0, stopped.2, stopped.1)
+      ],
+    )
+
+pub returns-in-Look-clause-done : goal.returns-in-Look-clause-done
+returns-in-Look-clause-done g c = λ zero.
+    let done = rw c.deref-in-Look.ensures.value at (c.look_over.ensures.done zero) in
+    rw c.in-Look.is (
+      (c.in-Look.words, refl, done.0, done.1, done.2),
+      c.look_over.ensures.flushed zero,
+      c.look_over.ensures.quiet zero,
+    )
+
+pub returns-in-Look-clause-given_up : goal.returns-in-Look-clause-given_up
+returns-in-Look-clause-given_up g c = λ one.
+    let ends = c.look_over.ensures.faults one in
+    rw c.in-Look.is (c.in-Look.words, refl, rw c.deref-in-Look.ensures.value at ends)
+
+pub returns-in-Table-clause-done : goal.returns-in-Table-clause-done
+returns-in-Table-clause-done g c = λ zero. rw c.in-Table.is (
+  (c.in-Table.question, refl, c.table_over.ensures.done zero),
+  c.table_over.ensures.flushed zero,
+)
+
+pub returns-in-Table-clause-given_up : goal.returns-in-Table-clause-given_up
+returns-in-Table-clause-given_up g c = λ one.
+    rw c.in-Table.is (c.in-Table.question, refl, c.table_over.ensures.faults one)
+
+pub returns-in-Mistake-clause-mistaken : goal.returns-in-Mistake-clause-mistaken
+returns-in-Mistake-clause-mistaken g c = λ line is.
+    let same = some_is (mistake_text c.in-Mistake.mistake) line
+    (sym (ap mistake_line (ap asked_of c.in-Mistake.is)) ∙ is) in
+    inl (
+      c.report_mistake.ensures.status,
+      subst (λ (l : List ℕ). LineWritten
+          (g.E.Write.contents c.args.err.now.writer)
+          (g.E.Write.contents c.report_mistake.new.err.writer) c.report_mistake.new.err.failed l)
+          same
+          c.report_mistake.ensures.line,
+    )
+
+pub returns-in-Mistake-clause-right : goal.returns-in-Mistake-clause-right
+returns-in-Mistake-clause-right g c = λ two.
+    (mistake_text c.in-Mistake.mistake, ap mistake_line (ap asked_of c.in-Mistake.is))
+
+pub returns-in-WrongDate-clause-right : goal.returns-in-WrongDate-clause-right
+returns-in-WrongDate-clause-right g c = λ two.
+    let wrong = c.in-WrongDate.wrong in (
+      wrong_date_text wrong.word.now wrong.fault,
+      ap mistake_line (ap asked_of c.in-WrongDate.is),
+    )
+
+pub returns-in-WrongDate-clause-mistaken : goal.returns-in-WrongDate-clause-mistaken
+returns-in-WrongDate-clause-mistaken g c = λ line is.
+    let wrong = c.in-WrongDate.wrong in
+    let same = some_is (wrong_date_text wrong.word.now wrong.fault) line
+    (sym (ap mistake_line (ap asked_of c.in-WrongDate.is)) ∙ is) in
+    elim c.report_wrong_date.ensures.status [
+      | inl one ↦ inr (one, c.report_wrong_date.ensures.memory one)
+      | inr two ↦ inl (
+        two,
+        subst (λ (l : List ℕ). LineWritten
+            (g.E.Write.contents c.args.err.now.writer)
+            (g.E.Write.contents c.report_wrong_date.new.err.writer)
+            c.report_wrong_date.new.err.failed l) same (c.report_wrong_date.ensures.line two),
+      )
+    ]
+
+pub returns-in-WrongDate-clause-given_up : goal.returns-in-WrongDate-clause-given_up
+returns-in-WrongDate-clause-given_up g c = λ one.
+    rw c.in-WrongDate.is (c.report_wrong_date.ensures.memory one)

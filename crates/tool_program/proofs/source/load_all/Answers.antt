@@ -11,7 +11,8 @@ use Rattle.tool_program.proofs.source.load_all.Goals as goal
 pub loop-word-init : goal.loop-word-init
 loop-word-init g c =
     subst (λ texts. HasOpened [] (g.S.Source.loaded c.args.source.now)
-    (g.S.Source.loaded c.args.source.now) (map (λ t. t.items) texts)) (sym c.new-texts.ensures.items)
+    (g.S.Source.loaded c.args.source.now) (map (λ t. t.items) texts))
+    (sym c.new-texts.ensures.items)
     (opened_none (g.S.Source.loaded c.args.source.now))
 
 pub loop-word-preserved : goal.loop-word-preserved

@@ -60,7 +60,8 @@ returns-clause-stops g c = λ uploads has.
     let is : c.of_write.result ≡ failed_as end =
     subst (λ (e : Option WriteEnd). c.of_write.result ≡ failed_as e) c.end.ensures
     c.of_write.ensures in
-    subst (λ (t : Option CommonTokens). StopsTokens (is_some t) uploads end c.of_write.result out out')
+    subst (λ (t : Option CommonTokens). StopsTokens (is_some t) uploads end c.of_write.result out
+    out')
     (sym c.in-Some.is)
     (record {
       counts = c.counts.result.now;

@@ -1,10 +1,11 @@
-use Rattle.std.proofs.Common.{◌≡◌, ◌∙◌, ◌+◌, ◌<◌, ◌++◌, ◌∷◌, [], ℕ, Global, List, Option, Some, Vec, ap}
+use Rattle.std.proofs.Common.{◌≡◌, ◌∙◌, ◌+◌, ◌<◌, ◌++◌, ◌∷◌, [], ℕ, Global, List, Option, Some, Vec}
+use Rattle.std.proofs.Common.{ap}
 use Rattle.std.proofs.Common.{arith, drop, get_or, length, map, refl, subst, sym, take}
 use Rattle.std.specs.Prelude.{IfSome}
 use Rattle.program_manners.specs.TableLoads.{Follows}
 use Rattle.tool_program.specs.Table.{FollowEach}
 use Rattle.tool_program.specs.inside.Table.{IsNotNext}
-use Rattle.tool_program.specs.declared.table.later.LaterTable.{LaterTable}
+use Rattle.tool_words.specs.declared.later_table.LaterTable.{LaterTable}
 use Rattle.tool_program.proofs.Tables.{follow_push, map_at, map_more_of}
 use Rattle.sorted_taps.proofs.Files.{if_known}
 use Rattle.tool_program.proofs.table.following.joined.Goals as goal

@@ -2,6 +2,7 @@ use Rattle.std.proofs.Common.{◌≡◌, ◌∙◌, ℕ, List, Option, refl, sub
 use Rattle.std.proofs.lemmas.Result.{err_from_is_err_and}
 use Rattle.program_manners.specs.Loads.{Loaded, LoadsOne}
 use Rattle.tool_program.specs.Names.{file_named}
+use Rattle.tool_program.specs.inside.Table.{AddsEach}
 use Rattle.tool_program.proofs.table.seen.add_upload.Goals as goal
 
 pub returns-clause-done : goal.returns-clause-done
@@ -17,13 +18,15 @@ returns-clause-done g c =
       };
       named = refl;
       is_loaded = subst (λ (l : Option (List Loaded)). LoadsOne before l (file_named word)
-          c.deref-2.result.now) (sym c.say_damage.ensures.loaded)
+          c.deref-2.result.now) (sym c.report_layout.ensures.loaded)
           (subst (λ (bytes : List ℕ). LoadsOne before (g.S.Source.loaded c.load_upload.new.source)
           (file_named word) bytes)
           (sym c.deref-2.ensures.value) c.in_ok-upload.ensures.reported);
-      well_is = c.say_damage.ensures.well;
-      reported = c.say_damage.ensures.reported;
-      still = c.say_damage.ensures.quiet;
+      added = subst (λ (bytes : List ℕ). AddsEach bytes c.args.seen.now c.add_to_each.new.seen)
+          (c.deref.ensures.value ∙ sym c.deref-2.ensures.value) c.in_ok-add_to_each.ensures;
+      well_is = c.report_layout.ensures.whole;
+      reported = c.report_layout.ensures.line;
+      still = c.report_layout.ensures.quiet;
     }
 
 pub returns-in_err-upload-clause-refusal : goal.returns-in_err-upload-clause-refusal

@@ -1,6 +1,6 @@
-use Rattle.std.proofs.Common.{◌≡◌, ◌∙◌, ◌+◌, ◌++◌, ◌∷◌, [], ℕ, List, get_or, refl, subst, sym, take}
-use Rattle.std.proofs.Common.{take_all}
-use Rattle.std.specs.Prelude.{◌&&◌, is_some, true}
+use Rattle.std.proofs.Common.{◌≡◌, ◌∙◌, ℕ, List, Option, ap, get_or, length, option_map, refl}
+use Rattle.std.proofs.Common.{subst, sym, take, take_all}
+use Rattle.std.specs.Prelude.{◌&&◌}
 use Rattle.std.specs.Io.KnownBytes.{Appends}
 use Rattle.std.proofs.KnownBytes.{Appends-nil}
 use Rattle.std.proofs.lemmas.List.{take_more}
@@ -9,6 +9,7 @@ use Rattle.table_report.specs.ReadTable.{ReadTable}
 use Rattle.table_report.specs.SqlText.{sql_text}
 use Rattle.tool_program.specs.Table.{HasReported, sql_of}
 use Rattle.tool_program.specs.inside.Table.{AreWarnedSoFar, IsStoppedAt, IsWarnedOf}
+use Rattle.tool_program.proofs.SeenUploads.{seen_of, take_number}
 use Rattle.tool_program.proofs.Tables.{sql_push, stopped_at, warned_on}
 use Rattle.tool_program.proofs.table.understood.write_tables.Goals as goal
 
@@ -30,7 +31,9 @@ loop-place-preserved g c =
     let said' = g.E.Write.contents c.loop-place.err.writer in
     let said'' = g.E.Write.contents c.write_at.new.err.writer in
     let failed' = c.write_at.new.err.failed in
-    let has_seen = is_some c.args.seen.now in
+    let seen = c.args.seen.now in
+    let number : length (take place tables) ≡ place =
+    take_number place tables c.loop-place-test.true in
     let more = take_more tables place table c.loop-place-test.true in
     let out' = g.W.Write.contents c.loop-place.out.inner in
     let out'' = g.W.Write.contents c.write_at.new.out.inner in
@@ -44,16 +47,20 @@ loop-place-preserved g c =
           (take place tables) (get_or tables place table) (c.loop-place.invariant.written sql)
           (subst (λ (t : ReadTable). Appends out' out'' (sql_text t.fares)) same
           (c.in_ok-is_silent.ensures.sql sql)));
-      warned = subst (λ (ts : List ReadTable). AreWarnedSoFar (silent && is) ts has_seen
+      warned = subst (λ (ts : List ReadTable). AreWarnedSoFar (silent && is) ts seen
           (c.write_at.new.err ≡ c.args.err.now) (HasReported said said'' failed')) (sym more)
           (warned_on said said' said'' c.loop-place.err.failed failed' (take place tables)
-          (get_or tables place table) has_seen silent is (c.loop-place.err ≡ c.args.err.now)
+          (get_or tables place table) seen silent is (c.loop-place.err ≡ c.args.err.now)
           (c.write_at.new.err ≡ c.loop-place.err) (c.write_at.new.err ≡ c.args.err.now)
           (λ a b. b ∙ a) (λ a. cc) (λ b. (cc, cc)) c.write_at.ensures.kept
           c.loop-place.invariant.warned
-          (subst (λ (t : ReadTable). IsWarnedOf is t has_seen
+          (subst (λ (v : Option (List ℕ)). IsWarnedOf is (get_or tables place table) v
+          (c.write_at.new.err ≡ c.loop-place.err) (HasReported said' said'' failed'))
+          (c.seen_at-validators.ensures ∙ ap (seen_of seen) (sym number))
+          (subst (λ (t : ReadTable). IsWarnedOf is t
+          (option_map (λ s. s.now) c.seen_at-validators.result)
           (c.write_at.new.err ≡ c.loop-place.err) (HasReported said' said'' failed')) same
-          c.in_ok-is_silent.ensures.warned));
+          c.in_ok-is_silent.ensures.warned)));
       kept = λ fine. c.loop-place.invariant.kept (c.write_at.ensures.kept fine);
     }
 

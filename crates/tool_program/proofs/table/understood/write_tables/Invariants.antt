@@ -1,4 +1,4 @@
-use Rattle.std.proofs.Common.{◌≡◌, false, is_some, take, true}
+use Rattle.std.proofs.Common.{◌≡◌, false, take, true}
 use Rattle.std.specs.Io.KnownBytes.{Appends}
 use Rattle.tool_program.specs.Table.{HasReported, sql_of}
 use Rattle.tool_program.specs.inside.Table.{AreWarnedSoFar}
@@ -9,7 +9,7 @@ abbrev pub invariant-loop-place : goal.invariant-loop-place
 invariant-loop-place g l = record {
   written : l.question.is_sql ≡ true → Appends (g.W.Write.contents l.fn.out.inner)
       (g.W.Write.contents l.out.inner) (sql_of (take l.place l.tables));
-  warned : AreWarnedSoFar l.is_silent (take l.place l.tables) (is_some l.seen)
+  warned : AreWarnedSoFar l.is_silent (take l.place l.tables) l.seen
       (l.err ≡ l.fn.err) (HasReported (g.E.Write.contents l.fn.err.writer)
       (g.E.Write.contents l.err.writer) l.err.failed);
   kept : l.err.failed ≡ false → l.fn.err.failed ≡ false;

@@ -1,0 +1,118 @@
+-- The words of `--columns` and `--only`.
+use Rattle.std.proofs.Common.{◌≡◌, ◌∙◌, ◌<◌, ◌+◌, ◌++◌, Bor, List, [], ◌∷◌, ℕ, Option, None, Some}
+use Rattle.std.proofs.Common.{ap, arith, false, get_or, length, lt-ltb, map, refl, sym, take}
+use Rattle.std.proofs.Common.{true}
+use Rattle.std.specs.Prelude.{MatchOption, filter_map, is_some, option_map}
+use Rattle.std.specs.List.{after_first, before_first, cons_option, position_or_len}
+use Rattle.std.specs.Option.{option_to_list}
+use Rattle.std.proofs.lemmas.Bool.{le-ltb}
+use Rattle.std.proofs.lemmas.List.{map-append, take_more}
+use Rattle.std.proofs.lemmas.List.Elements.{filter_map-append}
+use Rattle.std.proofs.lemmas.List.Folds.{list_all-append, list_all-map, list_all_at}
+use Rattle.clap.specs.Words.{Text}
+use Rattle.tap_rows.specs.declared.agency.choice.Condition.{Condition}
+use Rattle.tool_words.specs.Columns.{conditions_in, have_parts, is_equals, parts_of, sole}
+use Rattle.tool_words.specs.Tasks.{condition_of, text_in, texts_of}
+
+-- the parts round the first `=` are those of the word
+pub parts_found : (word : Text) (found : Option (Bor Text × Bor Text))
+    → MatchOption found (position_or_len is_equals word ≡ length word)
+    (λ p. (p.0.now ≡ before_first is_equals word) × (p.1.now ≡ after_first is_equals word)
+    × (position_or_len is_equals word < length word))
+    → option_map (λ p. (p.0.now, p.1.now)) found ≡ parts_of word
+parts_found word None at =
+    rw (le-ltb (position_or_len is_equals word) (length word) (omega (arith, at))) refl
+parts_found word (Some p) at =
+    rw (lt-ltb (position_or_len is_equals word) (length word) at.2)
+    (λ i. Some (at.0 i, at.1 i))
+
+-- the words with one more
+pub texts_more : (words : List (Bor Text)) (place : ℕ) (other : Bor Text) → place < length words
+    → texts_of (take (place + 1) words)
+    ≡ texts_of (take place words) ++ (get_or words place other).now ∷ []
+texts_more words place other within =
+    ap texts_of (take_more words place other within)
+    ∙ map-append (λ (w : Bor Text). w.now) (take place words) _
+
+-- what is found in one word
+one_found : {X : Type 0} (find : Text → Option X) (word : Text)
+    → filter_map find (word ∷ []) ≡ option_to_list (find word)
+one_found find word = go (find word)
+  where
+    go : {X : Type 0} (found : Option X) → cons_option found [] ≡ option_to_list found
+    go None = refl
+    go (Some x) = refl
+
+-- what is found in words with one more
+pub found_more : {X : Type 0} (find : Text → Option X) (words : List (Bor Text)) (place : ℕ)
+    (other : Bor Text) (found : Option X) → place < length words
+    → find (get_or words place other).now ≡ found
+    → filter_map find (texts_of (take (place + 1) words))
+    ≡ filter_map find (texts_of (take place words)) ++ option_to_list found
+found_more find words place other found within is =
+    ap (filter_map find) (texts_more words place other within)
+    ∙ filter_map-append find (texts_of (take place words)) _
+    ∙ ap (λ more. filter_map find (texts_of (take place words)) ++ more)
+    (one_found find (get_or words place other).now ∙ ap option_to_list is)
+
+-- the one of the list, if it has no other
+pub sole_one : (names : List (Bor Text)) (other : Bor Text) → length names ≡ 1
+    → text_in (Some (get_or names 0 other)) ≡ sole (texts_of names)
+sole_one [] other one = absurd (omega (arith, one))
+sole_one (name ∷ []) other one = refl
+sole_one (name ∷ next ∷ names) other one = absurd (omega (arith, one))
+
+pub sole_none : (names : List (Bor Text)) → ¬ (length names ≡ 1) → None ≡ sole (texts_of names)
+sole_none [] many = refl
+sole_none (name ∷ []) many = absurd (many refl)
+sole_none (name ∷ next ∷ names) many = refl
+
+-- the texts of references, of which one more may be found
+texts_found : (names : List (Bor Text)) (found : Option (Bor Text))
+    → texts_of (names ++ option_to_list found) ≡ texts_of names ++ option_to_list (text_in found)
+texts_found names None = map-append (λ (w : Bor Text). w.now) names []
+texts_found names (Some name) = map-append (λ (w : Bor Text). w.now) names (name ∷ [])
+
+-- what is found in one more word is put behind
+pub names_more : (find : Text → Option Text) (words : List (Bor Text)) (place : ℕ)
+    (other : Bor Text) (names more : List (Bor Text)) (found : Option (Bor Text))
+    → place < length words → text_in found ≡ find (get_or words place other).now
+    → texts_of names ≡ filter_map find (texts_of (take place words))
+    → more ≡ names ++ option_to_list found
+    → texts_of more ≡ filter_map find (texts_of (take (place + 1) words))
+names_more find words place other names more found within is before adds =
+    ap texts_of adds ∙ texts_found names found
+    ∙ ap (λ ns. ns ++ option_to_list (text_in found)) before
+    ∙ sym (found_more find words place other (text_in found) within (sym is))
+
+-- one more word is COLUMN=VALUE
+pub conditions_more : (words : List (Bor Text)) (place : ℕ) (other : Bor Text)
+    (conditions more : List Condition) (condition : Condition) → place < length words
+    → Some (condition_of condition) ≡ parts_of (get_or words place other).now
+    → (have_parts (texts_of (take place words)) ≡ true)
+    × (map condition_of conditions ≡ filter_map parts_of (texts_of (take place words)))
+    → more ≡ conditions ++ condition ∷ []
+    → (have_parts (texts_of (take (place + 1) words)) ≡ true)
+    × (map condition_of more ≡ filter_map parts_of (texts_of (take (place + 1) words)))
+conditions_more words place other conditions more condition within is before adds =
+    let word = (get_or words place other).now in
+    let known : is_some (parts_of word) ≡ true = ap is_some (sym is) in
+    let all : have_parts (texts_of (take place words) ++ word ∷ []) ≡ true =
+    list_all-append (λ (w : Text). is_some (parts_of w)) (texts_of (take place words)) (word ∷ [])
+    ∙ rw (before.0, known) refl in (
+      ap have_parts (texts_more words place other within) ∙ all,
+      ap (map condition_of) adds ∙ map-append condition_of conditions (condition ∷ [])
+          ∙ ap (λ cs. cs ++ condition_of condition ∷ []) before.1
+          ∙ sym (found_more parts_of words place other (Some (condition_of condition)) within
+          (sym is)),
+    )
+
+-- a word is not COLUMN=VALUE
+pub lacks_parts : (words : List (Bor Text)) (place : ℕ) (other : Bor Text) → place < length words
+    → None ≡ parts_of (get_or words place other).now → None ≡ conditions_in (texts_of words)
+lacks_parts words place other within none =
+    let not_all : have_parts (texts_of words) ≡ false =
+    list_all-map (λ (w : Text). is_some (parts_of w)) (λ (w : Bor Text). w.now) words
+    ∙ list_all_at (λ (w : Bor Text). is_some (parts_of w.now)) words place other within
+    (ap is_some (sym none)) in
+    rw not_all refl

@@ -1,0 +1,81 @@
+-- How an agency's CSV is read: what the values of `--columns`, `--separator` and `--only` say.
+use Rattle.std.specs.Prelude.{◌==◌, ◌||◌, if◌then◌else◌, nat_lt, ℕ, Bool, List, [], ◌∷◌, Option}
+use Rattle.std.specs.Prelude.{None, Some, codes, filter_map, is_some, length}
+use Rattle.std.specs.List.{after_first, before_first, list_all, position_or_len, slice_split}
+use Rattle.std.specs.Option.{option_and_then}
+use Rattle.std.specs.Str.{bytes_eq}
+use Rattle.clap.specs.Words.{Text}
+use Rattle.tap_rows.specs.declared.agency.choice.Separator.{Separator}
+use Rattle.tap_rows.specs.declared.agency.choice.Separator.TheVariants as separators
+
+-- the names of the columns of tokens, validators and moments
+pub record ColumnNames : Type 0 where
+  pub token : Text
+  pub validator : Text
+  pub moment : Text
+
+abbrev pub is_comma : ℕ → Bool
+is_comma byte = byte == 44
+
+abbrev pub is_equals : ℕ → Bool
+is_equals byte = byte == 61
+
+-- the words between commas, in order
+abbrev pub between_commas : Text → List Text
+between_commas text = slice_split is_comma text
+
+-- what is before and what is behind the first `=` of a word, if it has one
+abbrev pub parts_of : Text → Option (Text × Text)
+parts_of word = if nat_lt (position_or_len is_equals word) (length word)
+    then Some (before_first is_equals word, after_first is_equals word) else None
+
+-- the name of these parts, if they are of this column
+abbrev pub name_of_parts : Text → Text × Text → Option Text
+name_of_parts column parts = if bytes_eq parts.0 column then Some parts.1 else None
+
+-- the name that the word COLUMN=NAME gives this column
+abbrev pub name_given : Text → Text → Option Text
+name_given column word = option_and_then (name_of_parts column) (parts_of word)
+
+-- the one of the list, if it has no other
+abbrev pub sole : List Text → Option Text
+sole [] = None
+sole (one ∷ []) = Some one
+sole (one ∷ two ∷ more) = None
+
+-- the name that one alone of the words gives this column
+abbrev pub only_name : Text → List Text → Option Text
+only_name column words = sole (filter_map (name_given column) words)
+
+-- these names, if there are all three
+abbrev pub names_of : Option Text → Option Text → Option Text → Option ColumnNames
+names_of (Some token) (Some validator) (Some moment) =
+    Some (record { token = token; validator = validator; moment = moment })
+names_of _ _ _ = None
+
+-- the names that three words give, if they name each column once
+abbrev pub columns_among : List Text → Option ColumnNames
+columns_among words = if length words == 3
+    then names_of (only_name (codes "token") words) (only_name (codes "validator") words)
+    (only_name (codes "moment") words)
+    else None
+
+-- the names that a value of `--columns` gives, if it names each column once
+abbrev pub columns_in : Text → Option ColumnNames
+columns_in text = columns_among (between_commas text)
+
+-- what stands between two fields: a comma if the words do not say, and none if they say it wrong
+abbrev pub separator_in : Option Text → Option Separator
+separator_in None = Some separators.Comma
+separator_in (Some word) = if bytes_eq word (codes ",") then Some separators.Comma
+    else (if bytes_eq word (codes ";") then Some separators.Semicolon
+    else (if bytes_eq word (9 ∷ []) || bytes_eq word (codes "tab") then Some separators.Tab
+    else None))
+
+-- each word is COLUMN=VALUE
+abbrev pub have_parts : List Text → Bool
+have_parts words = list_all (λ word. is_some (parts_of word)) words
+
+-- the columns and values of words of `--only`, if each has both
+abbrev pub conditions_in : List Text → Option (List (Text × Text))
+conditions_in words = if have_parts words then Some (filter_map parts_of words) else None
