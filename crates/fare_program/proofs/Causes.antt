@@ -10,7 +10,7 @@ use Rattle.fare_program.specs.declared.fault.Fault.{Fault}
 use Rattle.fare_program.specs.declared.fault.Fault.TheVariants.{Unopened}
 use Rattle.fare_program.specs.declared.fault.Fault.TheVariants.{Unsorted, TooManyTaps, Late}
 use Rattle.fare_program.specs.declared.fault.Fault.TheVariants.{Uploads, Gather, Write, NoMemory}
-use Rattle.fare_program.specs.inside.Causes.{IsOfOutput, IsRightOfUploads}
+use Rattle.fare_program.specs.inside.Causes.{IsRightOfUploads}
 use Rattle.program_manners.specs.Loads.{Loaded}
 use Rattle.program_manners.specs.Refusals.{IsOneOf}
 use Rattle.program_manners.specs.declared.loading.LoadFault.{LoadFault}
@@ -30,12 +30,6 @@ count_is (name ∷ names) loaded loaded' files loads many =
 
 module _ (asked : Asked) (under : List ℕ → Option (List ℕ)) (loaded loaded' : Option (List Loaded))
     (refused : Option (Option (List ℕ) × LoadFault)) where
-  pub output_is_right : (fault : Fault) → IsOfOutput fault
-      → IsRightFault asked under loaded loaded' refused fault
-  output_is_right Write is = tt
-  output_is_right NoMemory is = tt
-  output_is_right _ is = absurd is
-
   -- what is reported of the uploads that were loaded
   pub uploads_is_right : (before after : Option (List Loaded)) (files : List (List ℕ))
       → LoadsFiles (names_to_load asked.files) before after files

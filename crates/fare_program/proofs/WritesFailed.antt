@@ -1,17 +1,22 @@
--- What a write that failed left is a beginning.
+-- What a write that failed left is a beginning, and what is reported of it.
 use Rattle.std.proofs.Common.{◌≡◌, ℕ, List, [], ◌++◌, Bool, true, false, Option, Some, None, refl}
-use Rattle.std.proofs.Common.{sym, ap, subst, ◌∙◌, append_assoc, append-nil}
-use Rattle.std.specs.Prelude.{MatchBool}
+use Rattle.std.proofs.Common.{sym, ap, inl, inr, subst, ◌∙◌, append_assoc, append-nil}
+use Rattle.std.specs.Prelude.{◌≢◌, MatchBool}
 use Rattle.std.specs.Io.KnownBytes.{Appends, Keeps, append_known}
 use Rattle.fare_texts.specs.WrittenOut.{Begins}
 use Rattle.fare_texts.specs.declared.print_fault.PrintFault.{PrintFault}
 use Rattle.fare_texts.specs.declared.print_fault.PrintFault.TheVariants as print
 use Rattle.program_manners.specs.Loads.{Loaded}
-use Rattle.fare_program.specs.Begun.{HasBegun, IsBegun}
+use Rattle.program_manners.specs.declared.loading.LoadFault.{LoadFault}
+use Rattle.program_manners.specs.declared.output.WriteEnd.{WriteEnd}
+use Rattle.fare_program.specs.Begun.{AreOfBytes, HasBegun, IsBegun, IsLeftBy}
+use Rattle.fare_program.specs.Causes.{IsRightFault}
+use Rattle.fare_program.specs.Fault.{IsLate, status_of}
 use Rattle.fare_program.specs.Options.{Asked, lists}
 use Rattle.fare_program.specs.Program.{Does, RunsListing, RunsService, RunsSorted, RunsTraced}
-use Rattle.fare_program.specs.declared.fault.Fault.TheVariants.{Write}
-use Rattle.fare_program.specs.inside.Fault.{printed_as}
+use Rattle.fare_program.specs.declared.fault.Fault.{Fault}
+use Rattle.fare_program.specs.declared.fault.Fault.TheVariants.{NoMemory, Write}
+use Rattle.fare_program.specs.inside.Fault.{as_remembered, printed_as}
 use Rattle.fare_program.proofs.Works.{appends_to_kept}
 
 -- only a write that failed is reported so
@@ -89,3 +94,52 @@ begun_done asked known loaded loaded' out out' well done =
       well,
       begun_whole out out' text (λ all. Does asked known loaded loaded' out all well) written done,
     )
+
+-- ---- what is reported of a fault
+pub same_status : (end : Option WriteEnd) (fault : Fault)
+    → status_of (as_remembered end fault) ≡ status_of fault
+same_status (Some why) fault = refl
+same_status None Write = refl
+same_status None fault = refl
+
+-- a mistake is reported as it is
+pub same_mistake : (end : Option WriteEnd) (fault : Fault) → status_of fault ≡ 2
+    → as_remembered end fault ≡ fault
+same_mistake (Some why) fault two = refl
+same_mistake None Write two = cc
+same_mistake None fault two = refl
+
+-- a write is reported only if one that failed is remembered
+pub write_remembered : (end : Option WriteEnd) (fault : Fault) → as_remembered end fault ≡ Write
+    → end ≢ None
+write_remembered (Some why) fault write none = cc
+write_remembered None Write write none = cc
+write_remembered None fault write none = cc
+
+pub right_remembered : (asked : Asked) (under : List ℕ → Option (List ℕ))
+    (loaded loaded' : Option (List Loaded)) (refused : Option (Option (List ℕ) × LoadFault))
+    (end : Option WriteEnd) (fault : Fault)
+    → IsRightFault asked under loaded loaded' refused fault
+    → IsRightFault asked under loaded loaded' refused (as_remembered end fault)
+right_remembered asked under loaded loaded' refused (Some why) fault right = right
+right_remembered asked under loaded loaded' refused None Write right = tt
+right_remembered asked under loaded loaded' refused None fault right = right
+
+module _ (asked : Asked) (under : List ℕ → Option (List ℕ)) (loaded loaded' : Option (List Loaded))
+    (out out' : Option (List ℕ)) where
+  left_by : (fault : Fault)
+      → (fault ≢ Write → (asked.sorted ≡ true → IsLate fault → ⊥) → Keeps out out')
+      → (fault ≡ Write → AreOfBytes asked under → HasBegun asked under loaded loaded' out out')
+      → IsLeftBy asked under loaded loaded' out out' fault
+  left_by Write kept begun = begun refl
+  left_by NoMemory kept begun = inl (kept (λ is. cc) (λ sorted late. late))
+  left_by _ kept begun = kept (λ is. cc)
+
+  -- so it is of what is reported
+  pub left_remembered : (end : Option WriteEnd) (fault : Fault)
+      → (fault ≢ Write → (asked.sorted ≡ true → IsLate fault → ⊥) → Keeps out out')
+      → (fault ≡ Write → AreOfBytes asked under → HasBegun asked under loaded loaded' out out')
+      → IsLeftBy asked under loaded loaded' out out' (as_remembered end fault)
+  left_remembered (Some why) fault kept begun = left_by fault kept begun
+  left_remembered None Write kept begun = inr (begun refl)
+  left_remembered None fault kept begun = left_by fault kept begun

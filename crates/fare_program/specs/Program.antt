@@ -1,5 +1,5 @@
 -- What a run of the program does.
-use Rattle.std.specs.Prelude.{◌≡◌, ◌≢◌, ℕ, Bool, true, List, [], ◌∷◌, map, Option}
+use Rattle.std.specs.Prelude.{◌≡◌, ℕ, Bool, true, List, [], ◌∷◌, map, Option}
 use Rattle.std.specs.Prelude.{None, Some, Ok, MatchBool}
 use Rattle.std.specs.Io.KnownBytes.{Appends, Keeps}
 use Rattle.hex.specs.Hex.{decode_sized}
@@ -12,12 +12,11 @@ use Rattle.fare_service.specs.Headline.{HasRun}
 use Rattle.fare_service.specs.Outcomes.{OutcomeView}
 use Rattle.fare_service.specs.Plain.{AreApart, IsPlain}
 use Rattle.fare_service.specs.Printed.{IsStatementOf, report_with}
-use Rattle.fare_program.specs.Fault.{IsLate, fault_text}
+use Rattle.fare_program.specs.Fault.{fault_text}
 use Rattle.fare_program.specs.Options.{Asked, lists}
 use Rattle.report_texts.specs.UploadEnds.{are_posted}
 use Rattle.fare_program.specs.Settling.{ShowsOver, ShowsSettled}
 use Rattle.fare_program.specs.declared.fault.Fault.{Fault}
-use Rattle.fare_program.specs.declared.fault.Fault.TheVariants.{Write}
 use Rattle.fare_texts.specs.Explained.{IsExplainedOf}
 use Rattle.fare_texts.specs.Ledger.{IsLedgerOfBooks}
 use Rattle.program_manners.specs.Loads.{Loaded, LoadsAll}
@@ -190,16 +189,8 @@ Does asked known loaded loaded' out out' well = MatchBool asked.traced
     (RunsTraced asked loaded loaded' out out' well)
     (DoesUntraced asked known loaded loaded' out out' well)
 
--- The program gave up: the fault's line was reported, and nothing was written unless a write
--- failed.
+-- The program gave up before it wrote: the fault's line was reported, and nothing was written.
 pub record GaveUp (fault : Fault) (said said' : Option (List ℕ)) (failed : Bool)
     (out out' : Option (List ℕ)) : Type 0 where
   pub line_reported : LineWritten said said' failed (fault_text fault)
-  pub kept : fault ≢ Write → Keeps out out'
-
--- The program gave up on what is asked for: the fault's line was reported, and nothing was written
--- unless a write failed, or a sorted file was refused after all were checked.
-pub record GaveUpOn (asked : Asked) (fault : Fault) (said said' : Option (List ℕ)) (failed : Bool)
-    (out out' : Option (List ℕ)) : Type 0 where
-  pub line_reported : LineWritten said said' failed (fault_text fault)
-  pub kept : fault ≢ Write → (asked.sorted ≡ true → IsLate fault → ⊥) → Keeps out out'
+  pub kept : Keeps out out'

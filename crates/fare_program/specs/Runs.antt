@@ -5,24 +5,26 @@ use Rattle.std.specs.Io.KnownBytes.{Keeps}
 use Rattle.program_manners.specs.Loads.{Loaded}
 use Rattle.program_manners.specs.TableWords.{date_text}
 use Rattle.program_manners.specs.declared.loading.LoadFault.{LoadFault}
+use Rattle.program_manners.specs.declared.output.WriteEnd.{WriteEnd}
 use Rattle.program_manners.specs.declared.table_words.DateFault.{DateFault}
-use Rattle.fare_program.specs.Begun.{AreOfBytes, HasBegun}
+use Rattle.fare_program.specs.Begun.{GaveUpOn, ReportedWrite}
 use Rattle.fare_program.specs.Causes.{IsRightFault}
 use Rattle.fare_program.specs.Fault.{fault_text, mistake, status_of, wrong_date}
 use Rattle.fare_program.specs.Options.{AsksForText, Parses, asked_by}
-use Rattle.fare_program.specs.Program.{Does, GaveUp, GaveUpOn}
+use Rattle.fare_program.specs.Program.{Does, GaveUp}
 use Rattle.fare_program.specs.declared.fault.Fault.{Fault}
-use Rattle.fare_program.specs.declared.fault.Fault.TheVariants.{NoMemory, Write}
+use Rattle.fare_program.specs.declared.fault.Fault.TheVariants.{NoMemory}
 
 -- What `main_over` promises, each clause under its name there: of these words, of what stands on
 -- the disk under a name, of what the source had loaded before and after, of the last load that it
 -- refused, of what was written to the output and said on the standard error before and after, of
--- whether the output was flushed, of whether a word failed to be said, and of the status. `Silent`
--- is that the standard error is as it was.
+-- why a write to the output failed (`end`), if it remembers one, of whether the output was flushed,
+-- of whether a word failed to be said, and of the status. `Silent` is that the standard error is as
+-- it was.
 pub record IsRun (words : List (List ℕ)) (under : List ℕ → Option (List ℕ))
     (loaded loaded' : Option (List Loaded)) (refused : Option (Option (List ℕ) × LoadFault))
-    (out out' said said' : Option (List ℕ)) (flushed failed : Bool) (Silent : Type 0) (status : ℕ)
-    : Type 0 where
+    (out out' said said' : Option (List ℕ)) (end : Option WriteEnd) (flushed failed : Bool)
+    (Silent : Type 0) (status : ℕ) : Type 0 where
   pub done : Parses words → status ≡ 0 → Does (asked_by words) under loaded loaded' out out' true
   pub helped : ¬ Parses words → status ≡ 0 → AsksForText words
   pub wrong_words : ¬ Parses words → (¬ AsksForText words)
@@ -40,11 +42,11 @@ pub record IsRun (words : List (List ℕ)) (under : List ℕ → Option (List �
   pub faults : status ≡ 1
       → (Parses words × Does (asked_by words) under loaded loaded' out out' false
       × (flushed ≡ true) × Silent)
-      ⊎ ((fault : Fault) × (status_of fault ≡ 1)
-      × (Parses words → IsRightFault (asked_by words) under loaded loaded' refused fault)
-      × (Parses words → fault ≡ Write → AreOfBytes (asked_by words) under
-      → HasBegun (asked_by words) under loaded loaded' out out')
-      × GaveUpOn (asked_by words) fault said said' failed out out')
+      ⊎ (GaveUp NoMemory said said' failed out out'
+      ⊎ (((¬ Parses words) × AsksForText words × ReportedWrite end said said' failed)
+      ⊎ (Parses words × (fault : Fault) × (status_of fault ≡ 1)
+      × IsRightFault (asked_by words) under loaded loaded' refused fault
+      × GaveUpOn (asked_by words) under loaded loaded' fault end said said' failed out out')))
   pub flush : Parses words → status ≡ 0 → flushed ≡ true
   pub quiet : status ≡ 0 → Silent
   pub unloaded : status ≡ 2 → loaded' ≡ loaded

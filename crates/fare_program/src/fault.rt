@@ -3,6 +3,7 @@ ghost use Rattle.std.specs.Prelude.{◌≡◌, ◌≢◌, ℕ, List, Option, Som
 ghost use Rattle.fare_service.specs.declared.faults.GatherFault.{GatherFault};
 ghost use Rattle.fare_service.specs.declared.lending.Unlent.{Unlent};
 ghost use Rattle.fare_program.specs.Fault.{IsLate, fault_text, gather_text, status_of};
+ghost use Rattle.fare_program.specs.inside.Fault.{as_remembered};
 ghost use Rattle.fare_program.specs.Causes.{IsNameReported, IsRightFault, IsRightOfSorted};
 ghost use Rattle.fare_program.specs.Options.{Asked};
 ghost use Rattle.sorted_bills.specs.Faults.{IsBeforeText, IsBillFault};
@@ -16,7 +17,8 @@ use fare_service::{GatherFault, OpenFault, PrintFault, RunFault};
 use fare_table::TableFault;
 use placed_files::Unopened;
 use program_manners::{
-    FileFault, FollowLine, LoadFault, NamedClassLine, NamedTableLine, TableLine, WrongWord,
+    FileFault, FollowLine, LoadFault, NamedClassLine, NamedTableLine, TableLine, WriteEnd,
+    WrongWord,
 };
 use sorted_bills::BillFault;
 use std::fmt;
@@ -163,6 +165,20 @@ impl<'a> Fault<'a> {
             RunFault::Gather(fault) => Fault::Gather(fault),
             // Loaded files are lent. If another file is not, all are loaded in their turns.
             RunFault::Unlent(_) => Fault::NoMemory,
+        }
+    }
+
+    /// What is reported of this fault, if the output remembers that `end` is why a write failed. No
+    /// contract of what writes a text says that a write failed: if the output remembers none that
+    /// did, memory was refused.
+    pub(crate) fn as_remembered(self, end: Option<WriteEnd>) -> Fault<'a>
+        ensures reported { result ≡ as_remembered end self.entry }
+        ensures status { status_of result ≡ status_of self.entry }
+        ensures mistake { status_of self.entry ≡ 2 → result ≡ self.entry }
+    {
+        match self {
+            Fault::Write if end.is_none() => Fault::NoMemory,
+            fault => fault,
         }
     }
 

@@ -12,8 +12,8 @@ ghost use Rattle.fare_program.specs.Fault.{traced_mistake, wrong_date};
 ghost use Rattle.fare_program.specs.inside.Fault.{IsLoadLine, IsWhyOf};
 ghost use Rattle.fare_program.specs.Options.{Asked, AsksForText, Parses, asked_by};
 ghost use Rattle.fare_program.specs.inside.Options.{asked_of};
-ghost use Rattle.fare_program.specs.Program.{Does, GaveUp, GaveUpOn, IsTokenIn, LoadsFiles};
-ghost use Rattle.fare_program.specs.Begun.{AreOfBytes, HasBegun, IsBegun};
+ghost use Rattle.fare_program.specs.Program.{Does, GaveUp, IsTokenIn, LoadsFiles};
+ghost use Rattle.fare_program.specs.Begun.{AreOfBytes, GaveUpOn, HasBegun, IsBegun, ReportedWrite};
 ghost use Rattle.fare_texts.specs.WrittenOut.{Begins};
 ghost use Rattle.fare_program.specs.Program.{DoesUntraced, LoadsTable, RunsTraced, names_to_load};
 ghost use Rattle.program_manners.specs.Loads.{Loaded, LoadsOne};
@@ -495,7 +495,12 @@ fn report<E: Write>(err: &mut Complaints<E>, fault: &Fault) -> u8
 
 /// Shows what clap answers when there is nothing to run: help and version on `out`, else the
 /// mistake on `err`.
-fn show<W: Write, E: Write>(error: &Error, out: &mut Output<W>, err: &mut Complaints<E>) -> u8
+fn show<W: Write, E: Write>(
+    alloc: Global,
+    error: &Error,
+    out: &mut Output<W>,
+    err: &mut Complaints<E>,
+) -> u8
     ensures help { result ≡ 0 → IsRequest (kind_of error.now) }
     ensures memory { kind_of error.now ≡ ErrorKind.OutOfMemory → result ≡ 1 }
     ensures refused { kind_of error.now ≡ ErrorKind.OutOfMemory
@@ -506,12 +511,14 @@ fn show<W: Write, E: Write>(error: &Error, out: &mut Output<W>, err: &mut Compla
     ensures requested { result ≡ 2 → ¬ IsRequest (kind_of error.now) }
     ensures mistake { result ≡ 2 → Keeps (W.contents out.old.writer) (W.contents out.new.writer) }
     ensures quiet { result ≡ 0 → err.new ≡ err.old }
-    ensures fault { result ≡ 1 → (fault : Fault) × IsOfOutput fault × (status_of fault ≡ 1)
-        × GaveUp fault (E.contents err.old.writer) (E.contents err.new.writer) err.new.failed
-        (W.contents out.old.writer) (W.contents out.new.writer) }
+    ensures fault { result ≡ 1 → GaveUp Fault.NoMemory (E.contents err.old.writer)
+        (E.contents err.new.writer) err.new.failed (W.contents out.old.writer)
+        (W.contents out.new.writer) ⊎ (IsRequest (kind_of error.now)
+        × ReportedWrite out.new.end (E.contents err.old.writer) (E.contents err.new.writer)
+        err.new.failed) }
     ensures status { result ≤ 2 }
 {
-    match show_answer(error, out, err) {
+    match show_answer(alloc, error, out, err) {
         Ok(status) => status,
         Err(_) => report(err, &Fault::Write),
     }
@@ -524,8 +531,9 @@ fn finish<W: Write, E: Write>(is_well: bool, out: &mut Output<W>, err: &mut Comp
     ensures well { result ≡ 0 → (is_well ≡ true) × (out.new.is_flushed ≡ true)
         × (err.new ≡ err.old) }
     ensures ill { result ≡ 1 → ((is_well ≡ false) × (out.new.is_flushed ≡ true)
-        × (err.new ≡ err.old)) ⊎ LineWritten (E.contents err.old.writer)
-        (E.contents err.new.writer) err.new.failed (fault_text Fault.Write) }
+        × (err.new ≡ err.old)) ⊎ ((out.new.is_flushed ≡ false)
+        × ReportedWrite out.new.end (E.contents err.old.writer) (E.contents err.new.writer)
+        err.new.failed) }
     ensures status { result ≤ 1 }
 {
     match out.finish() {
@@ -607,28 +615,30 @@ pub fn main_over<
         → out.new.is_flushed ≡ true }
 
     // With status 1 the whole text was written and flushed, and reports an upload that is not well,
-    // and nothing was said on `err`; or a fault was reported, which is the right one, and nothing
-    // was written unless a write failed, or a sorted file was refused after all were checked. What
-    // a write that failed left is a beginning of the text that is asked for: nothing else was
-    // written before the fault, and nothing behind it.
+    // and nothing was said on `err`; or memory was refused, and nothing was written; or the help or
+    // the version that was asked for could not be written; or a fault was reported, which is the
+    // right one. A write is reported only if the output remembers one that failed. Then a beginning
+    // of the text that is asked for stands there: nothing else was written before the fault, and
+    // nothing behind it. So it may after refused memory. Else nothing was written, unless a sorted
+    // file was refused after all were checked.
     ensures faults { result ≡ 1
         → (Parses (map string_bytes words.now)
         × Does (asked_by (map string_bytes words.now)) (D.bytes_under disk.now)
         (S.loaded source.old) (S.loaded source.new) (W.contents out.old.writer)
         (W.contents out.new.writer)
         false × (out.new.is_flushed ≡ true) × (err.new ≡ err.old))
-        ⊎ ((fault : Fault) × (status_of fault ≡ 1)
-        × (Parses (map string_bytes words.now)
-        → IsRightFault (asked_by (map string_bytes words.now)) (D.bytes_under disk.now)
-        (S.loaded source.old) (S.loaded source.new) (S.refused source.new) fault)
-        × (Parses (map string_bytes words.now) → fault ≡ Fault.Write
-        → AreOfBytes (asked_by (map string_bytes words.now)) (D.bytes_under disk.now)
-        → HasBegun (asked_by (map string_bytes words.now)) (D.bytes_under disk.now)
-        (S.loaded source.old) (S.loaded source.new) (W.contents out.old.writer)
-        (W.contents out.new.writer))
-        × GaveUpOn (asked_by (map string_bytes words.now)) fault (E.contents err.old.writer)
-        (E.contents err.new.writer) err.new.failed (W.contents out.old.writer)
-        (W.contents out.new.writer)) }
+        ⊎ (GaveUp Fault.NoMemory (E.contents err.old.writer) (E.contents err.new.writer)
+        err.new.failed (W.contents out.old.writer) (W.contents out.new.writer)
+        ⊎ (((¬ Parses (map string_bytes words.now)) × AsksForText (map string_bytes words.now)
+        × ReportedWrite out.new.end (E.contents err.old.writer) (E.contents err.new.writer)
+        err.new.failed)
+        ⊎ (Parses (map string_bytes words.now) × (fault : Fault) × (status_of fault ≡ 1)
+        × IsRightFault (asked_by (map string_bytes words.now)) (D.bytes_under disk.now)
+        (S.loaded source.old) (S.loaded source.new) (S.refused source.new) fault
+        × GaveUpOn (asked_by (map string_bytes words.now)) (D.bytes_under disk.now)
+        (S.loaded source.old) (S.loaded source.new) fault out.new.end
+        (E.contents err.old.writer) (E.contents err.new.writer) err.new.failed
+        (W.contents out.old.writer) (W.contents out.new.writer)))) }
 
     // Nothing is said on `err` if all is well.
     ensures quiet { result ≡ 0 → err.new ≡ err.old }
@@ -640,10 +650,10 @@ pub fn main_over<
 {
     let options = match Options::read(alloc, words) {
         Ok(options) => options,
-        Err(error) => return show(&error, out, err),
+        Err(error) => return show(alloc, &error, out, err),
     };
     match work(rt, alloc, disk, &options, source, out) {
         Ok(is_well) => finish(is_well, out, err),
-        Err(fault) => report(err, &fault),
+        Err(fault) => report(err, &fault.as_remembered(out.end())),
     }
 }

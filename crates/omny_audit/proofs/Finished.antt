@@ -5,6 +5,8 @@ use Rattle.std.proofs.KnownBytes.{Appends-kept}
 use Rattle.fare_texts.proofs.Beginnings.{begins_whole}
 use Rattle.program_manners.specs.Loads.{Loaded}
 use Rattle.program_manners.specs.declared.loading.LoadFault.{LoadFault}
+use Rattle.program_manners.specs.declared.output.WriteEnd.{WriteEnd}
+use Rattle.omny_audit.specs.Fault.{IsOfWriteEnd}
 use Rattle.omny_audit.specs.Options.{AuditAsked}
 use Rattle.omny_audit.specs.Program.{Audits, IsRightAuditFault}
 use Rattle.omny_audit.specs.declared.fault.Fault.{Fault}
@@ -23,13 +25,15 @@ audits_kept asked loaded loaded' out out' last well kept done = record {
 
 -- the whole text was written, and the flush behind it failed
 pub unflushed : (asked : AuditAsked) (loaded loaded' : Option (List Loaded))
-    (refused refused' : Option (Option (List ℕ) × LoadFault)) (fault : Fault)
-    (out out' : Option (List ℕ)) (well : Bool) → is_of_source fault ≡ false → refused' ≡ refused
+    (refused refused' : Option (Option (List ℕ) × LoadFault)) (remembered : Option WriteEnd)
+    (fault : Fault) (out out' : Option (List ℕ)) (well : Bool) → is_of_source fault ≡ false
+    → IsOfWriteEnd remembered fault → refused' ≡ refused
     → Audits asked loaded loaded' out out' well
-    → IsRightAuditFault asked loaded loaded' refused refused' fault out out'
-unflushed asked loaded loaded' refused refused' fault out out' well later same done =
+    → IsRightAuditFault asked loaded loaded' refused refused' remembered fault out out'
+unflushed asked loaded loaded' refused refused' remembered fault out out' well later end same
+    done =
     let all = begins_whole out out' done.text done.written in record {
-      right = right_later asked.table asked.ledger loaded loaded' refused' fault later;
+      right = right_later asked.table asked.ledger loaded loaded' refused' remembered fault later end;
       told = λ no. same;
       begun = λ no un. record { text = done.text; well = well; found = done.found; begun = all };
       begun_of_all = λ yes. inr (record {

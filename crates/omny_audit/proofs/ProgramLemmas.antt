@@ -35,6 +35,7 @@ use Rattle.omny_audit.specs.inside.Tables.{IsClassFault}
 use Rattle.omny_audit.specs.inside.Source.{IsAllOf}
 use Rattle.program_manners.specs.Loads.{Loaded, LoadsAll, LoadsOne}
 use Rattle.program_manners.specs.declared.loading.LoadFault.{LoadFault}
+use Rattle.program_manners.specs.declared.output.WriteEnd.{WriteEnd}
 use Rattle.program_manners.proofs.LoadsOn.{loads_more}
 
 pub reports_none : (loaded : Option (List Loaded)) → LoadsAll loaded loaded []
@@ -204,11 +205,12 @@ pub names_same : (names same : List (Bor Text)) (fault : Fault) → names ≡ sa
 names_same names same fault is one =
     subst (λ (ns : List (Bor Text)). NamesOneOf (map (λ n. n.now) ns) fault) is one
 
--- what two clauses say of an error
-pub both_err : {A : Type 0} (r : Result A Fault) (P Q R : Fault → Type 0)
-    → ((fault : Fault) → P fault → Q fault → R fault) → IfErr r P → IfErr r Q → IfErr r R
-both_err (Ok x) P Q R both p q = tt
-both_err (Err e) P Q R both p q = both e p q
+-- what three clauses say of an error
+pub all_err : {A : Type 0} (r : Result A Fault) (P Q R S : Fault → Type 0)
+    → ((fault : Fault) → P fault → Q fault → R fault → S fault)
+    → IfErr r P → IfErr r Q → IfErr r R → IfErr r S
+all_err (Ok x) P Q R S all one two three = tt
+all_err (Err e) P Q R S all one two three = all e one two three
 
 -- all wrong lines are asked for, or not
 pub not_both : (all : Bool) → all ≡ false → all ≡ true → ⊥
@@ -216,12 +218,13 @@ not_both all never asked = cc
 
 -- a fault of loading is no write that failed
 pub written_first : (asked : AuditAsked) (loaded loaded' : Option (List Loaded))
-    (refused refused' : Option (Option (List ℕ) × LoadFault)) (fault : Fault)
-    (out out' : Option (List ℕ)) → is_unwritten fault ≡ false → Keeps out out'
-    → IsRightFault asked.table asked.ledger loaded loaded' refused' fault
+    (refused refused' : Option (Option (List ℕ) × LoadFault)) (remembered : Option WriteEnd)
+    (fault : Fault) (out out' : Option (List ℕ)) → is_unwritten fault ≡ false → Keeps out out'
+    → IsRightFault asked.table asked.ledger loaded loaded' refused' remembered fault
     → IsTold refused refused' fault
-    → IsRightAuditFault asked loaded loaded' refused refused' fault out out'
-written_first asked loaded loaded' refused refused' fault out out' written kept right told =
+    → IsRightAuditFault asked loaded loaded' refused refused' remembered fault out out'
+written_first asked loaded loaded' refused refused' remembered fault out out' written kept right
+    told =
     record {
       right = right;
       told = told;
@@ -377,15 +380,15 @@ pub right_of_names : (asked : AuditAsked) (before between after : Option (List L
     (refused refused' : Option (Option (List ℕ) × LoadFault)) (texts : List (List ℕ))
     (fares : Fares) → LoadsTables asked.table before between texts fares
     → (later : List Loaded) → LoadsAll between after later
-    → (wrong : WrongNames) → IsWrongAt texts wrong
-    → (fault : Fault) (out out' : Option (List ℕ)) → IsClassFault asked.table wrong fault
+    → (wrong : WrongNames) → IsWrongAt texts wrong → (remembered : Option WriteEnd)
+    (fault : Fault) (out out' : Option (List ℕ)) → IsClassFault asked.table wrong fault
     → is_unwritten fault ≡ false → Keeps out out' → refused' ≡ refused
-    → IsRightAuditFault asked before after refused refused' fault out out'
+    → IsRightAuditFault asked before after refused refused' remembered fault out out'
 right_of_names asked before between after refused refused' texts fares loads later more wrong at
-    fault out out' is written kept same =
-    written_first asked before after refused refused' fault out out' written kept
-    (classes_are_right asked.table before between after refused' asked.ledger texts fares loads
-    later more wrong at fault is) (λ no. same)
+    remembered fault out out' is written kept same =
+    written_first asked before after refused refused' remembered fault out out' written kept
+    (classes_are_right asked.table before between after refused' asked.ledger remembered texts fares
+    loads later more wrong at fault is) (λ no. same)
 
 -- the places that are kept are those of the uploads that are named
 pub kept_lists : (names same : List (Bor Text)) (kept : Option (List (List TapFields))) (has : Bool)

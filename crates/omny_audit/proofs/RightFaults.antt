@@ -6,52 +6,84 @@ use Rattle.tap_views.proofs.Choices.{IfErr_handed_on}
 use Rattle.program_manners.specs.Loads.{Loaded}
 use Rattle.program_manners.specs.TableWords.{TableNames}
 use Rattle.program_manners.specs.declared.loading.LoadFault.{LoadFault}
-use Rattle.omny_audit.specs.Fault.{IsRightFault, IsTold}
+use Rattle.program_manners.specs.declared.output.WriteEnd.{WriteEnd}
+use Rattle.omny_audit.specs.Fault.{IsOfWriteEnd, IsRightFault, IsTold, is_unwritten}
 use Rattle.omny_audit.specs.declared.fault.Fault.{Fault}
 use Rattle.omny_audit.specs.declared.fault.Fault.TheVariants.{ClassName, Closed, Date, File, Follow}
 use Rattle.omny_audit.specs.declared.fault.Fault.TheVariants.{Ledger, NamedClass, NamedTable}
 use Rattle.omny_audit.specs.declared.fault.Fault.TheVariants.{NoMemory, Table, Write}
 use Rattle.omny_audit.specs.inside.Fault.{IsLedgerFault, IsRefusal, is_of_source}
 
+-- no write failed
+pub written_end : (remembered : Option WriteEnd) (fault : Fault) → is_unwritten fault ≡ false
+    → IsOfWriteEnd remembered fault
+written_end remembered (File file) written = tt
+written_end remembered Ledger written = tt
+written_end remembered (Date wrong) written = tt
+written_end remembered (Table fault) written = tt
+written_end remembered (NamedTable line) written = tt
+written_end remembered (Follow line) written = tt
+written_end remembered ClassName written = tt
+written_end remembered (NamedClass line) written = tt
+written_end remembered Write written = absurd (true≢false written)
+written_end remembered Closed written = absurd (true≢false written)
+written_end remembered NoMemory written = tt
+
+module _ (remembered : Option WriteEnd) {A : Type 0} (r : Result A Fault) where
+  -- a fault that is handed on, of what writes nothing
+  pub written_on : (fault : Fault) → IsErrAnd r (λ e. e ≡ fault) → is_unwritten fault ≡ false
+      → IfErr r (IsOfWriteEnd remembered)
+  written_on fault is written =
+      IfErr_handed_on r fault (IsOfWriteEnd remembered) is (written_end remembered fault written)
+
+  -- want of memory
+  pub memory_end : IsErrAnd r (λ e. e ≡ NoMemory) → IfErr r (IsOfWriteEnd remembered)
+  memory_end is = written_on NoMemory is refl
+
+  -- a write that failed, which is handed on
+  pub end_on : (fault : Fault) → IsErrAnd r (λ e. e ≡ fault) → IsOfWriteEnd remembered fault
+      → IfErr r (IsOfWriteEnd remembered)
+  end_on fault is end = IfErr_handed_on r fault (IsOfWriteEnd remembered) is end
+
 module _ (tables : TableNames) (ledger : Option (List ℕ)) (before after : Option (List Loaded))
-    (refused : Option (Option (List ℕ) × LoadFault)) where
+    (refused : Option (Option (List ℕ) × LoadFault)) (remembered : Option WriteEnd) where
   -- a file was refused, or memory
   pub right_refusal : (fault : Fault) → IsRefusal refused fault
-      → IsRightFault tables ledger before after refused fault
+      → IsRightFault tables ledger before after refused remembered fault
   right_refusal (File file) is = is
   right_refusal NoMemory is = tt
   right_refusal _ is = absurd is
 
   -- a fault that comes after all files were loaded and read
-  pub right_later : (fault : Fault) → is_of_source fault ≡ false
-      → IsRightFault tables ledger before after refused fault
-  right_later (File file) later = absurd (true≢false later)
-  right_later Ledger later = absurd (true≢false later)
-  right_later (Date wrong) later = absurd (true≢false later)
-  right_later (Table fault) later = absurd (true≢false later)
-  right_later (NamedTable line) later = absurd (true≢false later)
-  right_later (Follow line) later = absurd (true≢false later)
-  right_later ClassName later = absurd (true≢false later)
-  right_later (NamedClass line) later = absurd (true≢false later)
-  right_later Write later = tt
-  right_later Closed later = tt
-  right_later NoMemory later = tt
+  pub right_later : (fault : Fault) → is_of_source fault ≡ false → IsOfWriteEnd remembered fault
+      → IsRightFault tables ledger before after refused remembered fault
+  right_later (File file) later end = absurd (true≢false later)
+  right_later Ledger later end = absurd (true≢false later)
+  right_later (Date wrong) later end = absurd (true≢false later)
+  right_later (Table fault) later end = absurd (true≢false later)
+  right_later (NamedTable line) later end = absurd (true≢false later)
+  right_later (Follow line) later end = absurd (true≢false later)
+  right_later ClassName later end = absurd (true≢false later)
+  right_later (NamedClass line) later end = absurd (true≢false later)
+  right_later Write later end = end
+  right_later Closed later end = end
+  right_later NoMemory later end = tt
 
   -- a fault that comes after the ledger was opened
   pub right_of_ledger : (refused_before : Option (Option (List ℕ) × LoadFault)) (fault : Fault)
-      → IsLedgerFault refused_before refused ledger fault
-      → IsRightFault tables ledger before after refused fault
-  right_of_ledger refused_before (File file) is = right_later (File file) is.0
-  right_of_ledger refused_before Ledger is = is
-  right_of_ledger refused_before (Date wrong) is = right_later (Date wrong) is.0
-  right_of_ledger refused_before (Table fault) is = right_later (Table fault) is.0
-  right_of_ledger refused_before (NamedTable line) is = right_later (NamedTable line) is.0
-  right_of_ledger refused_before (Follow line) is = right_later (Follow line) is.0
-  right_of_ledger refused_before ClassName is = right_later ClassName is.0
-  right_of_ledger refused_before (NamedClass line) is = right_later (NamedClass line) is.0
-  right_of_ledger refused_before Write is = tt
-  right_of_ledger refused_before Closed is = tt
-  right_of_ledger refused_before NoMemory is = tt
+      → IsLedgerFault refused_before refused ledger fault → IsOfWriteEnd remembered fault
+      → IsRightFault tables ledger before after refused remembered fault
+  right_of_ledger refused_before (File file) is end = right_later (File file) is.0 end
+  right_of_ledger refused_before Ledger is end = is
+  right_of_ledger refused_before (Date wrong) is end = right_later (Date wrong) is.0 end
+  right_of_ledger refused_before (Table fault) is end = right_later (Table fault) is.0 end
+  right_of_ledger refused_before (NamedTable line) is end = right_later (NamedTable line) is.0 end
+  right_of_ledger refused_before (Follow line) is end = right_later (Follow line) is.0 end
+  right_of_ledger refused_before ClassName is end = right_later ClassName is.0 end
+  right_of_ledger refused_before (NamedClass line) is end = right_later (NamedClass line) is.0 end
+  right_of_ledger refused_before Write is end = end
+  right_of_ledger refused_before Closed is end = end
+  right_of_ledger refused_before NoMemory is end = tt
 
 module _ (refused refused' : Option (Option (List ℕ) × LoadFault)) where
   -- nothing was refused

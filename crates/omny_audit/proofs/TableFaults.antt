@@ -16,6 +16,7 @@ use Rattle.program_manners.specs.TableWords.{TableNames, file_named, written_dat
 use Rattle.program_manners.specs.declared.following.NextFault.{NextFault}
 use Rattle.program_manners.specs.declared.following.NextFault.TheVariants as next
 use Rattle.program_manners.specs.declared.loading.LoadFault.{LoadFault}
+use Rattle.program_manners.specs.declared.output.WriteEnd.{WriteEnd}
 use Rattle.program_manners.specs.declared.table_words.WrittenDate.{WrittenDate}
 use Rattle.settled_texts.specs.ClassFaults.{IsFaultOf, IsWrongAt}
 use Rattle.settled_texts.specs.declared.class_names.ClassFault.TheVariants as class
@@ -27,13 +28,14 @@ use Rattle.omny_audit.specs.declared.fault.Fault.TheVariants.{NamedTable, NoMemo
 use Rattle.omny_audit.specs.inside.Tables.{IsClassFault, IsRightLater, IsRightNamed}
 
 module _ (tables : TableNames) (loaded_before loaded_before' loaded_before'' : Option (List Loaded))
-    (refused : Option (Option (List ℕ) × LoadFault)) (ledger : Option (List ℕ)) where
+    (refused : Option (Option (List ℕ) × LoadFault)) (ledger : Option (List ℕ))
+    (remembered : Option WriteEnd) where
   -- what is told of the first table's text
   pub first_is_right : (text : List ℕ) (alone : Bool) (why : TableFault) (fault : Fault)
       → LoadsOne loaded_before loaded_before'' (Some tables.first) text → IsFirstTableFault text why
       → (alone ≡ true → tables.later ≡ []) → (alone ≡ false → tables.later ≢ [])
       → IsRightNamed tables.first alone why fault
-      → IsRightFault tables ledger loaded_before loaded_before'' refused fault
+      → IsRightFault tables ledger loaded_before loaded_before'' refused remembered fault
   first_is_right text alone why (Table fault) loaded first one several is =
       subst (RefusesOnly tables loaded_before loaded_before'') (sym is.1)
       (only_refused tables loaded_before loaded_before'' text loaded why first (one is.0))
@@ -53,7 +55,7 @@ module _ (tables : TableNames) (loaded_before loaded_before' loaded_before'' : O
     pub next_is_right : (date : WrittenDate) → written_date word ≡ Some date
         → (why : NextFault) → IsRightNext fares date text why
         → (fault : Fault) → IsRightLater word (file_named word) why fault
-        → IsRightFault tables ledger loaded_before loaded_before'' refused fault
+        → IsRightFault tables ledger loaded_before loaded_before'' refused remembered fault
     next_is_right date dated (next.Table why) first (NamedTable line) is =
         subst (RefusesNamed tables loaded_before loaded_before'' line.name.now) (sym is.2)
         (subst (λ (n : List ℕ). RefusesNamed tables loaded_before loaded_before'' n why) (sym is.1)
@@ -101,7 +103,7 @@ module _ (tables : TableNames) (loaded_before loaded_before' loaded_before'' : O
       → (later : List Loaded) → LoadsAll loaded_before' loaded_before'' later
       → (wrong : WrongNames) → IsWrongAt texts wrong
       → (fault : Fault) → IsClassFault tables wrong fault
-      → IsRightFault tables ledger loaded_before loaded_before'' refused fault
+      → IsRightFault tables ledger loaded_before loaded_before'' refused remembered fault
   classes_are_right texts fares loads later more wrong at NoMemory is = tt
   classes_are_right texts fares loads later more wrong at ClassName is =
       (is.1, wrong.place, unplain_at texts fares loads later more wrong at is.0)

@@ -13,6 +13,8 @@ use Rattle.omny_audit.specs.Options.{table_files}
 use Rattle.program_manners.specs.Loads.{Loaded, LoadsAll}
 use Rattle.program_manners.specs.declared.loading.LoadFault.{LoadFault}
 use Rattle.program_manners.specs.declared.loading.LoadFault.TheVariants as load
+use Rattle.program_manners.specs.declared.output.WriteEnd.{WriteEnd}
+use Rattle.program_manners.specs.declared.output.WriteEnd.TheVariants as end
 use Rattle.program_manners.specs.Refusals.{IsOneOf, HasRefused, Refuses}
 use Rattle.settled_texts.specs.Classes.{has_plain_classes}
 use Rattle.omny_audit.specs.declared.fault.Fault.{Fault}
@@ -45,6 +47,21 @@ is_unwritten _ = false
 abbrev pub is_quiet : Fault → Bool
 is_quiet Closed = true
 is_quiet _ = false
+
+-- That a write failed is told only if the output remembers one that failed: that the reader has
+-- gone, or that it was refused otherwise.
+abbrev pub IsOfWriteEnd : Option WriteEnd → Fault → Type 0
+IsOfWriteEnd remembered Write = remembered ≡ Some end.Refused
+IsOfWriteEnd remembered Closed = remembered ≡ Some end.Closed
+IsOfWriteEnd remembered _ = Unit {0}
+
+-- If there is nothing to run, the fault is that help or the version was not written, for the reason
+-- that the output remembers, or that memory was refused.
+abbrev pub IsRightAnswerFault : Option WriteEnd → Fault → Type 0
+IsRightAnswerFault remembered Write = IsOfWriteEnd remembered Write
+IsRightAnswerFault remembered Closed = IsOfWriteEnd remembered Closed
+IsRightAnswerFault remembered NoMemory = Unit {0}
+IsRightAnswerFault remembered _ = ⊥
 
 -- the name of the file that the fault is about, if any
 abbrev pub named_by : Fault → Option (List ℕ)
@@ -92,24 +109,27 @@ pub record LoadsUnplainClass (tables : TableNames) (loaded loaded' : Option (Lis
 -- The fault is the right one: a file that is named is one that the source refused so, and the
 -- ledger of this name cannot be read only if the source refused it so. A table fault is the first
 -- one of the text that was loaded under the table's name, behind the tables before it, and that of
--- a class's name comes only if a table's text names one that cannot stand in a ledger.
+-- a class's name comes only if a table's text names one that cannot stand in a ledger. That a write
+-- failed is told only if the output remembers one that failed so.
 abbrev pub IsRightFault : TableNames → Option (List ℕ) → Option (List Loaded)
-    → Option (List Loaded) → Option (Option (List ℕ) × LoadFault) → Fault → Type 0
-IsRightFault tables ledger loaded loaded' refused (File file) =
+    → Option (List Loaded) → Option (Option (List ℕ) × LoadFault) → Option WriteEnd → Fault
+    → Type 0
+IsRightFault tables ledger loaded loaded' refused remembered (File file) =
     HasRefused refused file.name.now file.fault
-IsRightFault tables ledger loaded loaded' refused Ledger = Refuses refused ledger load.Unread
-IsRightFault tables ledger loaded loaded' refused (Date wrong) = ⊥
-IsRightFault tables ledger loaded loaded' refused (Table fault) =
+IsRightFault tables ledger loaded loaded' refused remembered Ledger =
+    Refuses refused ledger load.Unread
+IsRightFault tables ledger loaded loaded' refused remembered (Date wrong) = ⊥
+IsRightFault tables ledger loaded loaded' refused remembered (Table fault) =
     RefusesOnly tables loaded loaded' fault
-IsRightFault tables ledger loaded loaded' refused (NamedTable line) =
+IsRightFault tables ledger loaded loaded' refused remembered (NamedTable line) =
     RefusesNamed tables loaded loaded' line.name.now line.fault
-IsRightFault tables ledger loaded loaded' refused (Follow line) =
+IsRightFault tables ledger loaded loaded' refused remembered (Follow line) =
     RefusesToFollow tables loaded loaded' line.word.now line.fault
-IsRightFault tables ledger loaded loaded' refused ClassName =
+IsRightFault tables ledger loaded loaded' refused remembered ClassName =
     (tables.later ≡ []) × (place : ℕ) × LoadsUnplainClass tables loaded loaded' place
-IsRightFault tables ledger loaded loaded' refused (NamedClass line) = (tables.later ≢ [])
+IsRightFault tables ledger loaded loaded' refused remembered (NamedClass line) = (tables.later ≢ [])
     × (place : ℕ) × (slice_get (table_files tables) place ≡ Some line.0.now)
     × LoadsUnplainClass tables loaded loaded' place
-IsRightFault tables ledger loaded loaded' refused Write = Unit {0}
-IsRightFault tables ledger loaded loaded' refused Closed = Unit {0}
-IsRightFault tables ledger loaded loaded' refused NoMemory = Unit {0}
+IsRightFault tables ledger loaded loaded' refused remembered Write = IsOfWriteEnd remembered Write
+IsRightFault tables ledger loaded loaded' refused remembered Closed = IsOfWriteEnd remembered Closed
+IsRightFault tables ledger loaded loaded' refused remembered NoMemory = Unit {0}

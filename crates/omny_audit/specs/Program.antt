@@ -18,6 +18,7 @@ use Rattle.program_manners.specs.Loads.{Loaded, LoadsAll, LoadsOne}
 use Rattle.program_manners.specs.LineWritten.{LineWritten}
 use Rattle.program_manners.specs.TableLoads.{LoadsTables}
 use Rattle.program_manners.specs.declared.loading.LoadFault.{LoadFault}
+use Rattle.program_manners.specs.declared.output.WriteEnd.{WriteEnd}
 use Rattle.omny_audit.specs.declared.fault.Fault.{Fault}
 
 -- A file of each of these names was loaded, in their order.
@@ -147,13 +148,14 @@ pub record AuditGaveUp (all : Bool) (fault : Fault) (said said' : Option (List �
   pub line_reported : IsFaultReported fault said said' failed
   pub kept : all ≡ false → is_unwritten fault ≡ false → Keeps out out'
 
--- The fault is the right one, and tells what the source refused, if it refused anything. If a write
--- failed, what it left is a beginning of the right text. If all wrong lines are asked for, any
--- fault leaves such a beginning, or nothing if no write failed.
+-- The fault is the right one, beside what the output remembers of a write that failed, and tells
+-- what the source refused, if it refused anything. If a write failed, what it left is a beginning
+-- of the right text. If all wrong lines are asked for, any fault leaves such a beginning, or nothing
+-- if no write failed.
 pub record IsRightAuditFault (asked : AuditAsked) (loaded loaded' : Option (List Loaded))
-    (refused refused' : Option (Option (List ℕ) × LoadFault)) (fault : Fault)
-    (out out' : Option (List ℕ)) : Type 0 where
-  pub right : IsRightFault asked.table asked.ledger loaded loaded' refused' fault
+    (refused refused' : Option (Option (List ℕ) × LoadFault)) (remembered : Option WriteEnd)
+    (fault : Fault) (out out' : Option (List ℕ)) : Type 0 where
+  pub right : IsRightFault asked.table asked.ledger loaded loaded' refused' remembered fault
   pub told : IsTold refused refused' fault
   pub begun : asked.all ≡ false → is_unwritten fault ≡ true
       → BeginsAudit asked loaded loaded' out out'

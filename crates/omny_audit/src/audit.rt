@@ -16,7 +16,7 @@ ghost use Rattle.omny_audit.specs.Findings.{IsFinding, agrees};
 ghost use Rattle.omny_audit.specs.Reports.{IsAudit};
 ghost use Rattle.omny_audit.specs.inside.Findings.{StrikesOut};
 ghost use Rattle.omny_audit.specs.inside.Reports.{HasSummedFor, text_of};
-ghost use Rattle.omny_audit.specs.Fault.{is_unwritten, named_by};
+ghost use Rattle.omny_audit.specs.Fault.{IsOfWriteEnd, is_unwritten, named_by};
 ghost use Rattle.omny_audit.specs.inside.Fault.{IsLedgerFault, is_of_source};
 ghost use Rattle.fare_texts.specs.WrittenOut.{Begins};
 ghost use Rattle.omny_audit.specs.Traced.{ReadLine};
@@ -33,6 +33,7 @@ use crate::traced::{TracedPieces, read_end, read_piece, write_columns};
 use fare_table::{Clock, FareTable};
 use ledger_check::laws::verdicts_decide;
 use ledger_check::{Balance, Checker, Difference, Verdict};
+use program_manners::Output;
 use std::alloc::{AllocError, Global};
 use std::io::Write;
 use tap_views::NoMemory;
@@ -246,7 +247,7 @@ pub(crate) fn audit_over<S: Source, W: Write>(
     has_uploads: bool,
     mut trace: Option<TracedPieces>,
     mut report: Option<ReportWithSums>,
-    out: &mut W,
+    out: &mut Output<W>,
 ) -> Result<bool, Fault<'static>>
     requires clock { clock.now ≡ table.now.zone }
     requires good { (good : List TapFields) × IsBalance balance good [] }
@@ -257,18 +258,21 @@ pub(crate) fn audit_over<S: Source, W: Write>(
         × ((good : List TapFields) → IsBalance balance good [] → (reported : List ℕ)
         × (read : List ReadLine) × IsAudit false table.now (wanted_by trace) file read
         (if has_uploads then Some good else None) (text_of report) reported well
-        × Appends (W.contents out.old) (W.contents out.new) reported)) }
+        × Appends (W.contents out.old.writer) (W.contents out.new.writer) reported)) }
+
+    // That a write failed is told only if the output remembers one that failed so.
+    ensures end { IfErr result (IsOfWriteEnd out.new.end) }
 
     // Only a write that fails leaves something of a text behind.
     ensures fault { IfErr result (λ fault. is_unwritten fault ≡ false
-        → Keeps (W.contents out.old) (W.contents out.new)) }
+        → Keeps (W.contents out.old.writer) (W.contents out.new.writer)) }
     // And what it leaves is a beginning of the right text.
     ensures begun { IfErr result (λ fault. is_unwritten fault ≡ true → (file : List ℕ)
         × IsAllOf (prepend_known ledger.old.head.now (S.Ledger.remaining ledger.old.rest)) file
         × ((good : List TapFields) → IsBalance balance good [] → (reported : List ℕ) × (well : Bool)
         × (read : List ReadLine) × IsAudit false table.now (wanted_by trace) file read
         (if has_uploads then Some good else None) (text_of report) reported well
-        × Begins (W.contents out.old) (W.contents out.new) reported)) }
+        × Begins (W.contents out.old.writer) (W.contents out.new.writer) reported)) }
     ensures loaded { S.loaded source.new ≡ S.loaded source.old }
     ensures well { IfOk result (λ _. S.refused source.new ≡ S.refused source.old) }
     ensures named { IfErr result (λ fault. named_by fault ≡ None) }

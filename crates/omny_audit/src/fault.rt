@@ -1,15 +1,16 @@
 //! Why the program gives up, with the line that says so.
-ghost use Rattle.std.specs.Prelude.{◌≡◌, ℕ, IfSome, List, Option, Some, false, true};
-ghost use Rattle.omny_audit.specs.Fault.{audit_fault_text, is_quiet, is_refusal, is_unwritten};
-ghost use Rattle.omny_audit.specs.Fault.{named_by};
-ghost use Rattle.omny_audit.specs.inside.Fault.{IsRefusal};
+ghost use Rattle.std.specs.Prelude.{◌≡◌, ℕ, IfSome, List, None, Option, Some, false, true};
+ghost use Rattle.omny_audit.specs.Fault.{IsOfWriteEnd, audit_fault_text, is_quiet, is_refusal};
+ghost use Rattle.omny_audit.specs.Fault.{is_unwritten, named_by};
+ghost use Rattle.omny_audit.specs.inside.Fault.{IsRefusal, is_of_source};
 ghost use Rattle.program_manners.specs.Refusals.{HasRefused};
 ghost use Rattle.program_manners.specs.declared.loading.LoadFault.{LoadFault as ALoadFault};
 ghost use Rattle.program_manners.specs.Lines.{load_text};
 
 use fare_table::TableFault;
 use program_manners::{
-    FileFault, FollowLine, LoadFault, NamedClassLine, NamedTableLine, TableLine, WrongWord,
+    FileFault, FollowLine, LoadFault, NamedClassLine, NamedTableLine, TableLine, WriteEnd,
+    WrongWord,
 };
 use std::alloc::AllocError;
 use std::fmt;
@@ -53,6 +54,20 @@ impl<'a> Fault<'a> {
             → HasRefused refused name.entry.now fault → IsRefusal refused result }
     {
         Fault::File(FileFault { name, fault })
+    }
+
+    /// Why a write failed, that ended so. Nothing is reported of it exactly if whoever reads the
+    /// text has closed it.
+    pub(crate) fn of_end(end: WriteEnd) -> Fault<'a>
+        ensures unwritten { is_unwritten result ≡ true }
+        ensures end { IsOfWriteEnd (Some end) result }
+        ensures named { named_by result ≡ None }
+        ensures later { is_of_source result ≡ false }
+    {
+        match end {
+            WriteEnd::Closed => Fault::Closed,
+            WriteEnd::Refused => Fault::Write,
+        }
     }
 
     /// Whether who reads the text has closed it, so that nothing is reported.

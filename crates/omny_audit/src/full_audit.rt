@@ -8,7 +8,7 @@ ghost use Rattle.fare_table.specs.Fares.{Fares};
 ghost use Rattle.ledger_check.specs.Balances.{IsBalance};
 ghost use Rattle.ledger_check.specs.FullBalances.{IsFullBalance};
 ghost use Rattle.tap_views.specs.declared.encoder.TapFields.{TapFields};
-ghost use Rattle.omny_audit.specs.Fault.{named_by};
+ghost use Rattle.omny_audit.specs.Fault.{IsOfWriteEnd, is_unwritten, named_by};
 ghost use Rattle.omny_audit.specs.inside.Fault.{IsLedgerFault, is_of_source};
 ghost use Rattle.ledger_check.specs.Columns.{read_as};
 ghost use Rattle.ledger_check.specs.Ledger.{IsLedger};
@@ -33,6 +33,7 @@ use crate::traced::{TracedPieces, read_end, read_piece, write_columns};
 use fare_table::{Clock, FareTable};
 use ledger_check::laws::{recounts_decide, recounts_go_on};
 use ledger_check::{Balance, FullBalance, Recount};
+use program_manners::Output;
 use std::alloc::{AllocError, Global};
 use std::io::Write;
 use tap_views::{NoMemory, TapFields};
@@ -74,6 +75,7 @@ fn end_recount(
     ensures wanted { wanted_by trace.new ≡ wanted_by trace.old }
     ensures report { text_of report.new ≡ text_of report.old }
     ensures named { IfErr result (λ fault. named_by fault ≡ None) }
+    ensures fault { IfErr result (λ fault. is_unwritten fault ≡ false) }
     ensures later { IfErr result (λ fault. is_of_source fault ≡ false) }
 {
     read_end(trace, text)?;
@@ -97,7 +99,7 @@ fn recount_all<S: Source, W: Write>(
     full: &mut FullBalance,
     trace: &mut Option<TracedPieces>,
     report: &mut Option<ReportWithSums>,
-    out: &mut W,
+    out: &mut Output<W>,
 ) -> Result<bool, Fault<'static>>
     requires clock { clock.now ≡ table.now.zone }
     requires trace { HasReadAs trace.old [] [] }
@@ -110,16 +112,19 @@ fn recount_all<S: Source, W: Write>(
         × IsAllOf (prepend_known ledger.old.head.now (S.Ledger.remaining ledger.old.rest)) file
         × ((good : List TapFields) → (has_uploads ≡ true → IsFullBalance full.old good [])
         → HasRecountedAll table.now has_uploads full.new
-        (read_as (is_some (wanted_by trace.new)) file) good legal (W.contents out.old)
-        (W.contents out.new))
+        (read_as (is_some (wanted_by trace.new)) file) good legal (W.contents out.old.writer)
+        (W.contents out.new.writer))
         × HasSummedFor table.now report.new (read_as (is_some (wanted_by trace.new)) file)
         × HasReadAll trace.new file) }
+
+    // That a write failed is told only if the output remembers one that failed so.
+    ensures end { IfErr result (IsOfWriteEnd out.new.end) }
 
     // What was written when a fault comes is a beginning of what is reported of the lines.
     ensures begun { IfErr result (λ _. (file : List ℕ)
         × IsAllOf (prepend_known ledger.old.head.now (S.Ledger.remaining ledger.old.rest)) file
         × HasBegunRecount table.now (read_as (is_some (wanted_by trace.old)) file)
-        (W.contents out.old) (W.contents out.new)) }
+        (W.contents out.old.writer) (W.contents out.new.writer)) }
     ensures wanted { wanted_by trace.new ≡ wanted_by trace.old }
     ensures report { text_of report.new ≡ text_of report.old }
     ensures loaded { S.loaded source.new ≡ S.loaded source.old }
@@ -237,7 +242,7 @@ pub(crate) fn full_audit_over<S: Source, W: Write>(
     has_uploads: bool,
     mut trace: Option<TracedPieces>,
     mut report: Option<ReportWithSums>,
-    out: &mut W,
+    out: &mut Output<W>,
 ) -> Result<bool, Fault<'static>>
     requires clock { clock.now ≡ table.now.zone }
     requires good { (good : List TapFields) × IsBalance balance good [] }
@@ -250,14 +255,17 @@ pub(crate) fn full_audit_over<S: Source, W: Write>(
         × ((good : List TapFields) → IsBalance balance good [] → (reported : List ℕ)
         × (read : List ReadLine) × IsAudit true table.now (wanted_by trace) file read
         (if has_uploads then Some good else None) (text_of report) reported well
-        × Appends (W.contents out.old) (W.contents out.new) reported)) }
+        × Appends (W.contents out.old.writer) (W.contents out.new.writer) reported)) }
+
+    // That a write failed is told only if the output remembers one that failed so.
+    ensures end { IfErr result (IsOfWriteEnd out.new.end) }
 
     // What was written when a fault comes is a beginning of the right text.
     ensures begun { IfErr result (λ _. (file : List ℕ)
         × IsAllOf (prepend_known ledger.old.head.now (S.Ledger.remaining ledger.old.rest)) file
         × ((good : List TapFields) → IsBalance balance good [] → HasBegunAudit true table.now
         (wanted_by trace) file (if has_uploads then Some good else None) (text_of report)
-        (W.contents out.old) (W.contents out.new))) }
+        (W.contents out.old.writer) (W.contents out.new.writer))) }
     ensures loaded { S.loaded source.new ≡ S.loaded source.old }
     ensures well { IfOk result (λ _. S.refused source.new ≡ S.refused source.old) }
     ensures named { IfErr result (λ fault. named_by fault ≡ None) }

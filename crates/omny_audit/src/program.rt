@@ -9,7 +9,8 @@ ghost use Rattle.ledger_check.specs.Balances.{IsBalance};
 ghost use Rattle.ledger_check.specs.Columns.{has_traced_head};
 ghost use Rattle.ledger_check.specs.Places.{HasUploads, uploads_of};
 ghost use Rattle.tap_views.specs.declared.encoder.TapFields.{TapFields};
-ghost use Rattle.omny_audit.specs.Fault.{IsTold, NamesOneOf, is_unwritten, named_by};
+ghost use Rattle.omny_audit.specs.Fault.{IsOfWriteEnd, IsRightAnswerFault, IsTold, NamesOneOf};
+ghost use Rattle.omny_audit.specs.Fault.{is_unwritten, named_by};
 ghost use Rattle.omny_audit.specs.Options.{AsksForAuditText, ParsesForAudit, audit_asked_by};
 ghost use Rattle.omny_audit.specs.inside.Options.{audit_asked_of};
 ghost use Rattle.omny_audit.specs.inside.Reports.{HasSummedFor, text_of};
@@ -36,7 +37,6 @@ use crate::full_audit::full_audit_over;
 use crate::laws::audits_decide;
 use crate::ledger::{WholeLedger, open_ledger, read_head};
 use crate::options::Options;
-use crate::output::unwritten;
 use crate::report::ReportWithSums;
 use crate::source::Source;
 use crate::tables::{Tables, load_tables};
@@ -193,23 +193,23 @@ fn audit<'a, R: RandomSource, S: Source, W: Write>(
     alloc: Global,
     options: &Options<'a>,
     source: &mut S,
-    out: &mut W,
+    out: &mut Output<W>,
 ) -> Result<bool, Fault<'a>>
     requires { wrong_word (audit_asked_of options.now).table ≡ None }
     ensures ok { IfOk result (λ well.
         Audits (audit_asked_of options.now) (S.loaded source.old) (S.loaded source.new)
-        (W.contents out.old) (W.contents out.new) well) }
+        (W.contents out.old.writer) (W.contents out.new.writer) well) }
 
     // Only a write that fails leaves something of a text behind, unless all wrong lines are asked
     // for, which are written as they are found.
     ensures fault { options.now.all ≡ false → IfErr result (λ fault. is_unwritten fault ≡ false
-        → Keeps (W.contents out.old) (W.contents out.new)) }
+        → Keeps (W.contents out.old.writer) (W.contents out.new.writer)) }
     ensures named { IfErr result
         (λ fault. NamesOneOf (files_of (audit_asked_of options.now)) fault) }
     ensures well { IfOk result (λ _. S.refused source.new ≡ S.refused source.old) }
     ensures right { IfErr result (λ fault. IsRightAuditFault (audit_asked_of options.now)
         (S.loaded source.old) (S.loaded source.new) (S.refused source.old) (S.refused source.new)
-        fault (W.contents out.old) (W.contents out.new)) }
+        out.new.end fault (W.contents out.old.writer) (W.contents out.new.writer)) }
 {
     let tables = load_tables(alloc, &options.table, source)?;
     let clock = tables.fares.clock(alloc)?;
@@ -282,24 +282,31 @@ fn report_wrong<E: Write>(err: &mut Complaints<E>, wrong: WrongWord<'_>) -> u8
 
 /// Shows what clap answers when there is nothing to run: help and version on `out`, else the
 /// mistake on `err`.
-fn show<W: Write, E: Write>(error: &Error, out: &mut W, err: &mut Complaints<E>) -> u8
+fn show<W: Write, E: Write>(
+    alloc: Global,
+    error: &Error,
+    out: &mut Output<W>,
+    err: &mut Complaints<E>,
+) -> u8
     ensures help { result ≡ 0 → IsRequest (kind_of error.now) }
     ensures memory { kind_of error.now ≡ ErrorKind.OutOfMemory → (result ≡ 1)
         × AuditGaveUp false Fault.NoMemory (E.contents err.old.writer)
-        (E.contents err.new.writer) err.new.failed (W.contents out.old) (W.contents out.new) }
+        (E.contents err.new.writer) err.new.failed (W.contents out.old.writer)
+        (W.contents out.new.writer) }
     ensures words { (¬ IsRequest (kind_of error.now))
         → kind_of error.now ≢ ErrorKind.OutOfMemory → result ≡ 2 }
     ensures right { result ≡ 2 → ¬ IsRequest (kind_of error.now) }
-    ensures mistake { result ≡ 2 → Keeps (W.contents out.old) (W.contents out.new) }
+    ensures mistake { result ≡ 2 → Keeps (W.contents out.old.writer) (W.contents out.new.writer) }
     ensures quiet { result ≡ 0 → err.new ≡ err.old }
     ensures fault { result ≡ 1 → (fault : Fault) × (named_by fault ≡ None)
+        × IsRightAnswerFault out.new.end fault
         × AuditGaveUp false fault (E.contents err.old.writer) (E.contents err.new.writer)
-        err.new.failed (W.contents out.old) (W.contents out.new) }
+        err.new.failed (W.contents out.old.writer) (W.contents out.new.writer) }
     ensures status { result ≤ 2 }
 {
-    match show_answer(error, out, err) {
+    match show_answer(alloc, error, out, err) {
         Ok(status) => status,
-        Err(error) => report_fault(err, &unwritten(&error)),
+        Err(unwritten) => report_fault(err, &Fault::of_end(unwritten)),
     }
 }
 
@@ -312,14 +319,15 @@ fn finish<W: Write, E: Write>(is_well: bool, out: &mut Output<W>, err: &mut Comp
     ensures ill { result ≡ 1 → ((is_well ≡ false) × (out.new.is_flushed ≡ true)
         × (err.new ≡ err.old))
         ⊎ ((fault : Fault) × (is_unwritten fault ≡ true) × (named_by fault ≡ None)
-        × (is_of_source fault ≡ false) × IsFaultReported fault (E.contents err.old.writer)
+        × (is_of_source fault ≡ false) × IsOfWriteEnd out.new.end fault
+        × IsFaultReported fault (E.contents err.old.writer)
         (E.contents err.new.writer) err.new.failed) }
     ensures status { result ≤ 1 }
 {
     match out.finish() {
         Ok(()) if is_well => 0,
         Ok(()) => 1,
-        Err(error) => report_fault(err, &unwritten(&error)),
+        Err(unflushed) => report_fault(err, &Fault::of_end(unflushed)),
     }
 }
 
@@ -347,8 +355,9 @@ pub fn main_over<R: RandomSource, S: Source, W: Write, E: Write>(
     // With status 1 the finding was written and flushed, and says that not all is well, and nothing
     // was said on `err`; or a fault was reported, which names no other file than one that the words
     // name, and nothing was written, unless a write or the flush failed or all wrong lines are
-    // asked for. The fault is the right one, and what a write that failed left is a beginning of
-    // the right text; if all wrong lines are asked for, what any fault left.
+    // asked for. The fault is the right one: that a write failed, or that the reader has gone, is
+    // told only if the output remembers it. What a write that failed left is a beginning of the
+    // right text; if all wrong lines are asked for, what any fault left.
     ensures faults { result ≡ 1
         → (ParsesForAudit (map string_bytes words.now)
         × Audits (audit_asked_by (map string_bytes words.now)) (S.loaded source.old)
@@ -359,8 +368,10 @@ pub fn main_over<R: RandomSource, S: Source, W: Write, E: Write>(
         × NamesOneOf (files_of (audit_asked_by (map string_bytes words.now))) fault
         × (ParsesForAudit (map string_bytes words.now)
         → IsRightAuditFault (audit_asked_by (map string_bytes words.now)) (S.loaded source.old)
-        (S.loaded source.new) (S.refused source.old) (S.refused source.new) fault
+        (S.loaded source.new) (S.refused source.old) (S.refused source.new) out.new.end fault
         (W.contents out.old.writer) (W.contents out.new.writer))
+        × ((¬ ParsesForAudit (map string_bytes words.now))
+        → IsRightAnswerFault out.new.end fault)
         × AuditGaveUp (audit_asked_by (map string_bytes words.now)).all fault
         (E.contents err.old.writer) (E.contents err.new.writer) err.new.failed
         (W.contents out.old.writer) (W.contents out.new.writer)) }
@@ -405,7 +416,7 @@ pub fn main_over<R: RandomSource, S: Source, W: Write, E: Write>(
 {
     let options = match Options::read(alloc, words) {
         Ok(options) => options,
-        Err(error) => return show(&error, out, err),
+        Err(error) => return show(alloc, &error, out, err),
     };
     if let Some(wrong) = options.table.wrong_word() {
         return report_wrong(err, wrong);

@@ -31,8 +31,8 @@ fn run<
     ensures { IsRun (map string_bytes words.now) (D.bytes_under disk.now) (S.loaded source.old)
         (S.loaded source.new) (S.refused source.new) (W.contents out.old.writer)
         (W.contents out.new.writer)
-        (E.contents err.old.writer) (E.contents err.new.writer) out.new.is_flushed err.new.failed
-        (err.new ≡ err.old) result }
+        (E.contents err.old.writer) (E.contents err.new.writer) out.new.end out.new.is_flushed
+        err.new.failed (err.new ≡ err.old) result }
 {
     let status = main_over(rt, rt.alloc(), words, disk, source, out, err);
     ticker.end(rt);
@@ -60,8 +60,8 @@ pub fn run_beside_line<
     ensures { IsRun (map string_bytes words.now) (D.bytes_under disk.now) (S.loaded source.old)
         (S.loaded source.new) (S.refused source.new) (W.contents out.old.writer)
         (W.contents out.new.writer)
-        (E.contents err.old.writer) (E.contents err.new.writer) out.new.is_flushed err.new.failed
-        (err.new ≡ err.old) result }
+        (E.contents err.old.writer) (E.contents err.new.writer) out.new.end out.new.is_flushed
+        err.new.failed (err.new ≡ err.old) result }
 {
     let (_, status) = thread::join_mut(
         rt,

@@ -1,9 +1,10 @@
 //! Files of the system that are made.
 
+use program_manners::Output;
 use std::alloc::{AllocError, Global};
 use std::io::{BufWriter, ErrorKind, Write};
 use std::{fs, io, process};
-use tool_program::{MakeFault, NewFault, Output, Sink};
+use tool_program::{MakeFault, NewFault, Sink};
 
 /// How many bytes of a new file are collected before they are written: its lines are short.
 const NEW_WRITE_BYTES: usize = 65_536;
@@ -138,7 +139,7 @@ impl Sink for FilesMade<'_> {
         ensures kept { IfErr result (λ _. (λ (kept : Option (List Made)). kept ≡ kept) None) }
         ensures failed { IfErr result (λ fault. fault ≡ Unmade → IsNotMade None name.now) }
     {
-        let mut file = file.into_inner();
+        let mut file = file.into_writer();
         match finish_begun(self.rt, name, &mut file) {
             Ok(()) => Ok(()),
             Err(_) => {
@@ -152,13 +153,13 @@ impl Sink for FilesMade<'_> {
         ensures made { (λ (kept : Option (List Made)). kept ≡ kept) None }
         ensures failed { (λ (name : Option (List ℕ)). name ≡ name) None }
     {
-        remove_begun(self.rt, file.into_inner());
+        remove_begun(self.rt, file.into_writer());
     }
 
     fn fail(&mut self, name: &str, file: Output<BegunFile>)
         ensures made { (λ (kept : Option (List Made)). kept ≡ kept) None }
         ensures failed { StopsFile name.now file.end None None }
     {
-        remove_begun(self.rt, file.into_inner());
+        remove_begun(self.rt, file.into_writer());
     }
 }

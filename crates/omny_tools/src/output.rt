@@ -1,8 +1,8 @@
 //! Standard output.
 
+use program_manners::Output;
 use std::alloc::AllocError;
 use std::io::{BufWriter, Write};
-use tool_program::Output;
 
 /// How many bytes are collected before they are written.
 const WRITE_BYTES: usize = 65_536;

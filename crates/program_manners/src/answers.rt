@@ -1,51 +1,60 @@
 //! What clap answers if there is nothing to run.
-ghost use Rattle.std.specs.Prelude.{◌≡◌, ◌≢◌, ◌≤◌, IfErr, IfOk, Ok, codes};
+ghost use Rattle.std.specs.Prelude.{◌≡◌, ◌≢◌, ◌≤◌, IfErr, IfOk, Ok, Some, codes};
 ghost use Rattle.std.specs.Io.KnownBytes.{Keeps};
 ghost use Rattle.clap.specs.Words.{kind_of};
 ghost use Rattle.program_manners.specs.LineWritten.{LineWritten};
 ghost use Rattle.program_manners.specs.Words.{IsRequest};
 
 use crate::complaints::Complaints;
+use crate::output::{Output, WriteEnd};
 use clap::Error;
 use clap::error::ErrorKind;
-use std::io;
+use std::alloc::Global;
 use std::io::Write;
 
-/// Prints clap's text and flushes the writer.
-fn show_text<W: Write>(error: &Error, out: &mut W) -> io::Result<()> {
-    write!(out, "{error}")?;
-    out.flush()
+/// Reports that memory was refused, and gives the status.
+fn report_memory<E: Write>(err: &mut Complaints<E>) -> u8
+    ensures status { result ≡ 1 }
+    ensures line { LineWritten (E.contents err.old.writer) (E.contents err.new.writer)
+        err.new.failed (codes "fault: out of memory") }
+{
+    err.report_line("fault: out of memory");
+    1
 }
 
-/// Shows what clap answers if there is nothing to run: help and version on `out`, else on `err` the
-/// mistake, or that memory was refused while the words were read. Gives the status: 0 for help and
-/// version, 2 for a mistake, and 1 for want of memory. An error is why help or the version was not
-/// written, and nothing is reported of it yet.
+/// Shows what clap answers if there is nothing to run: help and version on `out`, which is flushed
+/// behind them, else on `err` the mistake, or that memory was refused while the words were read or
+/// the text was made. Gives the status: 0 for help and version, 2 for a mistake, and 1 for want of
+/// memory. An error is why help or the version was not written, and nothing is reported of it yet.
 pub fn show_answer<W: Write, E: Write>(
+    alloc: Global,
     error: &Error,
-    out: &mut W,
+    out: &mut Output<W>,
     err: &mut Complaints<E>,
-) -> io::Result<u8>
+) -> Result<u8, WriteEnd>
     ensures help { IfOk result (λ status. status ≡ 0
         → IsRequest (kind_of error.now) × (err.new ≡ err.old)) }
-    ensures unwritten { IfErr result (λ _. IsRequest (kind_of error.now) × (err.new ≡ err.old)) }
+    ensures unwritten { IfErr result (λ end. IsRequest (kind_of error.now) × (err.new ≡ err.old)
+        × (out.new.end ≡ Some end)) }
     ensures memory { kind_of error.now ≡ ErrorKind.OutOfMemory → result ≡ Ok 1 }
     ensures refused { IfOk result (λ status. status ≡ 1
-        → (kind_of error.now ≡ ErrorKind.OutOfMemory)
-        × LineWritten (E.contents err.old.writer) (E.contents err.new.writer) err.new.failed
+        → LineWritten (E.contents err.old.writer) (E.contents err.new.writer) err.new.failed
         (codes "fault: out of memory")) }
     ensures mistake { IfOk result (λ status. status ≡ 2 → ¬ IsRequest (kind_of error.now)) }
+    ensures words { (¬ IsRequest (kind_of error.now)) → kind_of error.now ≢ ErrorKind.OutOfMemory
+        → result ≡ Ok 2 }
     ensures kept { IfOk result (λ status. status ≢ 0
-        → Keeps (W.contents out.old) (W.contents out.new)) }
+        → Keeps (W.contents out.old.writer) (W.contents out.new.writer)) }
     ensures status { IfOk result (λ status. status ≤ 2) }
 {
     match error.kind() {
-        ErrorKind::OutOfMemory => {
-            err.report_line("fault: out of memory");
-            Ok(1)
-        }
+        ErrorKind::OutOfMemory => Ok(report_memory(err)),
         ErrorKind::DisplayHelp | ErrorKind::DisplayVersion => {
-            show_text(error, out)?;
+            let Ok(text) = format!(in alloc; "{error}") else {
+                return Ok(report_memory(err));
+            };
+            out.put(text.as_bytes())?;
+            out.finish()?;
             Ok(0)
         }
         _ => {

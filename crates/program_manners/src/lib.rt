@@ -4,7 +4,7 @@
 //! | module | what it does |
 //! |---|---|
 //! | `complaints` | where mistakes and faults are reported |
-//! | `output` | where the text of a run goes |
+//! | `output` | where the text of a run goes, and why it cannot go there |
 //! | `loading` | whole files up to a limit, and the line of one that was not loaded |
 //! | `opened` | a file or standard input, to be read in pieces |
 //! | `table_line` | the line of a fault of the fare table |
@@ -48,7 +48,7 @@ pub use loading::{
     FileFault, LOAD_LIMIT_BYTES, LoadFault, STANDARD_INPUT, load_file, load_from, open_file,
 };
 pub use opened::Opened;
-pub use output::Output;
+pub use output::{Output, WriteEnd};
 pub use table_line::TableLine;
 pub use table_words::{DateFault, TableWord, TableWords, WrittenDate, WrongWord};
 pub use terminal_line::{PACE_MS, QUIET_MS, TerminalLine};

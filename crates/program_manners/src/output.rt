@@ -1,25 +1,52 @@
-//! Where the text of a run goes.
-ghost use Rattle.std.specs.Prelude.{◌≡◌, OnErr, OnOk, false, true};
-ghost use Rattle.std.specs.Io.KnownBytes.{Keeps};
+//! Where the text of a run goes, and why it cannot go there.
+ghost use Rattle.std.specs.Prelude.{◌≡◌, ◌↔◌, None, Some, false};
+ghost use Rattle.std.specs.IoError.{error_kind};
 
 use std::io;
-use std::io::Write;
+use std::io::{ErrorKind, Write};
 
-/// The writer of a run's text, which knows whether all that it took was flushed.
+/// Why the last write that failed did so.
+#[derive(Clone, Copy, Debug, PartialEq, Eq)]
+pub enum WriteEnd {
+    /// The reader is gone.
+    Closed,
+    /// Any other reason.
+    Refused,
+}
+
+impl WriteEnd {
+    /// Why a write failed with this error.
+    fn of(error: &io::Error) -> WriteEnd
+        ensures { (error_kind error.now ≡ ErrorKind.BrokenPipe)
+            ↔ (Some result ≡ Some WriteEnd.Closed) }
+    {
+        if error.kind() == ErrorKind::BrokenPipe {
+            WriteEnd::Closed
+        } else {
+            WriteEnd::Refused
+        }
+    }
+}
+
+/// The writer of a run's text. It remembers why a write failed, and whether all that it took was
+/// flushed.
 #[derive(Drop)]
 pub struct Output<W> {
     writer: W,
+    /// Why the last write that failed did so; none if no write failed.
+    end: Option<WriteEnd>,
     /// Whether nothing was written after the last flush, which ended well.
     is_flushed: bool,
 }
 
-impl<W: Write> Output<W> {
+impl<W> Output<W> {
     /// An output to this writer, to which nothing was written yet.
     pub fn new(writer: W) -> Output<W>
-        ensures { result ≡ record { writer = writer; is_flushed = false } }
+        ensures { result ≡ record { writer = writer; end = None; is_flushed = false } }
     {
         Output {
             writer,
+            end: None,
             is_flushed: false,
         }
     }
@@ -31,28 +58,134 @@ impl<W: Write> Output<W> {
         self.writer
     }
 
-    /// Flushes the writer, behind the whole text. Only then is the output flushed.
-    pub fn finish(&mut self) -> io::Result<()>
-        ensures kept { Keeps (W.contents self.old.writer) (W.contents self.new.writer) }
-        ensures flushed { OnOk result (self.new.is_flushed ≡ true) }
-        ensures unflushed { OnErr result (self.new.is_flushed ≡ false) }
+    /// Why the last write that failed did so; none if no write failed.
+    pub fn end(&self) -> Option<WriteEnd>
+        ensures { result ≡ self.now.end }
+    {
+        self.end
+    }
+}
+
+impl<W: Write> Output<W> {
+    ghost use Rattle.std.specs.Prelude.{◌≡◌, ℕ, IfErr, OnErr, OnOk, Some, false, take, true};
+    ghost use Rattle.std.specs.Io.KnownBytes.{Appends, Keeps};
+
+    /// Notes why a write failed.
+    fn note(&mut self, end: WriteEnd) -> WriteEnd
+        ensures given { result ≡ end }
+        ensures noted { self.new ≡ record {
+          writer = self.old.writer;
+          end = Some end;
+          is_flushed = self.old.is_flushed;
+        } }
+    {
+        self.end = Some(end);
+        end
+    }
+
+    /// Writes the bytes whole. An error is why a write failed, behind a beginning of them.
+    pub fn put(&mut self, bytes: &[u8]) -> Result<(), WriteEnd>
+        ensures whole { OnOk result (Appends (W.contents self.old.writer)
+            (W.contents self.new.writer) bytes.now) }
+        ensures begun { OnErr result ((count : ℕ) × Appends (W.contents self.old.writer)
+            (W.contents self.new.writer) (take count bytes.now)) }
+        ensures well { OnOk result (self.new.end ≡ self.old.end) }
+        ensures noted { IfErr result (λ end. self.new.end ≡ Some end) }
     {
         self.is_flushed = false;
-        self.writer.flush()?;
-        self.is_flushed = true;
-        Ok(())
+        let mut rest = bytes;
+        for _write in 0..u64::MAX {
+            if rest.is_empty() {
+                return Ok(());
+            }
+            match self.writer.write(rest) {
+                Ok(0) => return Err(self.note(WriteEnd::Refused)),
+                Ok(count) => rest = &rest[count..],
+                Err(error) => {
+                    if error.kind() != ErrorKind::Interrupted {
+                        return Err(self.note(WriteEnd::of(&error)));
+                    }
+                }
+            }
+        }
+        Err(self.note(WriteEnd::Refused))
+    }
+
+    /// Flushes the writer, behind the whole text. Only then is the output flushed.
+    pub fn finish(&mut self) -> Result<(), WriteEnd>
+        ensures kept { Keeps (W.contents self.old.writer) (W.contents self.new.writer) }
+        ensures well { OnOk result (self.new.end ≡ self.old.end) }
+        ensures flushed { OnOk result (self.new.is_flushed ≡ true) }
+        ensures unflushed { OnErr result (self.new.is_flushed ≡ false) }
+        ensures noted { IfErr result (λ end. self.new.end ≡ Some end) }
+    {
+        self.is_flushed = false;
+        match self.writer.flush() {
+            Ok(()) => {
+                self.is_flushed = true;
+                Ok(())
+            }
+            Err(error) => Err(self.note(WriteEnd::of(&error))),
+        }
     }
 }
 
 impl<W: Write> Write for Output<W> {
+    ghost use Rattle.std.specs.Prelude.{◌≡◌, ◌≢◌, ◌↔◌, IfErr, IfOk, None, OnErr, OnOk, Some};
+    ghost use Rattle.std.specs.Prelude.{false, true};
+    ghost use Rattle.std.specs.Io.KnownBytes.{Keeps, WriteAppends};
+    ghost use Rattle.std.specs.Io.{WritesAtMost};
+    ghost use Rattle.std.specs.IoError.{error_kind};
+
     ghost contents = { λ output. W.contents output.writer };
 
-    fn write(&mut self, bytes: &[u8]) -> io::Result<usize> {
+    fn write(&mut self, bytes: &[u8]) -> io::Result<usize>
+        ensures bound { WritesAtMost result bytes.now }
+        ensures bytes { WriteAppends (W.contents self.old.writer) (W.contents self.new.writer)
+            result bytes.now }
+        // That a write failed is noted only of one that did, or that took nothing.
+        ensures well { IfOk result (λ count. count ≢ 0 → self.new.end ≡ self.old.end) }
+        ensures noted { IfErr result (λ _. self.new.end ≢ None) }
+        ensures failed { IfErr result (λ error. (error_kind error ≡ ErrorKind.BrokenPipe)
+            ↔ (self.new.end ≡ Some WriteEnd.Closed)) }
+        ensures unflushed { self.new.is_flushed ≡ false }
+    {
         self.is_flushed = false;
-        self.writer.write(bytes)
+        match self.writer.write(bytes) {
+            Ok(0) => {
+                if !bytes.is_empty() {
+                    self.end = Some(WriteEnd::Refused);
+                }
+                Ok(0)
+            }
+            Ok(count) => Ok(count),
+            Err(error) => {
+                self.end = Some(WriteEnd::of(&error));
+                Err(error)
+            }
+        }
     }
 
-    fn flush(&mut self) -> io::Result<()> {
-        self.finish()
+    fn flush(&mut self) -> io::Result<()>
+        ensures bytes { Keeps (W.contents self.old.writer) (W.contents self.new.writer) }
+        ensures well { IfOk result (λ _. self.new.end ≡ self.old.end) }
+        ensures noted { IfErr result (λ _. self.new.end ≢ None) }
+        ensures failed { IfErr result (λ error. (error_kind error ≡ ErrorKind.BrokenPipe)
+            ↔ (self.new.end ≡ Some WriteEnd.Closed)) }
+        // Only a flush that ends well leaves the output flushed.
+        ensures flushed { OnOk result (self.new.is_flushed ≡ true) }
+        ensures unflushed { OnErr result (self.new.is_flushed ≡ false) }
+    {
+        self.is_flushed = false;
+        match self.writer.flush() {
+            Ok(()) => {
+                self.is_flushed = true;
+                Ok(())
+            }
+            Err(error) => {
+                self.end = Some(WriteEnd::of(&error));
+                Err(error)
+            }
+        }
     }
 }

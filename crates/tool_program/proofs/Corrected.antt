@@ -6,12 +6,12 @@ use Rattle.ledger_changes.specs.declared.fault.Bill.{Bill}
 use Rattle.ledger_changes.specs.declared.fault.Bill.TheVariants.{New, Old}
 use Rattle.ledger_changes.specs.declared.fault.CorrectionsFault.{CorrectionsFault}
 use Rattle.ledger_changes.specs.declared.fault.CorrectionsFault.TheVariants as changes
+use Rattle.program_manners.specs.declared.output.WriteEnd.{WriteEnd}
+use Rattle.program_manners.specs.declared.output.WriteEnd.TheVariants as writes
 use Rattle.tool_program.specs.Corrections.{IsRightCorrectionsFault, IsUnsettled}
 use Rattle.tool_program.specs.Fault.{failed_as}
 use Rattle.tool_program.specs.declared.fault.Fault.{Fault}
 use Rattle.tool_program.specs.declared.fault.Fault.TheVariants.{Line, NoMemory, Unread, Unsettled}
-use Rattle.tool_program.specs.declared.output.WriteEnd.{WriteEnd}
-use Rattle.tool_program.specs.declared.output.WriteEnd.TheVariants as writes
 use Rattle.tool_program.specs.inside.Fault.{IsCorrectionsFault}
 
 -- a write that failed is reported as its writer remembers it

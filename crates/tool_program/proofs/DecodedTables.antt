@@ -10,6 +10,7 @@ use Rattle.fare_texts.proofs.Beginnings.{begins_front, begins_kept, begins_whole
 use Rattle.program_manners.specs.LineWritten.{LineWritten}
 use Rattle.program_manners.specs.Loads.{Loaded}
 use Rattle.program_manners.specs.declared.loading.LoadFault.{LoadFault}
+use Rattle.program_manners.specs.declared.output.WriteEnd.{WriteEnd}
 use Rattle.tap_rows.specs.TapTables.{head}
 use Rattle.tool_program.specs.Decode.{AreReported, Decoded, Decodes, GivesUpDecode}
 use Rattle.tool_program.specs.Decode.{IsRightDecodeFault, IsWrittenUpTo}
@@ -18,7 +19,6 @@ use Rattle.tool_program.specs.Fault.{IsFaultReported, failed_as, fault_line, fau
 use Rattle.tool_program.specs.Fault.{is_quiet}
 use Rattle.tool_program.specs.Source.{HasOpened}
 use Rattle.tool_program.specs.declared.fault.Fault.{Fault}
-use Rattle.tool_program.specs.declared.output.WriteEnd.{WriteEnd}
 use Rattle.tool_program.specs.inside.Decode.{DecodesEach}
 use Rattle.tool_program.specs.inside.Decode.{StopsDecode, StopsEach}
 use Rattle.tool_program.proofs.Opened.{opened_none}

@@ -12,6 +12,8 @@ use Rattle.fare_texts.specs.WrittenOut.{Begins}
 use Rattle.fare_texts.proofs.Beginnings.{begins_behind, begins_kept, begins_whole}
 use Rattle.program_manners.specs.Loads.{Loaded, LoadsOne}
 use Rattle.program_manners.specs.declared.loading.LoadFault.{LoadFault}
+use Rattle.program_manners.specs.declared.output.WriteEnd.{WriteEnd}
+use Rattle.program_manners.specs.declared.output.WriteEnd.TheVariants as writes
 use Rattle.program_manners.proofs.LoadsOn.{loads_more}
 use Rattle.tap_views.specs.declared.fault.LayoutFault.{LayoutFault}
 use Rattle.tool_program.specs.Decode.{AreReported, Decoded}
@@ -23,8 +25,6 @@ use Rattle.tool_program.specs.Source.{HasOpened}
 use Rattle.tool_program.specs.declared.fault.Fault.{Fault}
 use Rattle.tool_program.specs.declared.fault.Fault.TheVariants.{Closed, TooLong, Unread}
 use Rattle.tool_program.specs.declared.fault.Fault.TheVariants.{Write}
-use Rattle.tool_program.specs.declared.output.WriteEnd.{WriteEnd}
-use Rattle.tool_program.specs.declared.output.WriteEnd.TheVariants as writes
 use Rattle.tool_program.specs.inside.Decode.{DecodesEach, DecodesOne, IsOfWriting}
 use Rattle.tool_program.specs.inside.Decode.{StopsEach, StopsOne}
 use Rattle.tool_program.proofs.Opened.{opened_none}

@@ -3,6 +3,8 @@ use Rattle.std.proofs.Common.{◌≡◌, ℕ, List, None, Option, Some, refl, su
 use Rattle.std.specs.Io.KnownBytes.{Appends, Keeps}
 use Rattle.std.proofs.KnownBytes.{Appends-kept}
 use Rattle.fare_texts.proofs.Beginnings.{begins_kept}
+use Rattle.program_manners.specs.declared.output.WriteEnd.{WriteEnd}
+use Rattle.program_manners.specs.declared.output.WriteEnd.TheVariants as writes
 use Rattle.tap_rows.specs.TapTables.{IsBadRow, IsBegun, IsEncoded, IsOfTapTable, IsRowsFault}
 use Rattle.tap_rows.specs.declared.column.Column.{Column}
 use Rattle.tap_rows.specs.declared.fault.RowsFault.{RowsFault}
@@ -11,8 +13,6 @@ use Rattle.tool_program.specs.Encode.{IsRightEncodeFault}
 use Rattle.tool_program.specs.Fault.{failed_as}
 use Rattle.tool_program.specs.declared.fault.Fault.{Fault}
 use Rattle.tool_program.specs.declared.fault.Fault.TheVariants.{Changed, NoMemory, TapTable, Unread}
-use Rattle.tool_program.specs.declared.output.WriteEnd.{WriteEnd}
-use Rattle.tool_program.specs.declared.output.WriteEnd.TheVariants as writes
 use Rattle.tool_program.specs.declared.wrong_tables.WrongTapTable.TheVariants as table
 use Rattle.tool_program.specs.inside.Fault.{IsEncodeFault}
 

@@ -26,6 +26,8 @@ use Rattle.tool_program.specs.EncodeRows.{IsRightRowsFault, StopsDevices, word_i
 use Rattle.tool_program.specs.Fault.{failed_as}
 use Rattle.program_manners.specs.Loads.{Loaded}
 use Rattle.program_manners.specs.declared.loading.LoadFault.{LoadFault}
+use Rattle.program_manners.specs.declared.output.WriteEnd.{WriteEnd}
+use Rattle.program_manners.specs.declared.output.WriteEnd.TheVariants as writes
 use Rattle.tool_program.specs.Sink.{IsEmptyFile, IsNotMade, Made, Makes, MakesOne, RefusesNew}
 use Rattle.tool_program.specs.Sink.{StopsFile}
 use Rattle.tool_program.specs.Source.{HasOpened}
@@ -34,8 +36,6 @@ use Rattle.tool_program.specs.declared.fault.Fault.{Fault}
 use Rattle.tool_program.specs.declared.fault.Fault.TheVariants.{Closed, Devices, Exists, NoMemory}
 use Rattle.tool_program.specs.declared.fault.Fault.TheVariants.{Rows, SomeChanged, Unmade, Unread}
 use Rattle.tool_program.specs.declared.fault.Fault.TheVariants.{Write}
-use Rattle.tool_program.specs.declared.output.WriteEnd.{WriteEnd}
-use Rattle.tool_program.specs.declared.output.WriteEnd.TheVariants as writes
 use Rattle.tool_program.specs.declared.sink.MakeFault.{MakeFault}
 use Rattle.tool_program.specs.declared.sink.MakeFault.TheVariants as make
 use Rattle.tool_program.specs.declared.sink.NewFault.{NewFault}

@@ -4,6 +4,7 @@ use Rattle.std.proofs.Common.{inl, inr, refl, subst, sym}
 use Rattle.std.specs.Io.KnownBytes.{Keeps}
 use Rattle.program_manners.specs.Loads.{Loaded}
 use Rattle.program_manners.specs.declared.loading.LoadFault.{LoadFault}
+use Rattle.program_manners.specs.declared.output.WriteEnd.{WriteEnd}
 use Rattle.tool_program.specs.Fault.{failed_as}
 use Rattle.tool_program.specs.GoodPart.{GivesUpGoodPart, IsUnmadeNew, KeepsGoodPart}
 use Rattle.tool_program.specs.Sink.{IsNotMade, Made, RefusesNew, StopsFile}
@@ -11,7 +12,6 @@ use Rattle.tool_program.specs.Uploads.{GivesUpUploads, Listed, ListsUploads}
 use Rattle.tool_program.specs.declared.fault.Fault.{Fault}
 use Rattle.tool_program.specs.declared.fault.Fault.TheVariants.{Exists, NoMemory, Unmade, Write}
 use Rattle.tool_words.specs.declared.task.GoodPartWords.{GoodPartWords}
-use Rattle.tool_program.specs.declared.output.WriteEnd.{WriteEnd}
 use Rattle.tool_program.specs.declared.sink.MakeFault.{MakeFault}
 use Rattle.tool_program.specs.declared.sink.MakeFault.TheVariants as make
 use Rattle.tool_program.specs.declared.sink.NewFault.{NewFault}

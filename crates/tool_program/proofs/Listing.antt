@@ -12,6 +12,7 @@ use Rattle.fare_texts.specs.WrittenOut.{Begins}
 use Rattle.fare_texts.proofs.Beginnings.{begins_behind, begins_kept, begins_whole}
 use Rattle.program_manners.specs.Loads.{Loaded, LoadsOne}
 use Rattle.program_manners.specs.declared.loading.LoadFault.{LoadFault}
+use Rattle.program_manners.specs.declared.output.WriteEnd.{WriteEnd}
 use Rattle.tap_views.specs.declared.fault.LayoutFault.{LayoutFault}
 use Rattle.tool_program.specs.Decode.{IsRightDecodeFault}
 use Rattle.tool_program.specs.Fault.{failed_as}
@@ -22,7 +23,6 @@ use Rattle.tool_program.specs.Uploads.{ListsUploads, are_sound, listed_text, lis
 use Rattle.tool_program.specs.Uploads.{listed_words}
 use Rattle.tool_program.specs.declared.fault.Fault.{Fault}
 use Rattle.tool_program.specs.declared.fault.Fault.TheVariants.{NoMemory}
-use Rattle.tool_program.specs.declared.output.WriteEnd.{WriteEnd}
 use Rattle.tool_program.specs.inside.Uploads.{ListsOne, StopsListing}
 use Rattle.tool_program.proofs.Decoding.{loaded_push, right_of_refusal, right_of_writing}
 use Rattle.tool_program.proofs.Decoding.{written_begun, written_kept, written_of_writing}

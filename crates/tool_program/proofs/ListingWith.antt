@@ -6,6 +6,7 @@ use Rattle.std.proofs.KnownBytes.{Appends-kept, Keeps-refl}
 use Rattle.fare_texts.proofs.Beginnings.{begins_kept, begins_whole}
 use Rattle.program_manners.specs.Loads.{Loaded}
 use Rattle.program_manners.specs.declared.loading.LoadFault.{LoadFault}
+use Rattle.program_manners.specs.declared.output.WriteEnd.{WriteEnd}
 use Rattle.tool_program.specs.Decode.{IsRightDecodeFault}
 use Rattle.tool_program.specs.Fault.{failed_as}
 use Rattle.tool_program.specs.UploadTokens.{tokens_lines}
@@ -13,7 +14,6 @@ use Rattle.tool_program.specs.inside.UploadTokens.{StopsTokens, WritesTokensIf}
 use Rattle.tool_program.specs.Uploads.{GivesUpUploads, GivesUpWith, Listed, ListsUploads}
 use Rattle.tool_program.specs.Uploads.{ListsWith, listed_uploads}
 use Rattle.tool_program.specs.declared.fault.Fault.{Fault}
-use Rattle.tool_program.specs.declared.output.WriteEnd.{WriteEnd}
 use Rattle.tool_program.proofs.Decoding.{right_of_writing}
 use Rattle.tool_program.proofs.Listing.{gives_up_again, gives_up_kept, lists_kept, lists_whole}
 

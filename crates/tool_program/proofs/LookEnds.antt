@@ -7,6 +7,7 @@ use Rattle.fare_table.specs.declared.fault.TableFault.{TableFault}
 use Rattle.program_manners.specs.Loads.{Loaded, LoadsOne}
 use Rattle.program_manners.specs.Refusals.{IsFirstTableFault}
 use Rattle.program_manners.specs.declared.loading.LoadFault.{LoadFault}
+use Rattle.program_manners.specs.declared.output.WriteEnd.{WriteEnd}
 use Rattle.tool_program.specs.Fault.{IsFaultReported, IsRefusal, fault_line, fault_text, is_quiet}
 use Rattle.tool_program.specs.Look.{GivesUpLook, IsFareTableFault, Looks}
 use Rattle.tool_program.specs.Look.{ReadsTable, reported_lines, table_word}
@@ -15,7 +16,6 @@ use Rattle.tool_program.specs.Uploads.{Listed}
 use Rattle.tool_program.specs.declared.fault.Fault.{Fault}
 use Rattle.tool_program.specs.declared.fault.Fault.TheVariants.{FareTable, NoMemory}
 use Rattle.tool_words.specs.declared.task.LookWords.{LookWords}
-use Rattle.tool_program.specs.declared.output.WriteEnd.{WriteEnd}
 use Rattle.tool_program.specs.inside.Look.{IsTableFault, LooksThrough, StopsAll}
 use Rattle.tool_program.proofs.DecodedTables.{line_of_report}
 

@@ -11,6 +11,7 @@ use Rattle.fare_texts.specs.WrittenOut.{Begins}
 use Rattle.fare_texts.proofs.Beginnings.{begins_behind, begins_kept, begins_whole}
 use Rattle.program_manners.specs.Loads.{Loaded, LoadsOne}
 use Rattle.program_manners.specs.declared.loading.LoadFault.{LoadFault}
+use Rattle.program_manners.specs.declared.output.WriteEnd.{WriteEnd}
 use Rattle.tap_views.specs.Facts.{AreFacts}
 use Rattle.tap_views.specs.declared.facts.Facts.{Facts}
 use Rattle.tool_program.specs.Decode.{AreReported, IsRightDecodeFault, IsWrittenUpTo}
@@ -25,7 +26,6 @@ use Rattle.tool_program.specs.Source.{HasOpened}
 use Rattle.tool_program.specs.Uploads.{Listed, listed_text, listed_uploads, listed_words}
 use Rattle.tool_program.specs.declared.fault.Fault.{Fault}
 use Rattle.tool_words.specs.declared.task.LookWords.{LookWords}
-use Rattle.tool_program.specs.declared.output.WriteEnd.{WriteEnd}
 use Rattle.tool_program.specs.inside.Decode.{IsOfWriting}
 use Rattle.tool_program.specs.inside.Look.{BeginsFound, BreaksOffShowing, LooksThrough}
 use Rattle.tool_program.specs.inside.Look.{StopsLook, StopsTaking, TakesEach, TakesOne}

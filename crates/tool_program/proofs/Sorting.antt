@@ -8,6 +8,7 @@ use Rattle.std.proofs.Common.{length, map, refl, subst, sym, take}
 use Rattle.std.specs.Prelude.{◌≢◌, slice_get}
 use Rattle.std.proofs.KnownBytes.{Appends-trans}
 use Rattle.program_manners.specs.Loads.{Loaded, LoadsOne}
+use Rattle.program_manners.specs.declared.output.WriteEnd.{WriteEnd}
 use Rattle.report_texts.specs.UploadEnds.{are_posted, is_posted}
 use Rattle.report_texts.specs.declared.upload_end.UploadEnd.{UploadEnd}
 use Rattle.report_texts.specs.declared.upload_end.UploadEnd.TheVariants.{Posted}
@@ -19,7 +20,6 @@ use Rattle.tool_program.specs.Sort.{IsUnmade, refused_line, refused_lines}
 use Rattle.tool_program.specs.Source.{HasOpened}
 use Rattle.tool_program.specs.declared.fault.Fault.{Fault}
 use Rattle.tool_program.specs.declared.fault.Fault.TheVariants.{NoMemory, Unmade}
-use Rattle.tool_program.specs.declared.output.WriteEnd.{WriteEnd}
 use Rattle.tool_program.specs.declared.sink.MakeFault.{MakeFault}
 use Rattle.tool_program.specs.declared.sink.MakeFault.TheVariants as make
 use Rattle.tool_program.specs.inside.Sort.{IsMakeFault, IsUnwritten, line_at}

@@ -9,6 +9,8 @@ use Rattle.fare_table.specs.Fares.{Fares}
 use Rattle.program_manners.specs.Loads.{Loaded}
 use Rattle.program_manners.specs.declared.loading.LoadFault.{LoadFault}
 use Rattle.program_manners.specs.Refusals.{IsOneOf}
+use Rattle.program_manners.specs.declared.output.WriteEnd.{WriteEnd}
+use Rattle.program_manners.specs.declared.output.WriteEnd.TheVariants as writes
 use Rattle.table_report.specs.ReadTable.{ReadTable}
 use Rattle.tap_views.specs.declared.span.MomentSpan.{MomentSpan}
 use Rattle.tool_program.specs.Decode.{AreReported}
@@ -22,8 +24,6 @@ use Rattle.tool_program.specs.Table.{Understands, checked_lines, checked_uploads
 use Rattle.tool_program.specs.Table.{files_of, spans_of, sql_of, tables_asked}
 use Rattle.tool_program.specs.Table.{uploads_asked}
 use Rattle.tool_program.specs.declared.fault.Fault.{Fault}
-use Rattle.tool_program.specs.declared.output.WriteEnd.{WriteEnd}
-use Rattle.tool_program.specs.declared.output.WriteEnd.TheVariants as writes
 use Rattle.tool_program.specs.declared.table.seen.SeenAt.{SeenAt}
 use Rattle.tool_words.specs.declared.task.TableQuestion.{TableQuestion}
 use Rattle.tool_program.specs.declared.table.understood.Stopped.{Stopped}

@@ -17,6 +17,8 @@ use Rattle.program_manners.specs.Loads.{Loaded}
 use Rattle.program_manners.specs.Refusals.{IsFirstTableFault}
 use Rattle.program_manners.specs.TableLoads.{Follows}
 use Rattle.program_manners.specs.declared.loading.LoadFault.{LoadFault}
+use Rattle.program_manners.specs.declared.output.WriteEnd.{WriteEnd}
+use Rattle.program_manners.specs.declared.output.WriteEnd.TheVariants as writes
 use Rattle.table_report.specs.ReadTable.{IsFareTable, IsReadFrom, ReadTable}
 use Rattle.table_report.specs.SqlText.{has_names_in_line, sql_text}
 use Rattle.tap_views.specs.declared.span.MomentSpan.{MomentSpan}
@@ -30,8 +32,6 @@ use Rattle.tool_program.specs.Table.{checked_lines, checked_uploads, checked_wor
 use Rattle.tool_program.specs.Table.{have_no_fault, sql_of}
 use Rattle.tool_program.specs.declared.fault.Fault.{Fault}
 use Rattle.tool_program.specs.declared.fault.Fault.TheVariants.{Closed, TooLong, Unread, Write}
-use Rattle.tool_program.specs.declared.output.WriteEnd.{WriteEnd}
-use Rattle.tool_program.specs.declared.output.WriteEnd.TheVariants as writes
 use Rattle.tool_program.specs.declared.table.seen.SeenAt.{SeenAt}
 use Rattle.tool_program.specs.declared.table.understood.Stopped.{Stopped}
 use Rattle.tool_program.specs.declared.table.understood.Stopped.TheVariants as stopped

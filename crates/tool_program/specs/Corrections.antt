@@ -13,14 +13,14 @@ use Rattle.program_manners.specs.LineWritten.{LineWritten}
 use Rattle.program_manners.specs.Loads.{Loaded}
 use Rattle.program_manners.specs.Refusals.{IsOneOf}
 use Rattle.program_manners.specs.declared.loading.LoadFault.{LoadFault}
+use Rattle.program_manners.specs.declared.output.WriteEnd.{WriteEnd}
+use Rattle.program_manners.specs.declared.output.WriteEnd.TheVariants as writes
 use Rattle.tool_program.specs.Fault.{IsRefusal}
 use Rattle.tool_program.specs.Names.{called}
 use Rattle.tool_program.specs.Source.{HasOpened}
 use Rattle.tool_program.specs.declared.fault.Fault.{Fault}
 use Rattle.tool_program.specs.declared.fault.Fault.TheVariants.{Closed, Line, NoMemory}
 use Rattle.tool_program.specs.declared.fault.Fault.TheVariants.{Unread, Unsettled, Write}
-use Rattle.tool_program.specs.declared.output.WriteEnd.{WriteEnd}
-use Rattle.tool_program.specs.declared.output.WriteEnd.TheVariants as writes
 
 -- the text is that of the corrections from the one ledger to the other, or of their sums by token,
 -- and this number of lines is removed

@@ -6,6 +6,8 @@ use Rattle.std.specs.Io.KnownBytes.{Appends}
 use Rattle.fare_texts.specs.WrittenOut.{Begins}
 use Rattle.program_manners.specs.Loads.{Loaded}
 use Rattle.program_manners.specs.declared.loading.LoadFault.{LoadFault}
+use Rattle.program_manners.specs.declared.output.WriteEnd.{WriteEnd}
+use Rattle.program_manners.specs.declared.output.WriteEnd.TheVariants as writes
 use Rattle.tap_rows.specs.Decoded.{IsDecoded}
 use Rattle.tap_rows.specs.TapTables.{head}
 use Rattle.tap_views.specs.declared.fault.LayoutFault.{LayoutFault}
@@ -13,8 +15,6 @@ use Rattle.tool_program.specs.Fault.{IsRefusal, fault_line, layout_text}
 use Rattle.tool_program.specs.Source.{HasOpened}
 use Rattle.tool_program.specs.declared.fault.Fault.{Fault}
 use Rattle.tool_program.specs.declared.fault.Fault.TheVariants.{Closed, TooLong, Unread, Write}
-use Rattle.tool_program.specs.declared.output.WriteEnd.{WriteEnd}
-use Rattle.tool_program.specs.declared.output.WriteEnd.TheVariants as writes
 
 -- An upload that was loaded, with the word that names it, and what it is decoded to: the rows of
 -- its taps before its first layout fault, and this fault with its offset, if there is one.

@@ -4,14 +4,14 @@ use Rattle.std.specs.Io.BufRead.{first_line}
 use Rattle.std.specs.Io.KnownBytes.{Keeps}
 use Rattle.program_manners.specs.Loads.{Loaded}
 use Rattle.program_manners.specs.declared.loading.LoadFault.{LoadFault}
+use Rattle.program_manners.specs.declared.output.WriteEnd.{WriteEnd}
+use Rattle.program_manners.specs.declared.output.WriteEnd.TheVariants as writes
 use Rattle.tap_rows.specs.TapTables.{IsBadRow, IsBegun, IsEncoded, IsHead}
 use Rattle.tool_program.specs.Fault.{IsRefusal}
 use Rattle.tool_program.specs.Source.{HasOpened}
 use Rattle.tool_program.specs.declared.fault.Fault.{Fault}
 use Rattle.tool_program.specs.declared.fault.Fault.TheVariants.{Changed, Closed, NoMemory, TapTable}
 use Rattle.tool_program.specs.declared.fault.Fault.TheVariants.{Unread, Write}
-use Rattle.tool_program.specs.declared.output.WriteEnd.{WriteEnd}
-use Rattle.tool_program.specs.declared.output.WriteEnd.TheVariants as writes
 use Rattle.tool_program.specs.declared.wrong_tables.WrongTapTable.{WrongTapTable}
 use Rattle.tool_program.specs.declared.wrong_tables.WrongTapTable.TheVariants as table
 

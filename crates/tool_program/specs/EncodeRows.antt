@@ -7,6 +7,8 @@ use Rattle.std.specs.Io.KnownBytes.{Keeps}
 use Rattle.program_manners.specs.LineWritten.{LineWritten}
 use Rattle.program_manners.specs.Loads.{Loaded}
 use Rattle.program_manners.specs.declared.loading.LoadFault.{LoadFault}
+use Rattle.program_manners.specs.declared.output.WriteEnd.{WriteEnd}
+use Rattle.program_manners.specs.declared.output.WriteEnd.TheVariants as writes
 use Rattle.tap_rows.specs.Agencies.{IsFirstRefused, IsRowsEncoded, IsUploadBegun, IsWanting}
 use Rattle.tap_rows.specs.AgencyTexts.{first_record}
 use Rattle.tap_rows.specs.Devices.{AreDevices, Device, IsDevicesFault, devices_of}
@@ -27,8 +29,6 @@ use Rattle.tool_program.specs.declared.fault.Fault.{Fault}
 use Rattle.tool_program.specs.declared.fault.Fault.TheVariants.{Closed, Devices, Exists, NoMemory}
 use Rattle.tool_program.specs.declared.fault.Fault.TheVariants.{Rows, SomeChanged, Unmade, Unread}
 use Rattle.tool_program.specs.declared.fault.Fault.TheVariants.{Write}
-use Rattle.tool_program.specs.declared.output.WriteEnd.{WriteEnd}
-use Rattle.tool_program.specs.declared.output.WriteEnd.TheVariants as writes
 use Rattle.tool_program.specs.declared.sink.NewFault.{NewFault}
 use Rattle.tool_program.specs.declared.sink.NewFault.TheVariants as newly
 use Rattle.tool_program.specs.declared.wrong_tables.WrongDevices.TheVariants as wrong_devices

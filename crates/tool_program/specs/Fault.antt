@@ -7,6 +7,8 @@ use Rattle.program_manners.specs.LineWritten.{LineWritten}
 use Rattle.program_manners.specs.Refusals.{IsOneOf, Refuses}
 use Rattle.program_manners.specs.declared.loading.LoadFault.{LoadFault}
 use Rattle.program_manners.specs.declared.loading.LoadFault.TheVariants as load
+use Rattle.program_manners.specs.declared.output.WriteEnd.{WriteEnd}
+use Rattle.program_manners.specs.declared.output.WriteEnd.TheVariants as writes
 use Rattle.tap_views.specs.declared.fault.LayoutFault.{LayoutFault}
 use Rattle.tool_program.specs.Layout.{cause_text, remedy_text}
 use Rattle.tool_program.specs.Names.{called, file_named}
@@ -20,8 +22,6 @@ use Rattle.tool_program.specs.declared.fault.Fault.TheVariants.{Rows, SomeChange
 use Rattle.tool_program.specs.declared.fault.Fault.TheVariants.{TooLong, TooManyOpen, Unmade}
 use Rattle.tool_program.specs.declared.fault.Fault.TheVariants.{UnmadePart, Unread, Unsettled}
 use Rattle.tool_program.specs.declared.fault.Fault.TheVariants.{Write}
-use Rattle.tool_program.specs.declared.output.WriteEnd.{WriteEnd}
-use Rattle.tool_program.specs.declared.output.WriteEnd.TheVariants as writes
 
 -- what is wrong with a line of a part's text
 abbrev pub wrong_text : Wrong → List ℕ

@@ -2,6 +2,7 @@
 use Rattle.std.specs.Prelude.{◌≡◌, ◌⊎◌, ⊤, ℕ, Bool, true, false, List, [], ◌∷◌, Option, Some}
 use Rattle.program_manners.specs.Loads.{Loaded}
 use Rattle.program_manners.specs.declared.loading.LoadFault.{LoadFault}
+use Rattle.program_manners.specs.declared.output.WriteEnd.{WriteEnd}
 use Rattle.tap_views.specs.Facts.{IsGoodPart}
 use Rattle.tool_program.specs.Fault.{failed_as}
 use Rattle.tool_program.specs.Sink.{IsNotMade, Made, MakesOne, RefusesNew}
@@ -9,7 +10,6 @@ use Rattle.tool_program.specs.Uploads.{GivesUpWith, Listed, ListsWith}
 use Rattle.tool_program.specs.declared.fault.Fault.{Fault}
 use Rattle.tool_program.specs.declared.fault.Fault.TheVariants.{Exists, NoMemory, Unmade, Write}
 use Rattle.tool_words.specs.declared.task.GoodPartWords.{GoodPartWords}
-use Rattle.tool_program.specs.declared.output.WriteEnd.{WriteEnd}
 use Rattle.tool_program.specs.declared.sink.NewFault.{NewFault}
 use Rattle.tool_program.specs.declared.sink.NewFault.TheVariants as newly
 

@@ -7,6 +7,7 @@ use Rattle.fare_table.specs.TableMeaning.{TableMeaning, meaning_in}
 use Rattle.program_manners.specs.Loads.{Loaded, LoadsOne}
 use Rattle.program_manners.specs.Refusals.{IsFirstTableFault}
 use Rattle.program_manners.specs.declared.loading.LoadFault.{LoadFault}
+use Rattle.program_manners.specs.declared.output.WriteEnd.{WriteEnd}
 use Rattle.tap_views.specs.declared.encoder.TapFields.{TapFields}
 use Rattle.tap_views.specs.declared.facts.Facts.{Facts}
 use Rattle.tap_views.specs.declared.fault.LayoutFault.{LayoutFault}
@@ -26,7 +27,6 @@ use Rattle.tool_program.specs.Uploads.{listed_uploads, listed_words}
 use Rattle.tool_program.specs.declared.fault.Fault.{Fault}
 use Rattle.tool_program.specs.declared.fault.Fault.TheVariants.{FareTable}
 use Rattle.tool_words.specs.declared.task.LookWords.{LookWords}
-use Rattle.tool_program.specs.declared.output.WriteEnd.{WriteEnd}
 
 -- the word of the fare table, if one is named
 abbrev pub table_word : LookWords → Option (List ℕ)

@@ -8,14 +8,14 @@ use Rattle.part_reports.specs.Reports.{AreWrongEndsAt, HaveTaps, IsMerged, IsWro
 use Rattle.part_reports.specs.Reports.{all_ends}
 use Rattle.program_manners.specs.Loads.{Loaded}
 use Rattle.program_manners.specs.declared.loading.LoadFault.{LoadFault}
+use Rattle.program_manners.specs.declared.output.WriteEnd.{WriteEnd}
+use Rattle.program_manners.specs.declared.output.WriteEnd.TheVariants as writes
 use Rattle.report_texts.specs.UploadEnds.{is_posted}
 use Rattle.tool_program.specs.Fault.{IsRefusal}
 use Rattle.tool_program.specs.Source.{OpensBoth}
 use Rattle.tool_program.specs.declared.fault.Fault.{Fault}
 use Rattle.tool_program.specs.declared.fault.Fault.TheVariants.{Closed, Line, NoMemory, Taps}
 use Rattle.tool_program.specs.declared.fault.Fault.TheVariants.{Unread, Write}
-use Rattle.tool_program.specs.declared.output.WriteEnd.{WriteEnd}
-use Rattle.tool_program.specs.declared.output.WriteEnd.TheVariants as writes
 
 -- what was written is, whole, the report that the texts are merged into; each upload was posted, or
 -- not

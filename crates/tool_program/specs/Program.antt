@@ -6,6 +6,7 @@ use Rattle.report_texts.specs.declared.upload_end.UploadEnd.{UploadEnd}
 use Rattle.program_manners.specs.Loads.{Loaded}
 use Rattle.program_manners.specs.TableWords.{date_text}
 use Rattle.program_manners.specs.declared.loading.LoadFault.{LoadFault}
+use Rattle.program_manners.specs.declared.output.WriteEnd.{WriteEnd}
 use Rattle.program_manners.specs.declared.table_words.DateFault.{DateFault}
 use Rattle.tap_rows.specs.declared.agency.summary.Summary.{Summary}
 use Rattle.tool_program.specs.Corrections.{Corrects, GivesUpCorrections, IsWarned}
@@ -27,7 +28,6 @@ use Rattle.tool_program.specs.Table.{EndsIll, EndsWell}
 use Rattle.tool_program.specs.Uploads.{GivesUpWith, Listed, ListsFaulty, ListsWith, are_sound}
 use Rattle.tool_program.specs.declared.fault.Fault.{Fault}
 use Rattle.tool_program.specs.declared.fault.Fault.TheVariants.{NoMemory}
-use Rattle.tool_program.specs.declared.output.WriteEnd.{WriteEnd}
 use Rattle.tool_program.specs.declared.sink.NewFault.{NewFault}
 use Rattle.tool_program.specs.declared.sort.SortWords.{SortWords}
 use Rattle.tool_program.specs.declared.split.SplitWords.{SplitWords}

@@ -1,6 +1,6 @@
 -- What a sink keeps of the files that it made.
 use Rattle.std.specs.Prelude.{◌≡◌, ◌≢◌, ⊤, ℕ, List, [], ◌∷◌, ◌++◌, All, Option, None, Some}
-use Rattle.tool_program.specs.declared.output.WriteEnd.{WriteEnd}
+use Rattle.program_manners.specs.declared.output.WriteEnd.{WriteEnd}
 use Rattle.tool_program.specs.declared.sink.NewFault.{NewFault}
 
 -- a file that was made: its name and its bytes

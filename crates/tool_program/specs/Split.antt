@@ -5,6 +5,7 @@ use Rattle.std.specs.Io.KnownBytes.{Appends, Keeps}
 use Rattle.fare_texts.specs.WrittenOut.{Begins}
 use Rattle.program_manners.specs.Loads.{Loaded}
 use Rattle.program_manners.specs.declared.loading.LoadFault.{LoadFault}
+use Rattle.program_manners.specs.declared.output.WriteEnd.{WriteEnd}
 use Rattle.report_texts.specs.Report.{upload_lines}
 use Rattle.report_texts.specs.UploadEnds.{ArePlainEnds}
 use Rattle.report_texts.specs.declared.upload_end.UploadEnd.{UploadEnd}
@@ -15,7 +16,6 @@ use Rattle.tool_program.specs.Sink.{IsNotMade, Made, Makes}
 use Rattle.tool_program.specs.Source.{HasOpened}
 use Rattle.tool_program.specs.declared.fault.Fault.{Fault}
 use Rattle.tool_program.specs.declared.fault.Fault.TheVariants.{NoMemory, UnmadePart}
-use Rattle.tool_program.specs.declared.output.WriteEnd.{WriteEnd}
 use Rattle.tool_program.specs.declared.split.SplitWords.{SplitWords}
 
 -- the name of the file of a part, as `folder/0.tap`

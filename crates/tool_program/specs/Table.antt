@@ -12,6 +12,8 @@ use Rattle.program_manners.specs.Loads.{Loaded}
 use Rattle.program_manners.specs.TableLoads.{CannotFollow, Follows}
 use Rattle.program_manners.specs.TableWords.{TableNames, file_named, written_date}
 use Rattle.program_manners.specs.declared.loading.LoadFault.{LoadFault}
+use Rattle.program_manners.specs.declared.output.WriteEnd.{WriteEnd}
+use Rattle.program_manners.specs.declared.output.WriteEnd.TheVariants as writes
 use Rattle.program_manners.specs.declared.table_words.WrittenDate.{WrittenDate}
 use Rattle.table_report.specs.ReadTable.{IsFareTable, IsReadFrom, ReadTable}
 use Rattle.table_report.specs.SeenValidators.{has_tap_at, is_among}
@@ -28,8 +30,6 @@ use Rattle.tool_program.specs.Names.{called, escaped}
 use Rattle.tool_program.specs.Source.{HasOpened}
 use Rattle.tool_program.specs.declared.fault.Fault.{Fault}
 use Rattle.tool_program.specs.declared.fault.Fault.TheVariants.{Closed, Write}
-use Rattle.tool_program.specs.declared.output.WriteEnd.{WriteEnd}
-use Rattle.tool_program.specs.declared.output.WriteEnd.TheVariants as writes
 use Rattle.tool_words.specs.declared.task.TableQuestion.{TableQuestion}
 
 -- ---- the words

@@ -6,6 +6,7 @@ use Rattle.std.specs.Io.KnownBytes.{Appends}
 use Rattle.fare_texts.specs.Moments.{IsMomentText}
 use Rattle.program_manners.specs.Loads.{Loaded}
 use Rattle.program_manners.specs.declared.loading.LoadFault.{LoadFault}
+use Rattle.program_manners.specs.declared.output.WriteEnd.{WriteEnd}
 use Rattle.tap_views.specs.Facts.{AreFacts}
 use Rattle.tap_views.specs.declared.facts.Facts.{Facts}
 use Rattle.tap_views.specs.declared.fault.LayoutFault.{LayoutFault}
@@ -15,7 +16,6 @@ use Rattle.tool_program.specs.Names.{called}
 use Rattle.tool_program.specs.Source.{HasOpened}
 use Rattle.tool_program.specs.UploadTokens.{BreaksOffTokens, WritesTokens}
 use Rattle.tool_program.specs.declared.fault.Fault.{Fault}
-use Rattle.tool_program.specs.declared.output.WriteEnd.{WriteEnd}
 
 -- a moment as it is printed; `-` if there is none
 abbrev pub IsMomentOrDash : Option ℕ → List ℕ → Type 0

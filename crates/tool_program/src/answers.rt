@@ -7,10 +7,9 @@ ghost use Rattle.tool_program.specs.declared.fault.Fault.TheVariants.{NoMemory};
 
 use crate::fault::{Fault, finish, say};
 use crate::names::Escaped;
-use crate::output::Output;
 use clap::Error;
 use clap::error::ErrorKind;
-use program_manners::Complaints;
+use program_manners::{Complaints, Output};
 use std::alloc::Global;
 use std::io::Write;
 
@@ -26,7 +25,7 @@ fn write_safely<E: Write>(err: &mut Complaints<E>, text: &str) {
 }
 
 /// Writes clap's text, and lets it go out.
-fn print<'a, W: Write + Drop>(error: &Error, out: &mut Output<W>) -> Result<(), Fault<'a>>
+fn print<'a, W: Write>(error: &Error, out: &mut Output<W>) -> Result<(), Fault<'a>>
     ensures { IfErr result (λ fault. fault ≡ failed_as out.new.end) }
 {
     match write!(out, "{error}") {
@@ -48,7 +47,7 @@ pub(crate) fn report<E: Write>(err: &mut Complaints<E>, fault: &Fault<'_>) -> u8
 /// Shows what clap answers if there is nothing to do: help and the version on `out`, a mistake on
 /// `err`. Gives the status: 0 for help and version, 2 for a mistake, and 1 after a fault: memory
 /// was refused, or help or the version could not be written.
-pub(crate) fn show<W: Write + Drop, E: Write>(
+pub(crate) fn show<W: Write, E: Write>(
     alloc: Global,
     error: &Error,
     out: &mut Output<W>,

@@ -15,11 +15,10 @@ ghost use Rattle.tool_program.specs.inside.Fault.{IsCorrectionsFault, word_of};
 
 use crate::fault::{Fault, finish, say};
 use crate::names::Name;
-use crate::output::{Output, WriteEnd};
 use crate::source::{Source, open_text};
 use ledger_changes::{Bill, CorrectionsFault};
 use part_reports::Wrong;
-use program_manners::Complaints;
+use program_manners::{Complaints, Output, WriteEnd};
 use std::alloc::Global;
 use std::io::{BufRead, Write};
 use tool_words::CorrectionsWords;
@@ -89,7 +88,7 @@ fn write_corrections<R: BufRead + Drop, W: Write>(
 
 /// Writes the corrections between the ledgers, and lets all that was written go out. Gives how many
 /// lines are removed.
-fn correct_texts<'a, R: BufRead + Drop, W: Write + Drop>(
+fn correct_texts<'a, R: BufRead + Drop, W: Write>(
     alloc: Global,
     ledgers: &CorrectionsWords<'a>,
     old: R,
@@ -100,11 +99,11 @@ fn correct_texts<'a, R: BufRead + Drop, W: Write + Drop>(
         → R.remaining old ≡ Some old_text → R.remaining new ≡ Some new_text
         → (text : List ℕ)
         × IsTextOfCorrections ledgers.now.is_by_token old_text new_text text removed
-        × Appends (W.contents out.old.inner) (W.contents out.new.inner) text) }
+        × Appends (W.contents out.old.writer) (W.contents out.new.writer) text) }
     ensures fault { IfErr result (λ fault. (old_text new_text : List ℕ)
         → R.remaining old ≡ Some old_text → R.remaining new ≡ Some new_text
         → StopsCorrections ledgers.now.is_by_token ledgers.now.old.now ledgers.now.new.now old_text
-        new_text out.new.end fault (W.contents out.old.inner) (W.contents out.new.inner)) }
+        new_text out.new.end fault (W.contents out.old.writer) (W.contents out.new.writer)) }
     ensures flushed { OnOk result (out.new.is_flushed ≡ true) }
 {
     match write_corrections(alloc, ledgers.is_by_token, old, new, out) {
@@ -121,7 +120,7 @@ fn correct_texts<'a, R: BufRead + Drop, W: Write + Drop>(
 
 /// Opens both ledgers and writes the corrections between them. Gives how many lines are removed:
 /// the old ledger has them, and the new one does not.
-fn correct<'a, S: Source, W: Write + Drop>(
+fn correct<'a, S: Source, W: Write>(
     alloc: Global,
     ledgers: &CorrectionsWords<'a>,
     source: &mut S,
@@ -130,13 +129,13 @@ fn correct<'a, S: Source, W: Write + Drop>(
     ensures done { IfOk result (λ removed. (kept : List Loaded)
         → S.loaded source.old ≡ Some kept
         → Corrects ledgers.now.is_by_token ledgers.now.old.now ledgers.now.new.now
-        (S.loaded source.old) (S.loaded source.new) (W.contents out.old.inner)
-        (W.contents out.new.inner) removed) }
+        (S.loaded source.old) (S.loaded source.new) (W.contents out.old.writer)
+        (W.contents out.new.writer) removed) }
     ensures fault { IfErr result (λ fault. (kept : List Loaded)
         → S.loaded source.old ≡ Some kept
         → GivesUpCorrections ledgers.now.is_by_token ledgers.now.old.now ledgers.now.new.now
         (S.loaded source.old) (S.loaded source.new) (S.refused source.new) out.new.end fault
-        (W.contents out.old.inner) (W.contents out.new.inner)) }
+        (W.contents out.old.writer) (W.contents out.new.writer)) }
     ensures flushed { OnOk result (out.new.is_flushed ≡ true) }
 {
     let old = open_text(source, ledgers.old)?;
@@ -161,7 +160,7 @@ fn warn<E: Write>(ledgers: &CorrectionsWords<'_>, removed: u64, err: &mut Compla
 /// `-` being standard input, and writes the text to `out`. Then says on `err` how many lines are
 /// removed, if there are such: the old ledger has them, and the new one does not. A fault is said
 /// on `err`, too. Gives the status: 0 if all is written, 1 after a fault.
-pub fn corrections_over<S: Source, W: Write + Drop, E: Write>(
+pub fn corrections_over<S: Source, W: Write, E: Write>(
     alloc: Global,
     ledgers: &CorrectionsWords<'_>,
     source: &mut S,
@@ -173,7 +172,7 @@ pub fn corrections_over<S: Source, W: Write + Drop, E: Write>(
     ensures done { (kept : List Loaded) → S.loaded source.old ≡ Some kept → result ≡ 0
         → (removed : ℕ) × Corrects ledgers.now.is_by_token ledgers.now.old.now
         ledgers.now.new.now (S.loaded source.old) (S.loaded source.new)
-        (W.contents out.old.inner) (W.contents out.new.inner) removed
+        (W.contents out.old.writer) (W.contents out.new.writer) removed
         × IsWarned ledgers.now.old.now ledgers.now.new.now removed (E.contents err.old.writer)
         (E.contents err.new.writer) err.new.failed (err.new ≡ err.old) }
     // And all that was written was flushed.
@@ -185,7 +184,7 @@ pub fn corrections_over<S: Source, W: Write + Drop, E: Write>(
         × ((kept : List Loaded) → S.loaded source.old ≡ Some kept
         → GivesUpCorrections ledgers.now.is_by_token ledgers.now.old.now ledgers.now.new.now
         (S.loaded source.old) (S.loaded source.new) (S.refused source.new) out.new.end fault
-        (W.contents out.old.inner) (W.contents out.new.inner)) }
+        (W.contents out.old.writer) (W.contents out.new.writer)) }
     ensures status { result ≤ 1 }
 {
     match correct(alloc, ledgers, source, out) {

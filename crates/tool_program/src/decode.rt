@@ -7,9 +7,8 @@ ghost use Rattle.tool_program.specs.inside.Decode.{DecodesEach, DecodesOne, IsOf
 ghost use Rattle.tool_program.specs.inside.Decode.{StopsDecode, StopsEach, StopsOne};
 
 use crate::fault::{Fault, finish_after, say};
-use crate::output::{Output, WriteEnd};
 use crate::source::{Source, load_upload};
-use program_manners::Complaints;
+use program_manners::{Complaints, Output, WriteEnd};
 use std::alloc::Global;
 use std::io::Write;
 use tap_rows::RowsFault;
@@ -27,17 +26,17 @@ fn fault_of<'a>(fault: RowsFault, end: Option<WriteEnd>) -> Fault<'a>
 
 /// Writes the rows of the upload that the word names, before its first layout fault. Gives this
 /// fault, with its offset in bytes.
-fn decode_one<'a, S: Source, W: Write + Drop>(
+fn decode_one<'a, S: Source, W: Write>(
     alloc: Global,
     word: &'a str,
     source: &mut S,
     out: &mut Output<W>,
 ) -> Result<Option<(u64, LayoutFault)>, Fault<'a>>
     ensures done { IfOk result (DecodesOne word.entry.now (S.loaded source.old)
-        (S.loaded source.new) (W.contents out.old.inner) (W.contents out.new.inner)) }
+        (S.loaded source.new) (W.contents out.old.writer) (W.contents out.new.writer)) }
     ensures stops { IfErr result (λ fault. StopsOne word.entry.now (S.loaded source.old)
-        (S.loaded source.new) (S.refused source.new) out.new.end fault (W.contents out.old.inner)
-        (W.contents out.new.inner)) }
+        (S.loaded source.new) (S.refused source.new) out.new.end fault (W.contents out.old.writer)
+        (W.contents out.new.writer)) }
 {
     let upload = load_upload(alloc, source, word)?;
     match tap_rows::decode(alloc, &upload, out) {
@@ -74,7 +73,7 @@ pub(crate) fn report_layout<S: Source, E: Write>(
 
 /// Writes the rows of the uploads that the words name, in their order, and reports the layout fault
 /// of each that has one. Says whether none has.
-fn decode_each<'a, S: Source, W: Write + Drop, E: Write>(
+fn decode_each<'a, S: Source, W: Write, E: Write>(
     alloc: Global,
     words: &[&'a str],
     source: &mut S,
@@ -83,12 +82,12 @@ fn decode_each<'a, S: Source, W: Write + Drop, E: Write>(
 ) -> Result<bool, Fault<'a>>
     ensures done { IfOk result (λ well. (decoded : List Decoded)
         × DecodesEach (map (λ w. w.now) words.now) (S.loaded source.old) (S.loaded source.new)
-        (W.contents out.old.inner) (W.contents out.new.inner) (E.contents err.old.writer)
+        (W.contents out.old.writer) (W.contents out.new.writer) (E.contents err.old.writer)
         (E.contents err.new.writer) err.new.failed decoded × (well ≡ are_whole decoded)) }
     ensures quiet { IfOk result (λ well. well ≡ true → err.new ≡ err.old) }
     ensures stops { IfErr result (λ fault. StopsEach (map (λ w. w.now) words.now)
         (S.loaded source.old) (S.refused source.new) out.new.end fault
-        (W.contents out.old.inner) (W.contents out.new.inner) (E.contents err.old.writer)
+        (W.contents out.old.writer) (W.contents out.new.writer) (E.contents err.old.writer)
         (E.contents err.new.writer) err.new.failed) }
 {
     let mut is_well = true;
@@ -101,7 +100,7 @@ fn decode_each<'a, S: Source, W: Write + Drop, E: Write>(
 }
 
 /// Writes the head line, and then the rows of the uploads that the words name.
-fn decode_table<'a, S: Source, W: Write + Drop, E: Write>(
+fn decode_table<'a, S: Source, W: Write, E: Write>(
     alloc: Global,
     words: &[&'a str],
     source: &mut S,
@@ -110,13 +109,13 @@ fn decode_table<'a, S: Source, W: Write + Drop, E: Write>(
 ) -> Result<bool, Fault<'a>>
     ensures done { IfOk result (λ well. (decoded : List Decoded)
         × Decodes (map (λ w. w.now) words.now) (S.loaded source.old) (S.loaded source.new)
-        (W.contents out.old.inner) (W.contents out.new.inner) decoded
+        (W.contents out.old.writer) (W.contents out.new.writer) decoded
         × (well ≡ are_whole decoded) × AreReported (E.contents err.old.writer)
         (E.contents err.new.writer) err.new.failed (layout_lines decoded)) }
     ensures quiet { IfOk result (λ well. well ≡ true → err.new ≡ err.old) }
     ensures stops { IfErr result (λ fault. StopsDecode (map (λ w. w.now) words.now)
         (S.loaded source.old) (S.refused source.new) out.new.end fault
-        (W.contents out.old.inner) (W.contents out.new.inner) (E.contents err.old.writer)
+        (W.contents out.old.writer) (W.contents out.new.writer) (E.contents err.old.writer)
         (E.contents err.new.writer) err.new.failed) }
 {
     match tap_rows::write_head(out) {
@@ -133,7 +132,7 @@ fn decode_table<'a, S: Source, W: Write + Drop, E: Write>(
 /// taps to `out`. Of an upload with a layout fault the taps before it are written, the fault is
 /// reported on `err`, and the next upload follows. Another fault ends it, and is reported, too.
 /// Gives the status: 0 if all is written and no upload has a fault, else 1.
-pub fn decode_over<S: Source, W: Write + Drop, E: Write>(
+pub fn decode_over<S: Source, W: Write, E: Write>(
     alloc: Global,
     words: &[&str],
     source: &mut S,
@@ -143,8 +142,8 @@ pub fn decode_over<S: Source, W: Write + Drop, E: Write>(
     // With status 0 the uploads that the words name were loaded, and their whole tap table was
     // written. None has a layout fault.
     ensures done { result ≡ 0 → (decoded : List Decoded) × Decodes (map (λ w. w.now) words.now)
-        (S.loaded source.old) (S.loaded source.new) (W.contents out.old.inner)
-        (W.contents out.new.inner) decoded × (are_whole decoded ≡ true) }
+        (S.loaded source.old) (S.loaded source.new) (W.contents out.old.writer)
+        (W.contents out.new.writer) decoded × (are_whole decoded ≡ true) }
     // And all that was written was flushed.
     ensures flushed { result ≡ 0 → out.new.is_flushed ≡ true }
     // Nothing is reported beside the table of uploads without a fault.
@@ -152,12 +151,12 @@ pub fn decode_over<S: Source, W: Write + Drop, E: Write>(
     // With status 1 the whole table was written and flushed, and the layout faults were reported;
     // or a fault ended it, which was reported behind them and is the right one.
     ensures faults { result ≡ 1 → (DecodesFaulty (map (λ w. w.now) words.now)
-        (S.loaded source.old) (S.loaded source.new) (W.contents out.old.inner)
-        (W.contents out.new.inner) (E.contents err.old.writer) (E.contents err.new.writer)
+        (S.loaded source.old) (S.loaded source.new) (W.contents out.old.writer)
+        (W.contents out.new.writer) (E.contents err.old.writer) (E.contents err.new.writer)
         err.new.failed × (out.new.is_flushed ≡ true)) ⊎ ((fault : AFault)
         × GivesUpDecode (map (λ w. w.now) words.now) (S.loaded source.old)
         (S.refused source.new) out.new.end fault
-        (W.contents out.old.inner) (W.contents out.new.inner) (E.contents err.old.writer)
+        (W.contents out.old.writer) (W.contents out.new.writer) (E.contents err.old.writer)
         (E.contents err.new.writer) err.new.failed) }
     ensures status { result ≤ 1 }
 {

@@ -9,10 +9,9 @@ ghost use Rattle.tool_program.specs.inside.Fault.{IsEncodeFault};
 
 use crate::fault::{Fault, finish, say};
 use crate::names::file_of;
-use crate::output::{Output, WriteEnd};
 use crate::source::{Shown, Source, load_text, open_text_shown};
 use crate::wrong_tables::WrongTapTable;
-use program_manners::Complaints;
+use program_manners::{Complaints, Output, WriteEnd};
 use std::alloc::Global;
 use std::io::{BufRead, Write};
 use tap_rows::RowsFault;
@@ -34,7 +33,7 @@ fn fault_of<'a>(word: &'a str, fault: RowsFault, end: Option<WriteEnd>) -> Fault
 }
 
 /// Writes the upload of a tap table, which is read twice, and lets it go out.
-fn encode_texts<'a, R: BufRead, T: BufRead, W: Write + Drop>(
+fn encode_texts<'a, R: BufRead, T: BufRead, W: Write>(
     alloc: Global,
     word: &'a str,
     table: &mut R,
@@ -42,12 +41,12 @@ fn encode_texts<'a, R: BufRead, T: BufRead, W: Write + Drop>(
     out: &mut Output<W>,
 ) -> Result<(), Fault<'a>>
     ensures done { OnOk result ((text : List ℕ) → T.remaining again.old ≡ Some text
-        → (count : ℕ) × IsEncoded text (W.contents out.old.inner) (W.contents out.new.inner)
+        → (count : ℕ) × IsEncoded text (W.contents out.old.writer) (W.contents out.new.writer)
         count) }
     ensures fault { IfErr result (λ fault. (text again_text : List ℕ)
         → R.remaining table.old ≡ Some text → T.remaining again.old ≡ Some again_text
         → StopsEncode word.entry.now text again_text out.new.end fault
-        (W.contents out.old.inner) (W.contents out.new.inner)) }
+        (W.contents out.old.writer) (W.contents out.new.writer)) }
     ensures flushed { OnOk result (out.new.is_flushed ≡ true) }
 {
     match tap_rows::encode(alloc, table, again, out) {
@@ -63,7 +62,7 @@ fn encode_texts<'a, R: BufRead, T: BufRead, W: Write + Drop>(
 }
 
 /// Encodes a file of this number of bytes, which is opened twice.
-fn encode_file<'a, S: Source, W: Write + Drop>(
+fn encode_file<'a, S: Source, W: Write>(
     alloc: Global,
     word: &'a str,
     bytes: u64,
@@ -72,12 +71,12 @@ fn encode_file<'a, S: Source, W: Write + Drop>(
 ) -> Result<(), Fault<'a>>
     ensures done { OnOk result ((kept : List Loaded) → S.loaded source.old ≡ Some kept
         → EncodesTable word.entry.now (S.loaded source.old) (S.loaded source.new)
-        (W.contents out.old.inner) (W.contents out.new.inner)) }
+        (W.contents out.old.writer) (W.contents out.new.writer)) }
     ensures fault { IfErr result (λ fault. (kept : List Loaded)
         → S.loaded source.old ≡ Some kept
         → GivesUpEncode word.entry.now (S.loaded source.old) (S.loaded source.new)
-        (S.refused source.new) out.new.end fault (W.contents out.old.inner)
-        (W.contents out.new.inner)) }
+        (S.refused source.new) out.new.end fault (W.contents out.old.writer)
+        (W.contents out.new.writer)) }
     ensures flushed { OnOk result (out.new.is_flushed ≡ true) }
 {
     let checked = Shown {
@@ -97,7 +96,7 @@ fn encode_file<'a, S: Source, W: Write + Drop>(
 }
 
 /// Encodes what is loaded first: standard input or a pipe.
-fn encode_loaded<'a, S: Source, W: Write + Drop>(
+fn encode_loaded<'a, S: Source, W: Write>(
     alloc: Global,
     word: &'a str,
     source: &mut S,
@@ -105,12 +104,12 @@ fn encode_loaded<'a, S: Source, W: Write + Drop>(
 ) -> Result<(), Fault<'a>>
     ensures done { OnOk result ((kept : List Loaded) → S.loaded source.old ≡ Some kept
         → EncodesTable word.entry.now (S.loaded source.old) (S.loaded source.new)
-        (W.contents out.old.inner) (W.contents out.new.inner)) }
+        (W.contents out.old.writer) (W.contents out.new.writer)) }
     ensures fault { IfErr result (λ fault. (kept : List Loaded)
         → S.loaded source.old ≡ Some kept
         → GivesUpEncode word.entry.now (S.loaded source.old) (S.loaded source.new)
-        (S.refused source.new) out.new.end fault (W.contents out.old.inner)
-        (W.contents out.new.inner)) }
+        (S.refused source.new) out.new.end fault (W.contents out.old.writer)
+        (W.contents out.new.writer)) }
     ensures flushed { OnOk result (out.new.is_flushed ≡ true) }
 {
     let text = load_text(alloc, source, word)?;
@@ -120,7 +119,7 @@ fn encode_loaded<'a, S: Source, W: Write + Drop>(
 }
 
 /// Encodes the tap table that the word names.
-fn encode<'a, S: Source, W: Write + Drop>(
+fn encode<'a, S: Source, W: Write>(
     alloc: Global,
     word: &'a str,
     source: &mut S,
@@ -128,12 +127,12 @@ fn encode<'a, S: Source, W: Write + Drop>(
 ) -> Result<(), Fault<'a>>
     ensures done { OnOk result ((kept : List Loaded) → S.loaded source.old ≡ Some kept
         → EncodesTable word.entry.now (S.loaded source.old) (S.loaded source.new)
-        (W.contents out.old.inner) (W.contents out.new.inner)) }
+        (W.contents out.old.writer) (W.contents out.new.writer)) }
     ensures fault { IfErr result (λ fault. (kept : List Loaded)
         → S.loaded source.old ≡ Some kept
         → GivesUpEncode word.entry.now (S.loaded source.old) (S.loaded source.new)
-        (S.refused source.new) out.new.end fault (W.contents out.old.inner)
-        (W.contents out.new.inner)) }
+        (S.refused source.new) out.new.end fault (W.contents out.old.writer)
+        (W.contents out.new.writer)) }
     ensures flushed { OnOk result (out.new.is_flushed ≡ true) }
 {
     match source.plain_bytes(file_of(word)) {
@@ -145,7 +144,7 @@ fn encode<'a, S: Source, W: Write + Drop>(
 /// Encodes the tap table that the word names, `-` being standard input: writes its upload to `out`,
 /// and a fault to `err`. A file whose bytes can be read twice is opened twice, anything else is
 /// held in memory. Gives the status: 0 if the upload is written, 1 after a fault.
-pub fn encode_over<S: Source, W: Write + Drop, E: Write>(
+pub fn encode_over<S: Source, W: Write, E: Write>(
     alloc: Global,
     word: &str,
     source: &mut S,
@@ -155,7 +154,7 @@ pub fn encode_over<S: Source, W: Write + Drop, E: Write>(
     // Of a source that keeps what it opened: with status 0 the whole upload was written.
     ensures done { (kept : List Loaded) → S.loaded source.old ≡ Some kept → result ≡ 0
         → EncodesTable word.entry.now (S.loaded source.old) (S.loaded source.new)
-        (W.contents out.old.inner) (W.contents out.new.inner) }
+        (W.contents out.old.writer) (W.contents out.new.writer) }
     // And all that was written was flushed.
     ensures flushed { result ≡ 0 → out.new.is_flushed ≡ true }
     // With status 1 the line of a fault was reported, which is the right one.
@@ -163,8 +162,8 @@ pub fn encode_over<S: Source, W: Write + Drop, E: Write>(
         (E.contents err.old.writer) (E.contents err.new.writer) err.new.failed
         × ((kept : List Loaded) → S.loaded source.old ≡ Some kept
         → GivesUpEncode word.entry.now (S.loaded source.old) (S.loaded source.new)
-        (S.refused source.new) out.new.end fault (W.contents out.old.inner)
-        (W.contents out.new.inner)) }
+        (S.refused source.new) out.new.end fault (W.contents out.old.writer)
+        (W.contents out.new.writer)) }
     // Nothing is said beside a whole upload.
     ensures quiet { result ≡ 0 → err.new ≡ err.old }
     ensures status { result ≤ 1 }

@@ -4,6 +4,7 @@ ghost use Rattle.std.specs.Prelude.{Some, option_map, string_bytes, true};
 ghost use Rattle.std.specs.Io.KnownBytes.{Keeps};
 ghost use Rattle.program_manners.specs.Loads.{Loaded};
 ghost use Rattle.program_manners.specs.Refusals.{IsOneOf};
+ghost use Rattle.program_manners.specs.declared.output.WriteEnd.{WriteEnd as AnEnd};
 ghost use Rattle.tap_rows.specs.Agencies.{IsRowsEncoded};
 ghost use Rattle.tap_rows.specs.Devices.{devices_of};
 ghost use Rattle.tap_rows.specs.declared.agency.summary.Summary.{Summary as ASummary};
@@ -15,7 +16,6 @@ ghost use Rattle.tool_program.specs.Fault.{IsFaultReported, IsRefusal};
 ghost use Rattle.tool_program.specs.Names.{file_named};
 ghost use Rattle.tool_program.specs.Source.{OpensOne};
 ghost use Rattle.tool_program.specs.declared.fault.Fault.{Fault as AFault};
-ghost use Rattle.tool_program.specs.declared.output.WriteEnd.{WriteEnd as AnEnd};
 ghost use Rattle.tool_program.specs.inside.EncodeRows.{EncodesOnce, EndsRows, HasEncoded};
 ghost use Rattle.tool_program.specs.inside.EncodeRows.{HasEncodedAll, HasGivenUp, HasGivenUpAll};
 ghost use Rattle.tool_program.specs.inside.EncodeRows.{HasLoadedDevices, IsNamedDevicesFault};
@@ -24,12 +24,11 @@ ghost use Rattle.tool_program.specs.inside.EncodeRows.{StopsOnce};
 
 use crate::fault::{Fault, finish, say};
 use crate::names::file_of;
-use crate::output::{Output, WriteEnd};
 use crate::sink::{MakeFault, NewFault, Sink};
 use crate::source::{Shown, Source, load_text, load_upload, open_text, open_text_shown};
 use crate::uploads::push_moment;
 use crate::wrong_tables::{WrongDevices, WrongRows};
-use program_manners::Complaints;
+use program_manners::{Complaints, Output, WriteEnd};
 use std::alloc::{AllocError, Global};
 use std::hash::RandomState;
 use std::io::{Read, Write};
@@ -183,7 +182,7 @@ fn fault_of<'a>(
 
 /// Lets all that was written go out. Gives the line of the summary, or why the rows were not
 /// encoded. The writer of the refused rows remembers `refused_end`.
-fn end_rows<'a, W: Write + Drop>(
+fn end_rows<'a, W: Write>(
     alloc: Global,
     words: &RowsWords<'a>,
     word: &'a str,
@@ -191,7 +190,7 @@ fn end_rows<'a, W: Write + Drop>(
     refused_end: Option<WriteEnd>,
     out: &mut Output<W>,
 ) -> Result<String, Fault<'a>>
-    ensures kept { Keeps (W.contents out.old.inner) (W.contents out.new.inner) }
+    ensures kept { Keeps (W.contents out.old.writer) (W.contents out.new.writer) }
     ensures done { IfOk result (λ line. (summary : ASummary) × (encoded ≡ Ok summary)
         × IsSummaryLine summary (string_bytes line)) }
     ensures fault { IfErr result (EndsRows words.now word.entry.now encoded out.new.end
@@ -212,7 +211,7 @@ fn end_rows<'a, W: Write + Drop>(
 
 /// Writes the upload of rows of which none is refused, and lets it go out: they are read twice.
 /// Gives the line of their summary.
-fn encode_twice<'a, R: Read + Drop, T: Read + Drop, W: Write + Drop>(
+fn encode_twice<'a, R: Read + Drop, T: Read + Drop, W: Write>(
     alloc: Global,
     choice: &Choice<'_>,
     words: &RowsWords<'a>,
@@ -223,12 +222,12 @@ fn encode_twice<'a, R: Read + Drop, T: Read + Drop, W: Write + Drop>(
 ) -> Result<String, Fault<'a>>
     ensures done { IfOk result (λ line. (bytes : List ℕ) → T.remaining again ≡ Some bytes
         → (summary : ASummary) × IsSummaryLine summary (string_bytes line)
-        × IsRowsEncoded choice.now bytes (W.contents out.old.inner) (W.contents out.new.inner) None
-        None summary × (summary.first_refused ≡ None)) }
+        × IsRowsEncoded choice.now bytes (W.contents out.old.writer) (W.contents out.new.writer)
+        None None summary × (summary.first_refused ≡ None)) }
     ensures stops { IfErr result (λ fault. (bytes later : List ℕ) → R.remaining text ≡ Some bytes
         → T.remaining again ≡ Some later
         → StopsRows words.now None word.entry.now choice.now bytes later out.new.end ⊥ fault
-        (W.contents out.old.inner) (W.contents out.new.inner)) }
+        (W.contents out.old.writer) (W.contents out.new.writer)) }
     ensures flushed { OnOk result (out.new.is_flushed ≡ true) }
 {
     let encoded = encode_rows(alloc, choice, text, again, out);
@@ -237,7 +236,7 @@ fn encode_twice<'a, R: Read + Drop, T: Read + Drop, W: Write + Drop>(
 
 /// Writes the upload of the rows that are kept, and the refused rows to `refused`, and lets the
 /// upload go out. Gives the line of the summary.
-fn encode_once<'a, R: Read + Drop, W: Write + Drop, X: Write + Drop>(
+fn encode_once<'a, R: Read + Drop, W: Write, X: Write>(
     alloc: Global,
     choice: &Choice<'_>,
     words: &RowsWords<'a>,
@@ -248,11 +247,11 @@ fn encode_once<'a, R: Read + Drop, W: Write + Drop, X: Write + Drop>(
 ) -> Result<String, Fault<'a>>
     ensures done { IfOk result (λ line. (bytes : List ℕ) → R.remaining text ≡ Some bytes
         → (summary : ASummary) × IsSummaryLine summary (string_bytes line)
-        × IsRowsEncoded choice.now bytes (W.contents out.old.inner) (W.contents out.new.inner)
-        (X.contents refused.old.inner) (X.contents refused.new.inner) summary) }
+        × IsRowsEncoded choice.now bytes (W.contents out.old.writer) (W.contents out.new.writer)
+        (X.contents refused.old.writer) (X.contents refused.new.writer) summary) }
     ensures stops { IfErr result (λ fault. (bytes name : List ℕ) → R.remaining text ≡ Some bytes
         → StopsRows words.now (Some name) word.entry.now choice.now bytes bytes out.new.end
-        (refused.new.end ≢ None) fault (W.contents out.old.inner) (W.contents out.new.inner)) }
+        (refused.new.end ≢ None) fault (W.contents out.old.writer) (W.contents out.new.writer)) }
     ensures flushed { OnOk result (out.new.is_flushed ≡ true) }
 {
     let encoded = encode_some_rows(alloc, choice, text, out, refused);
@@ -260,7 +259,7 @@ fn encode_once<'a, R: Read + Drop, W: Write + Drop, X: Write + Drop>(
 }
 
 /// Encodes a file of this number of bytes, which is opened twice. Gives the line of its summary.
-fn encode_file<'a, S: Source, W: Write + Drop>(
+fn encode_file<'a, S: Source, W: Write>(
     alloc: Global,
     choice: &Choice<'_>,
     words: &RowsWords<'a>,
@@ -270,11 +269,11 @@ fn encode_file<'a, S: Source, W: Write + Drop>(
     out: &mut Output<W>,
 ) -> Result<String, Fault<'a>>
     ensures done { IfOk result (λ line. HasEncodedAll word.entry.now choice.now
-        (S.loaded source.old) (S.loaded source.new) (W.contents out.old.inner)
-        (W.contents out.new.inner) (string_bytes line)) }
+        (S.loaded source.old) (S.loaded source.new) (W.contents out.old.writer)
+        (W.contents out.new.writer) (string_bytes line)) }
     ensures stops { IfErr result (λ fault. HasGivenUpAll words.now word.entry.now choice.now
         (S.loaded source.old) (S.loaded source.new) (S.refused source.new) out.new.end fault
-        (W.contents out.old.inner) (W.contents out.new.inner)) }
+        (W.contents out.old.writer) (W.contents out.new.writer)) }
     ensures flushed { OnOk result (out.new.is_flushed ≡ true) }
 {
     let checked = Shown {
@@ -294,7 +293,7 @@ fn encode_file<'a, S: Source, W: Write + Drop>(
 }
 
 /// Encodes what is loaded first: standard input or a pipe. Gives the line of its summary.
-fn encode_loaded<'a, S: Source, W: Write + Drop>(
+fn encode_loaded<'a, S: Source, W: Write>(
     alloc: Global,
     choice: &Choice<'_>,
     words: &RowsWords<'a>,
@@ -303,11 +302,11 @@ fn encode_loaded<'a, S: Source, W: Write + Drop>(
     out: &mut Output<W>,
 ) -> Result<String, Fault<'a>>
     ensures done { IfOk result (λ line. HasEncodedAll word.entry.now choice.now
-        (S.loaded source.old) (S.loaded source.new) (W.contents out.old.inner)
-        (W.contents out.new.inner) (string_bytes line)) }
+        (S.loaded source.old) (S.loaded source.new) (W.contents out.old.writer)
+        (W.contents out.new.writer) (string_bytes line)) }
     ensures stops { IfErr result (λ fault. HasGivenUpAll words.now word.entry.now choice.now
         (S.loaded source.old) (S.loaded source.new) (S.refused source.new) out.new.end fault
-        (W.contents out.old.inner) (W.contents out.new.inner)) }
+        (W.contents out.old.writer) (W.contents out.new.writer)) }
     ensures flushed { OnOk result (out.new.is_flushed ≡ true) }
 {
     let text = load_text(alloc, source, word)?;
@@ -318,7 +317,7 @@ fn encode_loaded<'a, S: Source, W: Write + Drop>(
 
 /// Encodes the rows of the file that the word names, of which none is refused. Gives the line of
 /// their summary.
-fn encode_all<'a, S: Source, W: Write + Drop>(
+fn encode_all<'a, S: Source, W: Write>(
     alloc: Global,
     choice: &Choice<'_>,
     words: &RowsWords<'a>,
@@ -327,11 +326,11 @@ fn encode_all<'a, S: Source, W: Write + Drop>(
     out: &mut Output<W>,
 ) -> Result<String, Fault<'a>>
     ensures done { IfOk result (λ line. HasEncodedAll word.entry.now choice.now
-        (S.loaded source.old) (S.loaded source.new) (W.contents out.old.inner)
-        (W.contents out.new.inner) (string_bytes line)) }
+        (S.loaded source.old) (S.loaded source.new) (W.contents out.old.writer)
+        (W.contents out.new.writer) (string_bytes line)) }
     ensures stops { IfErr result (λ fault. HasGivenUpAll words.now word.entry.now choice.now
         (S.loaded source.old) (S.loaded source.new) (S.refused source.new) out.new.end fault
-        (W.contents out.old.inner) (W.contents out.new.inner)) }
+        (W.contents out.old.writer) (W.contents out.new.writer)) }
     ensures flushed { OnOk result (out.new.is_flushed ≡ true) }
 {
     match source.plain_bytes(file_of(word)) {
@@ -361,7 +360,7 @@ fn open_once<'a, S: Source>(source: &mut S, word: &'a str) -> Result<S::Text, Fa
 
 /// Encodes the rows of the file that the word names, and writes the refused rows to `refused`.
 /// Gives the line of the summary.
-fn encode_some<'a, S: Source, W: Write + Drop, X: Write + Drop>(
+fn encode_some<'a, S: Source, W: Write, X: Write>(
     alloc: Global,
     choice: &Choice<'_>,
     words: &RowsWords<'a>,
@@ -372,13 +371,13 @@ fn encode_some<'a, S: Source, W: Write + Drop, X: Write + Drop>(
 ) -> Result<String, Fault<'a>>
     ensures done { IfOk result (λ line. (kept : List Loaded) → S.loaded source.old ≡ Some kept
         → EncodesOnce word.entry.now choice.now (S.loaded source.old) (S.loaded source.new)
-        (W.contents out.old.inner) (W.contents out.new.inner) (X.contents refused.old.inner)
-        (X.contents refused.new.inner) (string_bytes line)) }
+        (W.contents out.old.writer) (W.contents out.new.writer) (X.contents refused.old.writer)
+        (X.contents refused.new.writer) (string_bytes line)) }
     ensures stops { IfErr result (λ fault. (kept : List Loaded) (name : List ℕ)
         → S.loaded source.old ≡ Some kept
         → StopsOnce words.now name word.entry.now choice.now (S.loaded source.old)
         (S.loaded source.new) (S.refused source.new) out.new.end refused.new.end fault
-        (W.contents out.old.inner) (W.contents out.new.inner)) }
+        (W.contents out.old.writer) (W.contents out.new.writer)) }
     ensures flushed { OnOk result (out.new.is_flushed ≡ true) }
 {
     let mut text = open_once(source, word)?;
@@ -410,7 +409,7 @@ pub(crate) fn fault_of_unfinished<'a>(fault: MakeFault) -> Fault<'a>
 
 /// Encodes the rows of the file that the word names, and makes the file of the refused rows. After
 /// a fault there is no such file. Gives the line of the summary.
-fn encode_and_refuse<'a, S: Source, K: Sink, W: Write + Drop>(
+fn encode_and_refuse<'a, S: Source, K: Sink, W: Write>(
     alloc: Global,
     choice: &Choice<'_>,
     words: &RowsWords<'a>,
@@ -422,13 +421,13 @@ fn encode_and_refuse<'a, S: Source, K: Sink, W: Write + Drop>(
 ) -> Result<String, Fault<'a>>
     ensures done { IfOk result (λ line. HasEncoded (Some refused.entry.now) word.entry.now
         choice.now (S.loaded source.old) (S.loaded source.new) (K.made sink.old)
-        (K.made sink.new) (W.contents out.old.inner) (W.contents out.new.inner)
+        (K.made sink.new) (W.contents out.old.writer) (W.contents out.new.writer)
         (string_bytes line)) }
     ensures kept { IfErr result (λ _. K.made sink.new ≡ K.made sink.old) }
     ensures stops { IfErr result (λ fault. HasGivenUp words.now (Some refused.entry.now)
         word.entry.now choice.now (S.loaded source.old) (S.loaded source.new)
         (S.refused source.new) (K.unbegun sink.new) (K.failed sink.new) out.new.end fault
-        (W.contents out.old.inner) (W.contents out.new.inner)) }
+        (W.contents out.old.writer) (W.contents out.new.writer)) }
     ensures flushed { OnOk result (out.new.is_flushed ≡ true) }
 {
     let mut file = match sink.begin_new(alloc, refused) {
@@ -449,7 +448,7 @@ fn encode_and_refuse<'a, S: Source, K: Sink, W: Write + Drop>(
 
 /// Encodes the rows of the file that the word names, and makes the file of the refused rows, if it
 /// has a name. Gives the line of the summary.
-fn encode_text<'a, S: Source, K: Sink, W: Write + Drop>(
+fn encode_text<'a, S: Source, K: Sink, W: Write>(
     alloc: Global,
     choice: &Choice<'_>,
     words: &RowsWords<'a>,
@@ -460,13 +459,13 @@ fn encode_text<'a, S: Source, K: Sink, W: Write + Drop>(
 ) -> Result<String, Fault<'a>>
     ensures done { IfOk result (λ line. HasEncoded (word_in words.now.refused) word.entry.now
         choice.now (S.loaded source.old) (S.loaded source.new) (K.made sink.old)
-        (K.made sink.new) (W.contents out.old.inner) (W.contents out.new.inner)
+        (K.made sink.new) (W.contents out.old.writer) (W.contents out.new.writer)
         (string_bytes line)) }
     ensures kept { IfErr result (λ _. K.made sink.new ≡ K.made sink.old) }
     ensures stops { IfErr result (λ fault. HasGivenUp words.now (word_in words.now.refused)
         word.entry.now choice.now (S.loaded source.old) (S.loaded source.new)
         (S.refused source.new) (K.unbegun sink.new) (K.failed sink.new) out.new.end fault
-        (W.contents out.old.inner) (W.contents out.new.inner)) }
+        (W.contents out.old.writer) (W.contents out.new.writer)) }
     ensures flushed { OnOk result (out.new.is_flushed ≡ true) }
 {
     match words.refused {
@@ -479,7 +478,7 @@ fn encode_text<'a, S: Source, K: Sink, W: Write + Drop>(
 
 /// Loads the device table, if the words name one, and encodes the rows of the file that the word
 /// names. Gives the line of their summary.
-fn encode<'a, S: Source, K: Sink, W: Write + Drop>(
+fn encode<'a, S: Source, K: Sink, W: Write>(
     alloc: Global,
     seed: RandomState,
     words: &RowsWords<'a>,
@@ -491,13 +490,13 @@ fn encode<'a, S: Source, K: Sink, W: Write + Drop>(
     ensures done { IfOk result (λ line. (kept : List Loaded) → S.loaded source.old ≡ Some kept
         → (summary : ASummary) × IsSummaryLine summary (string_bytes line)
         × EncodesRows words.now word.entry.now (S.loaded source.old) (S.loaded source.new)
-        (K.made sink.old) (K.made sink.new) (W.contents out.old.inner)
-        (W.contents out.new.inner) summary) }
+        (K.made sink.old) (K.made sink.new) (W.contents out.old.writer)
+        (W.contents out.new.writer) summary) }
     ensures stops { IfErr result (λ fault. (kept : List Loaded) → S.loaded source.old ≡ Some kept
         → GivesUpRows words.now word.entry.now (S.loaded source.old) (S.loaded source.new)
         (S.refused source.new) (K.made sink.old) (K.made sink.new) (K.unbegun sink.new)
-        (K.failed sink.new) out.new.end fault (W.contents out.old.inner)
-        (W.contents out.new.inner)) }
+        (K.failed sink.new) out.new.end fault (W.contents out.old.writer)
+        (W.contents out.new.writer)) }
     ensures flushed { OnOk result (out.new.is_flushed ≡ true) }
 {
     let devices = devices_in(alloc, seed, words, source)?;
@@ -511,7 +510,7 @@ fn encode<'a, S: Source, K: Sink, W: Write + Drop>(
 /// rows there are of each kind. A fault is said on `err`, too. `seed` is random, so that no file
 /// can choose names of devices that are found slowly. Gives the status: 0 if all is written, 1
 /// after a fault.
-pub fn encode_rows_over<S: Source, K: Sink, W: Write + Drop, E: Write>(
+pub fn encode_rows_over<S: Source, K: Sink, W: Write, E: Write>(
     alloc: Global,
     seed: RandomState,
     words: &RowsWords<'_>,
@@ -525,8 +524,8 @@ pub fn encode_rows_over<S: Source, K: Sink, W: Write + Drop, E: Write>(
     // of the refused rows was made, if it has a name, and the line of the summary was reported.
     ensures done { (kept : List Loaded) → S.loaded source.old ≡ Some kept → result ≡ 0
         → (summary : ASummary) × EncodesRows words.now word.entry.now (S.loaded source.old)
-        (S.loaded source.new) (K.made sink.old) (K.made sink.new) (W.contents out.old.inner)
-        (W.contents out.new.inner) summary
+        (S.loaded source.new) (K.made sink.old) (K.made sink.new) (W.contents out.old.writer)
+        (W.contents out.new.writer) summary
         × IsSummaryReported summary (E.contents err.old.writer) (E.contents err.new.writer)
         err.new.failed }
     // And all that was written was flushed.
@@ -537,8 +536,8 @@ pub fn encode_rows_over<S: Source, K: Sink, W: Write + Drop, E: Write>(
         × ((kept : List Loaded) → S.loaded source.old ≡ Some kept
         → GivesUpRows words.now word.entry.now (S.loaded source.old) (S.loaded source.new)
         (S.refused source.new) (K.made sink.old) (K.made sink.new) (K.unbegun sink.new)
-        (K.failed sink.new) out.new.end fault (W.contents out.old.inner)
-        (W.contents out.new.inner)) }
+        (K.failed sink.new) out.new.end fault (W.contents out.old.writer)
+        (W.contents out.new.writer)) }
     ensures status { result ≤ 1 }
 {
     match encode(alloc, seed, words, word, source, sink, out) {

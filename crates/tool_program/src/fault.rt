@@ -10,11 +10,10 @@ ghost use Rattle.tool_program.specs.Names.{file_named};
 
 use crate::layout::{Cause, Remedy};
 use crate::names::Name;
-use crate::output::{Output, WriteEnd};
 use crate::wrong_tables::{WrongDevices, WrongFareTable, WrongRows, WrongTapTable};
 use fare_table::TableFault;
 use part_reports::Wrong;
-use program_manners::{Complaints, LoadFault};
+use program_manners::{Complaints, LoadFault, Output, WriteEnd};
 use std::alloc::{AllocError, AllocFailed};
 use std::fmt;
 use std::io::Write;
@@ -224,26 +223,26 @@ pub fn say<E: Write>(err: &mut Complaints<E>, fault: &Fault<'_>)
 }
 
 /// Lets all that was written go out.
-pub fn finish<'a, W: Write + Drop>(out: &mut Output<W>) -> Result<(), Fault<'a>>
-    ensures kept { Keeps (W.contents out.old.inner) (W.contents out.new.inner) }
+pub fn finish<'a, W: Write>(out: &mut Output<W>) -> Result<(), Fault<'a>>
+    ensures kept { Keeps (W.contents out.old.writer) (W.contents out.new.writer) }
     ensures well { OnOk result (out.new.end ≡ out.old.end) }
     ensures flushed { OnOk result (out.new.is_flushed ≡ true) }
     ensures fault { IfErr result (λ fault. fault ≡ failed_as out.new.end) }
     // It is not said that memory was refused.
     ensures noted { OnErr result (out.new.end ≢ None) }
 {
-    match out.flush() {
+    match out.finish() {
         Ok(()) => Ok(()),
-        Err(_) => Err(Fault::of_write(out.end())),
+        Err(end) => Err(Fault::of_write(Some(end))),
     }
 }
 
 /// Lets all that was written go out. Gives what was given before, or why it did not go out.
-pub(crate) fn finish_after<'a, W: Write + Drop>(
+pub(crate) fn finish_after<'a, W: Write>(
     before: Result<bool, Fault<'a>>,
     out: &mut Output<W>,
 ) -> Result<bool, Fault<'a>>
-    ensures kept { Keeps (W.contents out.old.inner) (W.contents out.new.inner) }
+    ensures kept { Keeps (W.contents out.old.writer) (W.contents out.new.writer) }
     ensures same { IfOk result (λ well. before.entry ≡ Ok well) }
     ensures flushed { OnOk result (out.new.is_flushed ≡ true) }
     ensures fault { IfErr result (λ fault. (fault ≡ failed_as out.new.end)

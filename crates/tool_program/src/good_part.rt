@@ -10,20 +10,19 @@ ghost use Rattle.tool_program.specs.inside.GoodPart.{unwritten_as};
 
 use crate::encode_rows::{fault_of_new, fault_of_unfinished};
 use crate::fault::{Fault, finish_after, say};
-use crate::output::{Output, WriteEnd};
 use crate::sink::Sink;
 use crate::source::Source;
 use crate::upload_tokens::{add_tokens, no_tokens, write_tokens};
 use crate::uploads::{LoadedUpload, list_one};
 use fare_texts::write_bytes;
-use program_manners::Complaints;
+use program_manners::{Complaints, Output, WriteEnd};
 use std::alloc::Global;
 use std::io::Write;
 use tap_views::good_part;
 use tool_words::GoodPartWords;
 
 /// Writes the lines of the upload and of its tokens, if these are counted.
-fn list_upload<'a, S: Source, W: Write + Drop>(
+fn list_upload<'a, S: Source, W: Write>(
     alloc: Global,
     words: &GoodPartWords<'a>,
     source: &mut S,
@@ -31,11 +30,11 @@ fn list_upload<'a, S: Source, W: Write + Drop>(
 ) -> Result<LoadedUpload, Fault<'a>>
     ensures done { IfOk result (λ upload. (one : Listed)
         × ListsWith words.now.has_tokens (words.now.upload.now ∷ []) (S.loaded source.old)
-        (S.loaded source.new) (W.contents out.old.inner) (W.contents out.new.inner) (one ∷ [])
+        (S.loaded source.new) (W.contents out.old.writer) (W.contents out.new.writer) (one ∷ [])
         × (one.upload ≡ upload.bytes.items) × (upload.is_sound ≡ is_none one.facts.fault)) }
     ensures stops { IfErr result (λ fault. GivesUpWith words.now.has_tokens
         (words.now.upload.now ∷ []) (S.loaded source.old) (S.refused source.new) out.new.end
-        fault (W.contents out.old.inner) (W.contents out.new.inner)) }
+        fault (W.contents out.old.writer) (W.contents out.new.writer)) }
 {
     let mut tokens = no_tokens(alloc, words.has_tokens);
     let upload = list_one(alloc, 0, words.upload, source, out)?;
@@ -85,7 +84,7 @@ fn make<'a, K: Sink>(
 }
 
 /// Writes the lines, and makes the file. Says whether the upload has no layout fault.
-fn list_and_make<'a, S: Source, K: Sink, W: Write + Drop>(
+fn list_and_make<'a, S: Source, K: Sink, W: Write>(
     alloc: Global,
     words: &GoodPartWords<'a>,
     source: &mut S,
@@ -94,12 +93,12 @@ fn list_and_make<'a, S: Source, K: Sink, W: Write + Drop>(
 ) -> Result<bool, Fault<'a>>
     ensures done { IfOk result (λ well. (one : Listed)
         × KeepsGoodPart words.now (S.loaded source.old) (S.loaded source.new) (K.made sink.old)
-        (K.made sink.new) (W.contents out.old.inner) (W.contents out.new.inner) one
+        (K.made sink.new) (W.contents out.old.writer) (W.contents out.new.writer) one
         × (well ≡ is_none one.facts.fault)) }
     ensures stops { IfErr result (λ fault. GivesUpGoodPart words.now (S.loaded source.old)
         (S.loaded source.new) (S.refused source.new) (K.made sink.old) (K.made sink.new)
-        (K.failed sink.new) (K.unbegun sink.new) out.new.end fault (W.contents out.old.inner)
-        (W.contents out.new.inner)) }
+        (K.failed sink.new) (K.unbegun sink.new) out.new.end fault (W.contents out.old.writer)
+        (W.contents out.new.writer)) }
 {
     let upload = list_upload(alloc, words, source, out)?;
     make(alloc, words.out, good_part(&upload.bytes), sink)?;
@@ -110,7 +109,7 @@ fn list_and_make<'a, S: Source, K: Sink, W: Write + Drop>(
 /// and if that is asked for, how many different tokens it has. Then makes the file of its batches
 /// before its first layout fault. A fault that ends it is reported on `err`. Gives the status: 0 if
 /// all is written and made and the upload has no layout fault, else 1.
-pub fn good_part_over<S: Source, K: Sink, W: Write + Drop, E: Write>(
+pub fn good_part_over<S: Source, K: Sink, W: Write, E: Write>(
     alloc: Global,
     words: &GoodPartWords<'_>,
     source: &mut S,
@@ -121,7 +120,7 @@ pub fn good_part_over<S: Source, K: Sink, W: Write + Drop, E: Write>(
     // With status 0 the lines were written, the file was made, and the upload has no layout fault.
     ensures done { result ≡ 0 → (one : Listed)
         × KeepsGoodPart words.now (S.loaded source.old) (S.loaded source.new) (K.made sink.old)
-        (K.made sink.new) (W.contents out.old.inner) (W.contents out.new.inner) one
+        (K.made sink.new) (W.contents out.old.writer) (W.contents out.new.writer) one
         × (is_none one.facts.fault ≡ true) }
     // And all that was written was flushed.
     ensures flushed { result ≡ 0 → out.new.is_flushed ≡ true }
@@ -131,13 +130,13 @@ pub fn good_part_over<S: Source, K: Sink, W: Write + Drop, E: Write>(
     // was reported; or a fault ended it, which was reported and is the right one.
     ensures faults { result ≡ 1 → ((one : Listed)
         × KeepsGoodPart words.now (S.loaded source.old) (S.loaded source.new) (K.made sink.old)
-        (K.made sink.new) (W.contents out.old.inner) (W.contents out.new.inner) one
+        (K.made sink.new) (W.contents out.old.writer) (W.contents out.new.writer) one
         × (is_none one.facts.fault ≡ false) × (out.new.is_flushed ≡ true)
         × (err.new ≡ err.old)) ⊎ ((fault : AFault)
         × GivesUpGoodPart words.now (S.loaded source.old) (S.loaded source.new)
         (S.refused source.new) (K.made sink.old) (K.made sink.new) (K.failed sink.new)
-        (K.unbegun sink.new) out.new.end fault (W.contents out.old.inner)
-        (W.contents out.new.inner) × IsFaultReported fault (E.contents err.old.writer)
+        (K.unbegun sink.new) out.new.end fault (W.contents out.old.writer)
+        (W.contents out.new.writer) × IsFaultReported fault (E.contents err.old.writer)
         (E.contents err.new.writer) err.new.failed) }
     ensures status { result ≤ 1 }
 {

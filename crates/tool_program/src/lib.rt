@@ -5,7 +5,6 @@
 //! |---|---|
 //! | `names` | words that name files, as they are opened and shown |
 //! | `source` | where texts come from |
-//! | `output` | where a text goes |
 //! | `sink` | where files are made |
 //! | `fault` | why a subcommand is given up, and the line that says so |
 //! | `layout`, `wrong_tables` | what is wrong with an upload, or with a table, in words |
@@ -42,7 +41,6 @@ mod merge;
 mod merge_ledgers;
 mod merge_sorted;
 mod names;
-mod output;
 mod placed;
 mod program;
 mod refused_text;
@@ -67,7 +65,6 @@ pub use merge::merge_over;
 pub use merge_ledgers::merge_ledgers_over;
 pub use merge_sorted::merge_sorted_over;
 pub use names::{Escaped, Name};
-pub use output::{Output, WriteEnd};
 pub use placed::PlacedFiles;
 pub use program::main_over;
 pub use sink::{MakeFault, NewFault, Sink};

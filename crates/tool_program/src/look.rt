@@ -26,13 +26,12 @@ use crate::decode::report_layout;
 use crate::fault::{Fault, finish_after, say};
 use crate::look::counts::counts_of;
 use crate::look::rows::write_table;
-use crate::output::{Output, WriteEnd};
 use crate::source::{Source, load_upload};
 use crate::uploads::upload_text;
 use fare_table::laws::ranges_and_riders_rise;
 use fare_table::{FareTable, TableFault};
 use fare_texts::{PrintFault, write_bytes, write_out};
-use program_manners::Complaints;
+use program_manners::{Complaints, Output, WriteEnd};
 use std::alloc::{AllocError, Global};
 use std::io::Write;
 use std::marker::Sync;
@@ -143,7 +142,7 @@ fn read_table<'a, S: Source>(
 }
 
 /// Writes the lines of the upload of this number, that the word names.
-fn write_lines<'a, W: Write + Drop>(
+fn write_lines<'a, W: Write>(
     alloc: Global,
     number: usize,
     word: &'a str,
@@ -151,9 +150,9 @@ fn write_lines<'a, W: Write + Drop>(
     out: &mut Output<W>,
 ) -> Result<(), Fault<'a>>
     ensures done { OnOk result (ShowsOne false number word.entry.now facts.now
-        (W.contents out.old.inner) (W.contents out.new.inner)) }
+        (W.contents out.old.writer) (W.contents out.new.writer)) }
     ensures stops { IfErr result (λ fault. BreaksOffShowing false number word.entry.now facts.now
-        out.new.end fault (W.contents out.old.inner) (W.contents out.new.inner)) }
+        out.new.end fault (W.contents out.old.writer) (W.contents out.new.writer)) }
 {
     let text = upload_text(alloc, number, word, facts)?;
     match write_bytes(text.as_bytes(), out) {
@@ -164,7 +163,7 @@ fn write_lines<'a, W: Write + Drop>(
 
 /// Shows the upload of this number, that the word names: writes its lines, or if what is found is
 /// listed reports its layout fault.
-fn show_one<'a, S: Source, W: Write + Drop, E: Write>(
+fn show_one<'a, S: Source, W: Write, E: Write>(
     alloc: Global,
     has_list: bool,
     number: usize,
@@ -175,7 +174,7 @@ fn show_one<'a, S: Source, W: Write + Drop, E: Write>(
     err: &mut Complaints<E>,
 ) -> Result<(), Fault<'a>>
     ensures done { OnOk result (ShowsOne has_list number word.entry.now facts.now
-        (W.contents out.old.inner) (W.contents out.new.inner)) }
+        (W.contents out.old.writer) (W.contents out.new.writer)) }
     ensures line { OnOk result (AreReported (E.contents err.old.writer) (E.contents err.new.writer)
         err.new.failed (reported_line has_list word.entry.now facts.now.fault)) }
     ensures quiet { is_none facts.now.fault ≡ true → err.new ≡ err.old }
@@ -183,7 +182,7 @@ fn show_one<'a, S: Source, W: Write + Drop, E: Write>(
     ensures loaded { S.loaded source.new ≡ S.loaded source.old }
     ensures refused { S.refused source.new ≡ S.refused source.old }
     ensures stops { IfErr result (λ fault. BreaksOffShowing has_list number word.entry.now
-        facts.now out.new.end fault (W.contents out.old.inner) (W.contents out.new.inner)) }
+        facts.now out.new.end fault (W.contents out.old.writer) (W.contents out.new.writer)) }
     ensures same { OnErr result ((err.new ≡ err.old) × (has_list ≡ false)) }
 {
     if has_list {
@@ -213,7 +212,7 @@ struct Taken {
 }
 
 /// Loads the upload of this number, that the word names, and shows it.
-fn take_one<'a, S: Source, W: Write + Drop, E: Write>(
+fn take_one<'a, S: Source, W: Write, E: Write>(
     alloc: Global,
     has_list: bool,
     number: usize,
@@ -223,14 +222,14 @@ fn take_one<'a, S: Source, W: Write + Drop, E: Write>(
     err: &mut Complaints<E>,
 ) -> Result<Taken, Fault<'a>>
     ensures done { IfOk result (λ taken. TakesOne has_list number word.entry.now
-        (S.loaded source.old) (S.loaded source.new) (W.contents out.old.inner)
-        (W.contents out.new.inner) (E.contents err.old.writer) (E.contents err.new.writer)
+        (S.loaded source.old) (S.loaded source.new) (W.contents out.old.writer)
+        (W.contents out.new.writer) (E.contents err.old.writer) (E.contents err.new.writer)
         err.new.failed taken.upload.items taken.is_well) }
     ensures quiet { IfOk result (λ taken. taken.is_well ≡ true → err.new ≡ err.old) }
     ensures kept { err.new.failed ≡ false → err.old.failed ≡ false }
     ensures stops { IfErr result (λ fault. StopsTaking has_list number word.entry.now
         (S.loaded source.old) (S.loaded source.new) (S.refused source.new) out.new.end fault
-        (W.contents out.old.inner) (W.contents out.new.inner) (E.contents err.old.writer)
+        (W.contents out.old.writer) (W.contents out.new.writer) (E.contents err.old.writer)
         (E.contents err.new.writer) err.new.failed) }
 {
     let upload = load_upload(alloc, source, word)?;
@@ -252,7 +251,7 @@ struct AllTaken {
 }
 
 /// Loads the uploads that the words name, in their order, and shows each.
-fn take_each<'a, S: Source, W: Write + Drop, E: Write>(
+fn take_each<'a, S: Source, W: Write, E: Write>(
     alloc: Global,
     words: &LookWords<'a>,
     names: &[&'a str],
@@ -262,15 +261,15 @@ fn take_each<'a, S: Source, W: Write + Drop, E: Write>(
 ) -> Result<AllTaken, Fault<'a>>
     ensures done { IfOk result (λ all. (listed : List Listed)
         × TakesEach words.now.has_list (map (λ w. w.now) names.now) (S.loaded source.old)
-        (S.loaded source.new) (W.contents out.old.inner) (W.contents out.new.inner)
+        (S.loaded source.new) (W.contents out.old.writer) (W.contents out.new.writer)
         (E.contents err.old.writer) (E.contents err.new.writer) err.new.failed listed
         × (map (λ u. u.items) all.uploads.items ≡ listed_uploads listed)
         × (all.is_well ≡ are_sound listed)) }
     ensures quiet { IfOk result (λ all. all.is_well ≡ true → err.new ≡ err.old) }
     ensures stops { IfErr result (λ fault. (meaning : Option TableMeaning)
         → StopsLook words.now (map (λ w. w.now) names.now) meaning (S.loaded source.old)
-        (S.refused source.new) out.new.end fault (W.contents out.old.inner)
-        (W.contents out.new.inner) (E.contents err.old.writer) (E.contents err.new.writer)
+        (S.refused source.new) out.new.end fault (W.contents out.old.writer)
+        (W.contents out.new.writer) (E.contents err.old.writer) (E.contents err.new.writer)
         err.new.failed) }
 {
     let mut uploads = Vec::new(alloc);
@@ -405,7 +404,7 @@ fn fault_of_text<'a>(fault: PrintFault, end: Option<WriteEnd>) -> Fault<'a>
 }
 
 /// Writes what is found in the uploads that these words name.
-fn write_found<'a, R: Threads + Sync, W: Write + Drop>(
+fn write_found<'a, R: Threads + Sync, W: Write>(
     threads: &R,
     alloc: Global,
     words: &LookWords<'a>,
@@ -418,11 +417,11 @@ fn write_found<'a, R: Threads + Sync, W: Write + Drop>(
     ensures done { OnOk result ((text : List ℕ) × IsFoundText words.now
         (option_map (λ t. t.meaning) table.now) (map (λ w. w.now) names.now)
         (map (λ u. u.items) uploads.now) text
-        × Appends (W.contents out.old.inner) (W.contents out.new.inner) text) }
+        × Appends (W.contents out.old.writer) (W.contents out.new.writer) text) }
     ensures fault { IfErr result (λ fault. IsOfWriting out.new.end fault) }
     ensures stops { OnErr result (BeginsFound words.now (option_map (λ t. t.meaning) table.now)
         (map (λ w. w.now) names.now) (map (λ u. u.items) uploads.now)
-        (W.contents out.old.inner) (W.contents out.new.inner)) }
+        (W.contents out.old.writer) (W.contents out.new.writer)) }
 {
     let found = find(threads, alloc, words, table, uploads)?;
     match write_text(alloc, words, names, uploads, &found, out) {
@@ -432,7 +431,7 @@ fn write_found<'a, R: Threads + Sync, W: Write + Drop>(
 }
 
 /// Shows the uploads, and writes what is found in them. Says whether no upload has a layout fault.
-fn look_at<'a, R: Threads + Sync, S: Source, W: Write + Drop, E: Write>(
+fn look_at<'a, R: Threads + Sync, S: Source, W: Write, E: Write>(
     threads: &R,
     alloc: Global,
     words: &LookWords<'a>,
@@ -445,13 +444,13 @@ fn look_at<'a, R: Threads + Sync, S: Source, W: Write + Drop, E: Write>(
     requires { IfSome table.now (λ t. stand_apart t.meaning.ranges ≡ true) }
     ensures done { IfOk result (λ well. (listed : List Listed) × LooksThrough words.now
         (map (λ w. w.now) names.now) (option_map (λ t. t.meaning) table.now)
-        (S.loaded source.old) (S.loaded source.new) (W.contents out.old.inner)
-        (W.contents out.new.inner) (E.contents err.old.writer) (E.contents err.new.writer)
+        (S.loaded source.old) (S.loaded source.new) (W.contents out.old.writer)
+        (W.contents out.new.writer) (E.contents err.old.writer) (E.contents err.new.writer)
         err.new.failed listed × (well ≡ are_sound listed)) }
     ensures quiet { IfOk result (λ well. well ≡ true → err.new ≡ err.old) }
     ensures stops { IfErr result (λ fault. StopsLook words.now (map (λ w. w.now) names.now)
         (option_map (λ t. t.meaning) table.now) (S.loaded source.old) (S.refused source.new)
-        out.new.end fault (W.contents out.old.inner) (W.contents out.new.inner)
+        out.new.end fault (W.contents out.old.writer) (W.contents out.new.writer)
         (E.contents err.old.writer) (E.contents err.new.writer) err.new.failed) }
 {
     let taken = take_each(alloc, words, names, source, out, err);
@@ -465,7 +464,7 @@ fn look_at<'a, R: Threads + Sync, S: Source, W: Write + Drop, E: Write>(
 }
 
 /// Reads the fare table, if one is named, does the same, and lets all that was written go out.
-fn look_all<'a, R: Threads + Sync, S: Source, W: Write + Drop, E: Write>(
+fn look_all<'a, R: Threads + Sync, S: Source, W: Write, E: Write>(
     threads: &R,
     alloc: Global,
     words: &LookWords<'a>,
@@ -476,12 +475,12 @@ fn look_all<'a, R: Threads + Sync, S: Source, W: Write + Drop, E: Write>(
 ) -> Result<bool, Fault<'a>>
     ensures done { IfOk result (λ well. (listed : List Listed) × Looks words.now
         (map (λ w. w.now) names.now) (S.loaded source.old) (S.loaded source.new)
-        (W.contents out.old.inner) (W.contents out.new.inner) (E.contents err.old.writer)
+        (W.contents out.old.writer) (W.contents out.new.writer) (E.contents err.old.writer)
         (E.contents err.new.writer) err.new.failed listed × (well ≡ are_sound listed)) }
     ensures quiet { IfOk result (λ well. well ≡ true → err.new ≡ err.old) }
     ensures stops { IfErr result (λ fault. StopsAll words.now (map (λ w. w.now) names.now)
         (S.loaded source.old) (S.loaded source.new) (S.refused source.new) out.new.end fault
-        (W.contents out.old.inner) (W.contents out.new.inner) (E.contents err.old.writer)
+        (W.contents out.old.writer) (W.contents out.new.writer) (E.contents err.old.writer)
         (E.contents err.new.writer) err.new.failed) }
     ensures flushed { OnOk result (out.new.is_flushed ≡ true) }
 {
@@ -495,7 +494,7 @@ fn look_all<'a, R: Threads + Sync, S: Source, W: Write + Drop, E: Write>(
 /// uploads' layout faults are reported on `err` and nothing else is written. A fault that ends it
 /// is reported, too. All taps are in memory, and threads order them. Gives the status: 0 if all is
 /// written and no upload has a layout fault, else 1.
-pub fn look_over<R: Threads + Sync, S: Source, W: Write + Drop, E: Write>(
+pub fn look_over<R: Threads + Sync, S: Source, W: Write, E: Write>(
     threads: &R,
     alloc: Global,
     words: &LookWords<'_>,
@@ -508,7 +507,7 @@ pub fn look_over<R: Threads + Sync, S: Source, W: Write + Drop, E: Write>(
     // uploads have and what is found in them was written. None has a layout fault.
     ensures done { result ≡ 0 → (listed : List Listed) × Looks words.now
         (map (λ w. w.now) names.now) (S.loaded source.old) (S.loaded source.new)
-        (W.contents out.old.inner) (W.contents out.new.inner) (E.contents err.old.writer)
+        (W.contents out.old.writer) (W.contents out.new.writer) (E.contents err.old.writer)
         (E.contents err.new.writer) err.new.failed listed × (are_sound listed ≡ true) }
     // And all that was written was flushed.
     ensures flushed { result ≡ 0 → out.new.is_flushed ≡ true }
@@ -517,12 +516,12 @@ pub fn look_over<R: Threads + Sync, S: Source, W: Write + Drop, E: Write>(
     // With status 1 all was written and flushed, and an upload has a layout fault, which was
     // written or reported; or a fault ended it, which was reported and is the right one.
     ensures faults { result ≡ 1 → (LooksFaulty words.now (map (λ w. w.now) names.now)
-        (S.loaded source.old) (S.loaded source.new) (W.contents out.old.inner)
-        (W.contents out.new.inner) (E.contents err.old.writer) (E.contents err.new.writer)
+        (S.loaded source.old) (S.loaded source.new) (W.contents out.old.writer)
+        (W.contents out.new.writer) (E.contents err.old.writer) (E.contents err.new.writer)
         err.new.failed × (out.new.is_flushed ≡ true))
         ⊎ ((fault : AFault) × GivesUpLook words.now (map (λ w. w.now) names.now)
         (S.loaded source.old) (S.loaded source.new) (S.refused source.new) out.new.end fault
-        (W.contents out.old.inner) (W.contents out.new.inner) (E.contents err.old.writer)
+        (W.contents out.old.writer) (W.contents out.new.writer) (E.contents err.old.writer)
         (E.contents err.new.writer) err.new.failed) }
     ensures status { result ≤ 1 }
 {

@@ -10,10 +10,9 @@ ghost use Rattle.tool_program.specs.declared.fault.Fault.{Fault as AFault};
 ghost use Rattle.tool_program.specs.inside.Fault.{IsNamedAs};
 
 use crate::fault::{Fault, finish, say};
-use crate::output::{Output, WriteEnd};
 use crate::source::{Both, Source, open_both};
 use part_reports::MergeFault;
-use program_manners::Complaints;
+use program_manners::{Complaints, Output, WriteEnd};
 use std::alloc::Global;
 use std::io::{BufRead, Write};
 
@@ -63,7 +62,7 @@ pub(crate) fn fault_of<'a>(
 
 /// Merges the texts of the uploads' ends and the reports, which these words name. Says whether no
 /// upload has a layout fault.
-fn merge_texts<'a, R: BufRead + Drop, W: Write + Drop>(
+fn merge_texts<'a, R: BufRead + Drop, W: Write>(
     alloc: Global,
     ends: &[&'a str],
     reports: &[&'a str],
@@ -74,13 +73,13 @@ fn merge_texts<'a, R: BufRead + Drop, W: Write + Drop>(
     ensures done { IfOk result (λ are_posted. (end_files report_files : List (List ℕ))
         → AreLeft R.remaining end_texts.items end_files
         → AreLeft R.remaining report_texts.items report_files
-        → WritesReport end_files report_files (W.contents out.old.inner)
-        (W.contents out.new.inner) are_posted) }
+        → WritesReport end_files report_files (W.contents out.old.writer)
+        (W.contents out.new.writer) are_posted) }
     ensures fault { IfErr result (λ fault. (end_files report_files : List (List ℕ))
         → AreLeft R.remaining end_texts.items end_files
         → AreLeft R.remaining report_texts.items report_files
         → StopsMerge (map (λ w. w.now) ends.now ++ map (λ w. w.now) reports.now) end_files
-        report_files out.new.end fault (W.contents out.old.inner) (W.contents out.new.inner)) }
+        report_files out.new.end fault (W.contents out.old.writer) (W.contents out.new.writer)) }
     ensures flushed { OnOk result (out.new.is_flushed ≡ true) }
 {
     match part_reports::merge(alloc, end_texts, report_texts, out) {
@@ -96,7 +95,7 @@ fn merge_texts<'a, R: BufRead + Drop, W: Write + Drop>(
 }
 
 /// Merges the reports of parts. Says whether no upload has a layout fault.
-fn merge<'a, S: Source, W: Write + Drop>(
+fn merge<'a, S: Source, W: Write>(
     alloc: Global,
     ends: &[&'a str],
     reports: &[&'a str],
@@ -106,13 +105,13 @@ fn merge<'a, S: Source, W: Write + Drop>(
     ensures done { IfOk result (λ are_posted. (kept : List Loaded)
         → S.loaded source.old ≡ Some kept
         → MergesReports (map (λ w. w.now) ends.now) (map (λ w. w.now) reports.now)
-        (S.loaded source.old) (S.loaded source.new) (W.contents out.old.inner)
-        (W.contents out.new.inner) are_posted) }
+        (S.loaded source.old) (S.loaded source.new) (W.contents out.old.writer)
+        (W.contents out.new.writer) are_posted) }
     ensures fault { IfErr result (λ fault. (kept : List Loaded)
         → S.loaded source.old ≡ Some kept
         → GivesUpMerge (map (λ w. w.now) ends.now) (map (λ w. w.now) reports.now)
         (S.loaded source.old) (S.loaded source.new) (S.refused source.new) out.new.end fault
-        (W.contents out.old.inner) (W.contents out.new.inner)) }
+        (W.contents out.old.writer) (W.contents out.new.writer)) }
     ensures flushed { OnOk result (out.new.is_flushed ≡ true) }
 {
     match open_both(alloc, source, ends, reports) {
@@ -124,7 +123,7 @@ fn merge<'a, S: Source, W: Write + Drop>(
 /// Merges the reports of parts: opens the texts of the uploads' ends and then the reports that the
 /// words name, `-` being standard input. Writes the report of the whole to `out`, and a fault to
 /// `err`. Gives the status: 0 if each upload was posted, 3 if one was refused, 1 after a fault.
-pub fn merge_over<S: Source, W: Write + Drop, E: Write>(
+pub fn merge_over<S: Source, W: Write, E: Write>(
     alloc: Global,
     ends: &[&str],
     reports: &[&str],
@@ -136,13 +135,13 @@ pub fn merge_over<S: Source, W: Write + Drop, E: Write>(
     // upload was posted.
     ensures done { (kept : List Loaded) → S.loaded source.old ≡ Some kept → result ≡ 0
         → MergesReports (map (λ w. w.now) ends.now) (map (λ w. w.now) reports.now)
-        (S.loaded source.old) (S.loaded source.new) (W.contents out.old.inner)
-        (W.contents out.new.inner) true }
+        (S.loaded source.old) (S.loaded source.new) (W.contents out.old.writer)
+        (W.contents out.new.writer) true }
     // With status 3 it was written, and an upload was refused.
     ensures unposted { (kept : List Loaded) → S.loaded source.old ≡ Some kept → result ≡ 3
         → MergesReports (map (λ w. w.now) ends.now) (map (λ w. w.now) reports.now)
-        (S.loaded source.old) (S.loaded source.new) (W.contents out.old.inner)
-        (W.contents out.new.inner) false }
+        (S.loaded source.old) (S.loaded source.new) (W.contents out.old.writer)
+        (W.contents out.new.writer) false }
     // With both all that was written was flushed.
     ensures flushed { result ≢ 1 → out.new.is_flushed ≡ true }
     // With status 1 the line of a fault was reported, which is the right one.
@@ -151,7 +150,7 @@ pub fn merge_over<S: Source, W: Write + Drop, E: Write>(
         × ((kept : List Loaded) → S.loaded source.old ≡ Some kept
         → GivesUpMerge (map (λ w. w.now) ends.now) (map (λ w. w.now) reports.now)
         (S.loaded source.old) (S.loaded source.new) (S.refused source.new) out.new.end fault
-        (W.contents out.old.inner) (W.contents out.new.inner)) }
+        (W.contents out.old.writer) (W.contents out.new.writer)) }
     // Nothing is said beside a whole report.
     ensures quiet { result ≢ 1 → err.new ≡ err.old }
     ensures status { (result ≡ 0) ⊎ ((result ≡ 1) ⊎ (result ≡ 3)) }

@@ -15,10 +15,9 @@ ghost use Rattle.tool_program.specs.declared.fault.Fault.{Fault as AFault};
 
 use crate::fault::{Fault, finish, say};
 use crate::merge::fault_of;
-use crate::output::Output;
 use crate::source::{Both, Source, open_both};
 use part_reports::MergeFault;
-use program_manners::Complaints;
+use program_manners::{Complaints, Output};
 use std::alloc::Global;
 use std::io::{BufRead, Write};
 
@@ -73,7 +72,7 @@ fn write_ledger<R: BufRead + Drop, W: Write>(
 }
 
 /// Merges the ledgers and their reports, which these words name.
-fn merge_texts<'a, R: BufRead + Drop, W: Write + Drop>(
+fn merge_texts<'a, R: BufRead + Drop, W: Write>(
     alloc: Global,
     ledgers: &[&'a str],
     reports: &[&'a str],
@@ -84,14 +83,14 @@ fn merge_texts<'a, R: BufRead + Drop, W: Write + Drop>(
     ensures done { OnOk result ((ledger_files report_files : List (List ℕ))
         → AreLeft R.remaining ledger_texts.items ledger_files
         → AreLeft R.remaining report_texts.items report_files
-        → WritesLedger ledger_files report_files (W.contents out.old.inner)
-        (W.contents out.new.inner)) }
+        → WritesLedger ledger_files report_files (W.contents out.old.writer)
+        (W.contents out.new.writer)) }
     ensures fault { IfErr result (λ fault. (ledger_files report_files : List (List ℕ))
         → AreLeft R.remaining ledger_texts.items ledger_files
         → AreLeft R.remaining report_texts.items report_files
         → StopsLedgers (map (λ w. w.now) ledgers.now ++ map (λ w. w.now) reports.now)
-        ledger_files report_files out.new.end fault (W.contents out.old.inner)
-        (W.contents out.new.inner)) }
+        ledger_files report_files out.new.end fault (W.contents out.old.writer)
+        (W.contents out.new.writer)) }
     ensures flushed { OnOk result (out.new.is_flushed ≡ true) }
 {
     match write_ledger(alloc, ledger_texts, report_texts, out) {
@@ -107,7 +106,7 @@ fn merge_texts<'a, R: BufRead + Drop, W: Write + Drop>(
 }
 
 /// Merges the ledgers of parts.
-fn merge_ledgers<'a, S: Source, W: Write + Drop>(
+fn merge_ledgers<'a, S: Source, W: Write>(
     alloc: Global,
     ledgers: &[&'a str],
     reports: &[&'a str],
@@ -116,13 +115,13 @@ fn merge_ledgers<'a, S: Source, W: Write + Drop>(
 ) -> Result<(), Fault<'a>>
     ensures done { OnOk result ((kept : List Loaded) → S.loaded source.old ≡ Some kept
         → MergesLedgers (map (λ w. w.now) ledgers.now) (map (λ w. w.now) reports.now)
-        (S.loaded source.old) (S.loaded source.new) (W.contents out.old.inner)
-        (W.contents out.new.inner)) }
+        (S.loaded source.old) (S.loaded source.new) (W.contents out.old.writer)
+        (W.contents out.new.writer)) }
     ensures fault { IfErr result (λ fault. (kept : List Loaded)
         → S.loaded source.old ≡ Some kept
         → GivesUpLedgers (map (λ w. w.now) ledgers.now) (map (λ w. w.now) reports.now)
         (S.loaded source.old) (S.loaded source.new) (S.refused source.new) out.new.end fault
-        (W.contents out.old.inner) (W.contents out.new.inner)) }
+        (W.contents out.old.writer) (W.contents out.new.writer)) }
     ensures flushed { OnOk result (out.new.is_flushed ≡ true) }
 {
     match open_both(alloc, source, ledgers, reports) {
@@ -135,7 +134,7 @@ fn merge_ledgers<'a, S: Source, W: Write + Drop>(
 /// being standard input. Writes the ledger of the whole to `out`, and a fault to `err`. If there is
 /// a report for each ledger, each ledger is compared with its own. Gives the status: 0 if the
 /// ledger is written, 1 after a fault.
-pub fn merge_ledgers_over<S: Source, W: Write + Drop, E: Write>(
+pub fn merge_ledgers_over<S: Source, W: Write, E: Write>(
     alloc: Global,
     ledgers: &[&str],
     reports: &[&str],
@@ -146,8 +145,8 @@ pub fn merge_ledgers_over<S: Source, W: Write + Drop, E: Write>(
     // Of a source that keeps what it opened: with status 0 the whole ledger was written.
     ensures done { (kept : List Loaded) → S.loaded source.old ≡ Some kept → result ≡ 0
         → MergesLedgers (map (λ w. w.now) ledgers.now) (map (λ w. w.now) reports.now)
-        (S.loaded source.old) (S.loaded source.new) (W.contents out.old.inner)
-        (W.contents out.new.inner) }
+        (S.loaded source.old) (S.loaded source.new) (W.contents out.old.writer)
+        (W.contents out.new.writer) }
     // And all that was written was flushed.
     ensures flushed { result ≡ 0 → out.new.is_flushed ≡ true }
     // With status 1 the line of a fault was reported, which is the right one.
@@ -156,7 +155,7 @@ pub fn merge_ledgers_over<S: Source, W: Write + Drop, E: Write>(
         × ((kept : List Loaded) → S.loaded source.old ≡ Some kept
         → GivesUpLedgers (map (λ w. w.now) ledgers.now) (map (λ w. w.now) reports.now)
         (S.loaded source.old) (S.loaded source.new) (S.refused source.new) out.new.end fault
-        (W.contents out.old.inner) (W.contents out.new.inner)) }
+        (W.contents out.old.writer) (W.contents out.new.writer)) }
     // Nothing is said beside a whole ledger.
     ensures quiet { result ≡ 0 → err.new ≡ err.old }
     ensures status { result ≤ 1 }

@@ -10,12 +10,11 @@ ghost use Rattle.tool_program.specs.inside.Sort.{IsFileFault, IsUnwritten};
 
 use crate::fault::{Fault, say};
 use crate::names::word_at;
-use crate::output::{Output, WriteEnd};
 use crate::placed::{PlacedFiles, open_placed};
 use crate::sink::{MakeFault, Sink};
 use crate::sort::{SortWords, fault_of_make, make_both};
 use placed_files::Placed;
-use program_manners::Complaints;
+use program_manners::{Complaints, Output, WriteEnd};
 use report_texts::UploadEnd;
 use sorted_taps::{MergeFault, SortedFault, WriteFault, merge_sorted};
 use std::alloc::{AllocError, Global};
@@ -69,7 +68,7 @@ fn posted_ends(alloc: Global, numbers: &[u64]) -> Result<Vec<UploadEnd>, AllocEr
 
 /// Opens the uploads and writes all their taps to the file that is to have the name `out`. Gives
 /// how each upload ended.
-fn merge_all<'a, D: PlacedFiles, W: Write + Drop>(
+fn merge_all<'a, D: PlacedFiles, W: Write>(
     alloc: Global,
     out: &'a str,
     uploads: &[&'a str],
@@ -79,7 +78,7 @@ fn merge_all<'a, D: PlacedFiles, W: Write + Drop>(
     ensures merged { IfOk result (λ ends. (all : List (List ℕ))
         → map (D.bytes_under disk.now) (map (λ w. w.now) uploads.now) ≡ map Some all
         → (numbers : List ℕ) × (ends.items ≡ map APosted numbers)
-        × IsMergedFile all numbers (W.contents file.old.inner) (W.contents file.new.inner)) }
+        × IsMergedFile all numbers (W.contents file.old.writer) (W.contents file.new.writer)) }
     ensures fault { IfErr result (λ fault. IsRightFileFault (map (λ w. w.now) uploads.now)
         (map (D.bytes_under disk.now) (map (λ w. w.now) uploads.now)) fault
         ⊎ IsUnwritten out.entry.now file.new.end fault) }

@@ -2,11 +2,11 @@
 ghost use Rattle.std.specs.Prelude.{◌≡◌, ◌⊎◌, ◌≤◌, ℕ, Bool, List, Option, Some, map};
 ghost use Rattle.std.specs.Prelude.{string_bytes};
 ghost use Rattle.program_manners.specs.LineWritten.{LineWritten};
+ghost use Rattle.program_manners.specs.declared.output.WriteEnd.{WriteEnd as AWriteEnd};
 ghost use Rattle.tool_program.specs.Fault.{IsFaultReported};
 ghost use Rattle.tool_program.specs.Program.{IsDone, IsGivenUp, IsPartlyDone, mistake_line};
 ghost use Rattle.tool_program.specs.Program.{run_of, wrong_date_text};
 ghost use Rattle.tool_program.specs.declared.fault.Fault.TheVariants.{NoMemory};
-ghost use Rattle.tool_program.specs.declared.output.WriteEnd.{WriteEnd as AWriteEnd};
 ghost use Rattle.tool_words.specs.Asked.{asked_by, sort};
 ghost use Rattle.tool_words.specs.Mistakes.{mistake_text};
 ghost use Rattle.tool_words.specs.Tasks.{asked_of, sorting_of};
@@ -24,7 +24,6 @@ use crate::merge::merge_over;
 use crate::merge_ledgers::merge_ledgers_over;
 use crate::merge_sorted::merge_sorted_over;
 use crate::names::Escaped;
-use crate::output::Output;
 use crate::placed::PlacedFiles;
 use crate::sink::Sink;
 use crate::sort::{SortWords, sort_over};
@@ -33,7 +32,7 @@ use crate::split::{SplitWords, split_over};
 use crate::table::table_over;
 use crate::uploads::uploads_over;
 use jiff::Timestamp;
-use program_manners::{Complaints, WrongWord};
+use program_manners::{Complaints, Output, WrongWord};
 use std::alloc::Global;
 use std::hash::RandomState;
 use std::io::Write;
@@ -113,7 +112,7 @@ fn sort_task<R: Threads + Sync, S: Source, D: PlacedFiles, K: Sink, E: Write>(
 }
 
 /// Does what is asked for, and gives the status.
-fn task_over<R: Threads + Sync, S: Source, D: PlacedFiles, K: Sink, W: Write + Drop, E: Write>(
+fn task_over<R: Threads + Sync, S: Source, D: PlacedFiles, K: Sink, W: Write, E: Write>(
     threads: &R,
     alloc: Global,
     seed: RandomState,
@@ -127,18 +126,18 @@ fn task_over<R: Threads + Sync, S: Source, D: PlacedFiles, K: Sink, W: Write + D
 ) -> u8
     ensures done { result ≡ 0 → IsDone (asked_of task.entry) (run_of (S.loaded source.old)
         (S.loaded source.new) (S.refused source.new) (D.bytes_under files.now) (K.made sink.old)
-        (K.made sink.new) (K.unbegun sink.new) (K.failed sink.new) (W.contents out.old.inner)
-        (W.contents out.new.inner) out.new.end out.new.is_flushed (E.contents err.old.writer)
+        (K.made sink.new) (K.unbegun sink.new) (K.failed sink.new) (W.contents out.old.writer)
+        (W.contents out.new.writer) out.new.end out.new.is_flushed (E.contents err.old.writer)
         (E.contents err.new.writer) err.new.failed) (err.new ≡ err.old) }
     ensures partly { result ≡ 3 → IsPartlyDone (asked_of task.entry) (run_of (S.loaded source.old)
         (S.loaded source.new) (S.refused source.new) (D.bytes_under files.now) (K.made sink.old)
-        (K.made sink.new) (K.unbegun sink.new) (K.failed sink.new) (W.contents out.old.inner)
-        (W.contents out.new.inner) out.new.end out.new.is_flushed (E.contents err.old.writer)
+        (K.made sink.new) (K.unbegun sink.new) (K.failed sink.new) (W.contents out.old.writer)
+        (W.contents out.new.writer) out.new.end out.new.is_flushed (E.contents err.old.writer)
         (E.contents err.new.writer) err.new.failed) }
     ensures given_up { result ≡ 1 → IsGivenUp (asked_of task.entry) (run_of (S.loaded source.old)
         (S.loaded source.new) (S.refused source.new) (D.bytes_under files.now) (K.made sink.old)
-        (K.made sink.new) (K.unbegun sink.new) (K.failed sink.new) (W.contents out.old.inner)
-        (W.contents out.new.inner) out.new.end out.new.is_flushed (E.contents err.old.writer)
+        (K.made sink.new) (K.unbegun sink.new) (K.failed sink.new) (W.contents out.old.writer)
+        (W.contents out.new.writer) out.new.end out.new.is_flushed (E.contents err.old.writer)
         (E.contents err.new.writer) err.new.failed) (err.new ≡ err.old) }
     ensures mistaken { (line : List ℕ) → mistake_line (asked_of task.entry) ≡ Some line
         → ((result ≡ 2) × LineWritten (E.contents err.old.writer) (E.contents err.new.writer)
@@ -186,9 +185,9 @@ fn task_over<R: Threads + Sync, S: Source, D: PlacedFiles, K: Sink, W: Write + D
 /// at any offset. Files are made in the sink, text goes to `out`, and mistakes, faults and warnings
 /// to `err`. `seed` is random, so that no file can choose names of devices that are found slowly.
 /// `table` prints the changes of clocks after `moment`, unless the words name another one. Gives
-/// the status: 0 if all is well, 1 after a fault, 2 if the words are no command line, 3 if an upload
-/// has a layout fault and yet all is written.
-pub fn main_over<R: Threads + Sync, S: Source, D: PlacedFiles, K: Sink, W: Write + Drop, E: Write>(
+/// the status: 0 if all is well, 1 after a fault, 2 if the words are no command line, 3 if an
+/// upload has a layout fault and yet all is written.
+pub fn main_over<R: Threads + Sync, S: Source, D: PlacedFiles, K: Sink, W: Write, E: Write>(
     threads: &R,
     alloc: Global,
     seed: RandomState,
@@ -204,8 +203,8 @@ pub fn main_over<R: Threads + Sync, S: Source, D: PlacedFiles, K: Sink, W: Write
     ensures done { Parses (map string_bytes words.now) → result ≡ 0
         → IsDone (asked_by (map string_bytes words.now)) (run_of (S.loaded source.old)
         (S.loaded source.new) (S.refused source.new) (D.bytes_under files.now) (K.made sink.old)
-        (K.made sink.new) (K.unbegun sink.new) (K.failed sink.new) (W.contents out.old.inner)
-        (W.contents out.new.inner) out.new.end out.new.is_flushed (E.contents err.old.writer)
+        (K.made sink.new) (K.unbegun sink.new) (K.failed sink.new) (W.contents out.old.writer)
+        (W.contents out.new.writer) out.new.end out.new.is_flushed (E.contents err.old.writer)
         (E.contents err.new.writer) err.new.failed) (err.new ≡ err.old) }
 
     // Words that are no command line end well only if they ask for help or the version. Nothing is
@@ -217,8 +216,8 @@ pub fn main_over<R: Threads + Sync, S: Source, D: PlacedFiles, K: Sink, W: Write
     ensures partly { Parses (map string_bytes words.now) → result ≡ 3
         → IsPartlyDone (asked_by (map string_bytes words.now)) (run_of (S.loaded source.old)
         (S.loaded source.new) (S.refused source.new) (D.bytes_under files.now) (K.made sink.old)
-        (K.made sink.new) (K.unbegun sink.new) (K.failed sink.new) (W.contents out.old.inner)
-        (W.contents out.new.inner) out.new.end out.new.is_flushed (E.contents err.old.writer)
+        (K.made sink.new) (K.unbegun sink.new) (K.failed sink.new) (W.contents out.old.writer)
+        (W.contents out.new.writer) out.new.end out.new.is_flushed (E.contents err.old.writer)
         (E.contents err.new.writer) err.new.failed) }
 
     // With status 1 the right fault was reported, or the text has the layout fault of an upload.
@@ -226,8 +225,8 @@ pub fn main_over<R: Threads + Sync, S: Source, D: PlacedFiles, K: Sink, W: Write
     ensures given_up { Parses (map string_bytes words.now) → result ≡ 1
         → IsGivenUp (asked_by (map string_bytes words.now)) (run_of (S.loaded source.old)
         (S.loaded source.new) (S.refused source.new) (D.bytes_under files.now) (K.made sink.old)
-        (K.made sink.new) (K.unbegun sink.new) (K.failed sink.new) (W.contents out.old.inner)
-        (W.contents out.new.inner) out.new.end out.new.is_flushed (E.contents err.old.writer)
+        (K.made sink.new) (K.unbegun sink.new) (K.failed sink.new) (W.contents out.old.writer)
+        (W.contents out.new.writer) out.new.end out.new.is_flushed (E.contents err.old.writer)
         (E.contents err.new.writer) err.new.failed) (err.new ≡ err.old)
         ⊎ IsFaultReported NoMemory
         (E.contents err.old.writer) (E.contents err.new.writer) err.new.failed }

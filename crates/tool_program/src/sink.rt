@@ -3,8 +3,8 @@ ghost use Rattle.std.specs.Prelude.{◌≡◌, ◌≢◌, IfErr, None, OnOk, Som
 ghost use Rattle.tool_program.specs.Sink.{IsNotMade, MakesOne};
 ghost use Rattle.tool_program.specs.declared.sink.MakeFault.TheVariants.{Unmade};
 
-use crate::output::{Output, WriteEnd};
 use fare_texts::write_bytes;
+use program_manners::{Output, WriteEnd};
 use sorted_taps::WriteFault;
 use std::alloc::{AllocError, Global};
 use std::io::Write;
@@ -77,7 +77,7 @@ pub trait Sink {
     fn begin(&mut self, alloc: Global, name: &str) -> Result<Output<Self::File>, MakeFault>
         ensures made { made self.new ≡ made self.old }
         ensures empty { IfOk result
-            (λ file. IsEmptyFile (made self.old) (Self.File.contents file.inner)) }
+            (λ file. IsEmptyFile (made self.old) (Self.File.contents file.writer)) }
         ensures failed { IfErr result
             (λ fault. fault ≡ Unmade → IsNotMade (failed self.new) name.now) };
 
@@ -85,7 +85,7 @@ pub trait Sink {
     fn begin_new(&mut self, alloc: Global, name: &str) -> Result<Output<Self::File>, NewFault>
         ensures made { made self.new ≡ made self.old }
         ensures empty { IfOk result
-            (λ file. IsEmptyFile (made self.old) (Self.File.contents file.inner)) }
+            (λ file. IsEmptyFile (made self.old) (Self.File.contents file.writer)) }
         ensures is_new { OnOk result (IsNewName (made self.old) name.now) }
         ensures refused { IfErr result (λ fault. fault ≢ NewFault.NoMemory
             → RefusesNew (unbegun self.new) name.now fault) };
@@ -94,7 +94,7 @@ pub trait Sink {
     /// nothing is left of what was written.
     fn finish(&mut self, name: &str, file: Output<Self::File>) -> Result<(), MakeFault>
         ensures made { OnOk result (MakesOne (made self.old) (made self.new) name.now
-            (Self.File.contents file.inner)) }
+            (Self.File.contents file.writer)) }
         ensures kept { IfErr result (λ _. made self.new ≡ made self.old) }
         ensures failed { IfErr result
             (λ fault. fault ≡ Unmade → IsNotMade (failed self.new) name.now) };

@@ -17,10 +17,9 @@ ghost use Rattle.tool_program.specs.inside.Sort.{HasBytes, IsMakeFault, IsUnwrit
 
 use crate::fault::{Fault, say};
 use crate::names::word_at;
-use crate::output::Output;
 use crate::sink::{MakeFault, Sink, make_file};
 use crate::source::{Source, load_upload};
-use program_manners::Complaints;
+use program_manners::{Complaints, Output};
 use report_texts::{UploadEnd, write_upload};
 use sorted_uploads::sort_uploads;
 use std::alloc::{AllocError, Global};
@@ -81,7 +80,7 @@ fn load_uploads<'a, S: Source>(
 
 /// Writes the taps of the uploads to the file that is to have this name, in canonical order. Gives
 /// how each upload ended.
-fn write_sorted<'a, R: Threads + Sync, W: Write + Drop>(
+fn write_sorted<'a, R: Threads + Sync, W: Write>(
     threads: &R,
     alloc: Global,
     out: &'a str,
@@ -92,7 +91,7 @@ fn write_sorted<'a, R: Threads + Sync, W: Write + Drop>(
         ArePlainEnds (map (λ upload. upload.items) uploads.items) ends.items) }
     ensures sorted { IfOk result (λ ends.
         IsSortedFileOf (map (λ upload. upload.items) uploads.items)
-        (W.contents file.old.inner) (W.contents file.new.inner)) }
+        (W.contents file.old.writer) (W.contents file.new.writer)) }
     ensures fault { IfErr result (IsUnwritten out.entry.now file.new.end) }
 {
     match sort_uploads(threads, alloc, uploads, WORKERS, file) {
@@ -102,7 +101,7 @@ fn write_sorted<'a, R: Threads + Sync, W: Write + Drop>(
 }
 
 /// Loads the uploads and writes their taps to the file.
-fn write_all<'a, R: Threads + Sync, S: Source, W: Write + Drop>(
+fn write_all<'a, R: Threads + Sync, S: Source, W: Write>(
     threads: &R,
     alloc: Global,
     out: &'a str,
@@ -114,7 +113,7 @@ fn write_all<'a, R: Threads + Sync, S: Source, W: Write + Drop>(
         → (bytes : List (List ℕ))
         × HasOpened (map (λ w. w.now) uploads.now) (S.loaded source.old) (S.loaded source.new)
         bytes × ArePlainEnds bytes ends.items
-        × IsSortedFileOf bytes (W.contents file.old.inner) (W.contents file.new.inner)) }
+        × IsSortedFileOf bytes (W.contents file.old.writer) (W.contents file.new.writer)) }
     ensures fault { IfErr result (λ fault. IsRefusal (S.refused source.new)
         (map (λ w. w.now) uploads.now) fault ⊎ IsUnwritten out.entry.now file.new.end fault) }
 {
@@ -184,7 +183,7 @@ pub(crate) fn make_both<'a, K: Sink>(
     ensures some { OnOk result ((bytes : List ℕ)
         × Makes (K.made sink.old) (K.made sink.new) (files_of words.now ends.now bytes)) }
     ensures made { OnOk result ((bytes : List ℕ)
-        → HasBytes (K.made sink.old) (K.File.contents file.inner) bytes
+        → HasBytes (K.made sink.old) (K.File.contents file.writer) bytes
         → Makes (K.made sink.old) (K.made sink.new) (files_of words.now ends.now bytes)) }
     ensures fault { IfErr result (λ fault.
         ((K.made sink.new ≡ K.made sink.old) × ((name : List ℕ)

@@ -18,11 +18,10 @@ ghost use Rattle.tool_program.specs.inside.Split.{HasSplit, IsPartFault, IsSplit
 
 use crate::fault::{Fault, finish, say};
 use crate::names::file_of;
-use crate::output::Output;
 use crate::sink::{MakeFault, Sink};
 use crate::source::{Source, load_upload};
 use fare_texts::write_bytes;
-use program_manners::Complaints;
+use program_manners::{Complaints, Output};
 use report_texts::{UploadEnd, write_upload};
 use sorted_uploads::{PartFiles, Split};
 use std::alloc::{AllocError, Global};
@@ -240,11 +239,11 @@ fn split_and_make<'a, S: Source, K: Sink>(
 }
 
 /// Writes how each upload ends, and lets it go out.
-fn write_ends<'a, W: Write + Drop>(ends: &str, out: &mut Output<W>) -> Result<(), Fault<'a>>
-    ensures written { OnOk result (Appends (W.contents out.old.inner) (W.contents out.new.inner)
+fn write_ends<'a, W: Write>(ends: &str, out: &mut Output<W>) -> Result<(), Fault<'a>>
+    ensures written { OnOk result (Appends (W.contents out.old.writer) (W.contents out.new.writer)
         ends.now) }
-    ensures begun { IfErr result (λ _. Begins (W.contents out.old.inner)
-        (W.contents out.new.inner) ends.now) }
+    ensures begun { IfErr result (λ _. Begins (W.contents out.old.writer)
+        (W.contents out.new.writer) ends.now) }
     ensures fault { IfErr result (λ fault. fault ≡ failed_as out.new.end) }
     ensures flushed { OnOk result (out.new.is_flushed ≡ true) }
 {
@@ -258,7 +257,7 @@ fn write_ends<'a, W: Write + Drop>(ends: &str, out: &mut Output<W>) -> Result<()
 }
 
 /// Splits the uploads, makes the files of all parts, and then writes how each upload ends.
-fn split<'a, S: Source, K: Sink, W: Write + Drop>(
+fn split<'a, S: Source, K: Sink, W: Write>(
     alloc: Global,
     words: &SplitWords<'a>,
     uploads: &[&'a str],
@@ -270,13 +269,13 @@ fn split<'a, S: Source, K: Sink, W: Write + Drop>(
     requires most { words.now.parts ≤ 65536 }
     ensures done { OnOk result ((kept : List Loaded) → S.loaded source.old ≡ Some kept
         → Splits words.now (map (λ w. w.now) uploads.now) (S.loaded source.old)
-        (S.loaded source.new) (K.made sink.old) (K.made sink.new) (W.contents out.old.inner)
-        (W.contents out.new.inner)) }
+        (S.loaded source.new) (K.made sink.old) (K.made sink.new) (W.contents out.old.writer)
+        (W.contents out.new.writer)) }
     ensures fault { IfErr result (λ fault. (kept : List Loaded) → S.loaded source.old ≡ Some kept
         → GivesUpSplit words.now (map (λ w. w.now) uploads.now) (S.loaded source.old)
         (S.loaded source.new) (S.refused source.new) (K.made sink.old) (K.made sink.new)
-        (K.failed sink.new) out.new.end fault (W.contents out.old.inner)
-        (W.contents out.new.inner)) }
+        (K.failed sink.new) out.new.end fault (W.contents out.old.writer)
+        (W.contents out.new.writer)) }
     ensures flushed { OnOk result (out.new.is_flushed ≡ true) }
 {
     let made = split_and_make(alloc, words, uploads, source, sink);
@@ -291,7 +290,7 @@ fn split<'a, S: Source, K: Sink, W: Write + Drop>(
 /// input: makes the file of each part, in their order, and then writes a line for each upload to
 /// `out`, of how it ended. Says a fault on `err`. Gives the status: 0 if the files are made and the
 /// lines are written, 1 after a fault.
-pub fn split_over<S: Source, K: Sink, W: Write + Drop, E: Write>(
+pub fn split_over<S: Source, K: Sink, W: Write, E: Write>(
     alloc: Global,
     words: &SplitWords<'_>,
     uploads: &[&str],
@@ -306,8 +305,8 @@ pub fn split_over<S: Source, K: Sink, W: Write + Drop, E: Write>(
     // line of each upload was written.
     ensures done { (kept : List Loaded) → S.loaded source.old ≡ Some kept → result ≡ 0
         → Splits words.now (map (λ w. w.now) uploads.now) (S.loaded source.old)
-        (S.loaded source.new) (K.made sink.old) (K.made sink.new) (W.contents out.old.inner)
-        (W.contents out.new.inner) }
+        (S.loaded source.new) (K.made sink.old) (K.made sink.new) (W.contents out.old.writer)
+        (W.contents out.new.writer) }
     // And all that was written was flushed.
     ensures flushed { result ≡ 0 → out.new.is_flushed ≡ true }
     // With status 1 the line of a fault was reported, which is the right one.
@@ -316,8 +315,8 @@ pub fn split_over<S: Source, K: Sink, W: Write + Drop, E: Write>(
         × ((kept : List Loaded) → S.loaded source.old ≡ Some kept
         → GivesUpSplit words.now (map (λ w. w.now) uploads.now) (S.loaded source.old)
         (S.loaded source.new) (S.refused source.new) (K.made sink.old) (K.made sink.new)
-        (K.failed sink.new) out.new.end fault (W.contents out.old.inner)
-        (W.contents out.new.inner)) }
+        (K.failed sink.new) out.new.end fault (W.contents out.old.writer)
+        (W.contents out.new.writer)) }
     // Nothing is said beside whole files.
     ensures quiet { result ≡ 0 → err.new ≡ err.old }
     ensures status { result ≤ 1 }

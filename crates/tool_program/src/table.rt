@@ -18,12 +18,11 @@ mod understood;
 
 use crate::fault::{Fault, finish, say};
 use crate::names::Name;
-use crate::output::Output;
 use crate::source::{Source, load_all};
 use fare_table::FareTable;
 use following::{joined, spans_of};
 use jiff::Timestamp;
-use program_manners::Complaints;
+use program_manners::{Complaints, Output};
 use seen::seen_in;
 use std::alloc::{AllocError, Global};
 use std::io::Write;
@@ -55,7 +54,7 @@ fn is_well(are_uploads_well: bool, is_silent: bool, is_strict: bool) -> bool
 
 /// Writes what the tables of these files are understood as, which are valid at these moments, and
 /// reports their warnings and the layout faults of uploads. Says whether all is well.
-fn write_understood<'a, S: Source, W: Write + Drop, E: Write>(
+fn write_understood<'a, S: Source, W: Write, E: Write>(
     alloc: Global,
     question: &TableQuestion<'a>,
     now: Timestamp,
@@ -68,8 +67,8 @@ fn write_understood<'a, S: Source, W: Write + Drop, E: Write>(
 ) -> Result<bool, Stopped<'a>>
     requires { length tables.now ≡ length spans.now }
     ensures done { IfOk result (λ well. WritesAll question.now tables.now spans.now
-        (S.loaded source.old) (S.loaded source.new) (W.contents out.old.inner)
-        (W.contents out.new.inner) (E.contents err.old.writer) (E.contents err.new.writer)
+        (S.loaded source.old) (S.loaded source.new) (W.contents out.old.writer)
+        (W.contents out.new.writer) (E.contents err.old.writer) (E.contents err.new.writer)
         err.new.failed well (err.new ≡ err.old)) }
     ensures stops { IfErr result (λ stopped. StopsWriting question.now tables.now
         (S.loaded source.old) (S.loaded source.new) (S.refused source.new) out.new.end stopped) }
@@ -126,7 +125,7 @@ fn fares_of<'a, E: Write>(
 
 /// Writes what the texts of these files are understood as, or reports why one is no table, or why
 /// they cannot follow one another. Says whether all is well.
-fn write_texts<'a, S: Source, W: Write + Drop, E: Write>(
+fn write_texts<'a, S: Source, W: Write, E: Write>(
     alloc: Global,
     question: &TableQuestion<'a>,
     now: Timestamp,
@@ -140,7 +139,7 @@ fn write_texts<'a, S: Source, W: Write + Drop, E: Write>(
     ensures done { IfOk result (λ well. (loaded : Option (List Loaded))
         → HasOpened (files_of (tables_asked question.now)) loaded (S.loaded source.old)
         (map (λ t. t.items) texts.now) → EndsAs question.now loaded (S.loaded source.new)
-        (W.contents out.old.inner) (W.contents out.new.inner) (E.contents err.old.writer)
+        (W.contents out.old.writer) (W.contents out.new.writer) (E.contents err.old.writer)
         (E.contents err.new.writer) err.new.failed well (err.new ≡ err.old)) }
     ensures stops { IfErr result (λ stopped. (loaded : Option (List Loaded))
         → HasOpened (files_of (tables_asked question.now)) loaded (S.loaded source.old)
@@ -165,7 +164,7 @@ fn write_texts<'a, S: Source, W: Write + Drop, E: Write>(
 
 /// Loads the tables and the uploads, and writes what the tables are understood as, or reports why
 /// they are none. Says whether all is well.
-fn load_and_write<'a, S: Source, W: Write + Drop, E: Write>(
+fn load_and_write<'a, S: Source, W: Write, E: Write>(
     alloc: Global,
     question: &TableQuestion<'a>,
     now: Timestamp,
@@ -174,7 +173,7 @@ fn load_and_write<'a, S: Source, W: Write + Drop, E: Write>(
     err: &mut Complaints<E>,
 ) -> Result<bool, Stopped<'a>>
     ensures done { IfOk result (λ well. EndsAs question.now (S.loaded source.old)
-        (S.loaded source.new) (W.contents out.old.inner) (W.contents out.new.inner)
+        (S.loaded source.new) (W.contents out.old.writer) (W.contents out.new.writer)
         (E.contents err.old.writer) (E.contents err.new.writer) err.new.failed well
         (err.new ≡ err.old)) }
     ensures stops { IfErr result (λ stopped. StopsTable question.now (S.loaded source.old)
@@ -215,7 +214,7 @@ fn say_stopped<E: Write>(err: &mut Complaints<E>, word: &str, stopped: Stopped<'
 /// the layout faults of the uploads are. If a text is no table, or cannot follow those before it,
 /// only that is reported. Changes of clocks are those after `now`, unless the words name a moment.
 /// Gives the status: 0 if all is well, else 1.
-pub fn table_over<S: Source, W: Write + Drop, E: Write>(
+pub fn table_over<S: Source, W: Write, E: Write>(
     alloc: Global,
     question: &TableQuestion<'_>,
     now: Timestamp,
@@ -227,7 +226,7 @@ pub fn table_over<S: Source, W: Write + Drop, E: Write>(
     // follow one another, and no upload has a layout fault. Nothing is to be warned of, and nothing
     // was reported; or there was a warning that is no fault.
     ensures done { result ≡ 0 → EndsWell question.now (S.loaded source.old) (S.loaded source.new)
-        (W.contents out.old.inner) (W.contents out.new.inner) (E.contents err.old.writer)
+        (W.contents out.old.writer) (W.contents out.new.writer) (E.contents err.old.writer)
         (E.contents err.new.writer) err.new.failed (err.new ≡ err.old) }
     // And all that was written was flushed.
     ensures flushed { result ≡ 0 → out.new.is_flushed ≡ true }
@@ -235,7 +234,7 @@ pub fn table_over<S: Source, W: Write + Drop, E: Write>(
     // layout fault, all that was written was flushed.
     ensures faults { result ≡ 1 → EndsIll question.now (S.loaded source.old)
         (S.loaded source.new) (S.refused source.new) out.new.end out.new.is_flushed
-        (W.contents out.old.inner) (W.contents out.new.inner) (E.contents err.old.writer)
+        (W.contents out.old.writer) (W.contents out.new.writer) (E.contents err.old.writer)
         (E.contents err.new.writer) err.new.failed }
     ensures status { result ≤ 1 }
 {

@@ -6,8 +6,8 @@ ghost use Rattle.tool_program.specs.UploadTokens.{tokens_line, tokens_lines};
 ghost use Rattle.tool_program.specs.declared.fault.Fault.TheVariants.{NoMemory as AMemoryFault};
 
 use crate::fault::Fault;
-use crate::output::Output;
 use fare_texts::write_bytes;
+use program_manners::Output;
 use std::alloc::{AllocError, Global};
 use std::io::Write;
 use upload_checks::{CommonCounts, CommonTokens};
@@ -63,17 +63,17 @@ pub(crate) fn tokens_text(alloc: Global, counts: &[CommonCounts]) -> Result<Stri
 
 /// Writes how many tokens each upload has, and how many of these another one has, too, if they are
 /// counted.
-pub(crate) fn write_tokens<'a, W: Write + Drop>(
+pub(crate) fn write_tokens<'a, W: Write>(
     alloc: Global,
     tokens: &Option<CommonTokens>,
     out: &mut Output<W>,
 ) -> Result<(), Fault<'a>>
     ensures written { OnOk result ((uploads : List (List ℕ)) → HasTokensIf tokens.now uploads
-        → WritesTokensIf (is_some tokens.now) uploads (W.contents out.old.inner)
-        (W.contents out.new.inner)) }
+        → WritesTokensIf (is_some tokens.now) uploads (W.contents out.old.writer)
+        (W.contents out.new.writer)) }
     ensures stops { IfErr result (λ fault. (uploads : List (List ℕ))
         → HasTokensIf tokens.now uploads → StopsTokens (is_some tokens.now) uploads out.new.end
-        fault (W.contents out.old.inner) (W.contents out.new.inner)) }
+        fault (W.contents out.old.writer) (W.contents out.new.writer)) }
 {
     let Some(tokens) = tokens else {
         return Ok(());

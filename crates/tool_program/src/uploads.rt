@@ -12,11 +12,10 @@ ghost use Rattle.tool_program.specs.inside.Uploads.{ListsOne, StopsListing};
 use crate::fault::{Fault, finish_after, say};
 use crate::layout::{AtTap, Cause, Remedy};
 use crate::names::Name;
-use crate::output::Output;
 use crate::source::{Source, load_upload};
 use crate::upload_tokens::{add_tokens, no_tokens, write_tokens};
 use fare_texts::{write_bytes, write_moment};
-use program_manners::Complaints;
+use program_manners::{Complaints, Output};
 use std::alloc::{AllocError, Global};
 use std::io::Write;
 use tap_views::{Facts, facts_of};
@@ -85,7 +84,7 @@ pub(crate) struct LoadedUpload {
 }
 
 /// Writes the lines of the upload that the word names, which has this number.
-pub(crate) fn list_one<'a, S: Source, W: Write + Drop>(
+pub(crate) fn list_one<'a, S: Source, W: Write>(
     alloc: Global,
     number: usize,
     word: &'a str,
@@ -93,11 +92,11 @@ pub(crate) fn list_one<'a, S: Source, W: Write + Drop>(
     out: &mut Output<W>,
 ) -> Result<LoadedUpload, Fault<'a>>
     ensures done { IfOk result (λ one. ListsOne number word.entry.now (S.loaded source.old)
-        (S.loaded source.new) (W.contents out.old.inner) (W.contents out.new.inner)
+        (S.loaded source.new) (W.contents out.old.writer) (W.contents out.new.writer)
         one.bytes.items one.is_sound) }
     ensures stops { IfErr result (λ fault. StopsListing number word.entry.now
         (S.loaded source.old) (S.loaded source.new) (S.refused source.new) out.new.end fault
-        (W.contents out.old.inner) (W.contents out.new.inner)) }
+        (W.contents out.old.writer) (W.contents out.new.writer)) }
 {
     let bytes = load_upload(alloc, source, word)?;
     let facts = facts_of(&bytes);
@@ -113,7 +112,7 @@ pub(crate) fn list_one<'a, S: Source, W: Write + Drop>(
 
 /// Writes the lines of the uploads that the words name, in their order, and adds their tokens, if
 /// these are counted. Says whether none has a layout fault.
-fn list_each<'a, S: Source, W: Write + Drop>(
+fn list_each<'a, S: Source, W: Write>(
     alloc: Global,
     words: &[&'a str],
     tokens: &mut Option<CommonTokens>,
@@ -123,12 +122,12 @@ fn list_each<'a, S: Source, W: Write + Drop>(
     ensures counted { is_some tokens.new ≡ is_some tokens.old }
     ensures done { IfOk result (λ well. (listed : List Listed)
         × ListsUploads (map (λ w. w.now) words.now) (S.loaded source.old) (S.loaded source.new)
-        (W.contents out.old.inner) (W.contents out.new.inner) listed
+        (W.contents out.old.writer) (W.contents out.new.writer) listed
         × (well ≡ are_sound listed)
         × (HasTokensIf tokens.old [] → HasTokensIf tokens.new (listed_uploads listed))) }
     ensures stops { IfErr result (λ fault. GivesUpUploads (map (λ w. w.now) words.now)
         (S.loaded source.old) (S.refused source.new) out.new.end fault
-        (W.contents out.old.inner) (W.contents out.new.inner)) }
+        (W.contents out.old.writer) (W.contents out.new.writer)) }
 {
     let mut is_well = true;
     for (number, word) in words.iter().enumerate() {
@@ -141,7 +140,7 @@ fn list_each<'a, S: Source, W: Write + Drop>(
 }
 
 /// The same, and then the lines of the tokens, if these are counted.
-fn list_all<'a, S: Source, W: Write + Drop>(
+fn list_all<'a, S: Source, W: Write>(
     alloc: Global,
     words: &[&'a str],
     has_tokens: bool,
@@ -150,11 +149,11 @@ fn list_all<'a, S: Source, W: Write + Drop>(
 ) -> Result<bool, Fault<'a>>
     ensures done { IfOk result (λ well. (listed : List Listed)
         × ListsWith has_tokens (map (λ w. w.now) words.now) (S.loaded source.old)
-        (S.loaded source.new) (W.contents out.old.inner) (W.contents out.new.inner) listed
+        (S.loaded source.new) (W.contents out.old.writer) (W.contents out.new.writer) listed
         × (well ≡ are_sound listed)) }
     ensures stops { IfErr result (λ fault. GivesUpWith has_tokens (map (λ w. w.now) words.now)
         (S.loaded source.old) (S.refused source.new) out.new.end fault
-        (W.contents out.old.inner) (W.contents out.new.inner)) }
+        (W.contents out.old.writer) (W.contents out.new.writer)) }
 {
     let mut tokens = no_tokens(alloc, has_tokens);
     let listed = list_each(alloc, words, &mut tokens, source, out);
@@ -168,7 +167,7 @@ fn list_all<'a, S: Source, W: Write + Drop>(
 /// of each, in their order; and if `has_tokens` is set, then a line for each, of how many different
 /// tokens it has and how many of these another one has, too. A fault that ends it is reported on
 /// `err`. Gives the status: 0 if all is written and no upload has a layout fault, else 1.
-pub fn uploads_over<S: Source, W: Write + Drop, E: Write>(
+pub fn uploads_over<S: Source, W: Write, E: Write>(
     alloc: Global,
     words: &[&str],
     has_tokens: bool,
@@ -180,7 +179,7 @@ pub fn uploads_over<S: Source, W: Write + Drop, E: Write>(
     // written, and of their tokens, if these are counted. None has a layout fault.
     ensures done { result ≡ 0 → (listed : List Listed)
         × ListsWith has_tokens (map (λ w. w.now) words.now) (S.loaded source.old)
-        (S.loaded source.new) (W.contents out.old.inner) (W.contents out.new.inner) listed
+        (S.loaded source.new) (W.contents out.old.writer) (W.contents out.new.writer) listed
         × (are_sound listed ≡ true) }
     // And all that was written was flushed.
     ensures flushed { result ≡ 0 → out.new.is_flushed ≡ true }
@@ -189,12 +188,12 @@ pub fn uploads_over<S: Source, W: Write + Drop, E: Write>(
     // With status 1 all lines were written and flushed, also that of a layout fault, and nothing
     // was reported; or a fault ended it, which was reported and is the right one.
     ensures faults { result ≡ 1 → (ListsFaulty has_tokens (map (λ w. w.now) words.now)
-        (S.loaded source.old) (S.loaded source.new) (W.contents out.old.inner)
-        (W.contents out.new.inner) × (out.new.is_flushed ≡ true) × (err.new ≡ err.old))
+        (S.loaded source.old) (S.loaded source.new) (W.contents out.old.writer)
+        (W.contents out.new.writer) × (out.new.is_flushed ≡ true) × (err.new ≡ err.old))
         ⊎ ((fault : AFault)
         × GivesUpWith has_tokens (map (λ w. w.now) words.now) (S.loaded source.old)
-        (S.refused source.new) out.new.end fault (W.contents out.old.inner)
-        (W.contents out.new.inner) × IsFaultReported fault (E.contents err.old.writer)
+        (S.refused source.new) out.new.end fault (W.contents out.old.writer)
+        (W.contents out.new.writer) × IsFaultReported fault (E.contents err.old.writer)
         (E.contents err.new.writer) err.new.failed) }
     ensures status { result ≤ 1 }
 {

@@ -1,9 +1,10 @@
 -- Fault: what private functions alone cite.
-use Rattle.std.specs.Prelude.{◌≡◌, ◌++◌, ℕ, List, MatchOption, codes}
+use Rattle.std.specs.Prelude.{◌≡◌, ◌++◌, ℕ, List, MatchOption, None, Option, codes}
 use Rattle.fare_table.specs.declared.fault.TableFault.{TableFault}
 use Rattle.program_manners.specs.Lines.{load_text, table_text}
 use Rattle.program_manners.specs.TableWords.{date_text}
 use Rattle.program_manners.specs.declared.loading.LoadFault.{LoadFault}
+use Rattle.program_manners.specs.declared.output.WriteEnd.{WriteEnd}
 use Rattle.fare_program.specs.Fault.{fault_text, mistake, status_of, wrong_date}
 use Rattle.fare_program.specs.Options.{Asked}
 use Rattle.fare_program.specs.declared.fault.Fault.{Fault}
@@ -16,6 +17,12 @@ use Rattle.fare_program.specs.declared.fault.Fault.TheVariants.{Uploads, Gather,
 abbrev pub printed_as : PrintFault → Fault
 printed_as print.Write = Write
 printed_as print.NoMemory = NoMemory
+
+-- What is reported of a fault of the output that remembers this of its writes: if it remembers none
+-- that failed, a write is reported as refused memory.
+abbrev pub as_remembered : Option WriteEnd → Fault → Fault
+as_remembered None Write = NoMemory
+as_remembered end fault = fault
 
 -- why a run over this number of uploads came to nothing: there were too many of them, or memory or
 -- the gathering failed

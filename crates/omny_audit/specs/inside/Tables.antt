@@ -6,6 +6,7 @@ use Rattle.fare_table.specs.declared.fault.TableFault.TheVariants as table
 use Rattle.program_manners.specs.Loads.{Loaded}
 use Rattle.program_manners.specs.TableWords.{TableNames, file_named}
 use Rattle.program_manners.specs.declared.loading.LoadFault.{LoadFault}
+use Rattle.program_manners.specs.declared.output.WriteEnd.{WriteEnd}
 use Rattle.program_manners.specs.declared.following.NextFault.{NextFault}
 use Rattle.program_manners.specs.declared.following.NextFault.TheVariants as next
 use Rattle.settled_texts.specs.declared.class_names.ClassFault.TheVariants as class
@@ -15,11 +16,13 @@ use Rattle.omny_audit.specs.declared.fault.Fault.{Fault}
 use Rattle.omny_audit.specs.declared.fault.Fault.TheVariants.{ClassName, Follow, NamedClass}
 use Rattle.omny_audit.specs.declared.fault.Fault.TheVariants.{NamedTable, NoMemory, Table}
 
--- The fault of tables that are loaded: the right one, whichever ledger would be read behind them.
+-- The fault of tables that are loaded: the right one, whichever ledger would be read behind them,
+-- and whatever the output remembers.
 abbrev pub IsTablesFault : TableNames → Option (List Loaded) → Option (List Loaded)
     → Option (Option (List ℕ) × LoadFault) → Fault → Type 0
-IsTablesFault tables loaded loaded' refused fault = (ledger : Option (List ℕ))
-    → IsRightFault tables ledger loaded loaded' refused fault
+IsTablesFault tables loaded loaded' refused fault =
+    (ledger : Option (List ℕ)) (remembered : Option WriteEnd)
+    → IsRightFault tables ledger loaded loaded' refused remembered fault
 
 -- the fault of a table's text, by its file's name if it is not the only table
 abbrev pub IsRightNamed : List ℕ → Bool → TableFault → Fault → Type 0

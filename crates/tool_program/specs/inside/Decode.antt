@@ -4,6 +4,7 @@ use Rattle.std.specs.Io.KnownBytes.{Appends, Keeps}
 use Rattle.fare_texts.specs.WrittenOut.{Begins}
 use Rattle.program_manners.specs.Loads.{Loaded, LoadsOne}
 use Rattle.program_manners.specs.declared.loading.LoadFault.{LoadFault}
+use Rattle.program_manners.specs.declared.output.WriteEnd.{WriteEnd}
 use Rattle.tap_rows.specs.declared.fault.RowsFault.{RowsFault}
 use Rattle.tap_rows.specs.declared.fault.RowsFault.TheVariants as rows
 use Rattle.tap_views.specs.declared.fault.LayoutFault.{LayoutFault}
@@ -15,7 +16,6 @@ use Rattle.tool_program.specs.Names.{file_named}
 use Rattle.tool_program.specs.Source.{HasOpened}
 use Rattle.tool_program.specs.declared.fault.Fault.{Fault}
 use Rattle.tool_program.specs.declared.fault.Fault.TheVariants.{NoMemory}
-use Rattle.tool_program.specs.declared.output.WriteEnd.{WriteEnd}
 
 -- the fault of a decoding that a writer stopped, as it remembers its writes, or want of memory
 abbrev pub IsOfWriting : Option WriteEnd → Fault → Type 0

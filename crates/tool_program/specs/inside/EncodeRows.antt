@@ -3,6 +3,7 @@ use Rattle.std.specs.Prelude.{◌≡◌, ◌≢◌, ◌⊎◌, ⊤, ℕ, List, [
 use Rattle.std.specs.Io.KnownBytes.{Keeps}
 use Rattle.program_manners.specs.Loads.{Loaded}
 use Rattle.program_manners.specs.declared.loading.LoadFault.{LoadFault}
+use Rattle.program_manners.specs.declared.output.WriteEnd.{WriteEnd}
 use Rattle.tap_rows.specs.Agencies.{IsRowsEncoded}
 use Rattle.tap_rows.specs.Devices.{AreDevices, Device}
 use Rattle.tap_rows.specs.declared.agency.choice.Choice.{Choice}
@@ -21,7 +22,6 @@ use Rattle.tool_words.specs.declared.task.RowsWords.{RowsWords}
 use Rattle.tool_program.specs.declared.fault.Fault.{Fault}
 use Rattle.tool_program.specs.declared.fault.Fault.TheVariants.{Devices, Exists, NoMemory, Rows}
 use Rattle.tool_program.specs.declared.fault.Fault.TheVariants.{SomeChanged, Unmade, Unread, Write}
-use Rattle.tool_program.specs.declared.output.WriteEnd.{WriteEnd}
 use Rattle.tool_program.specs.declared.sink.MakeFault.{MakeFault}
 use Rattle.tool_program.specs.declared.sink.MakeFault.TheVariants as make
 use Rattle.tool_program.specs.declared.sink.NewFault.{NewFault}

@@ -7,13 +7,13 @@ use Rattle.ledger_changes.specs.declared.fault.CorrectionsFault.TheVariants as c
 use Rattle.part_reports.specs.declared.fault.MergeFault.{MergeFault}
 use Rattle.part_reports.specs.declared.fault.MergeFault.TheVariants as merge
 use Rattle.part_reports.specs.declared.fault.Wrong.TheVariants as wrong
+use Rattle.program_manners.specs.declared.output.WriteEnd.{WriteEnd}
 use Rattle.tap_rows.specs.declared.fault.RowsFault.{RowsFault}
 use Rattle.tap_rows.specs.declared.fault.RowsFault.TheVariants as rows
 use Rattle.tool_program.specs.Fault.{failed_as}
 use Rattle.tool_program.specs.declared.fault.Fault.{Fault}
 use Rattle.tool_program.specs.declared.fault.Fault.TheVariants.{Line, NoMemory, Taps, Unread}
 use Rattle.tool_program.specs.declared.fault.Fault.TheVariants.{Changed, TapTable, Unsettled}
-use Rattle.tool_program.specs.declared.output.WriteEnd.{WriteEnd}
 use Rattle.tool_program.specs.declared.wrong_tables.WrongTapTable.TheVariants as table
 
 -- The second fault is the first one, with the word at the place of the text in place of its number.

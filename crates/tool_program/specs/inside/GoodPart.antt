@@ -1,8 +1,8 @@
 -- Files that are written: what private functions alone cite.
 use Rattle.std.specs.Prelude.{Option, None, Some}
+use Rattle.program_manners.specs.declared.output.WriteEnd.{WriteEnd}
 use Rattle.tool_program.specs.declared.fault.Fault.{Fault}
 use Rattle.tool_program.specs.declared.fault.Fault.TheVariants.{NoMemory, Write}
-use Rattle.tool_program.specs.declared.output.WriteEnd.{WriteEnd}
 
 -- The fault of the writer of a file, which nobody reads, as it remembers its writes. If it
 -- remembers none that failed, the fault is that memory was refused.

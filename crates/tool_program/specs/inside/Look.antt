@@ -7,6 +7,7 @@ use Rattle.fare_table.specs.declared.fault.TableFault.{TableFault}
 use Rattle.fare_texts.specs.WrittenOut.{Begins}
 use Rattle.program_manners.specs.Loads.{Loaded, LoadsOne}
 use Rattle.program_manners.specs.declared.loading.LoadFault.{LoadFault}
+use Rattle.program_manners.specs.declared.output.WriteEnd.{WriteEnd}
 use Rattle.tap_views.specs.declared.facts.Facts.{Facts}
 use Rattle.tool_program.specs.Decode.{AreReported, IsRightDecodeFault, IsWrittenUpTo}
 use Rattle.tool_program.specs.Fault.{IsRefusal}
@@ -19,7 +20,6 @@ use Rattle.tool_program.specs.Uploads.{Listed, listed_text, listed_uploads, list
 use Rattle.tool_program.specs.declared.fault.Fault.{Fault}
 use Rattle.tool_program.specs.declared.fault.Fault.TheVariants.{FareTable, NoMemory}
 use Rattle.tool_words.specs.declared.task.LookWords.{LookWords}
-use Rattle.tool_program.specs.declared.output.WriteEnd.{WriteEnd}
 use Rattle.tool_program.specs.inside.Decode.{IsOfWriting}
 
 -- what is written of an upload that has this number and these facts was written

@@ -4,12 +4,12 @@ use Rattle.report_texts.specs.declared.upload_end.UploadEnd.{UploadEnd}
 use Rattle.sorted_taps.specs.declared.fault.SortedFault.{SortedFault}
 use Rattle.sorted_taps.specs.declared.fault.SortedFault.TheVariants as sorted
 use Rattle.program_manners.specs.Refusals.{IsOneOf}
+use Rattle.program_manners.specs.declared.output.WriteEnd.{WriteEnd}
 use Rattle.tool_program.specs.Sink.{Made}
 use Rattle.tool_program.specs.Sort.{refused_line}
 use Rattle.tool_program.specs.declared.fault.Fault.{Fault}
 use Rattle.tool_program.specs.declared.fault.Fault.TheVariants.{Layout, NoMemory, OutOfOrder}
 use Rattle.tool_program.specs.declared.fault.Fault.TheVariants.{TooManyOpen, Unmade, Unread}
-use Rattle.tool_program.specs.declared.output.WriteEnd.{WriteEnd}
 use Rattle.tool_program.specs.declared.sink.MakeFault.{MakeFault}
 use Rattle.tool_program.specs.declared.sink.MakeFault.TheVariants as make
 

@@ -11,6 +11,7 @@ use Rattle.program_manners.specs.Loads.{Loaded, LoadsOne}
 use Rattle.program_manners.specs.declared.following.NextFault.{NextFault}
 use Rattle.program_manners.specs.declared.following.NextFault.TheVariants.{Follow, Table}
 use Rattle.program_manners.specs.declared.loading.LoadFault.{LoadFault}
+use Rattle.program_manners.specs.declared.output.WriteEnd.{WriteEnd}
 use Rattle.table_report.specs.ReadTable.{IsFareTable, IsReadFrom, ReadTable}
 use Rattle.table_report.specs.SeenValidators.{AddsValidators}
 use Rattle.table_report.specs.SqlText.{has_names_in_line}
@@ -26,7 +27,6 @@ use Rattle.tool_program.specs.Table.{IsNoNext, IsRightTableFault, LoadsBoth, Loa
 use Rattle.tool_program.specs.Table.{RefusesLater, RefusesNext, RefusesText}
 use Rattle.tool_program.specs.Table.{checked_lines, checked_uploads, files_of, have_no_fault}
 use Rattle.tool_program.specs.Table.{sql_name_text, sql_of, tables_asked, uploads_asked}
-use Rattle.tool_program.specs.declared.output.WriteEnd.{WriteEnd}
 use Rattle.tool_program.specs.declared.table.seen.SeenAt.{SeenAt}
 use Rattle.tool_words.specs.declared.task.TableQuestion.{TableQuestion}
 use Rattle.tool_program.specs.declared.table.understood.Stopped.{Stopped}

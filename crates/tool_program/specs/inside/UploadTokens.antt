@@ -1,9 +1,9 @@
 -- The tokens of uploads, if they are counted: what private functions alone cite.
 use Rattle.std.specs.Prelude.{⊤, ℕ, Bool, true, false, List, Option, None, Some}
 use Rattle.std.specs.Io.KnownBytes.{Keeps}
+use Rattle.program_manners.specs.declared.output.WriteEnd.{WriteEnd}
 use Rattle.tool_program.specs.UploadTokens.{BreaksOffTokens, WritesTokens}
 use Rattle.tool_program.specs.declared.fault.Fault.{Fault}
-use Rattle.tool_program.specs.declared.output.WriteEnd.{WriteEnd}
 use Rattle.upload_checks.specs.CommonTokens.{HasTokensOf}
 use Rattle.upload_checks.specs.declared.common_tokens.CommonTokens.{CommonTokens}
 

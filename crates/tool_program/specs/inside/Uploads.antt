@@ -4,11 +4,11 @@ use Rattle.std.specs.Io.KnownBytes.{Appends, Keeps}
 use Rattle.fare_texts.specs.WrittenOut.{Begins}
 use Rattle.program_manners.specs.Loads.{Loaded, LoadsOne}
 use Rattle.program_manners.specs.declared.loading.LoadFault.{LoadFault}
+use Rattle.program_manners.specs.declared.output.WriteEnd.{WriteEnd}
 use Rattle.tool_program.specs.Fault.{IsRefusal}
 use Rattle.tool_program.specs.Names.{file_named}
 use Rattle.tool_program.specs.Uploads.{IsUploadText, Listed}
 use Rattle.tool_program.specs.declared.fault.Fault.{Fault}
-use Rattle.tool_program.specs.declared.output.WriteEnd.{WriteEnd}
 use Rattle.tool_program.specs.inside.Decode.{IsOfWriting}
 
 -- the upload of the word was loaded, with these bytes, and its lines were written; whether it has

@@ -8,11 +8,10 @@ ghost use Rattle.tool_program.specs.inside.Table.{IsWarnedOf};
 
 use crate::fault::Fault;
 use crate::names::{Name, word_at};
-use crate::output::Output;
 use crate::table::lines::say_lines;
 use crate::table::seen::{SeenAt, seen_at};
 use jiff::Timestamp;
-use program_manners::Complaints;
+use program_manners::{Complaints, Output};
 use std::alloc::{AllocError, Global};
 use std::io::Write;
 use table_report::{ReportFault, SeenValidators, TableText, Wanted};
@@ -41,7 +40,7 @@ impl From<AllocError> for Stopped<'_> {
 
 /// Writes what the table is understood as that is valid at these moments, whose file has this word,
 /// and reports its warnings. Says whether there is none. `place` is its place, from 0.
-fn write_at<'a, W: Write + Drop, E: Write>(
+fn write_at<'a, W: Write, E: Write>(
     alloc: Global,
     question: &TableQuestion<'_>,
     now: Timestamp,
@@ -53,8 +52,8 @@ fn write_at<'a, W: Write + Drop, E: Write>(
     out: &mut Output<W>,
     err: &mut Complaints<E>,
 ) -> Result<bool, Stopped<'a>>
-    ensures sql { OnOk result (question.now.is_sql ≡ true → Appends (W.contents out.old.inner)
-        (W.contents out.new.inner) (sql_text table.now.fares)) }
+    ensures sql { OnOk result (question.now.is_sql ≡ true → Appends (W.contents out.old.writer)
+        (W.contents out.new.writer) (sql_text table.now.fares)) }
     ensures warned { IfOk result (λ silent. IsWarnedOf silent table.now
         (option_map (λ s. s.now) seen.entry) (err.new ≡ err.old)
         (HasReported (E.contents err.old.writer) (E.contents err.new.writer) err.new.failed)) }
@@ -85,7 +84,7 @@ fn write_at<'a, W: Write + Drop, E: Write>(
 
 /// Writes what the tables of these files are understood as, each at its moments, and reports their
 /// warnings. Says whether there is none.
-pub(crate) fn write_tables<'a, W: Write + Drop, E: Write>(
+pub(crate) fn write_tables<'a, W: Write, E: Write>(
     alloc: Global,
     question: &TableQuestion<'_>,
     now: Timestamp,
@@ -97,8 +96,8 @@ pub(crate) fn write_tables<'a, W: Write + Drop, E: Write>(
     err: &mut Complaints<E>,
 ) -> Result<bool, Stopped<'a>>
     requires { length tables.now ≡ length spans.now }
-    ensures sql { OnOk result (question.now.is_sql ≡ true → Appends (W.contents out.old.inner)
-        (W.contents out.new.inner) (sql_of tables.now)) }
+    ensures sql { OnOk result (question.now.is_sql ≡ true → Appends (W.contents out.old.writer)
+        (W.contents out.new.writer) (sql_of tables.now)) }
     ensures warned { IfOk result (λ silent. AreWarnedSoFar silent tables.now seen.now
         (err.new ≡ err.old) (HasReported (E.contents err.old.writer) (E.contents err.new.writer)
         err.new.failed)) }

@@ -1,21 +1,24 @@
 use Rattle.std.proofs.Common.{◌≡◌, ◌∙◌, ◌++◌, ℕ, Bool, List, None, Option, Some, arith, codes, inl}
-use Rattle.std.proofs.Common.{inr, map, refl, subst, sym, true, ⊎_elim}
-use Rattle.fare_program.specs.Begun.{AreOfBytes, HasBegun}
-use Rattle.fare_program.specs.Program.{Does}
-use Rattle.clap.specs.Words.{IsAmong, kind_of}
-use Rattle.fare_program.specs.declared.fault.Fault.{Fault}
-use Rattle.fare_program.specs.declared.fault.Fault.TheVariants.{Late, NoMemory, Write}
-use Rattle.fare_program.proofs.Finished.{does_kept}
-use Rattle.fare_program.proofs.WritesFailed.{begun_done}
-use Rattle.std.specs.Prelude.{MatchOption, string_bytes}
-use Rattle.program_manners.specs.TableWords.{date_text}
-use Rattle.program_manners.specs.declared.table_words.DateFault.{DateFault}
-use Rattle.fare_program.specs.Fault.{IsLate, fault_text, mistake, status_of, wrong_date}
-use Rattle.fare_program.specs.inside.Fault.{IsWhyOf}
+use Rattle.std.proofs.Common.{inr, map, refl, subst, sym, true}
+use Rattle.std.specs.Prelude.{◌≢◌, MatchOption, string_bytes}
+use Rattle.clap.specs.Words.{IsAmong, Text, fault_of, kind_of}
+use Rattle.clap.specs.declared.error.kind.ErrorKind.{ErrorKind}
+use Rattle.fare_program.specs.Begun.{AreOfBytes, HasBegun, IsLeftBy}
 use Rattle.fare_program.specs.Causes.{IsRightFault}
-use Rattle.fare_program.specs.Options.{Asked, asked_by}
+use Rattle.fare_program.specs.Fault.{IsLate, fault_text, mistake, status_of, wrong_date}
+use Rattle.fare_program.specs.Options.{Asked, AsksForText, asked_by, program}
+use Rattle.fare_program.specs.Program.{Does}
+use Rattle.fare_program.specs.declared.fault.Fault.{Fault}
+use Rattle.fare_program.specs.declared.fault.Fault.TheVariants.{Late, Write}
+use Rattle.fare_program.specs.inside.Fault.{IsWhyOf}
 use Rattle.fare_program.specs.inside.Options.{asked_of}
-use Rattle.fare_program.proofs.Causes.{output_is_right}
+use Rattle.fare_program.proofs.Finished.{does_kept}
+use Rattle.fare_program.proofs.WritesFailed.{begun_done, left_remembered, right_remembered}
+use Rattle.fare_program.proofs.WritesFailed.{write_remembered}
+use Rattle.program_manners.specs.TableWords.{date_text}
+use Rattle.program_manners.specs.Words.{IsRequest}
+use Rattle.program_manners.specs.declared.output.WriteEnd.{WriteEnd}
+use Rattle.program_manners.specs.declared.table_words.DateFault.{DateFault}
 use Rattle.fare_program.proofs.program.main_over.Goals as goal
 
 pub returns-in-Ok-work-clause-done : goal.returns-in-Ok-work-clause-done
@@ -32,65 +35,64 @@ returns-in-Ok-work-clause-done g c = λ parses zero.
     (does_kept mine under loaded loaded' out mid last true c.finish.ensures.kept
     (subst (λ (b : Bool). Does mine under loaded loaded' out mid b) well.0 c.in-Ok-work.ensures.ok))
 
--- want of memory is no write
-no_write : NoMemory ≡ Write → ⊥
-no_write is = cc
+-- of the words that are no command line, help or the version is asked for
+asks_for : (words : List Text) (kind : ErrorKind) → IsRequest kind
+    → IsAmong kind (fault_of program words) → AsksForText words
+asks_for words kind asks among = elim asks [
+  | inl help ↦ inl (subst (λ k. IsAmong k (fault_of program words)) help among)
+  | inr version ↦ inr (subst (λ k. IsAmong k (fault_of program words)) version among)
+]
 
--- words that are no command line, of which nothing but want of memory or a write is reported
+-- words that are no command line, or that could not be read
 pub returns-in-Err-clause-faults : goal.returns-in-Err-clause-faults
 returns-in-Err-clause-faults g c = λ one.
-    let asked = asked_by (map string_bytes c.args.words.now) in
-    let under = g.D.Disk.bytes_under c.args.disk.now in
-    let loaded = g.S.Source.loaded c.args.source.now in
-    let refused = g.S.Source.refused c.args.source.now in
     elim c.in-Err.ensures.kinds [
-      | inl memory ↦
-          let gave = c.show.ensures.refused memory in
-          inr (
-            NoMemory,
-            refl,
-            (λ parses. output_is_right asked under loaded loaded refused NoMemory tt),
-            (λ parses write. absurd (no_write write)),
-            record { line_reported = gave.line_reported; kept = λ write late. gave.kept write },
-          )
-      | inr among ↦
-          let (fault, output, status, gave) = c.show.ensures.fault one in
-          inr (
-            fault,
-            status,
-            (λ parses. output_is_right asked under loaded loaded refused fault output),
-            (λ parses. absurd (subst (IsAmong (kind_of c.in-Err.error)) parses among)),
-            record { line_reported = gave.line_reported; kept = λ write late. gave.kept write },
-          )
+      | inl memory ↦ inr (inl (c.show.ensures.refused memory))
+      | inr among ↦ elim (c.show.ensures.fault one) [
+        | inl gave ↦ inr (inl gave)
+        | inr write ↦ inr (inr (inl (
+          (λ parses. subst (IsAmong (kind_of c.in-Err.error)) parses among),
+          asks_for (map string_bytes c.args.words.now) (kind_of c.in-Err.error) write.0 among,
+          write.1,
+        )))
+      ]
     ]
 
 pub returns-clause-faults : goal.returns-clause-faults
 returns-clause-faults g c = λ one.
     let fault = c.in-Err-work.fault in
+    let end = c.end.result in
+    let asked = asked_by (map string_bytes c.args.words.now) in
+    let under = g.D.Disk.bytes_under c.args.disk.now in
+    let out = g.W.Write.contents c.args.out.now.writer in
+    let out' = g.W.Write.contents c.work.new.out.writer in
+    let loaded = g.S.Source.loaded c.args.source.now in
+    let loaded' = g.S.Source.loaded c.work.new.source in
+    let refused = g.S.Source.refused c.work.new.source in
+    let reported = c.as_remembered.ensures.reported in
     let status = sym c.report.ensures.status ∙ one in
     let same = c.in-Ok.ensures.asked in
-    inr (
-      fault,
+    inr (inr (inr (
+      c.in-Ok.ensures.kinds,
+      c.as_remembered.result,
       status,
-      (λ parses. subst (λ (asked : Asked). IsRightFault asked (g.D.Disk.bytes_under c.args.disk.now)
-          (g.S.Source.loaded c.args.source.now) (g.S.Source.loaded c.work.new.source)
-          (g.S.Source.refused c.work.new.source) fault) same
-          (c.in-Err-work.ensures.right_fault status)),
-      (λ parses write unsorted. subst
-          (λ (asked : Asked). HasBegun asked (g.D.Disk.bytes_under c.args.disk.now)
-          (g.S.Source.loaded c.args.source.now) (g.S.Source.loaded c.work.new.source)
-          (g.W.Write.contents c.args.out.now.writer) (g.W.Write.contents c.work.new.out.writer))
-          same
-          (c.in-Err-work.ensures.begun write
-          (subst (λ (asked : Asked). AreOfBytes asked (g.D.Disk.bytes_under c.args.disk.now))
-          (sym same)
-          unsorted))),
+      subst (λ (f : Fault). IsRightFault asked under loaded loaded' refused f) (sym reported)
+          (right_remembered asked under loaded loaded' refused end fault
+          (subst (λ (a : Asked). IsRightFault a under loaded loaded' refused fault) same
+          (c.in-Err-work.ensures.right_fault (sym c.as_remembered.ensures.status ∙ status)))),
       record {
         line_reported = c.report.ensures.line;
-        kept = λ write late. c.in-Err-work.ensures.fault write
-            (λ sorted is. late (subst (λ (asked : Asked). asked.sorted ≡ true) same sorted) is);
+        write_failed = λ write. subst (λ (e : Option WriteEnd). e ≢ None) c.end.ensures
+            (write_remembered end fault (sym reported ∙ write));
+        left = subst (λ (f : Fault). IsLeftBy asked under loaded loaded' out out' f) (sym reported)
+            (left_remembered asked under loaded loaded' out out' end fault
+            (λ write late. c.in-Err-work.ensures.fault write
+            (λ sorted is. late (subst (λ (a : Asked). a.sorted ≡ true) same sorted) is))
+            (λ write of_bytes. subst (λ (a : Asked). HasBegun a under loaded loaded' out out') same
+            (c.in-Err-work.ensures.begun write
+            (subst (λ (a : Asked). AreOfBytes a under) (sym same) of_bytes))));
       },
-    )
+    )))
 
 -- the whole text was written, and was flushed or not
 pub returns-in-Ok-work-clause-faults : goal.returns-in-Ok-work-clause-faults
@@ -107,33 +109,67 @@ returns-in-Ok-work-clause-faults g c = λ one.
     (does_kept (asked_of c.in-Ok.options) under loaded loaded' out
     (g.W.Write.contents c.work.new.out.writer) last c.in-Ok-work.is_well c.finish.ensures.kept
     c.in-Ok-work.ensures.ok) in
-    ⊎_elim
-    (λ ill. inl (
-      c.in-Ok.ensures.kinds,
-      subst (λ (b : Bool). Does asked under loaded loaded' out last b) ill.0 done,
-      ill.1,
-      ill.2,
-    ))
-    (λ line. inr (
-      Write,
-      refl,
-      (λ parses. tt),
-      (λ parses write unsorted. begun_done asked under loaded loaded' out last c.in-Ok-work.is_well
-          done),
-      record { line_reported = line; kept = λ other. absurd (other refl) },
-    ))
-    (c.finish.ensures.ill one)
+    elim (c.finish.ensures.ill one) [
+      | inl ill ↦ inl (
+        c.in-Ok.ensures.kinds,
+        subst (λ (b : Bool). Does asked under loaded loaded' out last b) ill.0 done,
+        ill.1,
+        ill.2,
+      )
+      | inr unflushed ↦ inr (inr (inr (
+        c.in-Ok.ensures.kinds,
+        Write,
+        refl,
+        tt,
+        record {
+          line_reported = unflushed.1.line_reported;
+          write_failed = λ write. unflushed.1.write_failed;
+          left = λ of_bytes. begun_done asked under loaded loaded' out last c.in-Ok-work.is_well
+              done;
+        },
+      )))
+    ]
+
+-- ---- a mistake in what is asked for
+no_write : (fault : Fault) → status_of fault ≡ 2 → fault ≢ Write
+no_write Write two write = cc
+no_write fault two write = cc
+
+-- a mistake comes before the first byte is written
+not_late : (fault : Fault) → status_of fault ≡ 2 → IsLate fault → ⊥
+not_late (Late why) two late = omega (arith, two)
+not_late _ two late = absurd late
+
+-- the first one is the fault
+is_first : (found : Option Fault) (Other : Type 0) (fault first : Fault) → found ≡ Some first
+    → MatchOption found Other (λ mistaken. (fault ≡ mistaken) × (status_of fault ≡ 2))
+    → (fault ≡ first) × (status_of fault ≡ 2)
+is_first None Other fault first found is = cc
+is_first (Some mistaken) Other fault first found is =
+    let same : mistaken ≡ first = cc in
+    subst (λ (f : Fault). (fault ≡ f) × (status_of fault ≡ 2)) same is
+
+pub returns-clause-mistaken : goal.returns-clause-mistaken
+returns-clause-mistaken g c = λ first parses found.
+    let fault = c.in-Err-work.fault in
+    let asked = asked_by (map string_bytes c.args.words.now) in
+    let is = is_first (mistake asked) _ fault first found
+    (subst (λ (a : Asked). IsWhyOf a fault) c.in-Ok.ensures.asked c.in-Err-work.ensures.why) in
+    let same = c.as_remembered.ensures.mistake is.1 ∙ is.0 in
+    inl (
+      c.report.ensures.status ∙ (c.as_remembered.ensures.status ∙ is.1),
+      record {
+        line_reported = rw (← same) c.report.ensures.line;
+        kept = c.in-Err-work.ensures.fault (no_write fault is.1)
+            (λ sorted late. not_late fault is.1 late);
+      },
+    )
 
 -- ---- a word of a fare table with a wrong date
 -- none is found, or one is
 not_found : (found : Option (List ℕ × DateFault)) (wrong : List ℕ × DateFault) → found ≡ None
     → found ≡ Some wrong → ⊥
 not_found found wrong none some = cc
-
--- a mistake comes before the first byte is written
-not_late : (fault : Fault) → status_of fault ≡ 2 → IsLate fault → ⊥
-not_late (Late why) two late = omega (arith, two)
-not_late _ two late = absurd late
 
 dated : (first : Option Fault) (found : Option (List ℕ × DateFault)) (fault : Fault)
     (wrong : List ℕ × DateFault) → first ≡ None → found ≡ Some wrong
@@ -160,13 +196,14 @@ returns-clause-mis_dated g c = λ word why parses none wrong.
     let asked = asked_by (map string_bytes c.args.words.now) in
     let is = dated (mistake asked) (wrong_date asked) fault (word, why) none wrong
     (subst (λ (a : Asked). IsWhyOf a fault) c.in-Ok.ensures.asked c.in-Err-work.ensures.why) in
+    let same = c.as_remembered.ensures.mistake is.1 in
     inl (
-      c.report.ensures.status ∙ is.1,
+      c.report.ensures.status ∙ (c.as_remembered.ensures.status ∙ is.1),
       fault,
       is.0,
       record {
-        line_reported = c.report.ensures.line;
-        kept = λ write. c.in-Err-work.ensures.fault write
+        line_reported = rw (← same) c.report.ensures.line;
+        kept = c.in-Err-work.ensures.fault (no_write fault is.1)
             (λ sorted late. not_late fault is.1 late);
       },
     )

@@ -8,7 +8,7 @@ use Rattle.omny_audit.specs.Traced.{Wanted}
 use Rattle.omny_audit.specs.inside.Reports.{text_of}
 use Rattle.omny_audit.specs.inside.Traced.{wanted_by}
 use Rattle.omny_audit.proofs.ProgramLemmas.{unwritten_on}
-use Rattle.omny_audit.proofs.RightFaults.{later_on, memory_on}
+use Rattle.omny_audit.proofs.RightFaults.{end_on, later_on, memory_end, memory_on, written_on}
 use Rattle.omny_audit.proofs.audit.audit_over.Goals as goal
 
 pub audit_text-requires : goal.audit_text-requires
@@ -26,8 +26,8 @@ returns-clause-reported g c =
     let reported = c.in_ok-reported.reported in
     let ledger = read_as (is_some (wanted_by c.verdict_of.new.trace)) found.0 in
     let decide = c.verdicts_decide.ensures fares ledger c.in_ok-verdict.verdict found.2 in
-    let wrote = subst (λ (t : List ℕ). Appends (g.W.Write.contents c.args.out.now)
-    (g.W.Write.contents c.write_text.new.out) t) c.as_slice.ensures.value
+    let wrote = subst (λ (t : List ℕ). Appends (g.W.Write.contents c.args.out.now.writer)
+    (g.W.Write.contents c.write_text.new.out.writer) t) c.as_slice.ensures.value
     c.in_ok-write_text.ensures.text in (
       found.0,
       found.1,
@@ -75,8 +75,8 @@ returns-in_err-write_text-clause-begun g c =
                 (wanted_by c.verdict_of.new.trace) found.0 audit.0
                 (if c.args.has_uploads then Some good else None) r reported.0.items reported.1)
                 c.verdict_of.ensures.report audit.1),
-            subst (λ (t : List ℕ). Begins (g.W.Write.contents c.args.out.now)
-                (g.W.Write.contents c.write_text.new.out) t) c.as_slice.ensures.value
+            subst (λ (t : List ℕ). Begins (g.W.Write.contents c.args.out.now.writer)
+                (g.W.Write.contents c.write_text.new.out.writer) t) c.as_slice.ensures.value
                 c.in_err-write_text.ensures.begun,
           ),
     )
@@ -91,3 +91,19 @@ returns-in_err-write_text-clause-later g c =
     later_on _ _ _ c.from_residual-in_err-write_text.result c.in_err-write_text.field-0.0
     c.from_residual-in_err-write_text.ensures.1
     c.in_err-write_text.ensures.later c.in_ok-verdict.ensures.well
+
+-- no write failed
+pub returns-in_err-verdict-clause-end : goal.returns-in_err-verdict-clause-end
+returns-in_err-verdict-clause-end g c =
+    written_on _ c.from_residual.result c.in_err-verdict.field-0.0 c.from_residual.ensures.1
+    c.in_err-verdict.ensures.fault
+
+pub returns-in_err-reported-clause-end : goal.returns-in_err-reported-clause-end
+returns-in_err-reported-clause-end g c =
+    memory_end _ c.from_residual-in_err-reported.result c.from_residual-in_err-reported.ensures.1
+
+-- the output remembers why
+pub returns-in_err-write_text-clause-end : goal.returns-in_err-write_text-clause-end
+returns-in_err-write_text-clause-end g c =
+    end_on _ c.from_residual-in_err-write_text.result c.in_err-write_text.field-0.0
+    c.from_residual-in_err-write_text.ensures.1 c.in_err-write_text.ensures.end

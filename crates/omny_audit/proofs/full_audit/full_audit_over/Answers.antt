@@ -15,7 +15,7 @@ use Rattle.fare_texts.proofs.Beginnings.{begins_behind, begins_whole}
 use Rattle.tap_views.proofs.Choices.{OnErr_any}
 use Rattle.omny_audit.proofs.BegunAudits.{begun_audit, full_audit_of}
 use Rattle.omny_audit.proofs.FullFindingLemmas.{recount_legal}
-use Rattle.omny_audit.proofs.RightFaults.{later_on, memory_on}
+use Rattle.omny_audit.proofs.RightFaults.{end_on, later_on, memory_end, memory_on}
 use Rattle.omny_audit.proofs.full_audit.full_audit_over.Goals as goal
 
 pub recount_all-requires-clause-good : goal.recount_all-requires-clause-good
@@ -61,8 +61,8 @@ returns-clause-reported g c =
                 all.is_legal (parts.6 good (taps_from all.taken) all.struck) columns.1 line parts.9
                 parts.10),
             Appends-trans _ _ _ (recount_text all.taken) reported.0.items all.written
-                (subst (λ (t : List ℕ). Appends (g.W.Write.contents c.recount_all.new.out)
-                (g.W.Write.contents c.write_text.new.out) t) c.as_slice.ensures.value
+                (subst (λ (t : List ℕ). Appends (g.W.Write.contents c.recount_all.new.out.writer)
+                (g.W.Write.contents c.write_text.new.out.writer) t) c.as_slice.ensures.value
                 c.in_ok-write_text.ensures.text),
           ),
     )
@@ -88,8 +88,8 @@ returns-in_err-reported-clause-begun g c =
           let all = found.2 good (λ has. c.of-full.ensures good balanced) in
           begun_audit _ _ _ _ _ _ _ c.recounts_go_on.ensures
           (subst (λ (w : Option Wanted). HasBegunRecount c.args.table.now
-          (read_as (is_some w) found.0) (g.W.Write.contents c.args.out.now)
-          (g.W.Write.contents c.recount_all.new.out)) c.recount_all.ensures.wanted
+          (read_as (is_some w) found.0) (g.W.Write.contents c.args.out.now.writer)
+          (g.W.Write.contents c.recount_all.new.out.writer)) c.recount_all.ensures.wanted
           (inr (all.taken, all.recount, begins_whole _ _ _ all.written))),
     )
 
@@ -126,8 +126,8 @@ returns-in_err-write_text-clause-begun g c =
                   parts.9 parts.10),
             ),
             begins_behind _ _ _ (recount_text all.taken) reported.0.items all.written
-                (subst (λ (t : List ℕ). Begins (g.W.Write.contents c.recount_all.new.out)
-                (g.W.Write.contents c.write_text.new.out) t) c.as_slice.ensures.value
+                (subst (λ (t : List ℕ). Begins (g.W.Write.contents c.recount_all.new.out.writer)
+                (g.W.Write.contents c.write_text.new.out.writer) t) c.as_slice.ensures.value
                 c.in_err-write_text.ensures.begun),
           ),
     )
@@ -142,3 +142,18 @@ returns-in_err-write_text-clause-later g c =
     later_on _ _ _ c.from_residual-in_err-write_text.result c.in_err-write_text.field-0.0
     c.from_residual-in_err-write_text.ensures.1
     c.in_err-write_text.ensures.later c.in_ok-legal.ensures.well
+
+-- the output remembers why a write failed
+pub returns-in_err-legal-clause-end : goal.returns-in_err-legal-clause-end
+returns-in_err-legal-clause-end g c =
+    end_on _ c.from_residual.result c.in_err-legal.field-0.0 c.from_residual.ensures.1
+    c.in_err-legal.ensures.end
+
+pub returns-in_err-reported-clause-end : goal.returns-in_err-reported-clause-end
+returns-in_err-reported-clause-end g c =
+    memory_end _ c.from_residual-in_err-reported.result c.from_residual-in_err-reported.ensures.1
+
+pub returns-in_err-write_text-clause-end : goal.returns-in_err-write_text-clause-end
+returns-in_err-write_text-clause-end g c =
+    end_on _ c.from_residual-in_err-write_text.result c.in_err-write_text.field-0.0
+    c.from_residual-in_err-write_text.ensures.1 c.in_err-write_text.ensures.end

@@ -20,7 +20,7 @@ use Rattle.omny_audit.proofs.BegunAudits.{begun_so_far}
 use Rattle.program_manners.specs.Refusals.{Refuses}
 use Rattle.program_manners.specs.declared.loading.LoadFault.TheVariants.{Unread}
 use Rattle.omny_audit.proofs.ReadLemmas.{at_end}
-use Rattle.omny_audit.proofs.RightFaults.{later_on, memory_on}
+use Rattle.omny_audit.proofs.RightFaults.{end_on, later_on, memory_end, memory_on, written_on}
 use Rattle.omny_audit.proofs.full_audit.recount_all.Goals as goal
 
 pub loop-piece-init : goal.loop-piece-init
@@ -68,7 +68,8 @@ returns-then-count-eq0-clause-reported g c =
     → Type 0 = λ file. ((good : List TapFields)
     → (c.args.has_uploads ≡ true → IsFullBalance c.args.full.now good [])
     → HasRecountedAll fares c.args.has_uploads c.end_recount.new.full (read_as traced file) good
-    legal (g.W.Write.contents c.args.out.now) (g.W.Write.contents c.write_text.new.out))
+    legal (g.W.Write.contents c.args.out.now.writer)
+    (g.W.Write.contents c.write_text.new.out.writer))
     × HasSummedFor fares c.end_recount.new.report (read_as traced file)
     × HasReadAll c.end_recount.new.trace file in
     let reported = at_end Is _ _ _
@@ -87,12 +88,12 @@ returns-then-count-eq0-clause-reported g c =
             is_legal = ended.2;
             struck = ended.3;
             written = subst
-                (λ (t : List ℕ). Appends (g.W.Write.contents c.args.out.now)
-                (g.W.Write.contents c.write_text.new.out) t) ended.6
+                (λ (t : List ℕ). Appends (g.W.Write.contents c.args.out.now.writer)
+                (g.W.Write.contents c.write_text.new.out.writer) t) ended.6
                 (Appends-trans _ _ _ now.0 ended.4 now.2
-                (subst (λ (t : List ℕ). Appends (g.W.Write.contents c.loop-piece.out)
-                (g.W.Write.contents c.write_text.new.out) t) (c.as_bytes.ensures.value ∙ more)
-                c.in_ok-write_text.ensures.text));
+                (subst (λ (t : List ℕ). Appends (g.W.Write.contents c.loop-piece.out.writer)
+                (g.W.Write.contents c.write_text.new.out.writer) t)
+                (c.as_bytes.ensures.value ∙ more) c.in_ok-write_text.ensures.text));
           },
       c.in_ok-legal.ensures.sums before.file before.text before.as_text before.sums,
       c.in_ok-legal.ensures.all before.file before.text before.as_text,
@@ -134,8 +135,8 @@ loop-piece-preserved g c =
             subst (λ (t : List ℕ). HasRecounted fares c.feed.new.self c.args.has_uploads
                 c.feed.new.full (before.text ++ t) (now.0 ++ fed.0) good) part fed.2,
             Appends-trans _ _ _ now.0 fed.0 now.2
-                (subst (λ (t : List ℕ). Appends (g.W.Write.contents c.loop-piece.out)
-                (g.W.Write.contents c.write_text-in-loop-piece.new.out) t)
+                (subst (λ (t : List ℕ). Appends (g.W.Write.contents c.loop-piece.out.writer)
+                (g.W.Write.contents c.write_text-in-loop-piece.new.out.writer) t)
                 (c.as_bytes-in-loop-piece.ensures.value ∙ more) c.in_ok-write_text-2.ensures.text),
           );
       sums = subst (λ (t : List ℕ). HasSummedFor fares c.add_piece.new.report (before.text ++ t))
@@ -209,8 +210,8 @@ returns-in_err-write_text-clause-begun g c =
     let now = before.known c.requires.good.0 c.requires.good.1 in
     let fares = c.args.table.now in
     let got = c.in-Ok.ensures.bytes in
-    let out = g.W.Write.contents c.args.out.now in
-    let last = g.W.Write.contents c.write_text.new.out in
+    let out = g.W.Write.contents c.args.out.now.writer in
+    let last = g.W.Write.contents c.write_text.new.out.writer in
     let none = ap (λ (n : ℕ). before.file ++ take n c.read_on.new.piece) c.if-count-eq0.true
     ∙ append-nil before.file in
     let Is : List ℕ → Type 0 = λ file. HasBegunRecount fares
@@ -228,7 +229,7 @@ returns-in_err-write_text-clause-begun g c =
           (c.end_recount.ensures.wanted ∙ before.wanted) ended.1,
       subst (λ (t : List ℕ). Begins out last t) ended.6
           (begins_behind _ _ _ now.0 ended.4 now.2
-          (subst (λ (t : List ℕ). Begins (g.W.Write.contents c.loop-piece.out) last t)
+          (subst (λ (t : List ℕ). Begins (g.W.Write.contents c.loop-piece.out.writer) last t)
           (c.as_bytes.ensures.value ∙ more) c.in_err-write_text.ensures.begun)),
     ))))
 
@@ -251,8 +252,8 @@ returns-in_err-write_text-2-clause-begun g c =
     (before.text ++ t) (now.0 ++ fed.0) c.requires.good.0) c.as_slice-part.ensures.value fed.2)
     (Consumes-trans _ _ _ before.file (take c.in-Ok.count c.read_on.new.piece) before.read got.0)
     (begins_behind _ _ _ now.0 fed.0 now.2
-    (subst (λ (t : List ℕ). Begins (g.W.Write.contents c.loop-piece.out)
-    (g.W.Write.contents c.write_text-in-loop-piece.new.out) t)
+    (subst (λ (t : List ℕ). Begins (g.W.Write.contents c.loop-piece.out.writer)
+    (g.W.Write.contents c.write_text-in-loop-piece.new.out.writer) t)
     (c.as_bytes-in-loop-piece.ensures.value ∙ more) c.in_err-write_text-2.ensures.begun)))
 
 -- a read failed
@@ -297,3 +298,34 @@ returns-in_err-write_text-2-clause-later g c =
     later_on _ _ _ c.from_residual-in_err-write_text-2.result c.in_err-write_text-2.field-0.0
     c.from_residual-in_err-write_text-2.ensures.1
     c.in_err-write_text-2.ensures.later (c.in-Ok.ensures.well ∙ c.loop-piece.invariant.refused)
+
+-- no write failed
+pub returns-in_err-legal-clause-end : goal.returns-in_err-legal-clause-end
+returns-in_err-legal-clause-end g c =
+    written_on _ c.from_residual.result c.in_err-legal.field-0.0 c.from_residual.ensures.1
+    c.in_err-legal.ensures.fault
+
+pub returns-in_err-read_piece-clause-end : goal.returns-in_err-read_piece-clause-end
+returns-in_err-read_piece-clause-end g c =
+    memory_end _ c.from_residual-in_err-read_piece.result
+    c.from_residual-in_err-read_piece.ensures.1
+
+pub returns-in_err-feed-clause-end : goal.returns-in_err-feed-clause-end
+returns-in_err-feed-clause-end g c =
+    memory_end _ c.from_residual-in_err-feed.result c.from_residual-in_err-feed.ensures.1
+
+pub returns-in_err-add_piece-clause-end : goal.returns-in_err-add_piece-clause-end
+returns-in_err-add_piece-clause-end g c =
+    memory_end _ c.from_residual-in_err-add_piece.result
+    c.from_residual-in_err-add_piece.ensures.1
+
+-- the output remembers why
+pub returns-in_err-write_text-clause-end : goal.returns-in_err-write_text-clause-end
+returns-in_err-write_text-clause-end g c =
+    end_on _ c.from_residual-in_err-write_text.result c.in_err-write_text.field-0.0
+    c.from_residual-in_err-write_text.ensures.1 c.in_err-write_text.ensures.end
+
+pub returns-in_err-write_text-2-clause-end : goal.returns-in_err-write_text-2-clause-end
+returns-in_err-write_text-2-clause-end g c =
+    end_on _ c.from_residual-in_err-write_text-2.result c.in_err-write_text-2.field-0.0
+    c.from_residual-in_err-write_text-2.ensures.1 c.in_err-write_text-2.ensures.end

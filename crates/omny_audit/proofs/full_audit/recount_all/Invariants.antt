@@ -21,7 +21,7 @@ invariant-loop-piece g l = record {
   refused : g.S.Source.refused l.source ≡ g.S.Source.refused l.fn.source;
   known : (good : List TapFields) → (l.has_uploads ≡ true → IsFullBalance l.fn.full good [])
       → (written : List ℕ) × HasRecounted l.table l.recount l.has_uploads l.full text written good
-      × Appends (g.W.Write.contents l.fn.out) (g.W.Write.contents l.out) written;
+      × Appends (g.W.Write.contents l.fn.out.writer) (g.W.Write.contents l.out.writer) written;
   sums : HasSummedFor l.table l.report text;
   report : text_of l.report ≡ text_of l.fn.report;
 }

@@ -10,13 +10,14 @@ use Rattle.omny_audit.specs.inside.Options.{audit_asked_of}
 use Rattle.omny_audit.specs.inside.Reports.{text_of}
 use Rattle.omny_audit.specs.inside.Traced.{uploads_in, wanted_by}
 use Rattle.omny_audit.specs.Program.{IsRightAuditFault, compared}
-use Rattle.omny_audit.proofs.ProgramLemmas.{at_ledger, at_report, at_tables, at_uploads, both_err}
+use Rattle.omny_audit.proofs.ProgramLemmas.{all_err, at_ledger, at_report, at_tables, at_uploads}
 use Rattle.omny_audit.proofs.ProgramLemmas.{compared_is, has_loaded, not_both}
 use Rattle.omny_audit.proofs.ProgramLemmas.{kept_all, kept_lists, loads_same, names_none}
 use Rattle.omny_audit.proofs.ProgramLemmas.{names_same}
 use Rattle.omny_audit.proofs.ProgramLemmas.{loaded_ledger, loaded_report, reads_ledger}
 use Rattle.omny_audit.proofs.ProgramLemmas.{right_of_names, written_first}
 use Rattle.omny_audit.proofs.RightFaults.{right_of_ledger, right_refusal, told_of_ledger}
+use Rattle.omny_audit.proofs.RightFaults.{written_end}
 use Rattle.program_manners.proofs.LoadsOn.{loads_more}
 use Rattle.tap_views.proofs.Choices.{IfErr_handed_on}
 use Rattle.omny_audit.proofs.program.audit.Goals as goal
@@ -162,9 +163,9 @@ returns-in_err-balance-clause-right g c =
     let fault = c.in_err-balance.field-0.0 in
     let asked = audit_asked_of c.args.options.now in
     IfErr_handed_on c.from_residual-in_err-balance.result fault
-    (λ f. IsRightAuditFault asked _ _ _ _ f _ _) c.from_residual-in_err-balance.ensures.1
-    (written_first asked _ _ _ _ fault _ _ c.in_err-balance.ensures.fault (Keeps-refl _)
-    (right_refusal asked.table asked.ledger _ _ _ fault c.in_err-balance.ensures.right)
+    (λ f. IsRightAuditFault asked _ _ _ _ _ f _ _) c.from_residual-in_err-balance.ensures.1
+    (written_first asked _ _ _ _ _ fault _ _ c.in_err-balance.ensures.fault (Keeps-refl _)
+    (right_refusal asked.table asked.ledger _ _ _ _ fault c.in_err-balance.ensures.right)
     (λ no. c.in_err-balance.ensures.told no ∙ c.in_ok-tables.ensures.well))
 
 pub returns-in_err-report-clause-right : goal.returns-in_err-report-clause-right
@@ -172,9 +173,9 @@ returns-in_err-report-clause-right g c =
     let fault = c.in_err-report.field-0.0 in
     let asked = audit_asked_of c.args.options.now in
     IfErr_handed_on c.from_residual-in_err-report.result fault
-    (λ f. IsRightAuditFault asked _ _ _ _ f _ _) c.from_residual-in_err-report.ensures.1
-    (written_first asked _ _ _ _ fault _ _ c.in_err-report.ensures.fault (Keeps-refl _)
-    (right_refusal asked.table asked.ledger _ _ _ fault c.in_err-report.ensures.right)
+    (λ f. IsRightAuditFault asked _ _ _ _ _ f _ _) c.from_residual-in_err-report.ensures.1
+    (written_first asked _ _ _ _ _ fault _ _ c.in_err-report.ensures.fault (Keeps-refl _)
+    (right_refusal asked.table asked.ledger _ _ _ _ fault c.in_err-report.ensures.right)
     (λ no. c.in_err-report.ensures.told no ∙ c.in_ok-balance.ensures.well
     ∙ c.in_ok-tables.ensures.well))
 
@@ -183,9 +184,9 @@ returns-in_err-ledger-clause-right g c =
     let fault = c.in_err-ledger.field-0.0 in
     let asked = audit_asked_of c.args.options.now in
     IfErr_handed_on c.from_residual-in_err-ledger.result fault
-    (λ f. IsRightAuditFault asked _ _ _ _ f _ _) c.from_residual-in_err-ledger.ensures.1
-    (written_first asked _ _ _ _ fault _ _ c.in_err-ledger.ensures.fault (Keeps-refl _)
-    (right_refusal asked.table asked.ledger _ _ _ fault c.in_err-ledger.ensures.right)
+    (λ f. IsRightAuditFault asked _ _ _ _ _ f _ _) c.from_residual-in_err-ledger.ensures.1
+    (written_first asked _ _ _ _ _ fault _ _ c.in_err-ledger.ensures.fault (Keeps-refl _)
+    (right_refusal asked.table asked.ledger _ _ _ _ fault c.in_err-ledger.ensures.right)
     (λ no. c.in_err-ledger.ensures.told no ∙ c.in_ok-report.ensures.well
     ∙ c.in_ok-balance.ensures.well
     ∙ c.in_ok-tables.ensures.well))
@@ -194,9 +195,9 @@ returns-in_err-ledger-clause-right g c =
 pub returns-clause-right : goal.returns-clause-right
 returns-clause-right g c =
     let loaded = c.in_ok-balance.ensures.ok in
-    both_err c.audit_over.result _ _ _ (λ fault later begun.
+    all_err c.audit_over.result _ _ _ _ (λ fault later end begun.
     record {
-      right = right_of_ledger _ _ _ _ _ _ fault later;
+      right = right_of_ledger _ _ _ _ _ _ _ fault later end;
       told = λ no. told_of_ledger _ _ _ fault later no ∙ c.in_ok-head.ensures.well
           ∙ c.in_ok-ledger.ensures.well ∙ c.in_ok-report.ensures.well
           ∙ c.in_ok-balance.ensures.well ∙ c.in_ok-tables.ensures.well;
@@ -249,13 +250,13 @@ returns-clause-right g c =
           };
       begun_of_all = λ all. absurd (not_both c.args.options.now.all c.if-options.false all);
     })
-    c.audit_over.ensures.later c.audit_over.ensures.begun
+    c.audit_over.ensures.later c.audit_over.ensures.end c.audit_over.ensures.begun
 
 -- all lines were asked for, and what any fault left is a beginning of the right text
 pub returns-then-options-clause-right : goal.returns-then-options-clause-right
 returns-then-options-clause-right g c =
     let loaded = c.in_ok-balance.ensures.ok in
-    both_err c.full_audit_over.result _ _ _ (λ fault later begun.
+    all_err c.full_audit_over.result _ _ _ _ (λ fault later end begun.
     let names = c.as_slice-names.ensures.value in
     let same = compared_is c.as_slice-names.result.now loaded.1 _
     (ap not c.is_empty-has_uploads.ensures)
@@ -283,7 +284,7 @@ returns-then-options-clause-right g c =
     loaded.2)
     loaded.3 loaded.6 c.in_ok-report.ensures.ok reads in
     record {
-      right = right_of_ledger _ _ _ _ _ _ fault later;
+      right = right_of_ledger _ _ _ _ _ _ _ fault later end;
       told = λ no. told_of_ledger _ _ _ fault later no ∙ c.in_ok-head.ensures.well
           ∙ c.in_ok-ledger.ensures.well ∙ c.in_ok-report.ensures.well
           ∙ c.in_ok-balance.ensures.well ∙ c.in_ok-tables.ensures.well;
@@ -292,18 +293,21 @@ returns-then-options-clause-right g c =
         files = files;
         begun = subst (λ (b : Bool). HasBegunAudit b files.fares files.wanted files.ledger
             (compared (map (λ n. n.now) c.args.options.now.uploads.items) loaded.1) files.report
-            (g.W.Write.contents c.args.out.now) (g.W.Write.contents c.full_audit_over.new.out))
+            (g.W.Write.contents c.args.out.now.writer)
+            (g.W.Write.contents c.full_audit_over.new.out.writer))
             (sym all)
             (subst (λ (good : Option (List TapFields)). HasBegunAudit true files.fares files.wanted
-            files.ledger good files.report (g.W.Write.contents c.args.out.now)
-            (g.W.Write.contents c.full_audit_over.new.out)) same (begun.2 loaded.1 loaded.4));
+            files.ledger good files.report (g.W.Write.contents c.args.out.now.writer)
+            (g.W.Write.contents c.full_audit_over.new.out.writer)) same
+            (begun.2 loaded.1 loaded.4));
       });
     })
-    c.full_audit_over.ensures.later c.full_audit_over.ensures.begun
+    c.full_audit_over.ensures.later c.full_audit_over.ensures.end
+    c.full_audit_over.ensures.begun
 
 pub returns-in_err-ledger-clause-fault : goal.returns-in_err-ledger-clause-fault
 returns-in_err-ledger-clause-fault g c = λ all. kept_all c.from_residual-in_err-ledger.result
-    (g.W.Write.contents c.args.out.now)
+    (g.W.Write.contents c.args.out.now.writer)
 
 pub returns-in_err-head-clause-named : goal.returns-in_err-head-clause-named
 returns-in_err-head-clause-named g c =
@@ -326,9 +330,10 @@ returns-in_err-head-clause-right g c =
     let fault = c.in_err-head.field-0.0 in
     let asked = audit_asked_of c.args.options.now in
     IfErr_handed_on c.from_residual-in_err-head.result fault
-    (λ f. IsRightAuditFault asked _ _ _ _ f _ _) c.from_residual-in_err-head.ensures.1
-    (written_first asked _ _ _ _ fault _ _ c.in_err-head.ensures.fault (Keeps-refl _)
-    (right_of_ledger asked.table asked.ledger _ _ _ _ fault c.in_err-head.ensures.later)
+    (λ f. IsRightAuditFault asked _ _ _ _ _ f _ _) c.from_residual-in_err-head.ensures.1
+    (written_first asked _ _ _ _ _ fault _ _ c.in_err-head.ensures.fault (Keeps-refl _)
+    (right_of_ledger asked.table asked.ledger _ _ _ _ _ fault c.in_err-head.ensures.later
+    (written_end _ fault c.in_err-head.ensures.fault))
     (λ no. told_of_ledger _ _ asked.ledger fault c.in_err-head.ensures.later no
     ∙ c.in_ok-ledger.ensures.well ∙ c.in_ok-report.ensures.well ∙ c.in_ok-balance.ensures.well
     ∙ c.in_ok-tables.ensures.well))
@@ -344,19 +349,19 @@ returns-in_err-trace-clause-right g c =
     let wrong = c.in_err-trace.ensures.right in
     let behind = loads_more _ _ _ _ _ uploads.is_loaded (loads_more _ _ _ _ _ report.1 ledger.1) in
     IfErr_handed_on c.from_residual-in_err-trace.result fault
-    (λ f. IsRightAuditFault asked _ _ _ _ f _ _) c.from_residual-in_err-trace.ensures.1
+    (λ f. IsRightAuditFault asked _ _ _ _ _ f _ _) c.from_residual-in_err-trace.ensures.1
     (right_of_names asked _ _ _ _ _ _ c.in_ok-tables.tables.fares c.in_ok-tables.ensures.ok _
-    behind wrong.0 wrong.1 fault _ _ wrong.2 c.in_err-trace.ensures.fault (Keeps-refl _)
+    behind wrong.0 wrong.1 _ fault _ _ wrong.2 c.in_err-trace.ensures.fault (Keeps-refl _)
     (c.in_ok-head.ensures.well ∙ c.in_ok-ledger.ensures.well ∙ c.in_ok-report.ensures.well
     ∙ c.in_ok-balance.ensures.well ∙ c.in_ok-tables.ensures.well))
 
 pub returns-in_err-head-clause-fault : goal.returns-in_err-head-clause-fault
 returns-in_err-head-clause-fault g c = λ all. kept_all c.from_residual-in_err-head.result
-    (g.W.Write.contents c.args.out.now)
+    (g.W.Write.contents c.args.out.now.writer)
 
 pub returns-in_err-trace-clause-fault : goal.returns-in_err-trace-clause-fault
 returns-in_err-trace-clause-fault g c = λ all. kept_all c.from_residual-in_err-trace.result
-    (g.W.Write.contents c.args.out.now)
+    (g.W.Write.contents c.args.out.now.writer)
 
 pub kept_if-kept-requires : goal.kept_if-kept-requires
 kept_if-kept-requires g c = let loaded = c.in_ok-balance.ensures.ok in (loaded.5, loaded.7)
@@ -372,7 +377,7 @@ pub returns-in_err-tables-clause-right : goal.returns-in_err-tables-clause-right
 returns-in_err-tables-clause-right g c =
     let fault = c.in_err-tables.field-0.0 in
     let asked = audit_asked_of c.args.options.now in
-    IfErr_handed_on c.from_residual.result fault (λ f. IsRightAuditFault asked _ _ _ _ f _ _)
+    IfErr_handed_on c.from_residual.result fault (λ f. IsRightAuditFault asked _ _ _ _ _ f _ _)
     c.from_residual.ensures.1
-    (written_first asked _ _ _ _ fault _ _ c.in_err-tables.ensures.fault (Keeps-refl _)
-    (c.in_err-tables.ensures.right asked.ledger) c.in_err-tables.ensures.told)
+    (written_first asked _ _ _ _ _ fault _ _ c.in_err-tables.ensures.fault (Keeps-refl _)
+    (c.in_err-tables.ensures.right asked.ledger _) c.in_err-tables.ensures.told)

@@ -31,6 +31,7 @@ returns-in-Err-clause-faults g c = λ one.
         begun = λ all un. absurd (cc);
         begun_of_all = λ all. inl (refl, reported.1.kept refl refl);
       },
+      λ no. tt,
       record { line_reported = reported.1.line_reported; kept = λ all un. reported.1.kept refl un },
     ))
     (λ among.
@@ -40,7 +41,8 @@ returns-in-Err-clause-faults g c = λ one.
       names_none (files_of (audit_asked_by (map string_bytes c.args.words.now))) reported.0
           reported.1,
       λ parses. absurd (none_among _ _ parses among),
-      record { line_reported = reported.2.line_reported; kept = λ all un. reported.2.kept refl un },
+      λ no. reported.2,
+      record { line_reported = reported.3.line_reported; kept = λ all un. reported.3.kept refl un },
     ))
     c.in-Err.ensures.kinds
 
@@ -85,10 +87,11 @@ returns-in-Ok-audit-clause-faults g c = λ one.
       failed.0,
       names_none (files_of asked) failed.0 failed.2,
       λ parses. unflushed asked loaded loaded' (g.S.Source.refused c.args.source.now)
-          (g.S.Source.refused c.audit.new.source) failed.0 out last well failed.3
-          c.in-Ok-audit.ensures.well done,
+          (g.S.Source.refused c.audit.new.source) c.finish.new.out.end failed.0 out last well
+          failed.3 failed.4 c.in-Ok-audit.ensures.well done,
+      λ no. absurd (no c.in-Ok.ensures.kinds),
       record {
-        line_reported = failed.4;
+        line_reported = failed.5;
         kept = λ all un. absurd (apart (sym un ∙ failed.1));
       },
     ))

@@ -7,8 +7,9 @@ pub returns-in-Ok-clause-fault : goal.returns-in-Ok-clause-fault
 returns-in-Ok-clause-fault g c = λ one. (
   NoMemory,
   refl,
+  tt,
   record {
-    line_reported = (c.in-Ok.ensures.refused one).1;
+    line_reported = c.in-Ok.ensures.refused one;
     kept = λ all un. c.in-Ok.ensures.kept (λ zero. absurd (omega (arith, one, zero)));
   },
 )

@@ -17,10 +17,11 @@ returns-clause-right g c =
     let empty = c.is_empty-is_alone.result in
     let is : empty ≡ (length words == 0) = c.is_empty-is_alone.ensures
     ∙ ap (λ (ws : List (Bor (List ℕ))). length ws == 0) c.as_slice.ensures.value in
-    λ ledger. first_is_right (names_of c.args.words.now) (g.S.Source.loaded c.args.source.now)
-    (g.S.Source.loaded c.args.source.now) (g.S.Source.loaded c.load_named.new.source)
-    (g.S.Source.refused c.load_named.new.source) ledger c.in_ok-text.text.items empty fault
-    c.of_table.result c.in_ok-text.ensures.ok
+    λ ledger remembered. first_is_right (names_of c.args.words.now)
+    (g.S.Source.loaded c.args.source.now) (g.S.Source.loaded c.args.source.now)
+    (g.S.Source.loaded c.load_named.new.source)
+    (g.S.Source.refused c.load_named.new.source) ledger remembered c.in_ok-text.text.items empty
+    fault c.of_table.result c.in_ok-text.ensures.ok
     (subst (λ (t : List ℕ). IsFirstTableFault t fault) c.deref.ensures.value
     (first_table_fault _ _ fault refl c.in-Err.ensures.fault c.in-Err.ensures.not_text))
     (any_word words empty is).0 (any_word words empty is).1 c.of_table.ensures.named
@@ -31,7 +32,7 @@ returns-in_err-text-clause-right g c =
     (IsTablesFault (names_of c.args.words.now) (g.S.Source.loaded c.args.source.now)
     (g.S.Source.loaded c.load_named.new.source) (g.S.Source.refused c.load_named.new.source))
     c.from_residual.ensures.1
-    (λ ledger. right_refusal (names_of c.args.words.now) ledger _ _ _ _
+    (λ ledger remembered. right_refusal (names_of c.args.words.now) ledger _ _ _ remembered _
     c.in_err-text.ensures.right)
 
 pub returns-in_err-text-clause-told : goal.returns-in_err-text-clause-told

@@ -13,11 +13,12 @@ use Rattle.omny_audit.proofs.tables.load_next.Goals as goal
 
 pub returns-clause-right : goal.returns-clause-right
 returns-clause-right g c =
-    λ reported words before behind texts stands loads ledger.
+    λ reported words before behind texts stands loads ledger remembered.
     let word = c.args.word.now in
     let dated = sym c.in-Some.is ∙ c.of-parts.ensures.date in
     next_is_right words reported (g.S.Source.loaded c.args.source.now)
     (g.S.Source.loaded c.load_named.new.source) (g.S.Source.refused c.load_named.new.source) ledger
+    remembered
     before behind word c.in_ok-text.text.items stands texts c.args.tables.fares loads
     (subst (λ (n : List ℕ). LoadsOne (g.S.Source.loaded c.args.source.now)
     (g.S.Source.loaded c.load_named.new.source) (Some n) c.in_ok-text.text.items)
@@ -39,8 +40,8 @@ returns-in_err-text-clause-right g c =
     → IsTablesFault words loaded (g.S.Source.loaded c.load_named.new.source)
     (g.S.Source.refused c.load_named.new.source) fault)
     c.from_residual.ensures.1
-    (λ loaded words before behind texts stands loads ledger.
-    right_refusal words ledger _ _ _ _ c.in_err-text.ensures.right)
+    (λ loaded words before behind texts stands loads ledger remembered.
+    right_refusal words ledger _ _ _ remembered _ c.in_err-text.ensures.right)
 
 pub returns-in_err-text-clause-told : goal.returns-in_err-text-clause-told
 returns-in_err-text-clause-told g c =

@@ -10,7 +10,7 @@ returns-in_err-old-clause-fault g c =
     let p = err_from_is_err_and c.from_residual.result c.from_residual.ensures.1 in
     rw (p.1, p.2) (λ kept is. inl (
       c.in_err-old.ensures.refusal (ledgers.old.now ∷ ledgers.new.now ∷ []) (inl refl),
-      Keeps-refl (g.W.Write.contents c.args.out.now.inner),
+      Keeps-refl (g.W.Write.contents c.args.out.now.writer),
     ))
 
 pub returns-in_err-new-clause-fault : goal.returns-in_err-new-clause-fault
@@ -20,7 +20,7 @@ returns-in_err-new-clause-fault g c =
     c.from_residual-in_err-new.ensures.1 in
     rw (p.1, p.2) (λ kept is. inl (
       c.in_err-new.ensures.refusal (ledgers.old.now ∷ ledgers.new.now ∷ []) (inr (inl refl)),
-      Keeps-refl (g.W.Write.contents c.args.out.now.inner),
+      Keeps-refl (g.W.Write.contents c.args.out.now.writer),
     ))
 
 pub returns-clause-done : goal.returns-clause-done

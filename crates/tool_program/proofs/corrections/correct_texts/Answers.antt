@@ -7,9 +7,9 @@ use Rattle.tool_program.proofs.corrections.correct_texts.Goals as goal
 
 pub returns-in-Ok-finish-clause-written : goal.returns-in-Ok-finish-clause-written
 returns-in-Ok-finish-clause-written g c = λ old_text new_text of_old of_new.
-    let old = g.W.Write.contents c.args.out.now.inner in
-    let mid = g.W.Write.contents c.write_corrections.new.out.inner in
-    let new = g.W.Write.contents c.finish.new.out.inner in
+    let old = g.W.Write.contents c.args.out.now.writer in
+    let mid = g.W.Write.contents c.write_corrections.new.out.writer in
+    let new = g.W.Write.contents c.finish.new.out.writer in
     let text = c.in-Ok.ensures.written old_text new_text of_old of_new in (
       text.0,
       text.1,
@@ -20,9 +20,9 @@ returns-in-Ok-finish-clause-written g c = λ old_text new_text of_old of_new.
 pub returns-in-Err-finish-clause-fault : goal.returns-in-Err-finish-clause-fault
 returns-in-Err-finish-clause-fault g c = λ old_text new_text of_old of_new.
     let ledgers = c.args.ledgers.now in
-    let old = g.W.Write.contents c.args.out.now.inner in
-    let mid = g.W.Write.contents c.write_corrections.new.out.inner in
-    let new = g.W.Write.contents c.finish.new.out.inner in
+    let old = g.W.Write.contents c.args.out.now.writer in
+    let mid = g.W.Write.contents c.write_corrections.new.out.writer in
+    let new = g.W.Write.contents c.finish.new.out.writer in
     let done = c.in-Ok.ensures.written old_text new_text of_old of_new in
     record {
       right = right_corrections_write ledgers.old.now ledgers.new.now old_text new_text
@@ -39,9 +39,9 @@ returns-in-Err-finish-clause-fault g c = λ old_text new_text of_old of_new.
 pub returns-in-Ok-finish-2-clause-fault : goal.returns-in-Ok-finish-2-clause-fault
 returns-in-Ok-finish-2-clause-fault g c = λ old_text new_text of_old of_new.
     let ledgers = c.args.ledgers.now in
-    let old = g.W.Write.contents c.args.out.now.inner in
-    let mid = g.W.Write.contents c.write_corrections.new.out.inner in
-    let new = g.W.Write.contents c.finish-in-Err.new.out.inner in
+    let old = g.W.Write.contents c.args.out.now.writer in
+    let mid = g.W.Write.contents c.write_corrections.new.out.writer in
+    let new = g.W.Write.contents c.finish-in-Err.new.out.writer in
     let fault = c.in-Err.fault in
     let reported = c.fault_of.result in
     record {
@@ -69,9 +69,9 @@ returns-in-Ok-finish-2-clause-fault g c = λ old_text new_text of_old of_new.
 pub returns-in-Err-finish-2-clause-fault : goal.returns-in-Err-finish-2-clause-fault
 returns-in-Err-finish-2-clause-fault g c = λ old_text new_text of_old of_new.
     let ledgers = c.args.ledgers.now in
-    let old = g.W.Write.contents c.args.out.now.inner in
-    let mid = g.W.Write.contents c.write_corrections.new.out.inner in
-    let new = g.W.Write.contents c.finish-in-Err.new.out.inner in
+    let old = g.W.Write.contents c.args.out.now.writer in
+    let mid = g.W.Write.contents c.write_corrections.new.out.writer in
+    let new = g.W.Write.contents c.finish-in-Err.new.out.writer in
     record {
       right = right_corrections_write ledgers.old.now ledgers.new.now old_text new_text
           c.finish-in-Err.new.out.end c.in-Err-finish-2.unwritten

@@ -15,7 +15,7 @@ pub loop-number-init : goal.loop-number-init
 loop-number-init g c = record {
   each = (
     [],
-    each_none (g.S.Source.loaded c.args.source.now) (g.W.Write.contents c.args.out.now.inner)
+    each_none (g.S.Source.loaded c.args.source.now) (g.W.Write.contents c.args.out.now.writer)
         (g.E.Write.contents c.args.err.now.writer) c.args.err.now.failed,
     refl,
   );
@@ -30,20 +30,20 @@ loop-number-preserved g c =
     let word = (get_or words place no_word).now in
     let front = map (λ w. w.now) (take place words) in
     let loaded = g.S.Source.loaded c.args.source.now in
-    let out = g.W.Write.contents c.args.out.now.inner in
-    let out'' = g.W.Write.contents c.decode_one.new.out.inner in
+    let out = g.W.Write.contents c.args.out.now.writer in
+    let out'' = g.W.Write.contents c.decode_one.new.out.writer in
     let said = g.E.Write.contents c.args.err.now.writer in
     let said'' = g.E.Write.contents c.report_layout-is_well.new.err.writer in
     let failed'' = c.report_layout-is_well.new.err.failed in
     let so_far = c.loop-number.invariant.each in
     let fault = c.in_ok-fault.fault in
     let one = subst (λ (l : Option (List Loaded)). DecodesOne word l
-    (g.S.Source.loaded c.decode_one.new.source) (g.W.Write.contents c.loop-number.out.inner)
+    (g.S.Source.loaded c.decode_one.new.source) (g.W.Write.contents c.loop-number.out.writer)
     out'' fault) c.show_count.ensures.loaded c.in_ok-fault.ensures.done in
     let decoded = so_far.0 ++ one.one ∷ [] in
     let each = each_more front word loaded (g.S.Source.loaded c.loop-number.source)
     (g.S.Source.loaded c.decode_one.new.source) out
-    (g.W.Write.contents c.loop-number.out.inner) out'' said
+    (g.W.Write.contents c.loop-number.out.writer) out'' said
     (g.E.Write.contents c.loop-number.err.writer) said'' c.loop-number.err.failed failed''
     so_far.0 fault so_far.1 one c.report_layout-is_well.ensures.line
     c.report_layout-is_well.ensures.kept in
@@ -82,16 +82,16 @@ returns-in_err-fault-clause-stops g c =
     (map (λ w. w.now) (drop (place + 1) words)) word (g.S.Source.loaded c.args.source.now)
     (g.S.Source.loaded c.loop-number.source) (g.S.Source.loaded c.decode_one.new.source)
     (g.S.Source.refused c.decode_one.new.source) c.decode_one.new.out.end
-    c.in_err-fault.field-0.0 (g.W.Write.contents c.args.out.now.inner)
-    (g.W.Write.contents c.loop-number.out.inner)
-    (g.W.Write.contents c.decode_one.new.out.inner)
+    c.in_err-fault.field-0.0 (g.W.Write.contents c.args.out.now.writer)
+    (g.W.Write.contents c.loop-number.out.writer)
+    (g.W.Write.contents c.decode_one.new.out.writer)
     (g.E.Write.contents c.args.err.now.writer) (g.E.Write.contents c.loop-number.err.writer)
     c.loop-number.err.failed so_far.0 (words_at words place no_word c.loop-number-test.true)
     so_far.1
     (subst (λ (l : Option (List Loaded)). StopsOne word l
     (g.S.Source.loaded c.decode_one.new.source) (g.S.Source.refused c.decode_one.new.source)
-    c.decode_one.new.out.end c.in_err-fault.field-0.0 (g.W.Write.contents c.loop-number.out.inner)
-    (g.W.Write.contents c.decode_one.new.out.inner)) c.show_count.ensures.loaded
+    c.decode_one.new.out.end c.in_err-fault.field-0.0 (g.W.Write.contents c.loop-number.out.writer)
+    (g.W.Write.contents c.decode_one.new.out.writer)) c.show_count.ensures.loaded
     c.in_err-fault.ensures.stops))
 
 pub returns-clause-done : goal.returns-clause-done

@@ -8,7 +8,7 @@ abbrev pub invariant-loop-number : goal.invariant-loop-number
 invariant-loop-number g l = record {
   each : (decoded : List Decoded) × DecodesEach (map (λ w. w.now) (take l.number l.words))
       (g.S.Source.loaded l.fn.source) (g.S.Source.loaded l.source)
-      (g.W.Write.contents l.fn.out.inner) (g.W.Write.contents l.out.inner)
+      (g.W.Write.contents l.fn.out.writer) (g.W.Write.contents l.out.writer)
       (g.E.Write.contents l.fn.err.writer) (g.E.Write.contents l.err.writer) l.err.failed decoded
       × (l.is_well ≡ are_whole decoded);
   quiet : l.is_well ≡ true → l.err ≡ l.fn.err;

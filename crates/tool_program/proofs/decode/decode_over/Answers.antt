@@ -12,9 +12,10 @@ returns-then-well-clause-done g c = λ zero.
       all.0,
       decodes_kept (map (λ w. w.now) c.args.words.now) (g.S.Source.loaded c.args.source.now)
           (g.S.Source.loaded c.decode_table-decoded.new.source)
-          (g.W.Write.contents c.args.out.now.inner)
-          (g.W.Write.contents c.decode_table-decoded.new.out.inner)
-          (g.W.Write.contents c.finish_after.new.out.inner) all.0 all.1 c.finish_after.ensures.kept,
+          (g.W.Write.contents c.args.out.now.writer)
+          (g.W.Write.contents c.decode_table-decoded.new.out.writer)
+          (g.W.Write.contents c.finish_after.new.out.writer) all.0 all.1
+          c.finish_after.ensures.kept,
       sym all.2 ∙ c.if-well.true,
     )
 
@@ -33,9 +34,9 @@ returns-else-well-clause-faults g c = λ one.
         decodes = decodes_kept (map (λ w. w.now) c.args.words.now)
             (g.S.Source.loaded c.args.source.now)
             (g.S.Source.loaded c.decode_table-decoded.new.source)
-            (g.W.Write.contents c.args.out.now.inner)
-            (g.W.Write.contents c.decode_table-decoded.new.out.inner)
-            (g.W.Write.contents c.finish_after.new.out.inner) all.0 all.1
+            (g.W.Write.contents c.args.out.now.writer)
+            (g.W.Write.contents c.decode_table-decoded.new.out.writer)
+            (g.W.Write.contents c.finish_after.new.out.writer) all.0 all.1
             c.finish_after.ensures.kept;
         faulty = sym all.2 ∙ c.if-well.false;
         reported = all.3;
@@ -52,9 +53,9 @@ returns-in-Err-clause-faults g c = λ one.
     let end = c.decode_table-decoded.new.out.end in
     let end' = c.finish_after.new.out.end in
     let fault = c.in-Err.fault in
-    let out = g.W.Write.contents c.args.out.now.inner in
-    let mid = g.W.Write.contents c.decode_table-decoded.new.out.inner in
-    let out' = g.W.Write.contents c.finish_after.new.out.inner in
+    let out = g.W.Write.contents c.args.out.now.writer in
+    let mid = g.W.Write.contents c.decode_table-decoded.new.out.writer in
+    let out' = g.W.Write.contents c.finish_after.new.out.writer in
     let said = g.E.Write.contents c.args.err.now.writer in
     let said' = g.E.Write.contents c.decode_table-decoded.new.err.writer in
     let failed = c.decode_table-decoded.new.err.failed in

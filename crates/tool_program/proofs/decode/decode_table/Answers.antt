@@ -8,9 +8,9 @@ use Rattle.tool_program.proofs.decode.decode_table.Goals as goal
 pub returns-in-Ok-clause-done : goal.returns-in-Ok-clause-done
 returns-in-Ok-clause-done g c =
     let words = map (λ w. w.now) c.args.words.now in
-    let out = g.W.Write.contents c.args.out.now.inner in
-    let mid = g.W.Write.contents c.write_head.new.out.inner in
-    let new = g.W.Write.contents c.decode_each-done.new.out.inner in
+    let out = g.W.Write.contents c.args.out.now.writer in
+    let mid = g.W.Write.contents c.write_head.new.out.writer in
+    let new = g.W.Write.contents c.decode_each-done.new.out.writer in
     let said = g.E.Write.contents c.args.err.now.writer in
     let said' = g.E.Write.contents c.decode_each-done.new.err.writer in
     IfOk-weaker c.decode_each-done.result _ _ (λ well each. (
@@ -29,9 +29,9 @@ returns-in-Ok-clause-stops g c =
     let words = map (λ w. w.now) c.args.words.now in
     let loaded = g.S.Source.loaded c.args.source.now in
     let end = c.decode_each-done.new.out.end in
-    let out = g.W.Write.contents c.args.out.now.inner in
-    let mid = g.W.Write.contents c.write_head.new.out.inner in
-    let new = g.W.Write.contents c.decode_each-done.new.out.inner in
+    let out = g.W.Write.contents c.args.out.now.writer in
+    let mid = g.W.Write.contents c.write_head.new.out.writer in
+    let new = g.W.Write.contents c.decode_each-done.new.out.writer in
     let said = g.E.Write.contents c.args.err.now.writer in
     let said' = g.E.Write.contents c.decode_each-done.new.err.writer in
     let failed = c.decode_each-done.new.err.failed in
@@ -46,7 +46,7 @@ returns-in-Err-clause-stops g c =
     let words = map (λ w. w.now) c.args.words.now in
     let said = g.E.Write.contents c.args.err.now.writer in
     head_stops words (g.S.Source.loaded c.args.source.now) (g.S.Source.refused c.args.source.now)
-    c.write_head.new.out.end c.of_write.result (g.W.Write.contents c.args.out.now.inner)
-    (g.W.Write.contents c.write_head.new.out.inner) said c.args.err.now.failed
+    c.write_head.new.out.end c.of_write.result (g.W.Write.contents c.args.out.now.writer)
+    (g.W.Write.contents c.write_head.new.out.writer) said c.args.err.now.failed
     (c.of_write.ensures ∙ ap failed_as c.end.ensures)
     c.in-Err.ensures.begun

@@ -11,7 +11,7 @@ returns-in_err-table-clause-fault g c =
     let p = err_from_is_err_and c.from_residual.result c.from_residual.ensures.1 in
     rw (p.1, p.2) (λ kept is. inl (
       c.in_err-table.ensures.refusal (c.args.word.now ∷ []) (inl refl),
-      Keeps-refl (g.W.Write.contents c.args.out.now.inner),
+      Keeps-refl (g.W.Write.contents c.args.out.now.writer),
     ))
 
 pub returns-in_err-again-clause-fault : goal.returns-in_err-again-clause-fault
@@ -20,7 +20,7 @@ returns-in_err-again-clause-fault g c =
     c.from_residual-in_err-again.ensures.1 in
     rw (p.1, p.2) (λ kept is. inl (
       c.in_err-again.ensures.refusal (c.args.word.now ∷ []) (inl refl),
-      Keeps-refl (g.W.Write.contents c.args.out.now.inner),
+      Keeps-refl (g.W.Write.contents c.args.out.now.writer),
     ))
 
 pub returns-clause-done : goal.returns-clause-done

@@ -11,9 +11,9 @@ use Rattle.tool_program.proofs.encode.encode_texts.Goals as goal
 
 pub returns-in-Ok-finish-clause-done : goal.returns-in-Ok-finish-clause-done
 returns-in-Ok-finish-clause-done g c = λ text is.
-    let old = g.W.Write.contents c.args.out.now.inner in
-    let mid = g.W.Write.contents c.encode.new.out.inner in
-    let new = g.W.Write.contents c.finish.new.out.inner in
+    let old = g.W.Write.contents c.args.out.now.writer in
+    let mid = g.W.Write.contents c.encode.new.out.writer in
+    let new = g.W.Write.contents c.finish.new.out.writer in
     let count = c.in-Ok.field-0 in
     let encoded = subst (λ (o : Option (List ℕ)). IfSome o (λ t. IsEncoded t old mid count)) is
     c.in-Ok.ensures.upload in
@@ -21,9 +21,9 @@ returns-in-Ok-finish-clause-done g c = λ text is.
 
 pub returns-in-Err-finish-clause-fault : goal.returns-in-Err-finish-clause-fault
 returns-in-Err-finish-clause-fault g c = λ text again of_text of_again.
-    let old = g.W.Write.contents c.args.out.now.inner in
-    let mid = g.W.Write.contents c.encode.new.out.inner in
-    let new = g.W.Write.contents c.finish.new.out.inner in
+    let old = g.W.Write.contents c.args.out.now.writer in
+    let mid = g.W.Write.contents c.encode.new.out.writer in
+    let new = g.W.Write.contents c.finish.new.out.writer in
     let count = c.in-Ok.field-0 in
     let encoded = subst (λ (o : Option (List ℕ)). IfSome o (λ t. IsEncoded t old mid count))
     of_again c.in-Ok.ensures.upload in
@@ -37,9 +37,9 @@ returns-in-Err-finish-clause-fault g c = λ text again of_text of_again.
 pub returns-in-Ok-finish-2-clause-fault : goal.returns-in-Ok-finish-2-clause-fault
 returns-in-Ok-finish-2-clause-fault g c = λ text again of_text of_again.
     let word = c.args.word.now in
-    let old = g.W.Write.contents c.args.out.now.inner in
-    let mid = g.W.Write.contents c.encode.new.out.inner in
-    let new = g.W.Write.contents c.finish-in-Err.new.out.inner in
+    let old = g.W.Write.contents c.args.out.now.writer in
+    let mid = g.W.Write.contents c.encode.new.out.writer in
+    let new = g.W.Write.contents c.finish-in-Err.new.out.writer in
     let fault = c.in-Err.fault in
     let reported = c.fault_of.result in
     let begun = subst (λ (o : Option (List ℕ)). IfSome o (λ t. IsBegun t old mid)) of_again
@@ -50,7 +50,7 @@ returns-in-Ok-finish-2-clause-fault g c = λ text again of_text of_again.
           (λ own. subst (λ (o : Option (List ℕ)). IfSome o (λ t. IsRowsFault t fault)) of_text
           (c.in-Err.ensures.refused own))
           (λ own. subst (λ (o : Option (List ℕ)). Keeps o new)
-          (ap (λ w. g.W.Write.contents w.inner) (c.in-Err.ensures.nothing own))
+          (ap (λ w. g.W.Write.contents w.writer) (c.in-Err.ensures.nothing own))
           c.in-Ok-finish-2.ensures.kept)
           (λ changed same. c.in-Err.ensures.same (ap (λ f. Err f) changed)
           (subst (λ (o : Option (List ℕ)). IsSome o) (sym of_text) refl)
@@ -60,9 +60,9 @@ returns-in-Ok-finish-2-clause-fault g c = λ text again of_text of_again.
 
 pub returns-in-Err-finish-2-clause-fault : goal.returns-in-Err-finish-2-clause-fault
 returns-in-Err-finish-2-clause-fault g c = λ text again of_text of_again.
-    let old = g.W.Write.contents c.args.out.now.inner in
-    let mid = g.W.Write.contents c.encode.new.out.inner in
-    let new = g.W.Write.contents c.finish-in-Err.new.out.inner in
+    let old = g.W.Write.contents c.args.out.now.writer in
+    let mid = g.W.Write.contents c.encode.new.out.writer in
+    let new = g.W.Write.contents c.finish-in-Err.new.out.writer in
     let begun = subst (λ (o : Option (List ℕ)). IfSome o (λ t. IsBegun t old mid)) of_again
     c.in-Err.ensures.begun in
     record {

@@ -11,7 +11,7 @@ returns-in_err-devices-clause-stops g c =
     let p = err_from_is_err_and c.from_residual.result c.from_residual.ensures.1 in
     rw (p.1, p.2) (λ kept is. (
       refl,
-      inl (c.in_err-devices.ensures.stops, Keeps-refl (g.W.Write.contents c.args.out.now.inner)),
+      inl (c.in_err-devices.ensures.stops, Keeps-refl (g.W.Write.contents c.args.out.now.writer)),
     ))
 
 pub returns-clause-done : goal.returns-clause-done

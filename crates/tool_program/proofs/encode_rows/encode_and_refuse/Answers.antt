@@ -12,7 +12,7 @@ returns-in-Err-clause-stops g c = λ kept is.
     (g.S.Source.loaded c.args.source.now) (g.S.Source.loaded c.args.source.now)
     (g.S.Source.refused c.args.source.now) (g.K.Sink.unbegun c.begin_new.new.self)
     (g.K.Sink.failed c.begin_new.new.self) c.args.out.now.end c.in-Err.fault c.fault_of_new.result
-    (g.W.Write.contents c.args.out.now.inner) c.fault_of_new.ensures c.in-Err.ensures.refused
+    (g.W.Write.contents c.args.out.now.writer) c.fault_of_new.ensures c.in-Err.ensures.refused
 
 pub returns-in-Ok-finish-clause-done : goal.returns-in-Ok-finish-clause-done
 returns-in-Ok-finish-clause-done g c = λ kept is.
@@ -20,9 +20,9 @@ returns-in-Ok-finish-clause-done g c = λ kept is.
     let contents = g.K.File.Write.contents in
     let name = c.args.refused.now in
     let once = c.in-Ok-encode_some.ensures.done kept is in
-    let file = refused_made c.args.choice.now once.text (g.W.Write.contents c.args.out.now.inner)
-    (g.W.Write.contents c.encode_some.new.out.inner) (contents c.in-Ok.file.inner)
-    (contents c.encode_some.new.refused.inner) once.summary (made c.args.sink.now)
+    let file = refused_made c.args.choice.now once.text (g.W.Write.contents c.args.out.now.writer)
+    (g.W.Write.contents c.encode_some.new.out.writer) (contents c.in-Ok.file.writer)
+    (contents c.encode_some.new.refused.writer) once.summary (made c.args.sink.now)
     (made c.begin_new.new.self) (made c.finish.new.self) name once.encoded
     c.in-Ok.ensures.empty c.begin_new.ensures.made c.in-Ok-finish.ensures.made in (
       once.summary,
@@ -52,9 +52,9 @@ returns-in-Err-finish-clause-stops g c = λ kept is.
             once.text c.encode_some.new.out.end (g.K.Sink.failed c.finish.new.self)
             c.in-Err-finish.fault c.fault_of_unfinished.result _ _ c.fault_of_unfinished.ensures
             c.in-Err-finish.ensures.failed;
-        begun = whole_begun c.args.choice.now once.text (g.W.Write.contents c.args.out.now.inner)
-            (g.W.Write.contents c.encode_some.new.out.inner) (contents c.in-Ok.file.inner)
-            (contents c.encode_some.new.refused.inner) once.summary once.encoded;
+        begun = whole_begun c.args.choice.now once.text (g.W.Write.contents c.args.out.now.writer)
+            (g.W.Write.contents c.encode_some.new.out.writer) (contents c.in-Ok.file.writer)
+            (contents c.encode_some.new.refused.writer) once.summary once.encoded;
       };
     })
 
@@ -64,8 +64,8 @@ returns-in-Err-encode_some-clause-stops g c = λ kept is.
     (g.S.Source.loaded c.args.source.now) (g.S.Source.loaded c.encode_some.new.source)
     (g.S.Source.refused c.encode_some.new.source) (g.K.Sink.unbegun c.fail.new.self)
     (g.K.Sink.failed c.fail.new.self) c.encode_some.new.out.end c.encode_some.new.refused.end
-    c.in-Err-encode_some.fault (g.W.Write.contents c.args.out.now.inner)
-    (g.W.Write.contents c.encode_some.new.out.inner)
+    c.in-Err-encode_some.fault (g.W.Write.contents c.args.out.now.writer)
+    (g.W.Write.contents c.encode_some.new.out.writer)
     (stopped c.args.refused.now c.encode_some.new.refused.end (g.K.Sink.failed c.begin_new.new.self)
     (g.K.Sink.failed c.fail.new.self) c.fail.ensures.failed)
     (c.in-Err-encode_some.ensures.stops kept c.args.refused.now is)

@@ -12,7 +12,7 @@ returns-in_err-text-clause-stops g c =
     let p = err_from_is_err_and c.from_residual.result c.from_residual.ensures.1 in
     rw (p.1, p.2) (λ kept unbegun failed is. inl (
       inl (c.in_err-text.ensures.refusal (c.args.word.now ∷ []) (inl refl)),
-      Keeps-refl (g.W.Write.contents c.args.out.now.inner),
+      Keeps-refl (g.W.Write.contents c.args.out.now.writer),
     ))
 
 pub returns-in_err-again-clause-stops : goal.returns-in_err-again-clause-stops
@@ -21,7 +21,7 @@ returns-in_err-again-clause-stops g c =
     c.from_residual-in_err-again.ensures.1 in
     rw (p.1, p.2) (λ kept unbegun failed is. inl (
       inl (c.in_err-again.ensures.refusal (c.args.word.now ∷ []) (inl refl)),
-      Keeps-refl (g.W.Write.contents c.args.out.now.inner),
+      Keeps-refl (g.W.Write.contents c.args.out.now.writer),
     ))
 
 pub returns-clause-done : goal.returns-clause-done
@@ -38,8 +38,8 @@ returns-clause-done g c =
     (remaining c.in_ok-again.again) is first.2 c.in_ok-again.ensures.reported in
     let whole = done second.0 second.1 in
     let nowhere = refused_nowhere c.args.choice.now second.0
-    (g.W.Write.contents c.args.out.now.inner)
-    (g.W.Write.contents c.encode_twice-done.new.out.inner) whole.0 whole.2 in (
+    (g.W.Write.contents c.args.out.now.writer)
+    (g.W.Write.contents c.encode_twice-done.new.out.writer) whole.0 whole.2 in (
       whole.0,
       whole.1,
       record {

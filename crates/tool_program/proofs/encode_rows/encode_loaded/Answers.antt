@@ -10,7 +10,7 @@ returns-in_err-text-clause-stops g c =
     let p = err_from_is_err_and c.from_residual.result c.from_residual.ensures.1 in
     rw (p.1, p.2) (λ kept unbegun failed is. inl (
       inl (c.in_err-text.ensures.refusal (c.args.word.now ∷ []) (inl refl)),
-      Keeps-refl (g.W.Write.contents c.args.out.now.inner),
+      Keeps-refl (g.W.Write.contents c.args.out.now.writer),
     ))
 
 pub returns-clause-done : goal.returns-clause-done
@@ -19,7 +19,7 @@ returns-clause-done g c =
     IfOk-weaker c.encode_twice.result _ _ (λ line done kept made is.
     let whole = done bytes (ap (λ text. Some text) c.as_slice-encoded.ensures.value) in
     let nowhere = refused_nowhere c.args.choice.now bytes
-    (g.W.Write.contents c.args.out.now.inner) (g.W.Write.contents c.encode_twice.new.out.inner)
+    (g.W.Write.contents c.args.out.now.writer) (g.W.Write.contents c.encode_twice.new.out.writer)
     whole.0 whole.2 in (
       whole.0,
       whole.1,

@@ -10,11 +10,11 @@ returns-clause-done g c =
     IfOk-weaker c.end_rows.result _ _ (λ line ended bytes known.
     let choice = c.args.choice.now in
     let encoded = c.encode_some_rows-encoded.result in
-    let old = g.W.Write.contents c.args.out.now.inner in
-    let mid = g.W.Write.contents c.encode_some_rows-encoded.new.out.inner in
-    let new = g.W.Write.contents c.end_rows.new.out.inner in
-    let empty = g.X.Write.contents c.args.refused.now.inner in
-    let written = g.X.Write.contents c.encode_some_rows-encoded.new.refused.inner in
+    let old = g.W.Write.contents c.args.out.now.writer in
+    let mid = g.W.Write.contents c.encode_some_rows-encoded.new.out.writer in
+    let new = g.W.Write.contents c.end_rows.new.out.writer in
+    let empty = g.X.Write.contents c.args.refused.now.writer in
+    let written = g.X.Write.contents c.encode_some_rows-encoded.new.refused.writer in
     let summary = ended.0 in
     let whole = of_some (g.R.Read.remaining c.args.text) bytes
     (λ t. IsRowsEncoded choice t old mid empty written summary) known
@@ -29,11 +29,11 @@ returns-clause-stops g c =
     IfErr-weaker c.end_rows.result _ _ (λ fault ends bytes name known.
     let choice = c.args.choice.now in
     let encoded = c.encode_some_rows-encoded.result in
-    let old = g.W.Write.contents c.args.out.now.inner in
-    let mid = g.W.Write.contents c.encode_some_rows-encoded.new.out.inner in
-    let new = g.W.Write.contents c.end_rows.new.out.inner in
-    let empty = g.X.Write.contents c.args.refused.now.inner in
-    let written = g.X.Write.contents c.encode_some_rows-encoded.new.refused.inner in
+    let old = g.W.Write.contents c.args.out.now.writer in
+    let mid = g.W.Write.contents c.encode_some_rows-encoded.new.out.writer in
+    let new = g.W.Write.contents c.end_rows.new.out.writer in
+    let empty = g.X.Write.contents c.args.refused.now.writer in
+    let written = g.X.Write.contents c.encode_some_rows-encoded.new.refused.writer in
     record {
       right = right_end c.args.words.now (Some name) c.args.word.now choice bytes bytes
           c.end_rows.new.out.end c.end.result
@@ -43,7 +43,7 @@ returns-clause-stops g c =
                 (λ t. IsAgencyFault choice t why) known
                 (of_err encoded why _ is c.encode_some_rows-encoded.ensures.fault),
             λ own. subst (λ (o : Option (List ℕ)). Keeps o new)
-                (ap (λ w. g.W.Write.contents w.inner)
+                (ap (λ w. g.W.Write.contents w.writer)
                 (of_err encoded why _ is c.encode_some_rows-encoded.ensures.nothing own).0)
                 c.end_rows.ensures.kept,
             of_err encoded why _ is c.encode_some_rows-encoded.ensures.once,

@@ -11,7 +11,7 @@ returns-in_err-text-clause-stops g c =
     let p = err_from_is_err_and c.from_residual.result c.from_residual.ensures.1 in
     rw (p.1, p.2) (λ kept name is. inl (
       c.in_err-text.ensures.refusal (c.args.word.now ∷ []) (inl refl),
-      Keeps-refl (g.W.Write.contents c.args.out.now.inner),
+      Keeps-refl (g.W.Write.contents c.args.out.now.writer),
     ))
 
 pub returns-clause-done : goal.returns-clause-done

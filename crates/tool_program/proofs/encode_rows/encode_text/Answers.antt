@@ -12,8 +12,8 @@ returns-in-Some-clause-done g c =
       subst (λ (r : Option (Bor (List ℕ))). EncodesText (word_in r) c.args.word.now
           c.args.choice.now (g.S.Source.loaded c.args.source.now)
           (g.S.Source.loaded c.encode_and_refuse.new.source) (g.K.Sink.made c.args.sink.now)
-          (g.K.Sink.made c.encode_and_refuse.new.sink) (g.W.Write.contents c.args.out.now.inner)
-          (g.W.Write.contents c.encode_and_refuse.new.out.inner) all.0) (sym c.in-Some.is) all.2,
+          (g.K.Sink.made c.encode_and_refuse.new.sink) (g.W.Write.contents c.args.out.now.writer)
+          (g.W.Write.contents c.encode_and_refuse.new.out.writer) all.0) (sym c.in-Some.is) all.2,
     )) c.encode_and_refuse.ensures.done
 
 pub returns-in-Some-clause-stops : goal.returns-in-Some-clause-stops
@@ -24,8 +24,8 @@ returns-in-Some-clause-stops g c =
     (g.S.Source.loaded c.encode_and_refuse.new.source)
     (g.S.Source.refused c.encode_and_refuse.new.source)
     (g.K.Sink.unbegun c.encode_and_refuse.new.sink) (g.K.Sink.failed c.encode_and_refuse.new.sink)
-    c.encode_and_refuse.new.out.end fault (g.W.Write.contents c.args.out.now.inner)
-    (g.W.Write.contents c.encode_and_refuse.new.out.inner)) (sym c.in-Some.is) (stops kept is))
+    c.encode_and_refuse.new.out.end fault (g.W.Write.contents c.args.out.now.writer)
+    (g.W.Write.contents c.encode_and_refuse.new.out.writer)) (sym c.in-Some.is) (stops kept is))
     c.encode_and_refuse.ensures.stops
 
 pub returns-in-None-clause-done : goal.returns-in-None-clause-done
@@ -37,8 +37,8 @@ returns-in-None-clause-done g c =
       subst (λ (r : Option (Bor (List ℕ))). EncodesText (word_in r) c.args.word.now
           c.args.choice.now (g.S.Source.loaded c.args.source.now)
           (g.S.Source.loaded c.encode_all.new.source) (g.K.Sink.made c.args.sink.now)
-          (g.K.Sink.made c.args.sink.now) (g.W.Write.contents c.args.out.now.inner)
-          (g.W.Write.contents c.encode_all.new.out.inner) all.0) (sym c.in-None.is) all.2,
+          (g.K.Sink.made c.args.sink.now) (g.W.Write.contents c.args.out.now.writer)
+          (g.W.Write.contents c.encode_all.new.out.writer) all.0) (sym c.in-None.is) all.2,
     )) c.encode_all.ensures.done
 
 pub returns-in-None-clause-stops : goal.returns-in-None-clause-stops
@@ -48,7 +48,7 @@ returns-in-None-clause-stops g c =
     c.args.word.now c.args.choice.now (g.S.Source.loaded c.args.source.now)
     (g.S.Source.loaded c.encode_all.new.source) (g.S.Source.refused c.encode_all.new.source)
     (g.K.Sink.unbegun c.args.sink.now) (g.K.Sink.failed c.args.sink.now)
-    c.encode_all.new.out.end fault (g.W.Write.contents c.args.out.now.inner)
-    (g.W.Write.contents c.encode_all.new.out.inner)) (sym c.in-None.is)
+    c.encode_all.new.out.end fault (g.W.Write.contents c.args.out.now.writer)
+    (g.W.Write.contents c.encode_all.new.out.writer)) (sym c.in-None.is)
     (stops kept (g.K.Sink.unbegun c.args.sink.now) (g.K.Sink.failed c.args.sink.now) is))
     c.encode_all.ensures.stops

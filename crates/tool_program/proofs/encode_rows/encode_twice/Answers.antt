@@ -12,9 +12,9 @@ returns-clause-done g c =
     IfOk-weaker c.end_rows.result _ _ (λ line ended bytes known.
     let choice = c.args.choice.now in
     let encoded = c.encode_rows-encoded.result in
-    let old = g.W.Write.contents c.args.out.now.inner in
-    let mid = g.W.Write.contents c.encode_rows-encoded.new.out.inner in
-    let new = g.W.Write.contents c.end_rows.new.out.inner in
+    let old = g.W.Write.contents c.args.out.now.writer in
+    let mid = g.W.Write.contents c.encode_rows-encoded.new.out.writer in
+    let new = g.W.Write.contents c.end_rows.new.out.writer in
     let summary = ended.0 in
     let whole = of_some (g.T.Read.remaining c.args.again) bytes
     (λ t. IsRowsEncoded choice t old mid None None summary) known
@@ -30,9 +30,9 @@ returns-clause-stops g c =
     IfErr-weaker c.end_rows.result _ _ (λ fault ends bytes later of_bytes of_later.
     let choice = c.args.choice.now in
     let encoded = c.encode_rows-encoded.result in
-    let old = g.W.Write.contents c.args.out.now.inner in
-    let mid = g.W.Write.contents c.encode_rows-encoded.new.out.inner in
-    let new = g.W.Write.contents c.end_rows.new.out.inner in
+    let old = g.W.Write.contents c.args.out.now.writer in
+    let mid = g.W.Write.contents c.encode_rows-encoded.new.out.writer in
+    let new = g.W.Write.contents c.end_rows.new.out.writer in
     record {
       right = right_end c.args.words.now None c.args.word.now choice bytes later
           c.end_rows.new.out.end None ⊥ encoded fault old new ends
@@ -41,7 +41,7 @@ returns-clause-stops g c =
                 (λ t. IsAgencyFault choice t why) of_bytes
                 (of_err encoded why _ is c.encode_rows-encoded.ensures.refused own),
             λ own. subst (λ (o : Option (List ℕ)). Keeps o new)
-                (ap (λ w. g.W.Write.contents w.inner)
+                (ap (λ w. g.W.Write.contents w.writer)
                 (of_err encoded why _ is c.encode_rows-encoded.ensures.nothing own))
                 c.end_rows.ensures.kept,
             λ changed same. c.encode_rows-encoded.ensures.same (is ∙ ap (λ f. Err f) changed)

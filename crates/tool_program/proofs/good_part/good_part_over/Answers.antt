@@ -11,9 +11,10 @@ returns-then-well-clause-done g c = λ zero.
       all.0,
       keeps_kept c.args.words.now (g.S.Source.loaded c.args.source.now)
           (g.S.Source.loaded c.list_and_make-made.new.source) (g.K.Sink.made c.args.sink.now)
-          (g.K.Sink.made c.list_and_make-made.new.sink) (g.W.Write.contents c.args.out.now.inner)
-          (g.W.Write.contents c.list_and_make-made.new.out.inner)
-          (g.W.Write.contents c.finish_after.new.out.inner) all.0 all.1 c.finish_after.ensures.kept,
+          (g.K.Sink.made c.list_and_make-made.new.sink) (g.W.Write.contents c.args.out.now.writer)
+          (g.W.Write.contents c.list_and_make-made.new.out.writer)
+          (g.W.Write.contents c.finish_after.new.out.writer) all.0 all.1
+          c.finish_after.ensures.kept,
       sym all.2 ∙ c.if-well.true,
     )
 
@@ -25,9 +26,10 @@ returns-else-well-clause-faults g c = λ one.
       all.0,
       keeps_kept c.args.words.now (g.S.Source.loaded c.args.source.now)
           (g.S.Source.loaded c.list_and_make-made.new.source) (g.K.Sink.made c.args.sink.now)
-          (g.K.Sink.made c.list_and_make-made.new.sink) (g.W.Write.contents c.args.out.now.inner)
-          (g.W.Write.contents c.list_and_make-made.new.out.inner)
-          (g.W.Write.contents c.finish_after.new.out.inner) all.0 all.1 c.finish_after.ensures.kept,
+          (g.K.Sink.made c.list_and_make-made.new.sink) (g.W.Write.contents c.args.out.now.writer)
+          (g.W.Write.contents c.list_and_make-made.new.out.writer)
+          (g.W.Write.contents c.finish_after.new.out.writer) all.0 all.1
+          c.finish_after.ensures.kept,
       sym all.2 ∙ c.if-well.false,
       c.in-Ok.ensures.flushed,
       refl,
@@ -46,9 +48,9 @@ returns-in-Err-clause-faults g c = λ one.
     let end = c.list_and_make-made.new.out.end in
     let end' = c.finish_after.new.out.end in
     let fault = c.in-Err.fault in
-    let out = g.W.Write.contents c.args.out.now.inner in
-    let mid = g.W.Write.contents c.list_and_make-made.new.out.inner in
-    let out' = g.W.Write.contents c.finish_after.new.out.inner in
+    let out = g.W.Write.contents c.args.out.now.writer in
+    let mid = g.W.Write.contents c.list_and_make-made.new.out.writer in
+    let out' = g.W.Write.contents c.finish_after.new.out.writer in
     let kept = c.finish_after.ensures.kept in
     inr (
       fault,

@@ -14,11 +14,11 @@ returns-in_err-upload-clause-stops g c =
     rw (p.1, p.2)
     (gives_up_with c.args.words.now.has_tokens (word ∷ []) (g.S.Source.loaded c.args.source.now)
     (g.S.Source.refused c.list_one.new.source) c.list_one.new.out.end c.in_err-upload.field-0.0
-    (g.W.Write.contents c.args.out.now.inner) (g.W.Write.contents c.list_one.new.out.inner)
+    (g.W.Write.contents c.args.out.now.writer) (g.W.Write.contents c.list_one.new.out.writer)
     (one_stops word (g.S.Source.loaded c.args.source.now)
     (g.S.Source.loaded c.list_one.new.source) (g.S.Source.refused c.list_one.new.source)
-    c.list_one.new.out.end c.in_err-upload.field-0.0 (g.W.Write.contents c.args.out.now.inner)
-    (g.W.Write.contents c.list_one.new.out.inner) c.in_err-upload.ensures.stops))
+    c.list_one.new.out.end c.in_err-upload.field-0.0 (g.W.Write.contents c.args.out.now.writer)
+    (g.W.Write.contents c.list_one.new.out.writer) c.in_err-upload.ensures.stops))
 
 pub returns-in_err-add_tokens-clause-stops : goal.returns-in_err-add_tokens-clause-stops
 returns-in_err-add_tokens-clause-stops g c =
@@ -27,8 +27,8 @@ returns-in_err-add_tokens-clause-stops g c =
     let loaded' = g.S.Source.loaded c.list_one.new.source in
     let refused = g.S.Source.refused c.list_one.new.source in
     let end = c.list_one.new.out.end in
-    let out = g.W.Write.contents c.args.out.now.inner in
-    let out' = g.W.Write.contents c.list_one.new.out.inner in
+    let out = g.W.Write.contents c.args.out.now.writer in
+    let out' = g.W.Write.contents c.list_one.new.out.writer in
     let one = c.in_ok-upload.ensures.done in
     let fault = c.in_err-add_tokens.field-0.0 in
     let lists = one_lists word loaded loaded' out out' c.in_ok-upload.upload.bytes.items
@@ -45,9 +45,9 @@ returns-in_err-write_tokens-clause-stops g c =
     let word = c.args.words.now.upload.now in
     let loaded = g.S.Source.loaded c.args.source.now in
     let loaded' = g.S.Source.loaded c.list_one.new.source in
-    let out = g.W.Write.contents c.args.out.now.inner in
-    let out' = g.W.Write.contents c.list_one.new.out.inner in
-    let out'' = g.W.Write.contents c.write_tokens.new.out.inner in
+    let out = g.W.Write.contents c.args.out.now.writer in
+    let out' = g.W.Write.contents c.list_one.new.out.writer in
+    let out'' = g.W.Write.contents c.write_tokens.new.out.writer in
     let end = c.write_tokens.new.out.end in
     let one = c.in_ok-upload.ensures.done in
     let fault = c.in_err-write_tokens.field-0.0 in
@@ -73,9 +73,9 @@ returns-clause-done g c =
     let word = c.args.words.now.upload.now in
     let loaded = g.S.Source.loaded c.args.source.now in
     let loaded' = g.S.Source.loaded c.list_one.new.source in
-    let out = g.W.Write.contents c.args.out.now.inner in
-    let out' = g.W.Write.contents c.list_one.new.out.inner in
-    let out'' = g.W.Write.contents c.write_tokens.new.out.inner in
+    let out = g.W.Write.contents c.args.out.now.writer in
+    let out' = g.W.Write.contents c.list_one.new.out.writer in
+    let out'' = g.W.Write.contents c.write_tokens.new.out.writer in
     let one = c.in_ok-upload.ensures.done in
     let lists = one_lists word loaded loaded' out out' c.in_ok-upload.upload.bytes.items
     c.in_ok-upload.upload.is_sound one in

@@ -20,7 +20,7 @@ returns-in-Err-clause-faults g c = λ one. inr (
   gives_up c.args.words.now (map (λ w. w.now) c.args.names.now)
       (g.S.Source.loaded c.args.source.now) (g.S.Source.loaded c.look_all.new.source)
       (g.S.Source.refused c.look_all.new.source) c.look_all.new.out.end c.in-Err.fault
-      (g.W.Write.contents c.args.out.now.inner) (g.W.Write.contents c.look_all.new.out.inner)
+      (g.W.Write.contents c.args.out.now.writer) (g.W.Write.contents c.look_all.new.out.writer)
       (g.E.Write.contents c.args.err.now.writer) (g.E.Write.contents c.look_all.new.err.writer)
       (g.E.Write.contents c.say.new.err.writer) c.look_all.new.err.failed c.say.new.err.failed
       c.in-Err.ensures.stops c.say.ensures.reported c.say.ensures.kept,

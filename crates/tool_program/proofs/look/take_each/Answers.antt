@@ -19,7 +19,7 @@ loop-number-init g c = record {
   each = (
     [],
     takes_none c.args.words.now.has_list (g.S.Source.loaded c.args.source.now)
-        (g.W.Write.contents c.args.out.now.inner) (g.E.Write.contents c.args.err.now.writer)
+        (g.W.Write.contents c.args.out.now.writer) (g.E.Write.contents c.args.err.now.writer)
         c.args.err.now.failed,
     refl,
     ap (map (λ u. u.items)) c.new-uploads.ensures.items,
@@ -38,9 +38,9 @@ loop-number-preserved g c =
     let front = map (λ w. w.now) (take place names) in
     let loaded = g.S.Source.loaded c.args.source.now in
     let loaded'' = g.S.Source.loaded c.take_one.new.source in
-    let out = g.W.Write.contents c.args.out.now.inner in
-    let out' = g.W.Write.contents c.loop-number.out.inner in
-    let out'' = g.W.Write.contents c.take_one.new.out.inner in
+    let out = g.W.Write.contents c.args.out.now.writer in
+    let out' = g.W.Write.contents c.loop-number.out.writer in
+    let out'' = g.W.Write.contents c.take_one.new.out.writer in
     let said = g.E.Write.contents c.args.err.now.writer in
     let said' = g.E.Write.contents c.loop-number.err.writer in
     let said'' = g.E.Write.contents c.take_one.new.err.writer in
@@ -85,16 +85,16 @@ returns-in_err-taken-clause-stops g c =
     (map (λ w. w.now) (take place names)) (map (λ w. w.now) (drop (place + 1) names)) place word
     (g.S.Source.loaded c.args.source.now) (g.S.Source.loaded c.loop-number.source)
     (g.S.Source.loaded c.take_one.new.source) (g.S.Source.refused c.take_one.new.source)
-    c.take_one.new.out.end c.in_err-taken.field-0.0 (g.W.Write.contents c.args.out.now.inner)
-    (g.W.Write.contents c.loop-number.out.inner) (g.W.Write.contents c.take_one.new.out.inner)
+    c.take_one.new.out.end c.in_err-taken.field-0.0 (g.W.Write.contents c.args.out.now.writer)
+    (g.W.Write.contents c.loop-number.out.writer) (g.W.Write.contents c.take_one.new.out.writer)
     (g.E.Write.contents c.args.err.now.writer) (g.E.Write.contents c.loop-number.err.writer)
     (g.E.Write.contents c.take_one.new.err.writer) c.loop-number.err.failed
     c.take_one.new.err.failed so_far.0 (words_at names place no_word c.loop-number-test.true)
     so_far.1 so_far.2
     (subst (λ (l : Option (List Loaded)). StopsTaking c.args.words.now.has_list place word l
     (g.S.Source.loaded c.take_one.new.source) (g.S.Source.refused c.take_one.new.source)
-    c.take_one.new.out.end c.in_err-taken.field-0.0 (g.W.Write.contents c.loop-number.out.inner)
-    (g.W.Write.contents c.take_one.new.out.inner) (g.E.Write.contents c.loop-number.err.writer)
+    c.take_one.new.out.end c.in_err-taken.field-0.0 (g.W.Write.contents c.loop-number.out.writer)
+    (g.W.Write.contents c.take_one.new.out.writer) (g.E.Write.contents c.loop-number.err.writer)
     (g.E.Write.contents c.take_one.new.err.writer) c.take_one.new.err.failed)
     c.show_count.ensures.loaded c.in_err-taken.ensures.stops) c.take_one.ensures.kept)
 
@@ -109,9 +109,9 @@ returns-in_err-push-clause-stops g c =
     let behind = map (λ w. w.now) (drop (place + 1) names) in
     let loaded = g.S.Source.loaded c.args.source.now in
     let loaded'' = g.S.Source.loaded c.take_one.new.source in
-    let out = g.W.Write.contents c.args.out.now.inner in
-    let out' = g.W.Write.contents c.loop-number.out.inner in
-    let out'' = g.W.Write.contents c.take_one.new.out.inner in
+    let out = g.W.Write.contents c.args.out.now.writer in
+    let out' = g.W.Write.contents c.loop-number.out.writer in
+    let out'' = g.W.Write.contents c.take_one.new.out.writer in
     let said = g.E.Write.contents c.args.err.now.writer in
     let said' = g.E.Write.contents c.loop-number.err.writer in
     let said'' = g.E.Write.contents c.take_one.new.err.writer in

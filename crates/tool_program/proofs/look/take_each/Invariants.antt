@@ -8,8 +8,8 @@ abbrev pub invariant-loop-number : goal.invariant-loop-number
 invariant-loop-number g l = record {
   each : (listed : List Listed) × TakesEach l.words.has_list
       (map (λ w. w.now) (take l.number l.names)) (g.S.Source.loaded l.fn.source)
-      (g.S.Source.loaded l.source) (g.W.Write.contents l.fn.out.inner)
-      (g.W.Write.contents l.out.inner) (g.E.Write.contents l.fn.err.writer)
+      (g.S.Source.loaded l.source) (g.W.Write.contents l.fn.out.writer)
+      (g.W.Write.contents l.out.writer) (g.E.Write.contents l.fn.err.writer)
       (g.E.Write.contents l.err.writer) l.err.failed listed × (length listed ≡ l.number)
       × (map (λ u. u.items) l.uploads.items ≡ listed_uploads listed)
       × (l.is_well ≡ are_sound listed);

@@ -13,7 +13,7 @@ returns-in_err-upload-clause-stops g c =
     let p = err_from_is_err_and c.from_residual.result c.from_residual.ensures.1 in
     rw (p.1, p.2) (inl (
       c.in_err-upload.ensures.refusal (c.args.word.now ∷ []) (inl refl),
-      Keeps-refl (g.W.Write.contents c.args.out.now.inner),
+      Keeps-refl (g.W.Write.contents c.args.out.now.writer),
       λ well. Appends-nil (g.E.Write.contents c.args.err.now.writer),
     ))
 
@@ -57,8 +57,8 @@ returns-clause-stops g c =
     rw (same.0)
     (showing_stop c.args.has_list c.args.number word c.deref.result.now c.facts_of-facts.result
     before (g.S.Source.loaded c.show_one.new.source) (g.S.Source.refused c.show_one.new.source)
-    c.show_one.new.out.end c.in-Err.fault (g.W.Write.contents c.args.out.now.inner)
-    (g.W.Write.contents c.show_one.new.out.inner) (g.E.Write.contents c.args.err.now.writer)
+    c.show_one.new.out.end c.in-Err.fault (g.W.Write.contents c.args.out.now.writer)
+    (g.W.Write.contents c.show_one.new.out.writer) (g.E.Write.contents c.args.err.now.writer)
     c.args.err.now.failed c.facts_of-facts.ensures same.1
     (subst (λ (after : Option (List Loaded)).
     LoadsOne before after (file_named word) c.deref.result.now) (sym c.show_one.ensures.loaded)

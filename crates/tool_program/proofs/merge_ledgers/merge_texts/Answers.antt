@@ -7,9 +7,9 @@ use Rattle.tool_program.proofs.merge_ledgers.merge_texts.Goals as goal
 
 pub returns-in-Ok-finish-clause-done : goal.returns-in-Ok-finish-clause-done
 returns-in-Ok-finish-clause-done g c = λ ledgers reports of_ledgers of_reports.
-    let old = g.W.Write.contents c.args.out.now.inner in
-    let mid = g.W.Write.contents c.write_ledger.new.out.inner in
-    let new = g.W.Write.contents c.finish.new.out.inner in
+    let old = g.W.Write.contents c.args.out.now.writer in
+    let mid = g.W.Write.contents c.write_ledger.new.out.writer in
+    let new = g.W.Write.contents c.finish.new.out.writer in
     let done = c.in-Ok.ensures.done ledgers reports of_ledgers of_reports in
     record {
       text = done.text;
@@ -20,9 +20,9 @@ returns-in-Ok-finish-clause-done g c = λ ledgers reports of_ledgers of_reports.
 pub returns-in-Err-finish-clause-fault : goal.returns-in-Err-finish-clause-fault
 returns-in-Err-finish-clause-fault g c = λ ledgers reports of_ledgers of_reports.
     let words = map (λ w. w.now) c.args.ledgers.now ++ map (λ w. w.now) c.args.reports.now in
-    let old = g.W.Write.contents c.args.out.now.inner in
-    let mid = g.W.Write.contents c.write_ledger.new.out.inner in
-    let new = g.W.Write.contents c.finish.new.out.inner in
+    let old = g.W.Write.contents c.args.out.now.writer in
+    let mid = g.W.Write.contents c.write_ledger.new.out.writer in
+    let new = g.W.Write.contents c.finish.new.out.writer in
     let done = c.in-Ok.ensures.done ledgers reports of_ledgers of_reports in
     record {
       right = right_ledgers_write words ledgers reports c.finish.new.out.end
@@ -38,9 +38,9 @@ returns-in-Err-finish-clause-fault g c = λ ledgers reports of_ledgers of_report
 pub returns-in-Ok-finish-2-clause-fault : goal.returns-in-Ok-finish-2-clause-fault
 returns-in-Ok-finish-2-clause-fault g c = λ ledgers reports of_ledgers of_reports.
     let words = map (λ w. w.now) c.args.ledgers.now ++ map (λ w. w.now) c.args.reports.now in
-    let old = g.W.Write.contents c.args.out.now.inner in
-    let mid = g.W.Write.contents c.write_ledger.new.out.inner in
-    let new = g.W.Write.contents c.finish-in-Err.new.out.inner in
+    let old = g.W.Write.contents c.args.out.now.writer in
+    let mid = g.W.Write.contents c.write_ledger.new.out.writer in
+    let new = g.W.Write.contents c.finish-in-Err.new.out.writer in
     let fault = c.in-Err.fault in
     let reported = c.fault_of.result in
     record {
@@ -66,9 +66,9 @@ returns-in-Ok-finish-2-clause-fault g c = λ ledgers reports of_ledgers of_repor
 pub returns-in-Err-finish-2-clause-fault : goal.returns-in-Err-finish-2-clause-fault
 returns-in-Err-finish-2-clause-fault g c = λ ledgers reports of_ledgers of_reports.
     let words = map (λ w. w.now) c.args.ledgers.now ++ map (λ w. w.now) c.args.reports.now in
-    let old = g.W.Write.contents c.args.out.now.inner in
-    let mid = g.W.Write.contents c.write_ledger.new.out.inner in
-    let new = g.W.Write.contents c.finish-in-Err.new.out.inner in
+    let old = g.W.Write.contents c.args.out.now.writer in
+    let mid = g.W.Write.contents c.write_ledger.new.out.writer in
+    let new = g.W.Write.contents c.finish-in-Err.new.out.writer in
     record {
       right = right_ledgers_write words ledgers reports c.finish-in-Err.new.out.end
           c.in-Err-finish-2.unwritten c.in-Err-finish-2.ensures.fault;

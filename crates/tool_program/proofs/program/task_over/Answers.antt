@@ -41,8 +41,8 @@ returns-in-Split-clause-given_up g c = λ one.
             (g.S.Source.loaded c.args.source.now) (g.S.Source.loaded c.split_over.new.source)
             (g.S.Source.refused c.split_over.new.source) (g.K.Sink.made c.args.sink.now)
             (g.K.Sink.made c.split_over.new.sink) (g.K.Sink.failed c.split_over.new.sink)
-            c.split_over.new.out.end fault (g.W.Write.contents c.args.out.now.inner)
-            (g.W.Write.contents c.split_over.new.out.inner)) c.deref-in-Split.ensures.value
+            c.split_over.new.out.end fault (g.W.Write.contents c.args.out.now.writer)
+            (g.W.Write.contents c.split_over.new.out.writer)) c.deref-in-Split.ensures.value
             (gives kept keeps),
       ),
     )
@@ -56,14 +56,14 @@ returns-in-Merge-clause-given_up g c = λ one.
       (λ kept keeps. subst (λ (es : List (Bor (List ℕ))). GivesUpMerge (map (λ w. w.now) es)
           (map (λ w. w.now) c.in-Merge.words.reports.items) (g.S.Source.loaded c.args.source.now)
           (g.S.Source.loaded c.merge_over.new.source) (g.S.Source.refused c.merge_over.new.source)
-          c.merge_over.new.out.end fault (g.W.Write.contents c.args.out.now.inner)
-          (g.W.Write.contents c.merge_over.new.out.inner)) c.deref-in-Merge.ensures.value
+          c.merge_over.new.out.end fault (g.W.Write.contents c.args.out.now.writer)
+          (g.W.Write.contents c.merge_over.new.out.writer)) c.deref-in-Merge.ensures.value
           (subst (λ (rs : List (Bor (List ℕ))). GivesUpMerge
           (map (λ w. w.now) c.deref-in-Merge.result.now) (map (λ w. w.now) rs)
           (g.S.Source.loaded c.args.source.now)
           (g.S.Source.loaded c.merge_over.new.source) (g.S.Source.refused c.merge_over.new.source)
-          c.merge_over.new.out.end fault (g.W.Write.contents c.args.out.now.inner)
-          (g.W.Write.contents c.merge_over.new.out.inner)) c.deref-in-Merge-2.ensures.value
+          c.merge_over.new.out.end fault (g.W.Write.contents c.args.out.now.writer)
+          (g.W.Write.contents c.merge_over.new.out.writer)) c.deref-in-Merge-2.ensures.value
           (gives kept keeps))),
     )
 
@@ -78,16 +78,16 @@ returns-in-MergeLedgers-clause-given_up g c = λ one.
           (g.S.Source.loaded c.args.source.now)
           (g.S.Source.loaded c.merge_ledgers_over.new.source)
           (g.S.Source.refused c.merge_ledgers_over.new.source)
-          c.merge_ledgers_over.new.out.end fault (g.W.Write.contents c.args.out.now.inner)
-          (g.W.Write.contents c.merge_ledgers_over.new.out.inner))
+          c.merge_ledgers_over.new.out.end fault (g.W.Write.contents c.args.out.now.writer)
+          (g.W.Write.contents c.merge_ledgers_over.new.out.writer))
           c.deref-in-MergeLedgers.ensures.value
           (subst (λ (rs : List (Bor (List ℕ))). GivesUpLedgers
           (map (λ w. w.now) c.deref-in-MergeLedgers.result.now) (map (λ w. w.now) rs)
           (g.S.Source.loaded c.args.source.now)
           (g.S.Source.loaded c.merge_ledgers_over.new.source)
           (g.S.Source.refused c.merge_ledgers_over.new.source)
-          c.merge_ledgers_over.new.out.end fault (g.W.Write.contents c.args.out.now.inner)
-          (g.W.Write.contents c.merge_ledgers_over.new.out.inner))
+          c.merge_ledgers_over.new.out.end fault (g.W.Write.contents c.args.out.now.writer)
+          (g.W.Write.contents c.merge_ledgers_over.new.out.writer))
           c.deref-in-MergeLedgers-2.ensures.value (gives kept keeps))),
     )
 

@@ -8,4 +8,4 @@ returns-in-Ok-finish-clause-some g c =
     let made = g.K.Sink.made in
     makes_some (made c.args.sink.now) (made c.make_ends.new.sink) (made c.finish.new.self)
     (ends_files (ends_name words) c.args.ends.now) words.out.now
-    (g.K.File.Write.contents c.args.file.inner) c.in-Ok.ensures.made c.in-Ok-finish.ensures.made
+    (g.K.File.Write.contents c.args.file.writer) c.in-Ok.ensures.made c.in-Ok-finish.ensures.made

@@ -8,6 +8,6 @@ returns-in-Ok-clause-made g c =
     let contents = g.K.File.Write.contents in
     on_ok_weaker c.finish.result (λ makes parts uploads are.
     part_file uploads parts c.args.part (made c.args.sink.now) (made c.begin.new.self)
-    (made c.finish.new.self) c.args.name.now (contents c.in_ok-file.file.inner)
-    (contents c.write_part.new.out.inner) c.in_ok-file.ensures.made c.in_ok-file.ensures.empty
+    (made c.finish.new.self) c.args.name.now (contents c.in_ok-file.file.writer)
+    (contents c.write_part.new.out.writer) c.in_ok-file.ensures.made c.in_ok-file.ensures.empty
     (c.in-Ok.ensures.written parts uploads are) makes) c.finish.ensures.made

@@ -8,9 +8,9 @@ use Rattle.tool_program.proofs.split.write_ends.Goals as goal
 
 pub returns-in-Ok-clause-begun : goal.returns-in-Ok-clause-begun
 returns-in-Ok-clause-begun g c =
-    let out = g.W.Write.contents c.args.out.now.inner in
-    let out' = g.W.Write.contents c.write_bytes.new.out.inner in
-    let out'' = g.W.Write.contents c.finish.new.out.inner in
+    let out = g.W.Write.contents c.args.out.now.writer in
+    let out' = g.W.Write.contents c.write_bytes.new.out.writer in
+    let out'' = g.W.Write.contents c.finish.new.out.writer in
     OnErr_any c.finish.result (Begins out out'' c.args.ends.now)
     (begins_kept out out' out'' c.args.ends.now
     (begins_whole out out' c.args.ends.now (subst (λ (text : List ℕ). Appends out out' text)

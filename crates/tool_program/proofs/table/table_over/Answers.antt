@@ -1,6 +1,6 @@
 use Rattle.std.proofs.Common.{subst, sym}
 use Rattle.std.specs.Prelude.{◌≡◌, Bool, Option}
-use Rattle.tool_program.specs.declared.output.WriteEnd.{WriteEnd}
+use Rattle.program_manners.specs.declared.output.WriteEnd.{WriteEnd}
 use Rattle.tool_program.specs.inside.Table.{EndsAs, StopsTable}
 use Rattle.tool_program.proofs.TableEnds.{ends_ill, ends_kept, stops_ill, unwritten_ill}
 use Rattle.tool_program.proofs.table.table_over.Goals as goal
@@ -10,9 +10,9 @@ returns-then-well-clause-done g c = λ zero.
     let asked = c.args.question.now in
     let loaded = g.S.Source.loaded c.args.source.now in
     let loaded' = g.S.Source.loaded c.load_and_write-written.new.source in
-    let out = g.W.Write.contents c.args.out.now.inner in
-    let mid = g.W.Write.contents c.load_and_write-written.new.out.inner in
-    let out' = g.W.Write.contents c.finish.new.out.inner in
+    let out = g.W.Write.contents c.args.out.now.writer in
+    let mid = g.W.Write.contents c.load_and_write-written.new.out.writer in
+    let out' = g.W.Write.contents c.finish.new.out.writer in
     let said = g.E.Write.contents c.args.err.now.writer in
     let said' = g.E.Write.contents c.load_and_write-written.new.err.writer in
     let failed = c.load_and_write-written.new.err.failed in
@@ -27,9 +27,9 @@ returns-else-well-clause-faults g c = λ one.
     let asked = c.args.question.now in
     let loaded = g.S.Source.loaded c.args.source.now in
     let loaded' = g.S.Source.loaded c.load_and_write-written.new.source in
-    let out = g.W.Write.contents c.args.out.now.inner in
-    let mid = g.W.Write.contents c.load_and_write-written.new.out.inner in
-    let out' = g.W.Write.contents c.finish.new.out.inner in
+    let out = g.W.Write.contents c.args.out.now.writer in
+    let mid = g.W.Write.contents c.load_and_write-written.new.out.writer in
+    let out' = g.W.Write.contents c.finish.new.out.writer in
     let said = g.E.Write.contents c.args.err.now.writer in
     let said' = g.E.Write.contents c.load_and_write-written.new.err.writer in
     let failed = c.load_and_write-written.new.err.failed in
@@ -49,7 +49,7 @@ returns-in-Err-written-clause-faults g c = λ one.
     let loaded' = g.S.Source.loaded c.load_and_write-written.new.source in
     let refused = g.S.Source.refused c.load_and_write-written.new.source in
     stops_ill asked loaded loaded' refused c.finish.new.out.end c.finish.new.out.is_flushed
-    (g.W.Write.contents c.args.out.now.inner) (g.W.Write.contents c.finish.new.out.inner)
+    (g.W.Write.contents c.args.out.now.writer) (g.W.Write.contents c.finish.new.out.writer)
     (g.E.Write.contents c.args.err.now.writer)
     (g.E.Write.contents c.load_and_write-written.new.err.writer)
     (g.E.Write.contents c.say_stopped.new.err.writer) c.say_stopped.new.err.failed
@@ -63,8 +63,8 @@ returns-in-Err-clause-faults g c = λ one.
     unwritten_ill c.args.question.now (g.S.Source.loaded c.args.source.now)
     (g.S.Source.loaded c.load_and_write-written.new.source)
     (g.S.Source.refused c.load_and_write-written.new.source) c.finish.new.out.end
-    c.finish.new.out.is_flushed (g.W.Write.contents c.args.out.now.inner)
-    (g.W.Write.contents c.finish.new.out.inner) (g.E.Write.contents c.args.err.now.writer)
+    c.finish.new.out.is_flushed (g.W.Write.contents c.args.out.now.writer)
+    (g.W.Write.contents c.finish.new.out.writer) (g.E.Write.contents c.args.err.now.writer)
     (g.E.Write.contents c.load_and_write-written.new.err.writer)
     (g.E.Write.contents c.say.new.err.writer) c.say.new.err.failed c.in-Err.unwritten
     c.in-Err.ensures.fault c.say.ensures.reported

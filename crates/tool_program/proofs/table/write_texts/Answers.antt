@@ -20,7 +20,7 @@ returns-in-Ok-None-fares_of-clause-done g c =
     c.in-Ok-Some.field-0-is c.in-Ok-Some.ensures.quiet in
     let same : c.read_texts.new.err ≡ c.args.err.now → said' ≡ said = λ is. cc in
     λ loaded opened. ends_behind c.args.question.now loaded (g.S.Source.loaded c.args.source.now)
-    (map (λ t. t.items) c.args.texts.now) (g.W.Write.contents c.args.out.now.inner) said said'
+    (map (λ t. t.items) c.args.texts.now) (g.W.Write.contents c.args.out.now.writer) said said'
     said'' c.fares_of.new.err.failed (c.fares_of.new.err ≡ c.args.err.now) opened
     (c.in-Ok-None-fares_of.ensures.refused c.in-Ok-None-fares_of.field-0-is) (same quiet)
 
@@ -44,8 +44,8 @@ returns-clause-done g c =
     let texts = map (λ t. t.items) c.args.texts.now in
     let loaded' = g.S.Source.loaded c.args.source.now in
     let loaded'' = g.S.Source.loaded c.write_understood.new.source in
-    let out = g.W.Write.contents c.args.out.now.inner in
-    let out' = g.W.Write.contents c.write_understood.new.out.inner in
+    let out = g.W.Write.contents c.args.out.now.writer in
+    let out' = g.W.Write.contents c.write_understood.new.out.writer in
     let said = g.E.Write.contents c.args.err.now.writer in
     let said' = g.E.Write.contents c.fares_of.new.err.writer in
     let said'' = g.E.Write.contents c.write_understood.new.err.writer in

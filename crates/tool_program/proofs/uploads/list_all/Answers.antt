@@ -12,8 +12,8 @@ pub returns-in_err-is_well-clause-stops : goal.returns-in_err-is_well-clause-sto
 returns-in_err-is_well-clause-stops g c =
     let words = map (λ w. w.now) c.args.words.now in
     let loaded = g.S.Source.loaded c.args.source.now in
-    let out = g.W.Write.contents c.args.out.now.inner in
-    let out' = g.W.Write.contents c.list_each-listed.new.out.inner in
+    let out = g.W.Write.contents c.args.out.now.writer in
+    let out' = g.W.Write.contents c.list_each-listed.new.out.writer in
     let end = c.list_each-listed.new.out.end in
     let fault = c.in_err-is_well.field-0.0 in
     let p = err_from_is_err_and c.from_residual.result c.from_residual.ensures.1 in
@@ -28,9 +28,9 @@ pub returns-in_err-write_tokens-clause-stops : goal.returns-in_err-write_tokens-
 returns-in_err-write_tokens-clause-stops g c =
     let words = map (λ w. w.now) c.args.words.now in
     let loaded = g.S.Source.loaded c.args.source.now in
-    let out = g.W.Write.contents c.args.out.now.inner in
-    let out' = g.W.Write.contents c.list_each-listed.new.out.inner in
-    let out'' = g.W.Write.contents c.write_tokens.new.out.inner in
+    let out = g.W.Write.contents c.args.out.now.writer in
+    let out' = g.W.Write.contents c.list_each-listed.new.out.writer in
+    let out'' = g.W.Write.contents c.write_tokens.new.out.writer in
     let end = c.write_tokens.new.out.end in
     let fault = c.in_err-write_tokens.field-0.0 in
     let all = c.in_ok-is_well.ensures.done in
@@ -49,8 +49,8 @@ returns-in_err-write_tokens-clause-stops g c =
 pub returns-clause-done : goal.returns-clause-done
 returns-clause-done g c =
     let words = map (λ w. w.now) c.args.words.now in
-    let out' = g.W.Write.contents c.list_each-listed.new.out.inner in
-    let out'' = g.W.Write.contents c.write_tokens.new.out.inner in
+    let out' = g.W.Write.contents c.list_each-listed.new.out.writer in
+    let out'' = g.W.Write.contents c.write_tokens.new.out.writer in
     let all = c.in_ok-is_well.ensures.done in
     let has = all.3 c.no_tokens-tokens.ensures.none in
     let counted : is_some c.list_each-listed.new.tokens ≡ c.args.has_tokens =
@@ -58,7 +58,7 @@ returns-clause-done g c =
       all.0,
       lists_with c.args.has_tokens words (g.S.Source.loaded c.args.source.now)
           (g.S.Source.loaded c.list_each-listed.new.source)
-          (g.S.Source.loaded c.end_count.new.self) (g.W.Write.contents c.args.out.now.inner) out'
+          (g.S.Source.loaded c.end_count.new.self) (g.W.Write.contents c.args.out.now.writer) out'
           out'' all.0 all.1 c.end_count.ensures.loaded
           (subst (λ (b : Bool). WritesTokensIf b (listed_uploads all.0) out' out'') counted
           (c.in_ok-write_tokens.ensures.written (listed_uploads all.0) has)),

@@ -15,7 +15,7 @@ use Rattle.tool_program.proofs.uploads.list_each.Goals as goal
 pub loop-number-init : goal.loop-number-init
 loop-number-init g c = (
   [],
-  lists_none (g.S.Source.loaded c.args.source.now) (g.W.Write.contents c.args.out.now.inner),
+  lists_none (g.S.Source.loaded c.args.source.now) (g.W.Write.contents c.args.out.now.writer),
   refl,
   refl,
   refl,
@@ -31,9 +31,9 @@ loop-number-preserved g c =
     let front = map (λ w. w.now) (take place words) in
     let loaded = g.S.Source.loaded c.args.source.now in
     let loaded'' = g.S.Source.loaded c.list_one.new.source in
-    let out = g.W.Write.contents c.args.out.now.inner in
-    let out' = g.W.Write.contents c.loop-number.out.inner in
-    let out'' = g.W.Write.contents c.list_one.new.out.inner in
+    let out = g.W.Write.contents c.args.out.now.writer in
+    let out' = g.W.Write.contents c.loop-number.out.writer in
+    let out'' = g.W.Write.contents c.list_one.new.out.writer in
     let bytes = c.in_ok-one.one.bytes.items in
     let well = c.in_ok-one.one.is_sound in
     let so_far = c.loop-number.invariant in
@@ -66,15 +66,15 @@ returns-in_err-one-clause-stops g c =
     let place = c.loop-number.number in
     let word = (get_or words place no_word).now in
     let so_far = c.loop-number.invariant in
-    let out' = g.W.Write.contents c.loop-number.out.inner in
-    let out'' = g.W.Write.contents c.list_one.new.out.inner in
+    let out' = g.W.Write.contents c.loop-number.out.writer in
+    let out'' = g.W.Write.contents c.list_one.new.out.writer in
     let p = err_from_is_err_and c.from_residual.result c.from_residual.ensures.1 in
     rw (p.1, p.2)
     (lists_stop (map (λ w. w.now) words) (map (λ w. w.now) (take place words))
     (map (λ w. w.now) (drop (place + 1) words)) place word (g.S.Source.loaded c.args.source.now)
     (g.S.Source.loaded c.loop-number.source) (g.S.Source.loaded c.list_one.new.source)
     (g.S.Source.refused c.list_one.new.source) c.list_one.new.out.end
-    c.in_err-one.field-0.0 (g.W.Write.contents c.args.out.now.inner) out' out''
+    c.in_err-one.field-0.0 (g.W.Write.contents c.args.out.now.writer) out' out''
     so_far.0 (words_at words place no_word c.loop-number-test.true) so_far.1 so_far.2
     (subst (λ (l : Option (List Loaded)). StopsListing place word l
     (g.S.Source.loaded c.list_one.new.source)
@@ -92,9 +92,9 @@ returns-in_err-add_tokens-clause-stops g c =
     let behind = map (λ w. w.now) (drop (place + 1) words) in
     let loaded = g.S.Source.loaded c.args.source.now in
     let loaded'' = g.S.Source.loaded c.list_one.new.source in
-    let out = g.W.Write.contents c.args.out.now.inner in
-    let out' = g.W.Write.contents c.loop-number.out.inner in
-    let out'' = g.W.Write.contents c.list_one.new.out.inner in
+    let out = g.W.Write.contents c.args.out.now.writer in
+    let out' = g.W.Write.contents c.loop-number.out.writer in
+    let out'' = g.W.Write.contents c.list_one.new.out.writer in
     let bytes = c.in_ok-one.one.bytes.items in
     let well = c.in_ok-one.one.is_sound in
     let so_far = c.loop-number.invariant in
@@ -121,6 +121,6 @@ returns-clause-done g c =
     let inv = c.loop-number.invariant in
     let is : ListsUploads (map (λ w. w.now) c.args.words.now)
     (g.S.Source.loaded c.args.source.now) (g.S.Source.loaded c.loop-number.source)
-    (g.W.Write.contents c.args.out.now.inner) (g.W.Write.contents c.loop-number.out.inner)
+    (g.W.Write.contents c.args.out.now.writer) (g.W.Write.contents c.loop-number.out.writer)
     inv.0 = rw all at inv.1 in
     (inv.0, is, inv.3, inv.5)

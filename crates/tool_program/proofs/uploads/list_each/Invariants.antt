@@ -8,7 +8,7 @@ use Rattle.tool_program.proofs.uploads.list_each.Given as goal
 abbrev pub invariant-loop-number : goal.invariant-loop-number
 invariant-loop-number g l = (listed : List Listed)
     × ListsUploads (map (λ w. w.now) (take l.number l.words)) (g.S.Source.loaded l.fn.source)
-    (g.S.Source.loaded l.source) (g.W.Write.contents l.fn.out.inner)
-    (g.W.Write.contents l.out.inner) listed × (length listed ≡ l.number)
+    (g.S.Source.loaded l.source) (g.W.Write.contents l.fn.out.writer)
+    (g.W.Write.contents l.out.writer) listed × (length listed ≡ l.number)
     × (l.is_well ≡ are_sound listed) × (is_some l.tokens ≡ is_some l.fn.tokens)
     × (HasTokensIf l.fn.tokens [] → HasTokensIf l.tokens (listed_uploads listed))

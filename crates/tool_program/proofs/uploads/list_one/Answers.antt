@@ -2,9 +2,9 @@ use Rattle.std.proofs.Common.{◌≡◌, ◌∷◌, [], ℕ, List, Option, inl, 
 use Rattle.std.proofs.KnownBytes.{Keeps-refl}
 use Rattle.std.proofs.lemmas.Result.{err_from_is_err_and}
 use Rattle.program_manners.specs.Loads.{LoadsOne}
+use Rattle.program_manners.specs.declared.output.WriteEnd.{WriteEnd}
 use Rattle.tool_program.specs.Fault.{failed_as}
 use Rattle.tool_program.specs.Names.{file_named}
-use Rattle.tool_program.specs.declared.output.WriteEnd.{WriteEnd}
 use Rattle.tool_program.proofs.Listing.{none_when}
 use Rattle.tool_program.proofs.uploads.list_one.Goals as goal
 
@@ -13,7 +13,7 @@ returns-in_err-bytes-clause-stops g c =
     let p = err_from_is_err_and c.from_residual.result c.from_residual.ensures.1 in
     rw (p.1, p.2) (inl (
       c.in_err-bytes.ensures.refusal (c.args.word.now ∷ []) (inl refl),
-      Keeps-refl (g.W.Write.contents c.args.out.now.inner),
+      Keeps-refl (g.W.Write.contents c.args.out.now.writer),
     ))
 
 pub returns-in-Ok-clause-done : goal.returns-in-Ok-clause-done
@@ -21,8 +21,8 @@ returns-in-Ok-clause-done g c =
     let word = c.args.word.now in
     let before = g.S.Source.loaded c.args.source.now in
     let after = g.S.Source.loaded c.load_upload.new.source in
-    let out = g.W.Write.contents c.args.out.now.inner in
-    let out' = g.W.Write.contents c.write_bytes.new.out.inner in
+    let out = g.W.Write.contents c.args.out.now.writer in
+    let out' = g.W.Write.contents c.write_bytes.new.out.writer in
     record {
       one = record {
         word = word;

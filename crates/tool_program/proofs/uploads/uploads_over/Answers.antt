@@ -12,9 +12,10 @@ returns-then-well-clause-done g c = λ zero.
       all.0,
       with_kept c.args.has_tokens (map (λ w. w.now) c.args.words.now)
           (g.S.Source.loaded c.args.source.now) (g.S.Source.loaded c.list_all-listed.new.source)
-          (g.W.Write.contents c.args.out.now.inner)
-          (g.W.Write.contents c.list_all-listed.new.out.inner)
-          (g.W.Write.contents c.finish_after.new.out.inner) all.0 all.1 c.finish_after.ensures.kept,
+          (g.W.Write.contents c.args.out.now.writer)
+          (g.W.Write.contents c.list_all-listed.new.out.writer)
+          (g.W.Write.contents c.finish_after.new.out.writer) all.0 all.1
+          c.finish_after.ensures.kept,
       sym all.2 ∙ c.if-well.true,
     )
 
@@ -27,9 +28,9 @@ returns-else-well-clause-faults g c = λ one.
         listed = all.0;
         lists = with_kept c.args.has_tokens (map (λ w. w.now) c.args.words.now)
             (g.S.Source.loaded c.args.source.now) (g.S.Source.loaded c.list_all-listed.new.source)
-            (g.W.Write.contents c.args.out.now.inner)
-            (g.W.Write.contents c.list_all-listed.new.out.inner)
-            (g.W.Write.contents c.finish_after.new.out.inner) all.0 all.1
+            (g.W.Write.contents c.args.out.now.writer)
+            (g.W.Write.contents c.list_all-listed.new.out.writer)
+            (g.W.Write.contents c.finish_after.new.out.writer) all.0 all.1
             c.finish_after.ensures.kept;
         faulty = sym all.2 ∙ c.if-well.false;
       },
@@ -46,9 +47,9 @@ returns-in-Err-clause-faults g c = λ one.
     let end = c.list_all-listed.new.out.end in
     let end' = c.finish_after.new.out.end in
     let fault = c.in-Err.fault in
-    let out = g.W.Write.contents c.args.out.now.inner in
-    let mid = g.W.Write.contents c.list_all-listed.new.out.inner in
-    let out' = g.W.Write.contents c.finish_after.new.out.inner in
+    let out = g.W.Write.contents c.args.out.now.writer in
+    let mid = g.W.Write.contents c.list_all-listed.new.out.writer in
+    let out' = g.W.Write.contents c.finish_after.new.out.writer in
     let kept = c.finish_after.ensures.kept in
     inr (
       fault,

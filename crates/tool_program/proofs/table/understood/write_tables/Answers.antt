@@ -15,7 +15,7 @@ use Rattle.tool_program.proofs.table.understood.write_tables.Goals as goal
 
 pub loop-place-init : goal.loop-place-init
 loop-place-init g c = record {
-  written = λ sql. Appends-nil (g.W.Write.contents c.args.out.now.inner);
+  written = λ sql. Appends-nil (g.W.Write.contents c.args.out.now.writer);
   warned = (tt, refl);
   kept = λ fine. fine;
 }
@@ -35,16 +35,17 @@ loop-place-preserved g c =
     let number : length (take place tables) ≡ place =
     take_number place tables c.loop-place-test.true in
     let more = take_more tables place table c.loop-place-test.true in
-    let out' = g.W.Write.contents c.loop-place.out.inner in
-    let out'' = g.W.Write.contents c.write_at.new.out.inner in
+    let out' = g.W.Write.contents c.loop-place.out.writer in
+    let out'' = g.W.Write.contents c.write_at.new.out.writer in
     let same = c.index-tables-place.is in
     record {
       written = λ sql. subst (λ (ts : List ReadTable). Appends
-          (g.W.Write.contents c.args.out.now.inner) (g.W.Write.contents c.write_at.new.out.inner)
+          (g.W.Write.contents c.args.out.now.writer) (g.W.Write.contents c.write_at.new.out.writer)
           (sql_of ts)) (sym more)
-          (sql_push (g.W.Write.contents c.args.out.now.inner)
-          (g.W.Write.contents c.loop-place.out.inner) (g.W.Write.contents c.write_at.new.out.inner)
-          (take place tables) (get_or tables place table) (c.loop-place.invariant.written sql)
+          (sql_push (g.W.Write.contents c.args.out.now.writer)
+          (g.W.Write.contents c.loop-place.out.writer)
+          (g.W.Write.contents c.write_at.new.out.writer) (take place tables)
+          (get_or tables place table) (c.loop-place.invariant.written sql)
           (subst (λ (t : ReadTable). Appends out' out'' (sql_text t.fares)) same
           (c.in_ok-is_silent.ensures.sql sql)));
       warned = subst (λ (ts : List ReadTable). AreWarnedSoFar (silent && is) ts seen

@@ -7,8 +7,8 @@ use Rattle.tool_program.proofs.table.understood.write_tables.Given as goal
 -- so far these tables are written, and their warnings were reported
 abbrev pub invariant-loop-place : goal.invariant-loop-place
 invariant-loop-place g l = record {
-  written : l.question.is_sql ≡ true → Appends (g.W.Write.contents l.fn.out.inner)
-      (g.W.Write.contents l.out.inner) (sql_of (take l.place l.tables));
+  written : l.question.is_sql ≡ true → Appends (g.W.Write.contents l.fn.out.writer)
+      (g.W.Write.contents l.out.writer) (sql_of (take l.place l.tables));
   warned : AreWarnedSoFar l.is_silent (take l.place l.tables) l.seen
       (l.err ≡ l.fn.err) (HasReported (g.E.Write.contents l.fn.err.writer)
       (g.E.Write.contents l.err.writer) l.err.failed);
