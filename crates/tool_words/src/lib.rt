@@ -10,6 +10,7 @@
 //! | `rules` | the rules between the arguments of a subcommand |
 //! | `reading` | what is given to a subcommand |
 //! | `encode_words` | what `encode` is asked for with columns |
+//! | `moments` | moments that words give |
 //! | `uploads_words` | what `uploads` is asked for with a good part or a look |
 //! | `table_words` | what `table` is asked for |
 //! | `later_table` | words of tables that follow others, each from a date on |
@@ -28,6 +29,7 @@ mod later_table;
 mod merge;
 mod merge_ledgers;
 mod mistake;
+mod moments;
 mod named_list;
 mod program;
 mod reading;

@@ -8,9 +8,9 @@ ghost use Rattle.tool_words.specs.Tasks.{asked_of, table_of, texts_of};
 
 use crate::later_table::LaterTable;
 use crate::mistake::Mistake;
+use crate::moments::moment_given;
 use crate::reading::{has_value, inputs_in, is_input, value_in};
 use crate::task::{TableQuestion, Task};
-use crate::uploads_words::moment_given;
 use clap::ArgMatches;
 use program_manners::{WrongWord, flag_in, names_in};
 use std::alloc::{AllocError, Global};
