@@ -17,8 +17,8 @@ use fare_service::{GatherFault, OpenFault, PrintFault, RunFault};
 use fare_table::TableFault;
 use placed_files::Unopened;
 use program_manners::{
-    FileFault, FollowLine, LoadFault, NamedClassLine, NamedTableLine, TableLine, WriteEnd,
-    WrongWord,
+    FileFault, FollowLine, LoadFault, NamedClassLine, NamedTableLine, TableLine, TablesFault,
+    WriteEnd, WrongWord,
 };
 use sorted_bills::BillFault;
 use std::fmt;
@@ -219,6 +219,22 @@ impl From<TableFault> for Fault<'_> {
 
     fn from(fault: TableFault) -> Self {
         Fault::Table(fault)
+    }
+}
+
+impl<'a> From<TablesFault<'a>> for Fault<'a> {
+    ghost use Rattle.fare_program.specs.inside.Fault.{unloaded_as};
+
+    ghost from_gives = { λ refused fault. fault ≡ unloaded_as refused };
+
+    fn from(fault: TablesFault<'a>) -> Fault<'a> {
+        match fault {
+            TablesFault::File(file) => Fault::File(file),
+            TablesFault::Table(fault) => Fault::Table(fault),
+            TablesFault::NamedTable(line) => Fault::NamedTable(line),
+            TablesFault::Follow(line) => Fault::Follow(line),
+            TablesFault::NoMemory => Fault::NoMemory,
+        }
     }
 }
 

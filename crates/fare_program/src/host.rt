@@ -4,7 +4,7 @@ use crate::files_ahead::{Disk, FileAhead, take_next};
 use crate::sampling::push_file_sample;
 use crate::source::Source;
 use placed_files::{Unopened, open_regular};
-use program_manners::{LOAD_LIMIT_BYTES, LoadFault, load_file, load_from, open_file};
+use program_manners::{FileSource, LOAD_LIMIT_BYTES, LoadFault, load_file, load_from, open_file};
 use std::alloc::{AllocError, Global};
 use std::fs;
 use std::fs::File;
@@ -98,6 +98,18 @@ impl<'a, R: AllocGlobal> Host<'a, R> {
     }
 }
 
+impl<R: Disk + Input + AllocGlobal> FileSource for Host<'_, R>
+where
+    R::Reader: Drop,
+{
+    fn load(&mut self, name: &str) -> Result<Vec<u8>, LoadFault> {
+        match take_next(&mut self.ahead, name) {
+            Some(loaded) => loaded,
+            None => self.rt.read(self.rt.alloc(), name),
+        }
+    }
+}
+
 impl<R: Disk + Input + AllocGlobal> Source for Host<'_, R>
 where
     R::Reader: Drop,
@@ -108,13 +120,6 @@ where
 
     fn keep_ahead(&mut self, ahead: Vec<FileAhead>) {
         self.ahead = ahead;
-    }
-
-    fn load(&mut self, name: &str) -> Result<Vec<u8>, LoadFault> {
-        match take_next(&mut self.ahead, name) {
-            Some(loaded) => loaded,
-            None => self.rt.read(self.rt.alloc(), name),
-        }
     }
 
     fn input(&mut self) -> Result<Vec<u8>, LoadFault> {

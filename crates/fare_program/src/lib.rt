@@ -15,7 +15,6 @@
 //! | `settle`, `bill` | what is asked for of settled files, whose taps are charged in one order |
 //! | `settled_token` | what is asked for of one token of settled files |
 //! | `sorted`, `sorted_fault` | what is asked for of sorted files, and why they are not charged |
-//! | `tables` | fare tables that are loaded in the order of their words |
 //! | `traced` | the traced ledger of files |
 //! | `posting` | the text that is asked for of files, posted as they are or settled |
 //! | `output` | texts written out whole |
@@ -48,7 +47,6 @@ mod settled_token;
 mod sorted;
 mod sorted_fault;
 mod source;
-mod tables;
 mod traced;
 mod uploads;
 
@@ -59,6 +57,7 @@ pub use named_list::list_words;
 pub use note::Note;
 pub use program::main_over;
 pub use program_manners::{
-    Complaints, LOAD_LIMIT_BYTES, LoadFault, Output, WordsFault, load_from, unread_words, words_of,
+    Complaints, FileSource, LOAD_LIMIT_BYTES, LoadFault, Output, WordsFault, load_from,
+    unread_words, words_of,
 };
 pub use source::Source;

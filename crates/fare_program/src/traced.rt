@@ -18,9 +18,8 @@ ghost use Rattle.settled_texts.specs.Ledgers.{IsTracedLedger};
 ghost use Rattle.settled_texts.specs.Names.{HasClasses, class_by};
 
 use crate::fault::Fault;
-use crate::tables::Tables;
 use fare_table::FareTable;
-use program_manners::{NamedClassLine, TableWord, TableWords};
+use program_manners::{NamedClassLine, TableWord, TableWords, Tables};
 use settled_texts::{ClassFault, ClassNames, WrongNames, write_traced_ledger};
 use std::alloc::Global;
 use std::io::Write;

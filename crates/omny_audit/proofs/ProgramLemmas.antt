@@ -14,26 +14,25 @@ use Rattle.clap.specs.Words.{Text}
 use Rattle.ledger_check.specs.Balances.{AreGoodFields}
 use Rattle.tap_views.specs.declared.encoder.TapFields.{TapFields}
 use Rattle.omny_audit.specs.Fault.{IsRightFault, IsTold, NamesOneOf, is_unwritten, named_by}
-use Rattle.omny_audit.specs.Options.{AuditAsked, files_of, named_file, table_files}
+use Rattle.omny_audit.specs.Options.{AuditAsked, files_of, named_file}
 use Rattle.omny_audit.specs.declared.fault.Fault.{Fault}
 use Rattle.omny_audit.specs.Program.{AreGoodFieldsOfAll, AreGoodFieldsOfEach, AreWanted}
 use Rattle.omny_audit.specs.Program.{HasLoaded, IsRightAuditFault, IsTracedAs}
 use Rattle.omny_audit.specs.Program.{LoadsNamedFiles, LoadsReport, compared}
-use Rattle.omny_audit.specs.Source.{OpensOne}
 use Rattle.omny_audit.specs.Traced.{Wanted}
 use Rattle.omny_audit.proofs.TableFaults.{classes_are_right}
 use Rattle.settled_texts.specs.ClassFaults.{IsWrongAt}
 use Rattle.settled_texts.specs.declared.class_names.WrongNames.{WrongNames}
 use Rattle.program_manners.specs.TableLoads.{LoadsTables}
 use Rattle.program_manners.specs.TableViews.{wrong_of}
-use Rattle.program_manners.specs.TableWords.{date_text, wrong_word}
+use Rattle.program_manners.specs.TableWords.{date_text, table_files, wrong_word}
 use Rattle.program_manners.specs.declared.table_words.DateFault.{DateFault}
 use Rattle.program_manners.specs.declared.table_words.WrongWord.{WrongWord}
 use Rattle.program_manners.specs.Refusals.{IsOneOf}
 use Rattle.program_manners.proofs.Refusals.{is_one_at}
 use Rattle.omny_audit.specs.inside.Tables.{IsClassFault}
 use Rattle.omny_audit.specs.inside.Source.{IsAllOf}
-use Rattle.program_manners.specs.Loads.{Loaded, LoadsAll, LoadsOne}
+use Rattle.program_manners.specs.Loads.{Loaded, LoadsAll, LoadsOne, OpensOne}
 use Rattle.program_manners.specs.declared.loading.LoadFault.{LoadFault}
 use Rattle.program_manners.specs.declared.output.WriteEnd.{WriteEnd}
 use Rattle.program_manners.proofs.LoadsOn.{loads_more}

@@ -8,8 +8,7 @@ use Rattle.program_manners.specs.Lines.{follow_text, load_text, named_class_text
 use Rattle.program_manners.specs.Lines.{table_text}
 use Rattle.program_manners.specs.TableLoads.{LoadsTables}
 use Rattle.program_manners.specs.TableRefusals.{RefusesNamed, RefusesOnly, RefusesToFollow}
-use Rattle.program_manners.specs.TableWords.{TableNames, date_text}
-use Rattle.omny_audit.specs.Options.{table_files}
+use Rattle.program_manners.specs.TableWords.{TableNames, date_text, table_files}
 use Rattle.program_manners.specs.Loads.{Loaded, LoadsAll}
 use Rattle.program_manners.specs.declared.loading.LoadFault.{LoadFault}
 use Rattle.program_manners.specs.declared.loading.LoadFault.TheVariants as load

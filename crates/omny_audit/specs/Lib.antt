@@ -3,7 +3,6 @@ pub mod Findings
 pub mod Options
 pub mod Program
 pub mod Reports
-pub mod Source
 pub mod Text
 pub mod Traced
 pub mod inside

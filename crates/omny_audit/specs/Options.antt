@@ -1,13 +1,13 @@
 -- The command line, and what its words ask for.
 use Rattle.std.specs.Prelude.{◌≡◌, ◌⊎◌, Bool, List, [], ◌∷◌, ◌++◌, Option, None, Some, codes}
-use Rattle.std.specs.Prelude.{if◌then◌else◌, map, option_and_then, true, unwrap_or}
+use Rattle.std.specs.Prelude.{if◌then◌else◌, option_and_then, true, unwrap_or}
 use Rattle.std.specs.Str.{bytes_eq}
 use Rattle.clap.specs.Words.{App, IsAmong, Rule, Text, all_of, fault_of, first_of, matches_of}
 use Rattle.clap.specs.Words.{with_rule}
 use Rattle.clap.specs.declared.builder.action.ArgAction.TheVariants.{Set}
 use Rattle.clap.specs.declared.error.kind.ErrorKind.TheVariants.{DisplayHelp, DisplayVersion}
 use Rattle.program_manners.specs.Words.{files_rule, flag_rule, is_given, list_option, named_app}
-use Rattle.program_manners.specs.TableWords.{TableNames, file_named, tables_in}
+use Rattle.program_manners.specs.TableWords.{TableNames, table_files, tables_in}
 use Rattle.program_manners.specs.Words.{null_flag, option_rule, positional_rule, repeated_rule}
 
 -- `--table F`, as often as wanted, and at least once
@@ -83,10 +83,6 @@ audit_asked_by words = record {
 abbrev pub named_file : Option Text → List Text
 named_file None = []
 named_file (Some name) = name ∷ []
-
--- the files of the tables
-abbrev pub table_files : TableNames → List Text
-table_files tables = tables.first ∷ map file_named tables.later
 
 -- the files that are asked for: the tables, the uploads in order, the report and the ledger
 abbrev pub files_of : AuditAsked → List Text

@@ -9,8 +9,8 @@ ghost use Rattle.program_manners.specs.Lines.{load_text};
 
 use fare_table::TableFault;
 use program_manners::{
-    FileFault, FollowLine, LoadFault, NamedClassLine, NamedTableLine, TableLine, WriteEnd,
-    WrongWord,
+    FileFault, FollowLine, LoadFault, NamedClassLine, NamedTableLine, TableLine, TablesFault,
+    WriteEnd, WrongWord,
 };
 use std::alloc::AllocError;
 use std::fmt;
@@ -111,6 +111,22 @@ impl From<TableFault> for Fault<'_> {
 
     fn from(fault: TableFault) -> Self {
         Fault::Table(fault)
+    }
+}
+
+impl<'a> From<TablesFault<'a>> for Fault<'a> {
+    ghost use Rattle.omny_audit.specs.inside.Fault.{unloaded_as};
+
+    ghost from_gives = { λ refused fault. fault ≡ unloaded_as refused };
+
+    fn from(fault: TablesFault<'a>) -> Fault<'a> {
+        match fault {
+            TablesFault::File(file) => Fault::File(file),
+            TablesFault::Table(fault) => Fault::Table(fault),
+            TablesFault::NamedTable(line) => Fault::NamedTable(line),
+            TablesFault::Follow(line) => Fault::Follow(line),
+            TablesFault::NoMemory => Fault::NoMemory,
+        }
     }
 }
 

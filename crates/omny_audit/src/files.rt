@@ -1,7 +1,7 @@
 //! The files and the standard input of the system.
 
 use crate::source::Source;
-use program_manners::{LoadFault, Opened, load_file, open_file};
+use program_manners::{FileSource, LoadFault, Opened, load_file, open_file};
 use std::io;
 use std::io::{Input, Read};
 
@@ -19,12 +19,14 @@ impl<'a> Host<'a> {
     }
 }
 
-impl Source for Host<'_> {
-    type Ledger = Opened;
-
+impl FileSource for Host<'_> {
     fn load(&mut self, name: &str) -> Result<Vec<u8>, LoadFault> {
         load_file(self.rt, self.rt.alloc(), name)
     }
+}
+
+impl Source for Host<'_> {
+    type Ledger = Opened;
 
     fn open(&mut self, name: Option<&str>) -> Result<Opened, LoadFault> {
         let Some(name) = name else {

@@ -12,7 +12,6 @@
 //! | `files` | the files and the standard input of the system as a source |
 //! | `ledger` | the ledger, read from its beginning |
 //! | `options` | the words of the command line, as `clap` reads them |
-//! | `tables` | fare tables that are loaded in the order of their words |
 //! | `text` | the lines of a finding |
 //! | `traced` | a traced ledger, read as a ledger, and its columns |
 //! | `output` | texts, written whole |
@@ -33,7 +32,6 @@ mod output;
 mod program;
 mod report;
 mod source;
-mod tables;
 mod text;
 mod traced;
 

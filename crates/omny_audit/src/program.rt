@@ -14,7 +14,7 @@ ghost use Rattle.omny_audit.specs.Fault.{is_unwritten, named_by};
 ghost use Rattle.omny_audit.specs.Options.{AsksForAuditText, ParsesForAudit, audit_asked_by};
 ghost use Rattle.omny_audit.specs.inside.Options.{audit_asked_of};
 ghost use Rattle.omny_audit.specs.inside.Reports.{HasSummedFor, text_of};
-ghost use Rattle.omny_audit.specs.Options.{files_of, named_file, table_files};
+ghost use Rattle.omny_audit.specs.Options.{files_of, named_file};
 ghost use Rattle.omny_audit.specs.Program.{AreGoodFieldsOfAll, AreGoodFieldsOfEach, AreWanted};
 ghost use Rattle.omny_audit.specs.Program.{AuditGaveUp, Audits, LoadsNamedFiles};
 ghost use Rattle.omny_audit.specs.Program.{LoadsReport};
@@ -26,7 +26,7 @@ ghost use Rattle.program_manners.specs.Loads.{Loaded, LoadsOne};
 ghost use Rattle.program_manners.specs.LineWritten.{LineWritten};
 ghost use Rattle.program_manners.specs.TableLoads.{LoadsTables};
 ghost use Rattle.program_manners.specs.TableViews.{names_of};
-ghost use Rattle.program_manners.specs.TableWords.{date_text, wrong_word};
+ghost use Rattle.program_manners.specs.TableWords.{date_text, table_files, wrong_word};
 ghost use Rattle.program_manners.specs.Words.{IsRequest};
 ghost use Rattle.program_manners.specs.declared.table_words.DateFault.{DateFault};
 ghost use Rattle.settled_texts.specs.ClassFaults.{IsWrongAt};
@@ -39,13 +39,13 @@ use crate::ledger::{WholeLedger, open_ledger, read_head};
 use crate::options::Options;
 use crate::report::ReportWithSums;
 use crate::source::Source;
-use crate::tables::{Tables, load_tables};
 use crate::traced::TracedPieces;
 use clap::Error;
 use clap::error::ErrorKind;
 use ledger_check::{Balance, Places, has_traced_head};
 use program_manners::{
-    Complaints, NamedClassLine, Output, TableWord, TableWords, WrongWord, show_answer,
+    Complaints, NamedClassLine, Output, TableWord, TableWords, Tables, WrongWord, load_tables,
+    show_answer,
 };
 use settled_texts::{ClassFault, ClassNames, WrongNames};
 use shard_book::HashSeed;

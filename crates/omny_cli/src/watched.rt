@@ -2,7 +2,7 @@
 
 use crate::meter::Meter;
 use crate::ticker::Ticker;
-use fare_program::{Amount, Disk, FileAhead, LoadFault, Source};
+use fare_program::{Amount, Disk, FileAhead, FileSource, LoadFault, Source};
 use placed_files::{FileStamp, Placed, Unopened};
 use std::alloc::{AllocError, Global};
 use std::io;
@@ -112,11 +112,20 @@ impl<'a, R: Disk + Wait> Disk for WatchedDisk<'a, R> {
     }
 }
 
-impl<R: Wait, S: Source + Drop> Source for Watched<'_, R, S> {
+impl<R: Wait, S: FileSource + Drop> FileSource for Watched<'_, R, S> {
     ghost loaded = { λ w. S.loaded w.from };
 
     ghost refused = { λ w. S.refused w.from };
 
+    fn load(&mut self, name: &str) -> Result<Vec<u8>, LoadFault> {
+        self.ticker.steps.lock(self.rt).begin_load();
+        let bytes = self.from.load(name)?;
+        self.ticker.steps.lock(self.rt).end_load();
+        Ok(bytes)
+    }
+}
+
+impl<R: Wait, S: Source + Drop> Source for Watched<'_, R, S> {
     fn keeps_loads(&self) -> bool {
         self.from.keeps_loads()
     }
@@ -124,13 +133,6 @@ impl<R: Wait, S: Source + Drop> Source for Watched<'_, R, S> {
     fn keep_ahead(&mut self, ahead: Vec<FileAhead>) {
         self.ticker.steps.lock(self.rt).keep_ahead(ahead.len());
         self.from.keep_ahead(ahead);
-    }
-
-    fn load(&mut self, name: &str) -> Result<Vec<u8>, LoadFault> {
-        self.ticker.steps.lock(self.rt).begin_load();
-        let bytes = self.from.load(name)?;
-        self.ticker.steps.lock(self.rt).end_load();
-        Ok(bytes)
     }
 
     fn input(&mut self) -> Result<Vec<u8>, LoadFault> {

@@ -5,7 +5,7 @@ pub mod FollowFaults
 pub mod LoadsOn
 pub mod NameLists
 pub mod NextTables
-mod Puts
 pub mod Refusals
+pub mod TablesFaults
 pub mod TablesRefused
 pub mod WordLists

@@ -4,6 +4,7 @@ use Rattle.std.proofs.Common.{arith}
 use Rattle.std.proofs.Common.{drop, get_or, length, length-append, map, refl, subst, suc, sym, take}
 use Rattle.std.proofs.Common.{zero}
 use Rattle.std.specs.Prelude.{IsUtf8, Ok, slice_get}
+use Rattle.std.proofs.lemmas.List.{map_more}
 use Rattle.fare_table.specs.Fares.{Fares}
 use Rattle.fare_table.specs.TableMeaning.{TableMeaning, meaning_in}
 use Rattle.program_manners.specs.Loads.{Loaded, LoadsOne}
@@ -69,6 +70,29 @@ tables_push first before word loaded_before loaded_before' loaded_before'' texts
           next loads.loads_later one is;
       are_texts = ap (λ (ts : List (List ℕ)). ts ++ text ∷ []) loads.are_texts;
     }
+
+-- the words up to a place
+abbrev pub words_to : List ℕ → List (Bor (List ℕ)) → ℕ → TableNames
+words_to first words place = record { first = first; later = map (λ w. w.now) (take place words) }
+
+-- one more table
+pub tables_on : (first : List ℕ) (words : List (Bor (List ℕ))) (place : ℕ) (other : Bor (List ℕ))
+    → place < length words → (before between after : Option (List Loaded))
+    (texts more : List (List ℕ)) (text : List ℕ) (all next : Fares)
+    → LoadsTables (words_to first words place) before between texts all
+    → LoadsOne between after (Some (file_named (get_or words place other).now)) text
+    → Follows all (get_or words place other).now text next → more ≡ texts ++ text ∷ []
+    → LoadsTables (words_to first words (place + 1)) before after more next
+tables_on first words place other within before between after texts more text all next loads one
+    follows are =
+    subst (λ (ts : List (List ℕ)). LoadsTables (words_to first words (place + 1)) before after ts
+    next)
+    (sym are)
+    (subst (λ (ws : List (List ℕ)). LoadsTables (record { first = first; later = ws }) before after
+    (texts ++ text ∷ []) next)
+    (sym (map_more (λ (w : Bor (List ℕ)). w.now) words place other within))
+    (tables_push first (map (λ w. w.now) (take place words)) (get_or words place other).now before
+    between after texts text all next loads one follows))
 
 -- each word has a text, and each text adds a table
 later_counted : (fares : Fares) (words : List (List ℕ))

@@ -1,5 +1,5 @@
 -- A table that is refused is refused for the right reason.
-use Rattle.std.proofs.Common.{◌≡◌, ◌∙◌, ℕ, List, [], ◌∷◌, ◌++◌, Option, Some, ap, inl, inr, map}
+use Rattle.std.proofs.Common.{◌≡◌, ◌∙◌, ℕ, List, [], ◌∷◌, ◌++◌, Option, Some, inl, inr, map}
 use Rattle.std.proofs.Common.{refl, subst}
 use Rattle.std.proofs.Common.{sym}
 use Rattle.std.specs.Prelude.{◌≢◌}
@@ -10,7 +10,7 @@ use Rattle.program_manners.specs.Loads.{Loaded, LoadsOne}
 use Rattle.program_manners.specs.Refusals.{IsFirstTableFault, IsOneOf}
 use Rattle.program_manners.specs.TableLoads.{CannotFollow, LoadsTables, LoadsUpTo}
 use Rattle.program_manners.specs.TableRefusals.{RefusesNamed, RefusesOnly, RefusesToFollow}
-use Rattle.program_manners.specs.TableWords.{TableNames, file_named, written_date}
+use Rattle.program_manners.specs.TableWords.{TableNames, file_named, table_files, written_date}
 use Rattle.program_manners.specs.declared.table_words.WrittenDate.{WrittenDate}
 
 -- there is a table behind the first one
@@ -23,6 +23,18 @@ pub among : (before behind : List (List ℕ)) (word : List ℕ)
     → IsOneOf (file_named word) (map file_named (before ++ word ∷ behind))
 among [] behind word = inl refl
 among (one ∷ before) behind word = inr (among before behind word)
+
+-- of several tables, the file that is refused is one of theirs
+pub named_among : (tables : TableNames) (loaded_before loaded_before' : Option (List Loaded))
+    (name : List ℕ) (fault : TableFault)
+    → RefusesNamed tables loaded_before loaded_before' name fault
+    → IsOneOf name (table_files tables)
+named_among tables loaded_before loaded_before' name fault refuses = elim refuses.refused [
+  | inl first ↦ inl first.0
+  | inr later ↦ subst (λ (n : List ℕ). IsOneOf n (table_files tables)) (sym later.named)
+      (inr (rw later.up_to.stands
+      (among later.up_to.before later.up_to.behind later.word)))
+]
 
 module _ (tables : TableNames) (loaded_before loaded_before' : Option (List Loaded)) (text : List ℕ)
     (loaded : LoadsOne loaded_before loaded_before' (Some tables.first) text) (fault : TableFault)

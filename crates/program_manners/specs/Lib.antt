@@ -11,6 +11,7 @@ pub mod TableLoads
 pub mod TableRefusals
 pub mod TableViews
 pub mod TableWords
+pub mod TablesFaults
 pub mod TerminalLine
 pub mod Words
 pub mod inside

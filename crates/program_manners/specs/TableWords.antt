@@ -2,7 +2,7 @@
 use Rattle.std.specs.Prelude.{◌≡◌, ℕ, ◌+◌, ◌-◌, ◌*◌, ◌&&◌, ◌==◌, Bool, List, [], ◌∷◌, ◌++◌, Option}
 use Rattle.std.specs.Prelude.{None}
 use Rattle.std.specs.Prelude.{Some, codes, drop, false, if◌then◌else◌, is_some, length, nat_le, pos}
-use Rattle.std.specs.Prelude.{slice_index_or, take, true}
+use Rattle.std.specs.Prelude.{slice_index_or, map, take, true}
 use Rattle.jiff_core.specs.Calendar.{days_from_civil, days_in_month}
 use Rattle.fare_table.specs.ClockView.{ClockView}
 use Rattle.fare_table.specs.Until.{midnight_by, moment_nanos}
@@ -109,6 +109,10 @@ tables_in (first ∷ later) = Some (record { first = first; later = later })
 abbrev pub wrong_word : TableNames → Option (List ℕ × DateFault)
 wrong_word tables =
     found_or tables.first (date_fault true tables.first) (wrong_later tables.later)
+
+-- the names of the files of fare tables: of the first, and of those behind it
+abbrev pub table_files : TableNames → List (List ℕ)
+table_files tables = tables.first ∷ map file_named tables.later
 
 -- the line of a wrong word, without what is before it
 abbrev pub date_text : List ℕ → DateFault → List ℕ

@@ -2,6 +2,7 @@
 ghost use Rattle.std.specs.Prelude.{◌≡◌, ◌↔◌, None, Some, false};
 ghost use Rattle.std.specs.IoError.{error_kind};
 
+use fare_texts::write_bytes;
 use std::io;
 use std::io::{ErrorKind, Write};
 
@@ -67,8 +68,9 @@ impl<W> Output<W> {
 }
 
 impl<W: Write> Output<W> {
-    ghost use Rattle.std.specs.Prelude.{◌≡◌, ℕ, IfErr, OnErr, OnOk, Some, false, take, true};
+    ghost use Rattle.std.specs.Prelude.{◌≡◌, IfErr, OnErr, OnOk, Some, false, true};
     ghost use Rattle.std.specs.Io.KnownBytes.{Appends, Keeps};
+    ghost use Rattle.fare_texts.specs.WrittenOut.{Begins};
 
     /// Notes why a write failed.
     fn note(&mut self, end: WriteEnd) -> WriteEnd
@@ -87,28 +89,16 @@ impl<W: Write> Output<W> {
     pub fn put(&mut self, bytes: &[u8]) -> Result<(), WriteEnd>
         ensures whole { OnOk result (Appends (W.contents self.old.writer)
             (W.contents self.new.writer) bytes.now) }
-        ensures begun { OnErr result ((count : ℕ) × Appends (W.contents self.old.writer)
-            (W.contents self.new.writer) (take count bytes.now)) }
+        ensures begun { OnErr result (Begins (W.contents self.old.writer)
+            (W.contents self.new.writer) bytes.now) }
         ensures well { OnOk result (self.new.end ≡ self.old.end) }
         ensures noted { IfErr result (λ end. self.new.end ≡ Some end) }
     {
         self.is_flushed = false;
-        let mut rest = bytes;
-        for _write in 0..u64::MAX {
-            if rest.is_empty() {
-                return Ok(());
-            }
-            match self.writer.write(rest) {
-                Ok(0) => return Err(self.note(WriteEnd::Refused)),
-                Ok(count) => rest = &rest[count..],
-                Err(error) => {
-                    if error.kind() != ErrorKind::Interrupted {
-                        return Err(self.note(WriteEnd::of(&error)));
-                    }
-                }
-            }
+        if let Err(error) = write_bytes(bytes, &mut self.writer) {
+            return Err(self.note(WriteEnd::of(&error)));
         }
-        Err(self.note(WriteEnd::Refused))
+        Ok(())
     }
 
     /// Flushes the writer, behind the whole text. Only then is the output flushed.

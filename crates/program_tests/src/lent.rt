@@ -2,7 +2,7 @@
 
 use super::running::{NoDisk, run_over};
 use super::shelf::{Content, FIRST, SAMPLE, Shelf};
-use fare_program::{Amount, Disk, FileAhead, LoadFault, Source};
+use fare_program::{Amount, Disk, FileAhead, FileSource, LoadFault, Source};
 use placed_files::{InMemory, Unopened};
 use std::alloc::{AllocError, Global};
 use std::marker::Sync;
@@ -68,17 +68,19 @@ struct Bare<'a> {
     loads: u64,
 }
 
+impl FileSource for Bare<'_> {
+    fn load(&mut self, name: &str) -> Result<Vec<u8>, LoadFault> {
+        self.loads = self.loads.saturating_add(1);
+        self.from.load(name)
+    }
+}
+
 impl Source for Bare<'_> {
     fn keeps_loads(&self) -> bool {
         false
     }
 
     fn keep_ahead(&mut self, _: Vec<FileAhead>) {}
-
-    fn load(&mut self, name: &str) -> Result<Vec<u8>, LoadFault> {
-        self.loads = self.loads.saturating_add(1);
-        self.from.load(name)
-    }
 
     fn input(&mut self) -> Result<Vec<u8>, LoadFault> {
         self.from.input()

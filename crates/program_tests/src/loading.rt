@@ -4,7 +4,7 @@
 use super::running::{NoDisk, run_over};
 use super::shelf::{Content, Shelf};
 use fare_program::{
-    Disk, FileAhead, Host, LOAD_LIMIT_BYTES, LoadFault, Source, load_from, read_ahead,
+    Disk, FileAhead, FileSource, Host, LOAD_LIMIT_BYTES, LoadFault, Source, load_from, read_ahead,
 };
 use placed_files::{InMemory, Unopened};
 use std::alloc::{AllocError, Global};
@@ -214,6 +214,12 @@ struct AheadCount {
     files: usize,
 }
 
+impl FileSource for AheadCount {
+    fn load(&mut self, _: &str) -> Result<Vec<u8>, LoadFault> {
+        Err(LoadFault::Unread)
+    }
+}
+
 impl Source for AheadCount {
     fn keeps_loads(&self) -> bool {
         true
@@ -221,10 +227,6 @@ impl Source for AheadCount {
 
     fn keep_ahead(&mut self, ahead: Vec<FileAhead>) {
         self.files = ahead.len();
-    }
-
-    fn load(&mut self, _: &str) -> Result<Vec<u8>, LoadFault> {
-        Err(LoadFault::Unread)
     }
 
     fn input(&mut self) -> Result<Vec<u8>, LoadFault> {

@@ -2,7 +2,7 @@
 ghost use Rattle.std.specs.Prelude.{◌≡◌, ◌++◌, ◌∷◌, [], IfOk, OnOk, Some, map, option_map};
 ghost use Rattle.std.specs.Prelude.{string_bytes};
 
-use fare_program::{FileAhead, LoadFault, Source};
+use fare_program::{FileAhead, FileSource, LoadFault, Source};
 pub use sample_table::SAMPLE;
 use std::alloc::{AllocError, Global};
 
@@ -61,17 +61,11 @@ impl<'a> Shelf<'a> {
     }
 }
 
-impl Source for Shelf<'_> {
+impl FileSource for Shelf<'_> {
     ghost loaded = { λ s. Some (map (λ g. record {
       name = option_map string_bytes g.name;
       bytes = g.bytes.items;
     }) s.given.items) };
-
-    fn keeps_loads(&self) -> bool {
-        true
-    }
-
-    fn keep_ahead(&mut self, _: Vec<FileAhead>) {}
 
     fn load(&mut self, name: &str) -> Result<Vec<u8>, LoadFault> {
         let content = self.content(name);
@@ -80,6 +74,14 @@ impl Source for Shelf<'_> {
         keep(&mut self.given, Some(name), kept)?;
         Ok(bytes)
     }
+}
+
+impl Source for Shelf<'_> {
+    fn keeps_loads(&self) -> bool {
+        true
+    }
+
+    fn keep_ahead(&mut self, _: Vec<FileAhead>) {}
 
     fn input(&mut self) -> Result<Vec<u8>, LoadFault> {
         let (bytes, kept) = copies(self.alloc, self.input)?;

@@ -4,9 +4,9 @@ use Rattle.std.proofs.Common.{append-nil, append_assoc, ap, get_or, refl, subst,
 use Rattle.std.proofs.Common.{Option, Some, None}
 use Rattle.std.proofs.lemmas.List.{map-append, take_more}
 use Rattle.part_reports.specs.Texts.{AreLeft}
-use Rattle.program_manners.specs.Loads.{Loaded, LoadsAll, LoadsOne}
+use Rattle.program_manners.specs.Loads.{Loaded, LoadsAll, LoadsOne, OpensOne}
 use Rattle.tool_program.specs.Names.{file_named}
-use Rattle.tool_program.specs.Source.{HasOpened, OpensOne}
+use Rattle.tool_program.specs.Source.{HasOpened}
 
 -- nothing was opened yet
 pub opened_none : (loaded : Option (List Loaded)) → HasOpened [] loaded loaded []

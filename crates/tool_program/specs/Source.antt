@@ -1,15 +1,7 @@
 -- What is known of what a source opened.
-use Rattle.std.specs.Prelude.{◌≡◌, ⊤, ℕ, List, map, Option, None, Some}
-use Rattle.program_manners.specs.Loads.{Loaded, LoadsAll, LoadsOne}
+use Rattle.std.specs.Prelude.{◌≡◌, ℕ, List, map, Option}
+use Rattle.program_manners.specs.Loads.{Loaded, LoadsAll}
 use Rattle.tool_program.specs.Names.{file_named}
-
--- One load under this name, of all that a reader that was opened has left. If the source keeps a
--- list, it is known what the reader has.
-abbrev pub OpensOne : Option (List Loaded) → Option (List Loaded) → Option (List ℕ)
-    → Option (List ℕ) → Type 0
-OpensOne None after name left = ⊤
-OpensOne (Some before) after name None = ⊥
-OpensOne (Some before) after name (Some text) = LoadsOne (Some before) after name text
 
 -- these texts were opened, each under the name that its word names, one after the other
 pub record HasOpened (words : List (List ℕ)) (loaded loaded' : Option (List Loaded))

@@ -2,7 +2,7 @@
 ghost use Rattle.std.specs.Prelude.{◌≡◌, ◌≢◌, ◌≤◌, ℕ, IfErr, IfOk, List, None, Ok, OnOk, Option};
 ghost use Rattle.std.specs.Prelude.{Some, option_map, string_bytes, true};
 ghost use Rattle.std.specs.Io.KnownBytes.{Keeps};
-ghost use Rattle.program_manners.specs.Loads.{Loaded};
+ghost use Rattle.program_manners.specs.Loads.{Loaded, OpensOne};
 ghost use Rattle.program_manners.specs.Refusals.{IsOneOf};
 ghost use Rattle.program_manners.specs.declared.output.WriteEnd.{WriteEnd as AnEnd};
 ghost use Rattle.tap_rows.specs.Agencies.{IsRowsEncoded};
@@ -14,7 +14,6 @@ ghost use Rattle.tool_program.specs.EncodeRows.{IsSummaryLine, IsSummaryReported
 ghost use Rattle.tool_program.specs.EncodeRows.{StopsRows, word_in};
 ghost use Rattle.tool_program.specs.Fault.{IsFaultReported, IsRefusal};
 ghost use Rattle.tool_program.specs.Names.{file_named};
-ghost use Rattle.tool_program.specs.Source.{OpensOne};
 ghost use Rattle.tool_program.specs.declared.fault.Fault.{Fault as AFault};
 ghost use Rattle.tool_program.specs.inside.EncodeRows.{EncodesOnce, EndsRows, HasEncoded};
 ghost use Rattle.tool_program.specs.inside.EncodeRows.{HasEncodedAll, HasGivenUp, HasGivenUpAll};

@@ -1,11 +1,11 @@
 //! Where texts come from.
 ghost use Rattle.std.specs.Prelude.{◌≡◌, ◌++◌, ℕ, List, IfErr, IfOk, Some, map};
 ghost use Rattle.part_reports.specs.Texts.{AreLeft};
-ghost use Rattle.program_manners.specs.Loads.{Loaded, LoadsOne};
+ghost use Rattle.program_manners.specs.Loads.{Loaded, LoadsOne, OpensOne};
 ghost use Rattle.program_manners.specs.Refusals.{IsOneOf};
 ghost use Rattle.tool_program.specs.Fault.{IsRefusal};
 ghost use Rattle.tool_program.specs.Names.{file_named};
-ghost use Rattle.tool_program.specs.Source.{HasOpened, OpensBoth, OpensOne};
+ghost use Rattle.tool_program.specs.Source.{HasOpened, OpensBoth};
 
 use crate::fault::Fault;
 use crate::names::file_of;
@@ -25,10 +25,9 @@ pub struct Shown {
 /// Where texts come from. A file has a name, and standard input has none.
 pub trait Source {
     ghost use Rattle.std.specs.Prelude.{◌≡◌, ℕ, List, IfErr, IfOk, Option, None, option_map};
-    ghost use Rattle.program_manners.specs.Loads.{Loaded, LoadsOne};
+    ghost use Rattle.program_manners.specs.Loads.{Loaded, LoadsOne, OpensOne};
     ghost use Rattle.program_manners.specs.Refusals.{Refuses};
     ghost use Rattle.program_manners.specs.declared.loading.LoadFault.{LoadFault as AFault};
-    ghost use Rattle.tool_program.specs.Source.{OpensOne};
 
     /// A file or standard input that was opened, to be read in pieces.
     type Text: BufRead + Drop;

@@ -5,18 +5,29 @@ use Rattle.program_manners.specs.Lines.{load_text, table_text}
 use Rattle.program_manners.specs.TableWords.{date_text}
 use Rattle.program_manners.specs.declared.loading.LoadFault.{LoadFault}
 use Rattle.program_manners.specs.declared.output.WriteEnd.{WriteEnd}
+use Rattle.program_manners.specs.declared.table_loads.TablesFault.{TablesFault}
+use Rattle.program_manners.specs.declared.table_loads.TablesFault.TheVariants as unloaded
 use Rattle.fare_program.specs.Fault.{fault_text, mistake, status_of, wrong_date}
 use Rattle.fare_program.specs.Options.{Asked}
 use Rattle.fare_program.specs.declared.fault.Fault.{Fault}
 use Rattle.std.specs.Prelude.{◌<◌}
 use Rattle.fare_texts.specs.declared.print_fault.PrintFault.{PrintFault}
 use Rattle.fare_texts.specs.declared.print_fault.PrintFault.TheVariants as print
+use Rattle.fare_program.specs.declared.fault.Fault.TheVariants.{File, Follow, NamedTable, Table}
 use Rattle.fare_program.specs.declared.fault.Fault.TheVariants.{Uploads, Gather, Write, NoMemory}
 
 -- why a text was not printed
 abbrev pub printed_as : PrintFault → Fault
 printed_as print.Write = Write
 printed_as print.NoMemory = NoMemory
+
+-- why fare tables were not loaded
+abbrev pub unloaded_as : TablesFault → Fault
+unloaded_as (unloaded.File file) = File file
+unloaded_as (unloaded.Table fault) = Table fault
+unloaded_as (unloaded.NamedTable line) = NamedTable line
+unloaded_as (unloaded.Follow line) = Follow line
+unloaded_as unloaded.NoMemory = NoMemory
 
 -- What is reported of a fault of the output that remembers this of its writes: if it remembers none
 -- that failed, a write is reported as refused memory.

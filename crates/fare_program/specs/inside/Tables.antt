@@ -1,31 +1,10 @@
--- Fare tables that are loaded one after another: what private functions alone cite.
-use Rattle.std.specs.Prelude.{◌≡◌, ◌≢◌, ◌∷◌, [], ℕ, Bool, true, false, List, Some, map}
-use Rattle.std.specs.Prelude.{slice_get}
-use Rattle.fare_table.specs.declared.fault.TableFault.{TableFault}
-use Rattle.fare_table.specs.declared.fault.TableFault.TheVariants as table
+-- Classes that fare tables name: what private functions alone cite.
+use Rattle.std.specs.Prelude.{◌≡◌, ◌≢◌, ◌∷◌, [], ℕ, Some, map, slice_get}
 use Rattle.program_manners.specs.TableWords.{TableNames, file_named}
-use Rattle.program_manners.specs.declared.following.NextFault.{NextFault}
-use Rattle.program_manners.specs.declared.following.NextFault.TheVariants as next
 use Rattle.settled_texts.specs.declared.class_names.ClassFault.TheVariants as class
 use Rattle.settled_texts.specs.declared.class_names.WrongNames.{WrongNames}
 use Rattle.fare_program.specs.declared.fault.Fault.{Fault}
-use Rattle.fare_program.specs.declared.fault.Fault.TheVariants.{ClassName, Follow, NamedClass}
-use Rattle.fare_program.specs.declared.fault.Fault.TheVariants.{NamedTable, NoMemory, Table}
-
--- the fault of a table's text, by its file's name if it is not the only table
-abbrev pub IsRightNamed : List ℕ → Bool → TableFault → Fault → Type 0
-IsRightNamed name alone fault (Table reported) = (alone ≡ true) × (reported ≡ fault)
-IsRightNamed name alone fault (NamedTable line) =
-    (alone ≡ false) × (line.name.now ≡ name) × (line.fault ≡ fault)
-IsRightNamed name alone fault NoMemory = fault ≡ table.NoMemory
-IsRightNamed name alone fault _ = ⊥
-
--- the fault of a table that does not follow, by the name of its file or by its word
-abbrev pub IsRightLater : List ℕ → List ℕ → NextFault → Fault → Type 0
-IsRightLater word name (next.Table fault) reported = IsRightNamed name false fault reported
-IsRightLater word name (next.Follow fault) (Follow line) =
-    (line.word.now ≡ word) × (line.fault ≡ fault)
-IsRightLater word name (next.Follow fault) _ = ⊥
+use Rattle.fare_program.specs.declared.fault.Fault.TheVariants.{ClassName, NamedClass, NoMemory}
 
 -- the fault of a class that the table at this place names: by the name of the table's file if there
 -- are several tables

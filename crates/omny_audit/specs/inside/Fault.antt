@@ -3,6 +3,8 @@ use Rattle.std.specs.Prelude.{◌≡◌, ⊤, ℕ, Bool, true, false, List, Opti
 use Rattle.program_manners.specs.Refusals.{HasRefused, Refuses}
 use Rattle.program_manners.specs.declared.loading.LoadFault.{LoadFault}
 use Rattle.program_manners.specs.declared.loading.LoadFault.TheVariants.{Unread}
+use Rattle.program_manners.specs.declared.table_loads.TablesFault.{TablesFault}
+use Rattle.program_manners.specs.declared.table_loads.TablesFault.TheVariants as unloaded
 use Rattle.omny_audit.specs.declared.fault.Fault.{Fault}
 use Rattle.omny_audit.specs.declared.fault.Fault.TheVariants.{ClassName, Date, File, Follow, Ledger}
 use Rattle.omny_audit.specs.declared.fault.Fault.TheVariants.{NamedClass, NamedTable, NoMemory}
@@ -20,6 +22,14 @@ is_of_source (Follow line) = true
 is_of_source ClassName = true
 is_of_source (NamedClass line) = true
 is_of_source _ = false
+
+-- why fare tables were not loaded
+abbrev pub unloaded_as : TablesFault → Fault
+unloaded_as (unloaded.File file) = File file
+unloaded_as (unloaded.Table fault) = Table fault
+unloaded_as (unloaded.NamedTable line) = NamedTable line
+unloaded_as (unloaded.Follow line) = Follow line
+unloaded_as unloaded.NoMemory = NoMemory
 
 -- the source refused the file that the fault names, for its reason; or memory was refused
 abbrev pub IsRefusal : Option (Option (List ℕ) × LoadFault) → Fault → Type 0

@@ -143,8 +143,8 @@ returns-in_err-well-clause-begun g c =
     rw p.1 (λ write other. (
       begun.well,
       begun_by out out (g.W.Write.contents c.charge_ahead.new.out) begun.text
-          (λ all. Does asked under (g.S.Source.loaded c.args.source.now)
-          (g.S.Source.loaded c.load_table.new.source) out all begun.well) (Keeps-refl out)
+          (λ all. Does asked under (g.S.FileSource.loaded c.args.source.now)
+          (g.S.FileSource.loaded c.load_table.new.source) out all begun.well) (Keeps-refl out)
           begun.begun
           (λ all written. does_untraced asked under _ _ out all begun.well c.if-options.false
           (does_ahead asked under c.keeps_loads-keeps_loads.result _ _ c.in_ok-table.table
@@ -174,8 +174,8 @@ returns-clause-begun g c =
     (c.in_ok-well.ensures.none c.in-None.is) c.if-options-2.false in (
       is.0,
       begun_so out (g.W.Write.contents c.work_by_table.new.out) _
-          (λ all. Does asked under (g.S.Source.loaded c.args.source.now)
-          (g.S.Source.loaded c.work_by_table.new.source) out all is.0) is.1
+          (λ all. Does asked under (g.S.FileSource.loaded c.args.source.now)
+          (g.S.FileSource.loaded c.work_by_table.new.source) out all is.0) is.1
           (λ all done. does_untraced asked under _ _ out all is.0 c.if-options.false done),
     ))
     c.work_by_table.ensures.begun
@@ -190,8 +190,8 @@ returns-then-options-clause-begun g c =
     let is = begun write in (
       is.0,
       begun_so out (g.W.Write.contents c.work_traced.new.out) _
-          (λ all. Does asked under (g.S.Source.loaded c.args.source.now)
-          (g.S.Source.loaded c.work_traced.new.source) out all is.0) is.1
+          (λ all. Does asked under (g.S.FileSource.loaded c.args.source.now)
+          (g.S.FileSource.loaded c.work_traced.new.source) out all is.0) is.1
           (λ all done. does_traced asked under _ _ out all is.0 c.if-options.true done),
     ))
     c.work_traced.ensures.begun
@@ -213,8 +213,8 @@ returns-then-options-2-clause-begun g c =
     )) table.0 table.1 in (
       true,
       begun_by out out new is.text
-          (λ all. Does asked under (g.S.Source.loaded c.args.source.now)
-          (g.S.Source.loaded c.load_table.new.source) out all true) (Keeps-refl out) is.begun
+          (λ all. Does asked under (g.S.FileSource.loaded c.args.source.now)
+          (g.S.FileSource.loaded c.load_table.new.source) out all true) (Keeps-refl out) is.begun
           (λ all written. does_untraced asked under _ _ out all true c.if-options.false
           (does_sorted asked under _ _ c.in_ok-table.table c.in_ok-token.token out all true
           c.in_ok-token.ensures.right c.if-options-2.true c.in_ok-table.ensures.ok

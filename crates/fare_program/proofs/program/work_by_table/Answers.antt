@@ -19,7 +19,7 @@ name_in name = name.now
 pub returns-then-options-clause-ok : goal.returns-then-options-clause-ok
 returns-then-options-clause-ok g c =
     let loaded = subst (λ (ns : List (Bor (List ℕ))). LoadsFiles (names_to_load (map name_in ns))
-    (g.S.Source.loaded c.args.source.now) (g.S.Source.loaded c.load_files.new.source)
+    (g.S.FileSource.loaded c.args.source.now) (g.S.FileSource.loaded c.load_files.new.source)
     (map bytes_in c.in_ok-files.files.items)) c.deref.ensures.value c.in_ok-files.ensures.ok in
     IfOk-weaker c.list.result _ _
     (λ well done loaded_before before loads is_token kept live. does_list
@@ -27,7 +27,7 @@ returns-then-options-clause-ok g c =
     (g.D.Disk.bytes_under c.args.disk.now) loaded_before _ _ before _ _ well
     c.args.table loads kept (map bytes_in c.deref-then-options.result.now)
     (subst (λ (fs : List (List ℕ)). LoadsFiles (names_to_load (asked_of c.args.options.now).files)
-    (g.S.Source.loaded c.args.source.now) (g.S.Source.loaded c.load_files.new.source) fs)
+    (g.S.FileSource.loaded c.args.source.now) (g.S.FileSource.loaded c.load_files.new.source) fs)
     (ap (map bytes_in) (sym c.deref-then-options.ensures.value)) loaded)
     (inl c.if-options.true) done)
     c.list.ensures.ok
@@ -35,7 +35,7 @@ returns-then-options-clause-ok g c =
 pub returns-in-Some-clause-ok : goal.returns-in-Some-clause-ok
 returns-in-Some-clause-ok g c =
     let loaded = subst (λ (ns : List (Bor (List ℕ))). LoadsFiles (names_to_load (map name_in ns))
-    (g.S.Source.loaded c.args.source.now) (g.S.Source.loaded c.load_files.new.source)
+    (g.S.FileSource.loaded c.args.source.now) (g.S.FileSource.loaded c.load_files.new.source)
     (map bytes_in c.in_ok-files.files.items)) c.deref.ensures.value c.in_ok-files.ensures.ok in
     IfOk-weaker c.charge.result _ _
     (λ well done loaded_before before loads is_token kept live. does_charge
@@ -49,7 +49,7 @@ returns-in-Some-clause-ok g c =
 pub returns-clause-ok : goal.returns-clause-ok
 returns-clause-ok g c =
     let loaded = subst (λ (ns : List (Bor (List ℕ))). LoadsFiles (names_to_load (map name_in ns))
-    (g.S.Source.loaded c.args.source.now) (g.S.Source.loaded c.load_files.new.source)
+    (g.S.FileSource.loaded c.args.source.now) (g.S.FileSource.loaded c.load_files.new.source)
     (map bytes_in c.in_ok-files.files.items)) c.deref.ensures.value c.in_ok-files.ensures.ok in
     IfOk-weaker c.list-in-None.result _ _
     (λ well done loaded_before before loads is_token kept live. does_list
@@ -57,11 +57,11 @@ returns-clause-ok g c =
     (g.D.Disk.bytes_under c.args.disk.now) loaded_before _ _ before _ _ well
     None (subst
     (LoadsTable (asked_of c.args.options.now).table loaded_before
-    (g.S.Source.loaded c.args.source.now))
+    (g.S.FileSource.loaded c.args.source.now))
     c.in-None.is loads)
     kept (map bytes_in c.deref-in-None.result.now)
     (subst (λ (fs : List (List ℕ)). LoadsFiles (names_to_load (asked_of c.args.options.now).files)
-    (g.S.Source.loaded c.args.source.now) (g.S.Source.loaded c.load_files.new.source) fs)
+    (g.S.FileSource.loaded c.args.source.now) (g.S.FileSource.loaded c.load_files.new.source) fs)
     (ap (map bytes_in) (sym c.deref-in-None.ensures.value)) loaded)
     (inr refl) done)
     c.list-in-None.ensures.ok
@@ -83,14 +83,14 @@ returns-then-options-clause-begun g c =
     let asked = asked_of c.args.options.now in
     let under = g.D.Disk.bytes_under c.args.disk.now in
     let loaded = subst (λ (ns : List (Bor (List ℕ))). LoadsFiles (names_to_load (map name_in ns))
-    (g.S.Source.loaded c.args.source.now) (g.S.Source.loaded c.load_files.new.source)
+    (g.S.FileSource.loaded c.args.source.now) (g.S.FileSource.loaded c.load_files.new.source)
     (map bytes_in c.in_ok-files.files.items)) c.deref.ensures.value c.in_ok-files.ensures.ok in
     IfErr-weaker c.list.result _ _
     (λ fault begun write loaded_before before loads is_token kept live.
     let is = begun write in (
       is.0,
       begun_by before (g.W.Write.contents c.args.out.now) (g.W.Write.contents c.list.new.out) is.1
-          (λ all. DoesUntraced asked under loaded_before (g.S.Source.loaded c.load_files.new.source)
+          (λ all. DoesUntraced asked under loaded_before (g.S.FileSource.loaded c.load_files.new.source)
           before
           all is.0)
           kept is.3
@@ -98,7 +98,7 @@ returns-then-options-clause-begun g c =
           loads
           kept (map bytes_in c.deref-then-options.result.now)
           (subst (λ (fs : List (List ℕ)). LoadsFiles (names_to_load asked.files)
-          (g.S.Source.loaded c.args.source.now) (g.S.Source.loaded c.load_files.new.source) fs)
+          (g.S.FileSource.loaded c.args.source.now) (g.S.FileSource.loaded c.load_files.new.source) fs)
           (ap (map bytes_in) (sym c.deref-then-options.ensures.value)) loaded)
           (inl c.if-options.true) (is.1, is.2, written)),
     ))
@@ -109,14 +109,14 @@ returns-in-Some-clause-begun g c =
     let asked = asked_of c.args.options.now in
     let under = g.D.Disk.bytes_under c.args.disk.now in
     let loaded = subst (λ (ns : List (Bor (List ℕ))). LoadsFiles (names_to_load (map name_in ns))
-    (g.S.Source.loaded c.args.source.now) (g.S.Source.loaded c.load_files.new.source)
+    (g.S.FileSource.loaded c.args.source.now) (g.S.FileSource.loaded c.load_files.new.source)
     (map bytes_in c.in_ok-files.files.items)) c.deref.ensures.value c.in_ok-files.ensures.ok in
     IfErr-weaker c.charge.result _ _
     (λ fault begun write loaded_before before loads is_token kept live.
     let is = begun write in (
       is.0,
       begun_by before (g.W.Write.contents c.args.out.now) (g.W.Write.contents c.charge.new.out) is.1
-          (λ all. DoesUntraced asked under loaded_before (g.S.Source.loaded c.load_files.new.source)
+          (λ all. DoesUntraced asked under loaded_before (g.S.FileSource.loaded c.load_files.new.source)
           before
           all is.0)
           kept is.3
@@ -133,7 +133,7 @@ returns-clause-begun g c =
     let asked = asked_of c.args.options.now in
     let under = g.D.Disk.bytes_under c.args.disk.now in
     let loaded = subst (λ (ns : List (Bor (List ℕ))). LoadsFiles (names_to_load (map name_in ns))
-    (g.S.Source.loaded c.args.source.now) (g.S.Source.loaded c.load_files.new.source)
+    (g.S.FileSource.loaded c.args.source.now) (g.S.FileSource.loaded c.load_files.new.source)
     (map bytes_in c.in_ok-files.files.items)) c.deref.ensures.value c.in_ok-files.ensures.ok in
     IfErr-weaker c.list-in-None.result _ _
     (λ fault begun write loaded_before before loads is_token kept live.
@@ -141,16 +141,16 @@ returns-clause-begun g c =
       is.0,
       begun_by before (g.W.Write.contents c.args.out.now)
           (g.W.Write.contents c.list-in-None.new.out) is.1
-          (λ all. DoesUntraced asked under loaded_before (g.S.Source.loaded c.load_files.new.source)
+          (λ all. DoesUntraced asked under loaded_before (g.S.FileSource.loaded c.load_files.new.source)
           before
           all is.0)
           kept is.3 (λ all written. does_list asked under loaded_before _ _ before _ all is.0 None
-          (subst (LoadsTable asked.table loaded_before (g.S.Source.loaded c.args.source.now))
+          (subst (LoadsTable asked.table loaded_before (g.S.FileSource.loaded c.args.source.now))
           c.in-None.is
           loads)
           kept (map bytes_in c.deref-in-None.result.now)
           (subst (λ (fs : List (List ℕ)). LoadsFiles (names_to_load asked.files)
-          (g.S.Source.loaded c.args.source.now) (g.S.Source.loaded c.load_files.new.source) fs)
+          (g.S.FileSource.loaded c.args.source.now) (g.S.FileSource.loaded c.load_files.new.source) fs)
           (ap (map bytes_in) (sym c.deref-in-None.ensures.value)) loaded)
           (inr refl) (is.1, is.2, written)),
     ))

@@ -12,6 +12,10 @@ use Rattle.settled_texts.specs.Ledgers.{IsTracedLedger}
 use Rattle.settled_texts.specs.Names.{class_by}
 use Rattle.tap_views.proofs.Choices.{IfErr_handed_on}
 use Rattle.fare_program.specs.Causes.{IsRightFault}
+use Rattle.fare_program.specs.Fault.{status_of}
+use Rattle.fare_program.specs.declared.fault.Fault.TheVariants.{Write}
+use Rattle.fare_program.specs.inside.Fault.{unloaded_as}
+use Rattle.fare_program.proofs.TableCauses.{unloaded_is_right, unloaded_status, unloaded_unwritten}
 use Rattle.fare_program.proofs.program.work_traced.Goals as goal
 
 abbrev bytes_in : Vec ℕ Global → List ℕ
@@ -24,7 +28,7 @@ pub returns-clause-ok : goal.returns-clause-ok
 returns-clause-ok g c =
     let asked = asked_of c.args.options.now in
     let loaded = subst (λ (ns : List (Bor (List ℕ))). LoadsFiles (names_to_load (map name_in ns))
-    (g.S.Source.loaded c.load_tables.new.source) (g.S.Source.loaded c.load_files.new.source)
+    (g.S.FileSource.loaded c.load_tables.new.source) (g.S.FileSource.loaded c.load_files.new.source)
     (map bytes_in c.in_ok-files.files.items)) c.deref.ensures.value c.in_ok-files.ensures.ok in
     let names = c.in_ok-riders.ensures.names in
     IfOk-weaker c.charge_traced.result _ _
@@ -32,7 +36,7 @@ returns-clause-ok g c =
       tables = names_of c.in-Some.words;
       are_named = ap (option_map names_of) c.in-Some.is;
       texts = map bytes_in c.in_ok-tables.tables.texts.items;
-      between = g.S.Source.loaded c.load_tables.new.source;
+      between = g.S.FileSource.loaded c.load_tables.new.source;
       fares = c.in_ok-tables.tables.fares;
       loads_tables = c.in_ok-tables.ensures.ok;
       tree = names.0;
@@ -56,11 +60,24 @@ returns-clause-ok g c =
 pub returns-in_err-tables-clause-right : goal.returns-in_err-tables-clause-right
 returns-in_err-tables-clause-right g c =
     let asked = asked_of c.args.options.now in
-    IfErr_handed_on c.from_residual.result c.in_err-tables.field-0.0
-    (λ f. asked.traced ≡ true → IsRightFault asked (g.D.Disk.bytes_under c.args.disk.now) _ _ _ f)
-    c.from_residual.ensures.1
-    (λ traced. c.in_err-tables.ensures.right asked (g.D.Disk.bytes_under c.args.disk.now)
-    (ap (option_map names_of) c.in-Some.is))
+    let under = g.D.Disk.bytes_under c.args.disk.now in
+    let fault = c.in_err-tables.field-0.0 in
+    IfErr_handed_on c.from_residual.result (unloaded_as fault)
+    (λ f. asked.traced ≡ true → IsRightFault asked under _ _ _ f) c.from_residual.ensures.1
+    (λ traced. unloaded_is_right asked under _ _ _ (names_of c.in-Some.words)
+    (ap (option_map names_of) c.in-Some.is) fault c.in_err-tables.ensures.right)
+
+pub returns-in_err-tables-clause-begun : goal.returns-in_err-tables-clause-begun
+returns-in_err-tables-clause-begun g c =
+    let fault = c.in_err-tables.field-0.0 in
+    IfErr_handed_on c.from_residual.result (unloaded_as fault) (λ f. f ≡ Write → _)
+    c.from_residual.ensures.1 (λ write. absurd (unloaded_unwritten fault write))
+
+pub returns-in_err-tables-clause-status : goal.returns-in_err-tables-clause-status
+returns-in_err-tables-clause-status g c =
+    let fault = c.in_err-tables.field-0.0 in
+    IfErr_handed_on c.from_residual.result (unloaded_as fault) (λ f. status_of f ≡ 1)
+    c.from_residual.ensures.1 (unloaded_status fault)
 
 pub returns-in_err-riders-clause-right : goal.returns-in_err-riders-clause-right
 returns-in_err-riders-clause-right g c =
@@ -86,7 +103,7 @@ returns-clause-begun g c =
     let asked = asked_of c.args.options.now in
     let out = g.W.Write.contents c.args.out.now in
     let loaded = subst (λ (ns : List (Bor (List ℕ))). LoadsFiles (names_to_load (map name_in ns))
-    (g.S.Source.loaded c.load_tables.new.source) (g.S.Source.loaded c.load_files.new.source)
+    (g.S.FileSource.loaded c.load_tables.new.source) (g.S.FileSource.loaded c.load_files.new.source)
     (map bytes_in c.in_ok-files.files.items)) c.deref.ensures.value c.in_ok-files.ensures.ok in
     let names = c.in_ok-riders.ensures.names in
     IfErr-weaker c.charge_traced.result _ _
@@ -94,13 +111,13 @@ returns-clause-begun g c =
     let done = begun write in (
       done.0,
       begun_by out out (g.W.Write.contents c.charge_traced.new.out) done.1
-          (λ all. RunsTraced asked (g.S.Source.loaded c.args.source.now)
-          (g.S.Source.loaded c.load_files.new.source) out all done.0)
+          (λ all. RunsTraced asked (g.S.FileSource.loaded c.args.source.now)
+          (g.S.FileSource.loaded c.load_files.new.source) out all done.0)
           (Keeps-refl out) done.3 (λ all written. record {
             tables = names_of c.in-Some.words;
             are_named = ap (option_map names_of) c.in-Some.is;
             texts = map bytes_in c.in_ok-tables.tables.texts.items;
-            between = g.S.Source.loaded c.load_tables.new.source;
+            between = g.S.FileSource.loaded c.load_tables.new.source;
             fares = c.in_ok-tables.tables.fares;
             loads_tables = c.in_ok-tables.ensures.ok;
             tree = names.0;

@@ -36,7 +36,7 @@ returns-in-Ok-clause-names c =
 
 pub returns-clause-right : goal.returns-clause-right
 returns-clause-right c = λ asked under loaded after refused named traced loads.
-    classes_are_right asked under loaded after after refused _ named traced _ _ loads
+    classes_are_right asked under loaded after refused _ named traced _ _ loads
     c.in-Err.wrong
     (wrong_in c.args.tables.texts.items c.deref.result.now c.deref.ensures.value c.in-Err.wrong
     c.in-Err.ensures.fault) c.of_names.result c.of_names.ensures.right

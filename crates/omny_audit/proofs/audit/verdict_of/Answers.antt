@@ -155,7 +155,7 @@ loop-piece-preserved g c =
 -- a read failed
 pub returns-in_default-clause-later : goal.returns-in_default-clause-later
 returns-in_default-clause-later g c =
-    subst (λ (n : Option (Bor (List ℕ))). Refuses (g.S.Source.refused c.read_on.new.source)
+    subst (λ (n : Option (Bor (List ℕ))). Refuses (g.S.FileSource.refused c.read_on.new.source)
     (option_map (λ (b : Bor (List ℕ)). b.now) n) Unread) c.loop-piece.invariant.name
     c.in_default.ensures.fault
 

@@ -21,8 +21,8 @@ invariant-loop-piece g l = record {
   read : Consumes (prepend_known l.fn.ledger.head.now (g.S.Ledger.Read.remaining l.fn.ledger.rest))
       (prepend_known l.ledger.head.now (g.S.Ledger.Read.remaining l.ledger.rest)) file;
   name : l.ledger.name ≡ l.fn.ledger.name;
-  loaded : g.S.Source.loaded l.source ≡ g.S.Source.loaded l.fn.source;
-  refused : g.S.Source.refused l.source ≡ g.S.Source.refused l.fn.source;
+  loaded : g.S.FileSource.loaded l.source ≡ g.S.FileSource.loaded l.fn.source;
+  refused : g.S.FileSource.refused l.source ≡ g.S.FileSource.refused l.fn.source;
   sums : HasSummedFor l.table l.report reported;
   report : text_of l.report ≡ text_of l.fn.report;
 }

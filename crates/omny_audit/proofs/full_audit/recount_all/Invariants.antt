@@ -17,8 +17,8 @@ invariant-loop-piece g l = record {
   read : Consumes (prepend_known l.fn.ledger.head.now (g.S.Ledger.Read.remaining l.fn.ledger.rest))
       (prepend_known l.ledger.head.now (g.S.Ledger.Read.remaining l.ledger.rest)) file;
   name : l.ledger.name ≡ l.fn.ledger.name;
-  loaded : g.S.Source.loaded l.source ≡ g.S.Source.loaded l.fn.source;
-  refused : g.S.Source.refused l.source ≡ g.S.Source.refused l.fn.source;
+  loaded : g.S.FileSource.loaded l.source ≡ g.S.FileSource.loaded l.fn.source;
+  refused : g.S.FileSource.refused l.source ≡ g.S.FileSource.refused l.fn.source;
   known : (good : List TapFields) → (l.has_uploads ≡ true → IsFullBalance l.fn.full good [])
       → (written : List ℕ) × HasRecounted l.table l.recount l.has_uploads l.full text written good
       × Appends (g.W.Write.contents l.fn.out.writer) (g.W.Write.contents l.out.writer) written;

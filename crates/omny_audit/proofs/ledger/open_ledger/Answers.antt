@@ -9,7 +9,7 @@ use Rattle.omny_audit.proofs.ledger.open_ledger.Goals as goal
 
 pub returns-in-Err-clause-right : goal.returns-in-Err-clause-right
 returns-in-Err-clause-right g c =
-    let refused = g.S.Source.refused c.open.new.self in
+    let refused = g.S.FileSource.refused c.open.new.self in
     let name = option_map (λ (n : Bor (List ℕ)). n.now) c.args.name in
     let same : c.unwrap_or.result.now ≡ unwrap_or name (codes "standard input") =
     ap (λ (n : Bor (List ℕ)). n.now) c.unwrap_or.ensures ∙ lent_name c.args.name _ in

@@ -7,6 +7,6 @@ abbrev pub invariant-loop-piece : goal.invariant-loop-piece
 invariant-loop-piece g l = record {
   read : Consumes (g.S.Ledger.Read.remaining l.fn.ledger) (g.S.Ledger.Read.remaining l.ledger)
       l.head.items;
-  loaded : g.S.Source.loaded l.source ≡ g.S.Source.loaded l.fn.source;
-  refused : g.S.Source.refused l.source ≡ g.S.Source.refused l.fn.source;
+  loaded : g.S.FileSource.loaded l.source ≡ g.S.FileSource.loaded l.fn.source;
+  refused : g.S.FileSource.refused l.source ≡ g.S.FileSource.refused l.fn.source;
 }

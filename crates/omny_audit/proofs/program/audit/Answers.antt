@@ -17,6 +17,9 @@ use Rattle.omny_audit.proofs.ProgramLemmas.{names_same}
 use Rattle.omny_audit.proofs.ProgramLemmas.{loaded_ledger, loaded_report, reads_ledger}
 use Rattle.omny_audit.proofs.ProgramLemmas.{right_of_names, written_first}
 use Rattle.omny_audit.proofs.RightFaults.{right_of_ledger, right_refusal, told_of_ledger}
+use Rattle.omny_audit.proofs.TableFaults.{unloaded_is_right, unloaded_named, unloaded_told}
+use Rattle.omny_audit.proofs.TableFaults.{unloaded_unwritten}
+use Rattle.omny_audit.specs.inside.Fault.{unloaded_as}
 use Rattle.omny_audit.proofs.RightFaults.{written_end}
 use Rattle.program_manners.proofs.LoadsOn.{loads_more}
 use Rattle.tap_views.proofs.Choices.{IfErr_handed_on}
@@ -370,14 +373,18 @@ pub returns-in_err-tables-clause-named : goal.returns-in_err-tables-clause-named
 returns-in_err-tables-clause-named g c =
     let fault = c.in_err-tables.field-0.0 in
     let asked = audit_asked_of c.args.options.now in
-    IfErr_handed_on c.from_residual.result fault (λ f. NamesOneOf (files_of asked) f)
-    c.from_residual.ensures.1 (at_tables asked fault c.in_err-tables.ensures.named)
+    IfErr_handed_on c.from_residual.result (unloaded_as fault) (λ f. NamesOneOf (files_of asked) f)
+    c.from_residual.ensures.1
+    (at_tables asked (unloaded_as fault)
+    (unloaded_named asked.table _ _ _ fault c.in_err-tables.ensures.right))
 
 pub returns-in_err-tables-clause-right : goal.returns-in_err-tables-clause-right
 returns-in_err-tables-clause-right g c =
     let fault = c.in_err-tables.field-0.0 in
     let asked = audit_asked_of c.args.options.now in
-    IfErr_handed_on c.from_residual.result fault (λ f. IsRightAuditFault asked _ _ _ _ _ f _ _)
-    c.from_residual.ensures.1
-    (written_first asked _ _ _ _ _ fault _ _ c.in_err-tables.ensures.fault (Keeps-refl _)
-    (c.in_err-tables.ensures.right asked.ledger _) c.in_err-tables.ensures.told)
+    IfErr_handed_on c.from_residual.result (unloaded_as fault)
+    (λ f. IsRightAuditFault asked _ _ _ _ _ f _ _) c.from_residual.ensures.1
+    (written_first asked _ _ _ _ _ (unloaded_as fault) _ _ (unloaded_unwritten fault)
+    (Keeps-refl _)
+    (unloaded_is_right asked.table _ _ _ asked.ledger _ fault c.in_err-tables.ensures.right)
+    (unloaded_told _ _ fault c.in_err-tables.ensures.kept))

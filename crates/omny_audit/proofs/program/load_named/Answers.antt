@@ -5,8 +5,8 @@ use Rattle.omny_audit.proofs.program.load_named.Goals as goal
 
 pub returns-in-Err-clause-right : goal.returns-in-Err-clause-right
 returns-in-Err-clause-right g c =
-    c.of_load.ensures.right (g.S.Source.refused c.load.new.self)
-    (has_refused (g.S.Source.refused c.load.new.self) (Some c.args.name.now) c.in-Err.fault
+    c.of_load.ensures.right (g.S.FileSource.refused c.load.new.self)
+    (has_refused (g.S.FileSource.refused c.load.new.self) (Some c.args.name.now) c.in-Err.fault
     c.in-Err.ensures.fault)
 
 -- what was refused is told

@@ -18,7 +18,7 @@ loop-name-init g c = record {
       loads = [];
       named = refl;
       bytes = refl;
-      is_loaded = reports_none (g.S.Source.loaded c.args.source.now);
+      is_loaded = reports_none (g.S.FileSource.loaded c.args.source.now);
     },
     refl,
     c.new-balance.ensures,

@@ -10,9 +10,9 @@ abbrev pub invariant-loop-name : goal.invariant-loop-name
 invariant-loop-name g l = record {
   taps : (files : List (List ℕ)) × (good : List TapFields)
       × LoadsNamedFiles (map (λ n. n.now) (take l.name-index l.names))
-      (g.S.Source.loaded l.fn.source) (g.S.Source.loaded l.source) files
+      (g.S.FileSource.loaded l.fn.source) (g.S.FileSource.loaded l.source) files
       × AreGoodFieldsOfAll files good × IsBalance l.balance good []
       × (lists : List (List TapFields)) × AreGoodFieldsOfEach files lists
       × HasUploads l.places lists;
-  refused : g.S.Source.refused l.source ≡ g.S.Source.refused l.fn.source;
+  refused : g.S.FileSource.refused l.source ≡ g.S.FileSource.refused l.fn.source;
 }

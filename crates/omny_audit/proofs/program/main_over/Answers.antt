@@ -49,8 +49,8 @@ returns-in-Err-clause-faults g c = λ one.
 -- the finding was written, and was flushed or not
 pub returns-in-Ok-audit-clause-done : goal.returns-in-Ok-audit-clause-done
 returns-in-Ok-audit-clause-done g c = λ parses zero.
-    let loaded = g.S.Source.loaded c.args.source.now in
-    let loaded' = g.S.Source.loaded c.audit.new.source in
+    let loaded = g.S.FileSource.loaded c.args.source.now in
+    let loaded' = g.S.FileSource.loaded c.audit.new.source in
     let out = g.W.Write.contents c.args.out.now.writer in
     let mid = g.W.Write.contents c.audit.new.out.writer in
     let last = g.W.Write.contents c.finish.new.out.writer in
@@ -62,8 +62,8 @@ returns-in-Ok-audit-clause-done g c = λ parses zero.
 
 pub returns-in-Ok-audit-clause-faults : goal.returns-in-Ok-audit-clause-faults
 returns-in-Ok-audit-clause-faults g c = λ one.
-    let loaded = g.S.Source.loaded c.args.source.now in
-    let loaded' = g.S.Source.loaded c.audit.new.source in
+    let loaded = g.S.FileSource.loaded c.args.source.now in
+    let loaded' = g.S.FileSource.loaded c.audit.new.source in
     let out = g.W.Write.contents c.args.out.now.writer in
     let mid = g.W.Write.contents c.audit.new.out.writer in
     let last = g.W.Write.contents c.finish.new.out.writer in
@@ -86,8 +86,8 @@ returns-in-Ok-audit-clause-faults g c = λ one.
     (λ failed. inr (
       failed.0,
       names_none (files_of asked) failed.0 failed.2,
-      λ parses. unflushed asked loaded loaded' (g.S.Source.refused c.args.source.now)
-          (g.S.Source.refused c.audit.new.source) c.finish.new.out.end failed.0 out last well
+      λ parses. unflushed asked loaded loaded' (g.S.FileSource.refused c.args.source.now)
+          (g.S.FileSource.refused c.audit.new.source) c.finish.new.out.end failed.0 out last well
           failed.3 failed.4 c.in-Ok-audit.ensures.well done,
       λ no. absurd (no c.in-Ok.ensures.kinds),
       record {

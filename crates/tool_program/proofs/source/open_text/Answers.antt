@@ -1,6 +1,6 @@
 use Rattle.std.proofs.Common.{ℕ, List, Option, subst}
 use Rattle.program_manners.specs.Refusals.{Refuses}
-use Rattle.tool_program.specs.Source.{OpensOne}
+use Rattle.program_manners.specs.Loads.{OpensOne}
 use Rattle.tool_program.proofs.source.open_text.Goals as goal
 
 pub returns-in-Ok-clause-reported : goal.returns-in-Ok-clause-reported

@@ -1,6 +1,6 @@
 use Rattle.std.proofs.Common.{◌≡◌, map, take}
 use Rattle.program_manners.specs.TableLoads.{LoadsTables}
-use Rattle.omny_audit.proofs.tables.load_tables.Given as goal
+use Rattle.program_manners.proofs.table_loads.load_tables.Given as goal
 
 -- the tables of the words so far were loaded, and nothing was refused
 abbrev pub invariant-loop-word : goal.invariant-loop-word
@@ -8,7 +8,7 @@ invariant-loop-word g l = record {
   loads : LoadsTables (record {
     first = l.words.first.now;
     later = map (λ w. w.now) (take l.word-index l.words.later.items);
-  }) (g.S.Source.loaded l.fn.source) (g.S.Source.loaded l.source)
+  }) (g.S.FileSource.loaded l.fn.source) (g.S.FileSource.loaded l.source)
       (map (λ t. t.items) l.tables.texts.items) l.tables.fares;
-  refused : g.S.Source.refused l.source ≡ g.S.Source.refused l.fn.source;
+  refused : g.S.FileSource.refused l.source ≡ g.S.FileSource.refused l.fn.source;
 }

@@ -1,59 +1,105 @@
 //! Fare tables that are loaded in the order of their words.
 ghost use Rattle.std.specs.Prelude.{◌≡◌, ◌++◌, ◌∷◌, [], ℕ, List, Option, None, Some, IfErr, IfOk};
-ghost use Rattle.std.specs.Prelude.{IfSome, OnOk, false, map};
-ghost use Rattle.omny_audit.specs.Fault.{IsTold, NamesOneOf, is_unwritten, named_by};
-ghost use Rattle.omny_audit.specs.Options.{table_files};
-ghost use Rattle.omny_audit.specs.inside.Tables.{IsRightLater, IsRightNamed, IsTablesFault};
+ghost use Rattle.std.specs.Prelude.{OnOk, false, map};
 ghost use Rattle.program_manners.specs.Loads.{Loaded, LoadsOne};
+ghost use Rattle.program_manners.specs.Refusals.{Refuses};
 ghost use Rattle.program_manners.specs.TableLoads.{Follows, LoadsTables};
 ghost use Rattle.program_manners.specs.TableViews.{names_of};
 ghost use Rattle.program_manners.specs.TableWords.{TableNames, date_fault, file_named, wrong_word};
+ghost use Rattle.program_manners.specs.TablesFaults.{IsTablesFault, KeepsRefusals};
+ghost use Rattle.program_manners.specs.inside.TableLoads.{IsRightLater, IsRightNamed};
 
-use crate::fault::Fault;
-use crate::program::load_named;
-use crate::source::Source;
+use crate::file_source::FileSource;
+use crate::following::{FollowLine, NamedTableLine, NextFault, table_behind};
+use crate::loading::FileFault;
+use crate::table_words::{TableWord, TableWords};
 use fare_table::{FareTable, TableFault};
-use program_manners::{FollowLine, NamedTableLine, NextFault, TableWord, TableWords, table_behind};
-use std::alloc::Global;
-use tap_views::NoMemory;
+use std::alloc::{AllocError, Global};
+
+/// Why fare tables were not loaded.
+#[derive(Clone, Copy, Debug)]
+pub enum TablesFault<'a> {
+    /// The file of a table was not loaded.
+    File(FileFault<'a>),
+    /// The text of the only table is no table.
+    Table(TableFault),
+    /// The text of one of several tables is no table.
+    NamedTable(NamedTableLine<'a>),
+    /// A table cannot follow those before it.
+    Follow(FollowLine<'a>),
+    /// A growth of memory was refused.
+    NoMemory,
+}
+
+impl<'a> From<FileFault<'a>> for TablesFault<'a> {
+    ghost use Rattle.program_manners.specs.declared.table_loads.TablesFault.TheVariants.{File};
+
+    ghost from_gives = { λ refused fault. fault ≡ File refused };
+
+    fn from(fault: FileFault<'a>) -> TablesFault<'a> {
+        TablesFault::File(fault)
+    }
+}
+
+impl From<AllocError> for TablesFault<'_> {
+    ghost use Rattle.program_manners.specs.declared.table_loads.TablesFault.TheVariants.{NoMemory};
+
+    ghost from_gives = { λ _ fault. fault ≡ NoMemory };
+
+    fn from(_refused: AllocError) -> Self {
+        TablesFault::NoMemory
+    }
+}
 
 /// Fare tables, and the texts that they were read from, in the order of their words.
 #[derive(Drop)]
-pub(crate) struct Tables {
+pub struct Tables {
     /// The tables, each of which follows those before it.
-    pub(crate) fares: FareTable,
-    pub(crate) texts: Vec<Vec<u8>>,
+    pub fares: FareTable,
+    /// The bytes of each table's file.
+    pub texts: Vec<Vec<u8>>,
+}
+
+/// All bytes of the file of this name.
+fn load_named<'a, S: FileSource>(source: &mut S, name: &'a str) -> Result<Vec<u8>, FileFault<'a>>
+    ensures ok { IfOk result (λ bytes. LoadsOne (S.loaded source.old) (S.loaded source.new)
+        (Some name.entry.now) bytes.items) }
+    ensures well { IfOk result (λ _. S.refused source.new ≡ S.refused source.old) }
+    ensures named { IfErr result (λ file. file.name.now ≡ name.entry.now) }
+    ensures refused { IfErr result
+        (λ file. Refuses (S.refused source.new) (Some name.entry.now) file.fault) }
+{
+    match source.load(name) {
+        Ok(bytes) => Ok(bytes),
+        Err(fault) => Err(FileFault { name, fault }),
+    }
 }
 
 /// Why the text of this file is no table: by the file's name if there are several tables.
-fn of_table<'a>(name: &'a str, is_alone: bool, fault: TableFault) -> Fault<'a>
-    ensures named { IsRightNamed name.entry.now is_alone fault result }
-    ensures file { IfSome (named_by result) (λ reported. reported ≡ name.entry.now) }
-    ensures fault { is_unwritten result ≡ false }
+fn of_table<'a>(name: &'a str, is_alone: bool, fault: TableFault) -> TablesFault<'a>
+    ensures { IsRightNamed name.entry.now is_alone fault result }
 {
     if is_alone {
-        return Fault::Table(fault);
+        return TablesFault::Table(fault);
     }
     match fault {
-        TableFault::NoMemory => Fault::NoMemory,
-        fault => Fault::NamedTable(NamedTableLine { name, fault }),
+        TableFault::NoMemory => TablesFault::NoMemory,
+        fault => TablesFault::NamedTable(NamedTableLine { name, fault }),
     }
 }
 
 /// Why the table of this word does not follow those before it.
-fn of_next<'a>(word: &'a str, name: &'a str, fault: NextFault) -> Fault<'a>
-    ensures fault { is_unwritten result ≡ false }
-    ensures file { IfSome (named_by result) (λ reported. reported ≡ name.entry.now) }
-    ensures right { IsRightLater word.entry.now name.entry.now fault result }
+fn of_next<'a>(word: &'a str, name: &'a str, fault: NextFault) -> TablesFault<'a>
+    ensures { IsRightLater word.entry.now name.entry.now fault result }
 {
     match fault {
         NextFault::Table(fault) => of_table(name, false, fault),
-        NextFault::Follow(fault) => Fault::Follow(FollowLine { word, fault }),
+        NextFault::Follow(fault) => TablesFault::Follow(FollowLine { word, fault }),
     }
 }
 
 /// Adds a text.
-fn push(texts: &mut Vec<Vec<u8>>, text: Vec<u8>) -> Result<(), NoMemory>
+fn push(texts: &mut Vec<Vec<u8>>, text: Vec<u8>) -> Result<(), AllocError>
     ensures { OnOk result (texts.new.items ≡ texts.old.items ++ text ∷ []) }
 {
     texts.push(text)?;
@@ -61,12 +107,12 @@ fn push(texts: &mut Vec<Vec<u8>>, text: Vec<u8>) -> Result<(), NoMemory>
 }
 
 /// Loads the table of this word, and adds it to those before it, and its text to theirs.
-fn load_next<'a, S: Source>(
+fn load_next<'a, S: FileSource>(
     alloc: Global,
     mut tables: Tables,
     word: &'a str,
     source: &mut S,
-) -> Result<Tables, Fault<'a>>
+) -> Result<Tables, TablesFault<'a>>
     requires { date_fault false word.now ≡ None }
     ensures ok { IfOk result (λ all. (text : List ℕ)
         × LoadsOne (S.loaded source.old) (S.loaded source.new)
@@ -74,16 +120,13 @@ fn load_next<'a, S: Source>(
         × Follows tables.fares word.entry.now text all.fares
         × (map (λ t. t.items) all.texts.items
         ≡ map (λ t. t.items) tables.texts.items ++ text ∷ [])) }
+    ensures well { IfOk result (λ _. S.refused source.new ≡ S.refused source.old) }
     ensures right { IfErr result (λ fault. (loaded : Option (List Loaded)) (words : TableNames)
         (before behind texts : List (List ℕ)) → words.later ≡ before ++ word.entry.now ∷ behind
         → LoadsTables (record { first = words.first; later = before }) loaded (S.loaded source.old)
         texts tables.fares
         → IsTablesFault words loaded (S.loaded source.new) (S.refused source.new) fault) }
-    ensures well { IfOk result (λ _. S.refused source.new ≡ S.refused source.old) }
-    ensures told { IfErr result (IsTold (S.refused source.old) (S.refused source.new)) }
-    ensures file { IfErr result (λ fault. IfSome (named_by fault)
-        (λ reported. reported ≡ file_named word.entry.now)) }
-    ensures fault { IfErr result (λ fault. is_unwritten fault ≡ false) }
+    ensures kept { IfErr result (KeepsRefusals (S.refused source.old) (S.refused source.new)) }
 {
     let parts = TableWord::of(word);
     let Some(date) = parts.date else {
@@ -101,22 +144,19 @@ fn load_next<'a, S: Source>(
 }
 
 /// Loads the table that is valid first.
-fn load_first<'a, S: Source>(
+fn load_first<'a, S: FileSource>(
     alloc: Global,
     words: &TableWords<'a>,
     source: &mut S,
-) -> Result<Tables, Fault<'a>>
+) -> Result<Tables, TablesFault<'a>>
     ensures ok { IfOk result (λ tables.
         LoadsTables (record { first = words.now.first.now; later = [] })
         (S.loaded source.old) (S.loaded source.new) (map (λ t. t.items) tables.texts.items)
         tables.fares) }
+    ensures well { IfOk result (λ _. S.refused source.new ≡ S.refused source.old) }
     ensures right { IfErr result (IsTablesFault (names_of words.now) (S.loaded source.old)
         (S.loaded source.new) (S.refused source.new)) }
-    ensures well { IfOk result (λ _. S.refused source.new ≡ S.refused source.old) }
-    ensures told { IfErr result (IsTold (S.refused source.old) (S.refused source.new)) }
-    ensures file { IfErr result (λ fault. IfSome (named_by fault)
-        (λ reported. reported ≡ words.now.first.now)) }
-    ensures fault { IfErr result (λ fault. is_unwritten fault ≡ false) }
+    ensures kept { IfErr result (KeepsRefusals (S.refused source.old) (S.refused source.new)) }
 {
     let name = words.first;
     let text = load_named(source, name)?;
@@ -133,20 +173,24 @@ fn load_first<'a, S: Source>(
 
 /// Loads the tables of these words, in their order: each is loaded and held against those before it
 /// before the next one is.
-pub(crate) fn load_tables<'a, S: Source>(
+///
+/// # Errors
+///
+/// The first of: `File`, if the source refused a table's file; `Table` or `NamedTable`, if a text
+/// is no table; `Follow`, if a table cannot follow those before it from its date on. `NoMemory`
+/// may come at any time.
+pub fn load_tables<'a, S: FileSource>(
     alloc: Global,
     words: &TableWords<'a>,
     source: &mut S,
-) -> Result<Tables, Fault<'a>>
+) -> Result<Tables, TablesFault<'a>>
     requires { wrong_word (names_of words.now) ≡ None }
     ensures ok { IfOk result (λ tables. LoadsTables (names_of words.now) (S.loaded source.old)
         (S.loaded source.new) (map (λ t. t.items) tables.texts.items) tables.fares) }
-    ensures named { IfErr result (NamesOneOf (table_files (names_of words.now))) }
+    ensures well { IfOk result (λ _. S.refused source.new ≡ S.refused source.old) }
     ensures right { IfErr result (IsTablesFault (names_of words.now) (S.loaded source.old)
         (S.loaded source.new) (S.refused source.new)) }
-    ensures well { IfOk result (λ _. S.refused source.new ≡ S.refused source.old) }
-    ensures told { IfErr result (IsTold (S.refused source.old) (S.refused source.new)) }
-    ensures fault { IfErr result (λ fault. is_unwritten fault ≡ false) }
+    ensures kept { IfErr result (KeepsRefusals (S.refused source.old) (S.refused source.new)) }
 {
     let mut tables = load_first(alloc, words, source)?;
     for word in &words.later {
