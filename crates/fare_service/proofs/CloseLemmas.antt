@@ -1,7 +1,7 @@
 -- Books and the drawing are closed.
 use Rattle.std.specs.Prelude.{ℕ, zero, suc, ◌≡◌, ◌⊎◌, ◌+◌, ◌<◌, ◌≤◌, List, [], ◌∷◌, length}
 use Rattle.std.specs.Prelude.{slice_get, Some, option_map, sum_by}
-use Rattle.std.specs.Prelude.{remove, Result, Ok, Err, OnOk, Bool, true, false, ◌==◌}
+use Rattle.std.specs.Prelude.{remove, Bool, true, false, ◌==◌}
 use Rattle.std.specs.List.{flat_map}
 use Rattle.std.proofs.Common.{refl, sym, ◌∙◌, ap, inl, inr, subst, arith, get_or, eqb-true}
 use Rattle.std.proofs.lemmas.Bool.{cases_lt}
@@ -244,11 +244,6 @@ joined_whole drawing opened shares first others drawer passes is all =
     let S : List ShareView → Type 0 =
     λ ss. IsJoinedOf drawing opened (length shares) ss drawer passes in
     subst S (sym is) (subst N number all)
-
--- what holds anyway holds if the result is right
-pub any_ok : {T E : Type 0} (r : Result T E) (P : Type 0) → P → OnOk r P
-any_ok (Ok x) P p = p
-any_ok (Err e) P p = tt
 
 pub some_shares : (none : Bool) (number : ℕ) → none ≡ (number == 0) → none ≡ false → 0 < number
 some_shares none zero reports is = let h : (zero == 0) ≡ false = sym reports ∙ is in absurd (cc)

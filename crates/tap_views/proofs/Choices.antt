@@ -1,7 +1,7 @@
 -- Tests and choices in another order, and what is said of an `Option` or a `Result` by cases.
 use Rattle.std.proofs.Common.{◌≡◌, Bool, true, false, cond, ◌||◌, Option, None, Result, Ok, Err}
 use Rattle.std.proofs.Common.{refl, sym, subst}
-use Rattle.std.specs.Prelude.{IfErr, IsErrAnd, MatchOption, OnErr}
+use Rattle.std.specs.Prelude.{IfErr, IsErrAnd, MatchOption, OnErr, OnOk}
 use Rattle.std.proofs.lemmas.Bool.{false≢true}
 
 -- of two tests the order is free
@@ -22,6 +22,11 @@ pub MatchOption_none : {T : Type 0} (P : Type 0) (Q : T → Type 0) (result : Op
     → result ≡ None → P → MatchOption result P Q
 MatchOption_none {T} P Q result none holds =
     subst (λ (r : Option T). MatchOption r P Q) (sym none) holds
+
+-- what holds anyway is what is to be said of a value
+pub OnOk_any : {T E : Type 0} (r : Result T E) (P : Type 0) → P → OnOk r P
+OnOk_any (Ok x) P holds = holds
+OnOk_any (Err e) P holds = tt
 
 -- what holds anyway is what is to be said of an error
 pub OnErr_any : {T E : Type 0} (r : Result T E) (P : Type 0) → P → OnErr r P

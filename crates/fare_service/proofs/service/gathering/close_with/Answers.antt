@@ -8,10 +8,10 @@ use Rattle.fare_service.specs.Closing.{ReportsFirst}
 use Rattle.fare_service.specs.inside.Closing.{IsClosedWork}
 use Rattle.fare_service.specs.inside.Joining.{IsJoinedOf}
 use Rattle.fare_service.proofs.CloseLemmas.{split_first, closed_none, closed_all, held_drawn}
-use Rattle.fare_service.proofs.CloseLemmas.{joined_whole, any_ok, some_shares, none_there}
+use Rattle.fare_service.proofs.CloseLemmas.{joined_whole, some_shares, none_there}
 use Rattle.fare_service.proofs.CloseLemmas.{first_missing, first_unseen, first_drawn, first_undrawn}
 use Rattle.fare_service.proofs.CloseLemmas.{none_whole, lacks_whole, drawer_whole}
-use Rattle.tap_views.proofs.Choices.{OnErr_any}
+use Rattle.tap_views.proofs.Choices.{OnErr_any, OnOk_any}
 use Rattle.fare_service.specs.Claims.{HaveAllClaims}
 use Rattle.fare_service.proofs.service.gathering.close_with.Goals as goal
 use Rattle.fare_service.proofs.service.gathering.close_with.Goals.{in-Ok, in-Err-finish_unseen}
@@ -19,7 +19,7 @@ use Rattle.fare_service.proofs.service.gathering.close_with.Goals.{in-Ok, in-Err
 pub returns-then-is_empty-clause-ok : goal.returns-then-is_empty-clause-ok
 returns-then-is_empty-clause-ok c =
     let ok = c.in_default.ensures in
-    any_ok c.match-finish_unseen.result
+    OnOk_any c.match-finish_unseen.result
     (IsClosedWork c.args.books.items c.args.shares.items c.close_unseen.new.closed.items)
     (closed_none c.args.books.items c.args.shares.items c.close_unseen.new.closed.items
     (nil_from_length c.args.shares.items
