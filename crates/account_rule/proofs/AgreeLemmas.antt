@@ -7,13 +7,13 @@ use Rattle.std.specs.List.{flat_map, last_or}
 use Rattle.std.specs.Option.{option_and_then, option_to_list}
 use Rattle.std.proofs.lemmas.Bool.{leb-true}
 use Rattle.std.proofs.lemmas.List.Elements.{All-head, All-tail}
-use Rattle.fare_table.specs.Fares.{Fares, class_of, is_permitted, meaning_at, ride_terms}
-use Rattle.fare_table.specs.Fares.{transfer_terms, valid_at}
-use Rattle.fare_table.specs.Following.{with_next}
-use Rattle.fare_table.specs.TableMeaning.{TableMeaning}
-use Rattle.fare_table.specs.Until.{window_end_in}
-use Rattle.fare_table.specs.declared.mode.Mode.{Mode}
-use Rattle.fare_table.specs.declared.terms.Terms.{Terms}
+use Rattle.tariffs.specs.Fares.{Fares, class_of, is_permitted, meaning_at, ride_terms}
+use Rattle.tariffs.specs.Fares.{transfer_terms, valid_at}
+use Rattle.tariffs.specs.Following.{with_next}
+use Rattle.tariffs.specs.TableMeaning.{TableMeaning}
+use Rattle.tariffs.specs.Until.{window_end_in}
+use Rattle.tariffs.specs.declared.mode.Mode.{Mode}
+use Rattle.tariffs.specs.declared.terms.Terms.{Terms}
 use Rattle.account_rule.specs.Agreement.{AgreeAt, AgreeOn}
 use Rattle.account_rule.specs.Blocks.{blocks_by, blocks_from, last_block}
 use Rattle.account_rule.specs.Replies.{live_reply, replies, replies_after, reply, reply_with}

@@ -1,7 +1,7 @@
 -- No reply costs more than the greatest fare of a table.
 use Rattle.std.proofs.Common.{◌≡◌, ℕ, ◌≤◌, Option, Some, None, sym, ap, subst, inl, inr, arith}
-use Rattle.fare_table.specs.Terms.{AreRideTerms}
-use Rattle.fare_table.specs.declared.terms.Terms.{Terms}
+use Rattle.tariffs.specs.Terms.{AreRideTerms}
+use Rattle.tariffs.specs.declared.terms.Terms.{Terms}
 use Rattle.account_rule.specs.declared.reason.Charge.{Charge}
 use Rattle.account_rule.specs.declared.reason.Charge.TheVariants.{CeilingCut, CeilingReached, Full}
 use Rattle.account_rule.specs.declared.reason.Charge.TheVariants.{RideLimitReached}

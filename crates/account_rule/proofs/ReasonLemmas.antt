@@ -5,9 +5,9 @@ use Rattle.std.proofs.Common.{append_assoc, append-nil, is_some, option_map, fil
 use Rattle.std.specs.List.{last_or, list_all}
 use Rattle.std.specs.Option.{option_and_then}
 use Rattle.std.proofs.lemmas.Bool.{cases_Bool, cases_lt, ltb-false, ltb-true, lt-ltb, le-ltb}
-use Rattle.fare_table.specs.Terms.{AreRideTerms}
-use Rattle.fare_table.specs.declared.mode.Mode.{Mode}
-use Rattle.fare_table.specs.declared.terms.Terms.{Terms}
+use Rattle.tariffs.specs.Terms.{AreRideTerms}
+use Rattle.tariffs.specs.declared.mode.Mode.{Mode}
+use Rattle.tariffs.specs.declared.terms.Terms.{Terms}
 use Rattle.account_rule.specs.declared.reason.Charge.{Charge}
 use Rattle.account_rule.specs.declared.reason.Reason.TheVariants.{Unknown, Stale, Transfer, Ride}
 use Rattle.account_rule.specs.declared.reason.Reason.{Reason}

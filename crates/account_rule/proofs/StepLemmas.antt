@@ -8,13 +8,13 @@ use Rattle.std.specs.List.{last_or}
 use Rattle.std.specs.Option.{option_and_then}
 use Rattle.std.proofs.lemmas.Bool.{ltb-true, lt-ltb, le-ltb}
 use Rattle.std.proofs.Math.Bool.{and-true}
-use Rattle.fare_table.specs.ClockView.{ClockView}
-use Rattle.fare_table.specs.Fares.{Fares, class_of, meaning_at, ride_terms}
-use Rattle.fare_table.specs.TableMeaning.{TableMeaning}
-use Rattle.fare_table.specs.Until.{window_end_in}
-use Rattle.fare_table.specs.declared.mode.Mode.{Mode}
-use Rattle.fare_table.specs.Terms.{AreRideTerms}
-use Rattle.fare_table.specs.declared.terms.Terms.{Terms}
+use Rattle.tariffs.specs.ClockView.{ClockView}
+use Rattle.tariffs.specs.Fares.{Fares, class_of, meaning_at, ride_terms}
+use Rattle.tariffs.specs.TableMeaning.{TableMeaning}
+use Rattle.tariffs.specs.Until.{window_end_in}
+use Rattle.tariffs.specs.declared.mode.Mode.{Mode}
+use Rattle.tariffs.specs.Terms.{AreRideTerms}
+use Rattle.tariffs.specs.declared.terms.Terms.{Terms}
 use Rattle.account_rule.specs.declared.account.Account.{Account}
 use Rattle.account_rule.specs.declared.reply.Answer.TheVariants.{Transfer, Stale, Unknown}
 use Rattle.account_rule.specs.declared.reply.Reply.{Reply}

@@ -3,8 +3,8 @@ use Rattle.std.proofs.Common.{◌≡◌, ℕ, suc, ◌+◌, ◌≤◌, true, fal
 use Rattle.std.proofs.Common.{min, ltb, Some, None, option_map, IfSome, refl, ap, arith}
 use Rattle.std.proofs.Common.{inl, inr, All}
 use Rattle.std.specs.List.{last_or}
-use Rattle.fare_table.specs.Terms.{AreRideTerms}
-use Rattle.fare_table.specs.declared.terms.Terms.{Terms}
+use Rattle.tariffs.specs.Terms.{AreRideTerms}
+use Rattle.tariffs.specs.declared.terms.Terms.{Terms}
 use Rattle.account_rule.specs.declared.window.Window.{Window}
 use Rattle.account_rule.specs.Kept.{IsRoomy}
 use Rattle.account_rule.specs.TokenRules.{TokenRules}

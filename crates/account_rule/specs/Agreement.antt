@@ -1,9 +1,9 @@
 -- What rules reply alike that say the same of each tap, and that a table waits for its date.
 use Rattle.std.specs.Prelude.{◌≡◌, ℕ, ◌<◌, List, Some, All}
-use Rattle.fare_table.specs.Fares.{Fares}
-use Rattle.fare_table.specs.Following.{with_next}
-use Rattle.fare_table.specs.TableMeaning.{TableMeaning}
-use Rattle.fare_table.specs.declared.mode.Mode.{Mode}
+use Rattle.tariffs.specs.Fares.{Fares}
+use Rattle.tariffs.specs.Following.{with_next}
+use Rattle.tariffs.specs.TableMeaning.{TableMeaning}
+use Rattle.tariffs.specs.declared.mode.Mode.{Mode}
 use Rattle.account_rule.specs.Replies.{replies}
 use Rattle.account_rule.specs.TokenRules.{TokenRules, rules_of}
 use Rattle.account_rule.specs.Taps.{LiveTap, live_at}

@@ -4,7 +4,7 @@ use Rattle.std.specs.Prelude.{◌++◌}
 use Rattle.std.specs.Prelude.{nat_le, nat_lt, if◌then◌else◌, filter, map, All, sum_by, count_by}
 use Rattle.std.specs.Prelude.{max, min, slice_get, Some}
 use Rattle.std.specs.List.{flat_map}
-use Rattle.fare_table.specs.declared.terms.Terms.{Terms}
+use Rattle.tariffs.specs.declared.terms.Terms.{Terms}
 use Rattle.account_rule.specs.declared.reason.Charge.{Charge}
 use Rattle.account_rule.specs.declared.reply.Answer.{Answer}
 use Rattle.account_rule.specs.declared.reply.Answer.TheVariants.{Paid, Transfer, Capped, Stale}

@@ -1,7 +1,7 @@
 -- Why a ride is no transfer, over the whole list of its token's earlier taps.
 use Rattle.std.specs.Prelude.{◌≡◌, ℕ, ◌-◌, ◌<◌, ◌≤◌, false, if◌then◌else◌, List, []}
 use Rattle.std.specs.Prelude.{Option, Some, None, nat_eq, nat_le, nat_lt}
-use Rattle.fare_table.specs.declared.mode.Mode.{Mode}
+use Rattle.tariffs.specs.declared.mode.Mode.{Mode}
 use Rattle.account_rule.specs.declared.no_transfer.NoTransfer.{NoTransfer}
 use Rattle.account_rule.specs.declared.no_transfer.NoTransfer.TheVariants.{FirstTap, TooLate}
 use Rattle.account_rule.specs.declared.no_transfer.NoTransfer.TheVariants.{AfterTransfer, NoneGiven}

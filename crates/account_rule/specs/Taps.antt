@@ -3,7 +3,7 @@ use Rattle.std.specs.Prelude.{ℕ, Bool, if◌then◌else◌, List, [], ◌∷�
 use Rattle.std.specs.Prelude.{option_map, filter, nat_lt}
 use Rattle.std.specs.List.{list_all}
 use Rattle.std.specs.Option.{option_to_list}
-use Rattle.fare_table.specs.declared.mode.Mode.{Mode}
+use Rattle.tariffs.specs.declared.mode.Mode.{Mode}
 use Rattle.account_rule.specs.declared.tap.TapIn.{TapIn}
 
 -- whether the moment is greater than the moments of all known taps of the list

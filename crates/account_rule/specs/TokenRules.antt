@@ -1,10 +1,10 @@
 -- What the rule takes from a fare table for the taps of one token.
 use Rattle.std.specs.Prelude.{ℕ, Bool, List, length}
-use Rattle.fare_table.specs.declared.mode.Mode.{Mode}
-use Rattle.fare_table.specs.declared.terms.Terms.{Terms}
-use Rattle.fare_table.specs.Fares.{Fares, class_of, is_permitted, meaning_at, ride_terms}
-use Rattle.fare_table.specs.Fares.{transfer_terms}
-use Rattle.fare_table.specs.Until.{until}
+use Rattle.tariffs.specs.declared.mode.Mode.{Mode}
+use Rattle.tariffs.specs.declared.terms.Terms.{Terms}
+use Rattle.tariffs.specs.Fares.{Fares, class_of, is_permitted, meaning_at, ride_terms}
+use Rattle.tariffs.specs.Fares.{transfer_terms}
+use Rattle.tariffs.specs.Until.{until}
 use Rattle.account_rule.specs.Taps.{LiveTap}
 
 -- Which taps after a ride are its transfers. What it says of a tap may depend on the tap's moment

@@ -1,7 +1,7 @@
 -- The windows of a token's rides, and what the rides of a window cost.
 use Rattle.std.specs.Prelude.{ℕ, suc, ◌+◌, ◌-◌, Bool, false, if◌then◌else◌, List, [], ◌∷◌}
 use Rattle.std.specs.Prelude.{is_some, nat_lt, nat_le, Option, Some, None, sum_by, count_by}
-use Rattle.fare_table.specs.declared.terms.Terms.{Terms}
+use Rattle.tariffs.specs.declared.terms.Terms.{Terms}
 use Rattle.account_rule.specs.declared.reason.Charge.{Charge}
 use Rattle.account_rule.specs.declared.reason.Charge.TheVariants.{Full, CeilingCut, CeilingReached}
 use Rattle.account_rule.specs.declared.reason.Charge.TheVariants.{RideLimitReached}

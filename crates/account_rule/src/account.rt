@@ -3,9 +3,9 @@
 ghost use Rattle.std.specs.Prelude.{◌≡◌, ℕ, ◌+◌, ◌<◌, ◌≤◌, List, [], ◌∷◌, ◌++◌, length, All};
 ghost use Rattle.std.specs.Prelude.{IfSome, IsTrue, Some, false};
 ghost use Rattle.std.specs.Option.{ForSome};
-ghost use Rattle.fare_table.specs.Terms.{AreRideTerms};
-ghost use Rattle.fare_table.specs.Fares.{class_of, meaning_at, ride_terms};
-ghost use Rattle.fare_table.specs.Until.{window_end_in};
+ghost use Rattle.tariffs.specs.Terms.{AreRideTerms};
+ghost use Rattle.tariffs.specs.Fares.{class_of, meaning_at, ride_terms};
+ghost use Rattle.tariffs.specs.Until.{window_end_in};
 ghost use Rattle.account_rule.specs.declared.tap.TapIn.{TapIn};
 ghost use Rattle.account_rule.specs.Replies.{reply, ride_reply};
 ghost use Rattle.account_rule.specs.TokenRules.{TokenRules, rules_of};
@@ -22,7 +22,7 @@ mod explain;
 use crate::reply::{Answer, Reply};
 use crate::tap::TapIn;
 use crate::window::{Window, WindowView};
-use fare_table::{Clock, FareTable, Mode, Tariff};
+use tariffs::{Clock, FareTable, Mode, Tariff};
 
 /// The account of one token under one fare table.
 ///

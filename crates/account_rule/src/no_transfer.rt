@@ -1,6 +1,6 @@
 //! Why a ride is no transfer.
 
-use fare_table::Mode;
+use tariffs::Mode;
 
 /// Why a ride is no transfer (MTA, free transfers): the first condition of a transfer that fails.
 #[derive(Clone, Copy, Debug, PartialEq, Eq)]

@@ -5,7 +5,7 @@ ghost use Rattle.account_rule.specs.Reasons.{replied_by};
 ghost use Rattle.account_rule.specs.Windows.{charged_by, paid_by};
 
 use crate::reply::{Answer, Reply};
-use fare_table::Mode;
+use tariffs::Mode;
 
 /// Why a tap is answered as it is. The reply follows from it.
 #[derive(Clone, Copy, Debug, PartialEq, Eq)]

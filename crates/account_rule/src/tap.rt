@@ -1,6 +1,6 @@
 //! A tap, as the rule sees it.
 
-use fare_table::Mode;
+use tariffs::Mode;
 
 /// A tap, as the rule sees it.
 #[derive(Clone, Copy, Debug, PartialEq, Eq)]

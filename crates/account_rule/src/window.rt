@@ -1,15 +1,15 @@
 //! A window of rides, and what its next ride costs.
 
 ghost use Rattle.std.specs.Prelude.{◌≡◌, ℕ, ◌+◌, ◌<◌, ◌≤◌, IfSome, is_some, min, unwrap_or};
-ghost use Rattle.fare_table.specs.Terms.{AreRideTerms};
-ghost use Rattle.fare_table.specs.Until.{window_end_in};
+ghost use Rattle.tariffs.specs.Terms.{AreRideTerms};
+ghost use Rattle.tariffs.specs.Until.{window_end_in};
 ghost use Rattle.account_rule.specs.Kept.{IsRoomy};
 ghost use Rattle.account_rule.specs.inside.Kept.{next_reason, open_window, shown_of, with_ride};
 ghost use Rattle.account_rule.specs.Laws.{place_cents};
 ghost use Rattle.account_rule.specs.Windows.{charge, charged_by, is_paid, paid_by};
 
 use crate::reason::{Charge, Reason};
-use fare_table::{Clock, Tariff, Terms};
+use tariffs::{Clock, Tariff, Terms};
 
 /// The highest ride limit of a table's classes. A window counts its rides up to it.
 const MAX_RIDES: u16 = 1_000;

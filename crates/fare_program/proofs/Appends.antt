@@ -5,7 +5,7 @@ use Rattle.std.proofs.Common.{◌&&◌}
 use Rattle.std.specs.Prelude.{Option, flat_map}
 use Rattle.std.proofs.lemmas.Grind.{flat_map-append}
 use Rattle.std.proofs.lemmas.List.Folds.{list_all-append}
-use Rattle.fare_table.specs.Fares.{Fares}
+use Rattle.tariffs.specs.Fares.{Fares}
 use Rattle.tap_views.specs.Files.{GoodBatchesView, IsReadAs}
 use Rattle.fare_program.specs.Listing.{Listed}
 use Rattle.fare_program.specs.Listing.{KeptListing, StandsFor}

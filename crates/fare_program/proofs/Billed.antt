@@ -1,7 +1,7 @@
 -- The report of a bill is what is asked for of settled files.
 use Rattle.std.proofs.Common.{◌≡◌, ℕ, List, Bool, false, Option, None, sym, subst}
 use Rattle.std.specs.Prelude.{MatchBool}
-use Rattle.fare_table.specs.Fares.{Fares}
+use Rattle.tariffs.specs.Fares.{Fares}
 use Rattle.tap_views.specs.declared.token.Token.{Token}
 use Rattle.fare_program.specs.Options.{Asked}
 use Rattle.fare_program.specs.Settling.{IsTextOver, ShowsSettled}

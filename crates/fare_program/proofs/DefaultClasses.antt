@@ -6,7 +6,8 @@ use Rattle.toml.specs.Parse.{parse_document}
 use Rattle.fare_table.specs.Classes.{default_of}
 use Rattle.fare_table.specs.Members.{of_kind}
 use Rattle.fare_table.specs.OrFault.{◌>>=◌}
-use Rattle.fare_table.specs.TableMeaning.{TableMeaning, meaning_in, meaning_of_tree}
+use Rattle.tariffs.specs.TableMeaning.{TableMeaning}
+use Rattle.fare_table.specs.TableMeaning.{meaning_in, meaning_of_tree}
 use Rattle.fare_table.specs.declared.fault.TableFault.{TableFault}
 use Rattle.fare_table.specs.declared.fault.TableFault.TheVariants.{Missing, Text}
 use Rattle.fare_table.specs.declared.fault.Key.TheVariants as the_key

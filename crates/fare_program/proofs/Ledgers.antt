@@ -3,7 +3,7 @@ use Rattle.std.proofs.Common.{◌≡◌, ℕ, List, Option, Some, None, map, ref
 use Rattle.std.specs.Prelude.{slice_get}
 use Rattle.std.specs.Ordering.{eq_by_cmp}
 use Rattle.std.proofs.lemmas.List.Sorted.{IsPermutation-map, list_any-IsPermutation}
-use Rattle.fare_table.specs.Fares.{Fares}
+use Rattle.tariffs.specs.Fares.{Fares}
 use Rattle.shard_book.specs.Book.{Book}
 use Rattle.shard_book.specs.Entry.{own}
 use Rattle.shard_book.specs.SumsByKey.{all_entries, token_of, tokens}

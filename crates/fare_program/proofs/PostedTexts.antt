@@ -1,7 +1,7 @@
 -- What is shown of posted files is what is asked for of them.
 use Rattle.std.proofs.Common.{◌≡◌, ◌∙◌, ℕ, List, Bool, true, false, Option, sym, subst}
 use Rattle.std.specs.Prelude.{MatchBool}
-use Rattle.fare_table.specs.Fares.{Fares}
+use Rattle.tariffs.specs.Fares.{Fares}
 use Rattle.tap_views.specs.declared.token.Token.{Token}
 use Rattle.fare_service.specs.Outcomes.{OutcomeView}
 use Rattle.fare_program.specs.Options.{Asked}

@@ -2,7 +2,7 @@
 use Rattle.std.proofs.Common.{◌≡◌, ◌∙◌, ℕ, true, List, Option, Some, inl, refl, subst, sym}
 use Rattle.std.specs.Prelude.{◌≢◌}
 use Rattle.std.proofs.lemmas.Bool.{true≢false}
-use Rattle.fare_table.specs.Fares.{Fares}
+use Rattle.tariffs.specs.Fares.{Fares}
 use Rattle.program_manners.specs.Loads.{Loaded}
 use Rattle.program_manners.proofs.Refusals.{has_refused}
 use Rattle.program_manners.specs.TableLoads.{LoadsTables}

@@ -3,7 +3,7 @@ use Rattle.std.proofs.Common.{◌≡◌, ◌∙◌, ◌<◌, ◌++◌, ◌∷◌
 use Rattle.std.proofs.Common.{Some, None, refl, ap, sym, arith, inl, inr, length, map, subst, []}
 use Rattle.std.specs.Prelude.{MatchBool, is_some, ◌||◌, ◌⊎◌}
 use Rattle.std.specs.Io.KnownBytes.{Appends, Keeps}
-use Rattle.fare_table.specs.Fares.{Fares}
+use Rattle.tariffs.specs.Fares.{Fares}
 use Rattle.tap_views.specs.declared.token.Token.{Token}
 use Rattle.fare_program.specs.Options.{Asked}
 use Rattle.fare_program.specs.Program.{DoesUntraced, IsTokenIn, LoadsFiles, LoadsTable, RunsListing}

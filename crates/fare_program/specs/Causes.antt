@@ -1,7 +1,7 @@
 -- Why the program gives up is the case.
 use Rattle.std.specs.Prelude.{◌≡◌, ◌≢◌, ◌⊎◌, ◌<◌, ℕ, List, [], ◌∷◌, Option, None, Some, true, false}
 use Rattle.std.specs.Prelude.{All, codes, length, map, slice_get, take}
-use Rattle.fare_table.specs.Fares.{Fares}
+use Rattle.tariffs.specs.Fares.{Fares}
 use Rattle.program_manners.specs.Loads.{Loaded}
 use Rattle.program_manners.specs.Refusals.{IsOneOf, HasRefused}
 use Rattle.program_manners.specs.TableLoads.{LoadsTables}

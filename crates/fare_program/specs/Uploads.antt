@@ -5,7 +5,7 @@ use Rattle.std.specs.List.{list_all}
 use Rattle.tap_views.specs.Layout.{Tap, num}
 use Rattle.tap_views.specs.Files.{GoodBatchesView, IsReadAs, taps_of_batches}
 use Rattle.tap_views.specs.declared.fault.LayoutFault.{LayoutFault}
-use Rattle.fare_table.specs.Fares.{Fares, mode_at}
+use Rattle.tariffs.specs.Fares.{Fares, mode_at}
 use Rattle.fare_program.specs.Lines.{counts_line, refused_line, tap_line}
 use Rattle.fare_program.specs.Listing.{Listed, counts_of, listed_of, liveness_of}
 

@@ -1,6 +1,6 @@
 //! A run of the service over uploads that are lent to it.
 ghost use Rattle.std.specs.Prelude.{◌≡◌, ℕ, true, List, Option, IfErr, IfOk, length};
-ghost use Rattle.fare_table.specs.Fares.{Fares};
+ghost use Rattle.tariffs.specs.Fares.{Fares};
 ghost use Rattle.tap_views.specs.declared.token.Token.{Token};
 ghost use Rattle.fare_program.specs.Fault.{status_of};
 ghost use Rattle.fare_program.specs.inside.Fault.{IsRunFailure};

@@ -19,7 +19,7 @@ use Rattle.shard_book.specs.Sums.{Sums, sums, sums_of, sums_of_replies, add_sums
 use Rattle.shard_book.specs.Sums.{is_transfer, is_capped, is_stale, is_unknown, add_all}
 use Rattle.shared_books.specs.Drawing.{NoneTwice}
 use Rattle.shared_books.specs.Marks.{history_of_visits}
-use Rattle.fare_table.specs.Fares.{Fares}
+use Rattle.tariffs.specs.Fares.{Fares}
 use Rattle.report_texts.specs.declared.upload_end.UploadEnd.{UploadEnd}
 use Rattle.report_texts.specs.declared.upload_end.UploadEnd.TheVariants.{Posted, Refused, Cut}
 use Rattle.report_texts.specs.declared.upload_end.UploadEnd.TheVariants.{Undrawn}

@@ -13,7 +13,7 @@ use Rattle.std.proofs.lemmas.List.Elements.{All-map, All-weaker}
 use Rattle.shard_book.specs.Book.{Book}
 use Rattle.shard_book.specs.SumsByKey.{all_entries}
 use Rattle.shard_book.specs.History.{IsLegal}
-use Rattle.fare_table.specs.Fares.{Fares}
+use Rattle.tariffs.specs.Fares.{Fares}
 use Rattle.shard_book.specs.Sums.{Sums, sums}
 use Rattle.shared_books.specs.Drawing.{AllBelow, NoneTwice, times}
 use Rattle.fare_service.specs.Closing.{IsHistoryOf}

@@ -1,6 +1,6 @@
 -- What was gathered, before the promises that follow from it: the form that lemmas use.
 use Rattle.std.specs.Prelude.{ℕ, ◌≡◌, ◌<◌, List, length, map, All, slice_get, Some}
-use Rattle.fare_table.specs.Fares.{Fares}
+use Rattle.tariffs.specs.Fares.{Fares}
 use Rattle.shard_book.specs.Book.{Book}
 use Rattle.shard_book.specs.History.{IsLegal}
 use Rattle.shard_book.specs.Sums.{sums}

@@ -4,7 +4,7 @@ use Rattle.std.specs.List.{flat_map}
 use Rattle.std.specs.Prelude.{◌≡◌, ℕ, List, slice_get, Some, All, Contains}
 use Rattle.tap_views.specs.Files.{AreGoodTapsOfEach}
 use Rattle.tap_views.specs.Layout.{Tap}
-use Rattle.fare_table.specs.Fares.{Fares}
+use Rattle.tariffs.specs.Fares.{Fares}
 use Rattle.shard_book.specs.Plain.{plain}
 use Rattle.shard_book.specs.declared.entry.Entry.{Entry}
 use Rattle.report_texts.specs.declared.upload_end.UploadEnd.TheVariants.{Posted, Refused, Cut}

@@ -1,6 +1,6 @@
 -- What contracts see of a service.
 use Rattle.std.specs.Prelude.{ℕ, List, Option, length}
-use Rattle.fare_table.specs.Fares.{Fares}
+use Rattle.tariffs.specs.Fares.{Fares}
 use Rattle.shared_books.specs.Drawing.{Drawing}
 use Rattle.shared_books.specs.Passes.{SharedBookView}
 

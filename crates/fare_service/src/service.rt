@@ -4,13 +4,13 @@ use crate::faults::OpenFault;
 use crate::lending::LentUploads;
 use crate::service::shard_books::open_books;
 use crate::service::share::{Posting, Share};
-use fare_table::FareTable;
 use shard_book::{HashSeed, Totals};
 use shared_books::{Draw, SharedBook};
 use std::alloc::Global;
 use std::marker::Model;
 use std::random::RandomSource;
 use tap_views::NoMemory;
+use tariffs::FareTable;
 
 pub(crate) mod gathering;
 pub(crate) mod running;

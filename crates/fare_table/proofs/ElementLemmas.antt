@@ -14,18 +14,20 @@ use Rattle.fare_table.proofs.OverlapLemmas.{free_apart, rest_stands, with_one}
 use Rattle.fare_table.proofs.PartLemmas.{bind_ok, parts}
 use Rattle.fare_table.proofs.ReadLemmas.{array-read, is_table, number-read, text-read}
 use Rattle.fare_table.specs.TextRanges.{RangeGives, RangeHas, HasRange, HasValidator, NamesMode}
-use Rattle.fare_table.specs.Fares.{has_number, mode_in, range_at}
+use Rattle.tariffs.specs.Fares.{has_number, mode_in, range_at}
 use Rattle.fare_table.specs.Members.{are_tables, array_at, number_at, of_kind, text_at}
 use Rattle.fare_table.specs.Modes.{mode_named}
 use Rattle.fare_table.specs.OrFault.{OrFault, ◌>>=◌}
-use Rattle.fare_table.specs.TableMeaning.{TableMeaning, meaning_of_tree}
-use Rattle.fare_table.specs.Validators.{stand_apart, range_in, range_of, ranges_from, ranges_of}
+use Rattle.tariffs.specs.TableMeaning.{TableMeaning}
+use Rattle.fare_table.specs.TableMeaning.{meaning_of_tree}
+use Rattle.tariffs.specs.Validators.{stand_apart}
+use Rattle.fare_table.specs.Validators.{range_in, range_of, ranges_from, ranges_of}
 use Rattle.fare_table.specs.Validators.{share_number, with_range}
 use Rattle.fare_table.specs.declared.fault.Key.TheVariants as the_key
 use Rattle.fare_table.specs.declared.fault.TableFault.{TableFault}
 use Rattle.fare_table.specs.declared.fault.TableFault.TheVariants.{Kind, Overlap}
-use Rattle.fare_table.specs.declared.validators.RangeRest.{RangeRest}
-use Rattle.fare_table.proofs.ApartLemmas.{begins_first}
+use Rattle.tariffs.specs.declared.validators.RangeRest.{RangeRest}
+use Rattle.tariffs.proofs.ApartLemmas.{begins_first}
 use Rattle.tap_views.proofs.Choices.{cond_swap}
 
 -- ---- ranges that stand apart, and one more

@@ -22,7 +22,7 @@ use Rattle.fare_table.proofs.ElementLemmas.{if_ok}
 use Rattle.fare_table.specs.Classes.{ceiling_of, class_named, class_of, classes_from, classes_of}
 use Rattle.fare_table.specs.Classes.{default_of, fares_from, fares_of, is_empty, place_of}
 use Rattle.fare_table.specs.Classes.{ride_transfers_of, terms_of}
-use Rattle.fare_table.specs.declared.class.Class.{Class}
+use Rattle.tariffs.specs.declared.class.Class.{Class}
 use Rattle.fare_table.specs.Faults.{FaultRow, Where, top, class, mode_fare, a_row, are_pairs}
 use Rattle.fare_table.specs.Faults.{are_texts, class_rows, fare_at, fare_rows, fares_in}
 use Rattle.fare_table.specs.Faults.{optional_rows, rows_of_fares, rows_of_terms, rows_of_transfers}
@@ -32,10 +32,11 @@ use Rattle.fare_table.specs.Faults.{members_of, mode_names, needed_rows, pairs, 
 use Rattle.fare_table.specs.Faults.{rows_of_class, texts, value_at, string_of}
 use Rattle.fare_table.specs.Members.{hold_numbers, hold_tables, table_at, number_at, number_in}
 use Rattle.fare_table.specs.Members.{number_or, of_kind, within}
-use Rattle.fare_table.specs.Modes.{are_mode_names, modes_of, same_name, strings_from}
+use Rattle.fare_table.specs.Modes.{are_mode_names, modes_of, strings_from}
+use Rattle.tariffs.specs.Names.{same_name}
 use Rattle.fare_table.specs.OrFault.{OrFault, ◌>>=◌}
 use Rattle.fare_table.specs.Transfers.{name_pair, pairs_from, transfers_from, transfers_of}
-use Rattle.fare_table.specs.Transfers.{with_pair}
+use Rattle.tariffs.specs.Transfers.{with_pair}
 use Rattle.fare_table.specs.declared.fault.Key.{Key}
 use Rattle.fare_table.specs.declared.fault.Key.TheVariants as the_key
 use Rattle.fare_table.specs.declared.fault.TableFault.{TableFault}

@@ -1,18 +1,10 @@
--- The value of a key of a table of the text, and keys of the same bytes.
+-- The value of a key of a table of the text.
 use Rattle.std.proofs.Common.{◌≡◌, ◌⊎◌, ℕ, Bool, true, false, List, Option, Some}
 use Rattle.std.proofs.Common.{cond, refl, sym, ap, ◌∙◌, inl, inr, Ordering, Less, Equal, Greater}
-use Rattle.std.proofs.lemmas.Map.Lookups.{exact_bytes}
-use Rattle.std.specs.Cmp.{eq_by_cmp_equiv, Equal-is}
-use Rattle.std.specs.Cmp.Lexicographic.{nat_list_cmp_total, slice_cmp}
+use Rattle.std.specs.Cmp.Lexicographic.{slice_cmp}
 use Rattle.std.specs.Ordering.{is_eq, match_ordering, nat_cmp}
 use Rattle.toml.specs.Data.{Data, Members, get_member, member}
-
-pub is_itself : (key : List ℕ) → is_eq (slice_cmp nat_cmp key key) ≡ true
-is_itself key = (eq_by_cmp_equiv nat_list_cmp_total).refl key
-
--- keys that compare as equal have the same bytes
-pub same_bytes : (key other : List ℕ) → is_eq (slice_cmp nat_cmp key other) ≡ true → key ≡ other
-same_bytes key other is = exact_bytes key other ((Equal-is (slice_cmp nat_cmp key other)).0 is)
+use Rattle.tariffs.proofs.ByteLemmas.{is_itself, same_bytes}
 
 -- the value at a key is the first member's, if the keys are the same, else one of the others
 pub choice : (r : Ordering) (o : Option Data) (value : Data)

@@ -1,9 +1,6 @@
-pub mod ApartLemmas
-pub mod DatedLemmas
 pub mod ElementLemmas
 pub mod FaultLemmas
 pub mod KeyLemmas
-pub mod MaskLemmas
 pub mod MemberLemmas
 pub mod NameLemmas
 pub mod OrderLemmas
@@ -16,7 +13,4 @@ pub mod RideLemmas
 pub mod RiderLemmas
 pub mod RowLemmas
 pub mod SortLemmas
-pub mod UntilLemmas
 pub mod TextFaultLemmas
-pub mod RiderBytes
-pub mod TokenMarks

@@ -17,9 +17,9 @@ use Rattle.toml.specs.View.{members_view}
 use Rattle.toml.specs.declared.value.Value.{Value}
 use Rattle.fare_table.specs.ByteOrder.{in_byte_order}
 use Rattle.fare_table.specs.Classes.{count_of, place_of}
-use Rattle.fare_table.specs.Modes.{same_name}
+use Rattle.tariffs.specs.Names.{same_name}
 use Rattle.fare_table.specs.Classes.{names_in}
-use Rattle.fare_table.proofs.KeyLemmas.{is_itself}
+use Rattle.tariffs.proofs.ByteLemmas.{is_itself}
 use Rattle.tap_views.proofs.Orderings.{less_of}
 
 -- the keys of a map come in byte order

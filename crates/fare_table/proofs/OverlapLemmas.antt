@@ -13,10 +13,11 @@ use Rattle.std.specs.Cmp.{nat_cmp_is}
 use Rattle.std.specs.Ordering.{nat_cmp, is_lt, match_ordering}
 use Rattle.std.specs.Prelude.{nat_le, nat_lt}
 use Rattle.std.specs.declared.ops.Bound.TheVariants.{Unbounded, Included}
-use Rattle.fare_table.proofs.ApartLemmas.{AreApart, apart, or_twice, begins_first}
-use Rattle.fare_table.specs.Validators.{are_modes_below, stand_apart, share_number}
-use Rattle.fare_table.specs.inside.Validators.{last_begun}
-use Rattle.fare_table.specs.declared.validators.RangeRest.{RangeRest}
+use Rattle.tariffs.proofs.ApartLemmas.{AreApart, apart, or_twice, begins_first}
+use Rattle.tariffs.specs.Validators.{are_modes_below, stand_apart}
+use Rattle.fare_table.specs.Validators.{share_number}
+use Rattle.tariffs.specs.Validators.{last_begun}
+use Rattle.tariffs.specs.declared.validators.RangeRest.{RangeRest}
 
 -- the last element of a list
 abbrev pub last_of : {A : Type 0} → List A → Option A

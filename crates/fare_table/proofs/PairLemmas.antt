@@ -11,9 +11,12 @@ use Rattle.toml.specs.Data.{Items, Members}
 use Rattle.fare_table.proofs.PartLemmas.{bind_ok, parts}
 use Rattle.fare_table.specs.Members.{array_at}
 use Rattle.fare_table.specs.OrFault.{OrFault, ◌>>=◌}
-use Rattle.fare_table.specs.TableMeaning.{TableMeaning, meaning_of_tree}
-use Rattle.fare_table.specs.Transfers.{has_pair, joins, named_pairs, pairs_from, places_of}
-use Rattle.fare_table.specs.Transfers.{transfers_from, transfers_of, with_pair, ListsPair}
+use Rattle.tariffs.specs.TableMeaning.{TableMeaning}
+use Rattle.fare_table.specs.TableMeaning.{meaning_of_tree}
+use Rattle.tariffs.specs.Transfers.{has_pair, joins}
+use Rattle.fare_table.specs.Transfers.{named_pairs, pairs_from, places_of}
+use Rattle.fare_table.specs.Transfers.{transfers_from, transfers_of, ListsPair}
+use Rattle.tariffs.specs.Transfers.{with_pair}
 use Rattle.fare_table.specs.declared.fault.Key.TheVariants as the_key
 
 abbrev pair_by : ℕ → ℕ → ℕ × ℕ

@@ -5,14 +5,15 @@ use Rattle.fare_table.specs.Classes.{classes_from, classes_of, default_of, names
 use Rattle.fare_table.specs.Modes.{modes_of}
 use Rattle.fare_table.specs.OrFault.{OrFault, ◌>>=◌}
 use Rattle.fare_table.specs.Riders.{riders_of}
-use Rattle.fare_table.specs.TableMeaning.{TableMeaning, meaning_of_tree}
+use Rattle.tariffs.specs.TableMeaning.{TableMeaning}
+use Rattle.fare_table.specs.TableMeaning.{meaning_of_tree}
 use Rattle.fare_table.specs.Transfers.{transfers_of}
 use Rattle.fare_table.specs.Validators.{ranges_of}
 use Rattle.fare_table.specs.Window.{window_of}
 use Rattle.fare_table.specs.Zone.{zone_of}
-use Rattle.fare_table.specs.declared.class.Class.{Class}
-use Rattle.fare_table.specs.declared.validators.RangeRest.{RangeRest}
-use Rattle.fare_table.specs.declared.window_span.WindowSpan.{WindowSpan}
+use Rattle.tariffs.specs.declared.class.Class.{Class}
+use Rattle.tariffs.specs.declared.validators.RangeRest.{RangeRest}
+use Rattle.tariffs.specs.declared.window_span.WindowSpan.{WindowSpan}
 
 -- two steps that came to an end: the first gave a value, and the second went on with it
 pub bind_ok : {A B : Type 0} (o : OrFault A) (f : A → OrFault B) (b : B) → (o >>= f) ≡ Ok b

@@ -15,22 +15,23 @@ use Rattle.fare_table.proofs.ReadLemmas.{is_number, is_table, number-read, table
 use Rattle.fare_table.specs.Classes.{ceiling_of, class_in, class_named, class_of, classes_from}
 use Rattle.fare_table.specs.Classes.{classes_of, default_of, fares_of, is_empty, place_of, terms_of}
 use Rattle.fare_table.specs.Classes.{ride_transfers_of}
-use Rattle.fare_table.specs.Modes.{same_name}
-use Rattle.fare_table.specs.declared.class.Class.{Class}
+use Rattle.tariffs.specs.Names.{same_name}
+use Rattle.tariffs.specs.declared.class.Class.{Class}
 use Rattle.std.proofs.lemmas.Map.Text.{is_eq-slice_cmp}
-use Rattle.fare_table.specs.Fares.{class_of as class_of_token, no_class, terms_at}
+use Rattle.tariffs.specs.Fares.{class_of as class_of_token, no_class, terms_at}
 use Rattle.std.proofs.lemmas.Option.{get_or_from_slice_get}
 use Rattle.fare_table.specs.Members.{hold_strings, hold_tables, number_at, of_kind, table_at}
 use Rattle.fare_table.specs.Members.{text_at}
 use Rattle.fare_table.specs.OrFault.{OrFault, ◌>>=◌}
 use Rattle.fare_table.specs.Paying.{HasTerms, IsCeiling, IsClassOf, NamesRider, Pays}
 use Rattle.fare_table.specs.Riders.{riders_from, riders_at, riders_of}
-use Rattle.fare_table.specs.TableMeaning.{TableMeaning, meaning_of_tree}
+use Rattle.tariffs.specs.TableMeaning.{TableMeaning}
+use Rattle.fare_table.specs.TableMeaning.{meaning_of_tree}
 use Rattle.fare_table.specs.declared.fault.Key.TheVariants as the_key
 use Rattle.fare_table.specs.declared.fault.TableFault.{TableFault}
 use Rattle.fare_table.specs.declared.fault.TableFault.TheVariants.{Kind, Range, Rider}
-use Rattle.fare_table.specs.declared.terms.Terms.{Terms}
-use Rattle.fare_table.specs.declared.transfer_terms.TransferTerms.{TransferTerms}
+use Rattle.tariffs.specs.declared.terms.Terms.{Terms}
+use Rattle.tariffs.specs.declared.transfer_terms.TransferTerms.{TransferTerms}
 use Rattle.fare_table.proofs.KeyLemmas.{choice, member-later}
 use Rattle.fare_table.proofs.RiderLemmas.{Came, Named, came, one_key, there}
 

@@ -27,22 +27,25 @@ use Rattle.fare_table.proofs.ReadLemmas.{is_number, is_table}
 use Rattle.fare_table.specs.ByteOrder.{in_byte_order}
 use Rattle.fare_table.specs.Classes.{class_of as class_by, fares_from, fares_of, place_of}
 use Rattle.fare_table.specs.Classes.{ride_transfers_of}
-use Rattle.fare_table.specs.Fares.{class_at, class_of, no_class, ride_terms, transfer_terms}
+use Rattle.tariffs.specs.Fares.{class_at, class_of, no_class, ride_terms, transfer_terms}
 use Rattle.fare_table.specs.Members.{array_at, hold_numbers, number_in, number_or, of_kind}
 use Rattle.fare_table.specs.Modes.{are_distinct, are_mode_names, is_mode_name, mode_named, modes_of}
-use Rattle.fare_table.specs.Modes.{same_name, strings_from}
+use Rattle.tariffs.specs.Names.{same_name}
+use Rattle.fare_table.specs.Modes.{strings_from}
 use Rattle.fare_table.specs.OrFault.{OrFault, ◌>>=◌}
 use Rattle.fare_table.specs.Paying.{Gives, HasTerms, IsClassOf, IsElementOf, IsFareOn, IsNumberOr}
 use Rattle.fare_table.specs.Paying.{PaysOn}
-use Rattle.fare_table.specs.TableMeaning.{TableMeaning, meaning_of_tree}
-use Rattle.fare_table.specs.declared.class.Class.{Class}
+use Rattle.tariffs.specs.TableMeaning.{TableMeaning}
+use Rattle.fare_table.specs.TableMeaning.{meaning_of_tree}
+use Rattle.tariffs.specs.declared.class.Class.{Class}
 use Rattle.fare_table.specs.declared.fault.Key.{Key}
 use Rattle.fare_table.specs.declared.fault.Key.TheVariants as the_key
 use Rattle.fare_table.specs.declared.fault.TableFault.TheVariants.{Kind, Mode, Range}
-use Rattle.fare_table.specs.declared.transfer_terms.TransferTerms.{TransferTerms}
+use Rattle.tariffs.specs.declared.transfer_terms.TransferTerms.{TransferTerms}
 use Rattle.fare_table.proofs.NameLemmas.{before_rest}
 use Rattle.fare_table.proofs.RiderLemmas.{Named}
-use Rattle.fare_table.proofs.KeyLemmas.{is_itself, member-here, member-later, same_bytes}
+use Rattle.tariffs.proofs.ByteLemmas.{is_itself, same_bytes}
+use Rattle.fare_table.proofs.KeyLemmas.{member-here, member-later}
 use Rattle.tap_views.proofs.Orderings.{less_of}
 
 -- ---- names of modes

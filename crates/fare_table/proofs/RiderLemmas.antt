@@ -19,7 +19,8 @@ use Rattle.fare_table.specs.OrFault.{OrFault, ◌>>=◌}
 use Rattle.fare_table.specs.Riders.{is_rider, rider_of, riders_from, token_of_digits, with_rider}
 use Rattle.fare_table.specs.declared.fault.Key.TheVariants as the_key
 use Rattle.fare_table.specs.declared.fault.TableFault.TheVariants.{Rider}
-use Rattle.fare_table.proofs.KeyLemmas.{is_itself, same_bytes, member-here, member-later}
+use Rattle.tariffs.proofs.ByteLemmas.{is_itself, same_bytes}
+use Rattle.fare_table.proofs.KeyLemmas.{member-here, member-later}
 use Rattle.fare_table.proofs.KeyLemmas.{member-found}
 use Rattle.tap_views.proofs.Choices.{cond_swap}
 

@@ -39,27 +39,30 @@ use Rattle.fare_table.specs.Faults.{mode_names, needed_rows, holds_of_some, rang
 use Rattle.fare_table.specs.Faults.{riders_in, rows, rows_of_range, is_token, shares_validator}
 use Rattle.fare_table.specs.Faults.{token_at, value_at, string_of}
 use Rattle.fare_table.specs.Members.{are_tables, hold_strings, number_at, of_kind}
-use Rattle.fare_table.specs.Modes.{mode_named, modes_of, same_name}
+use Rattle.fare_table.specs.Modes.{mode_named, modes_of}
+use Rattle.tariffs.specs.Names.{same_name}
 use Rattle.fare_table.specs.OrFault.{OrFault, ◌>>=◌}
 use Rattle.fare_table.specs.Riders.{is_rider, riders_from, riders_of, with_rider}
 use Rattle.fare_table.specs.Riders as riders
-use Rattle.fare_table.specs.TableMeaning.{TableMeaning, meaning_in, meaning_of_tree}
+use Rattle.tariffs.specs.TableMeaning.{TableMeaning}
+use Rattle.fare_table.specs.TableMeaning.{meaning_in, meaning_of_tree}
 use Rattle.fare_table.specs.Transfers.{transfers_of}
-use Rattle.fare_table.specs.Validators.{stand_apart, range_of, ranges_from, ranges_of, share_number}
+use Rattle.tariffs.specs.Validators.{stand_apart}
+use Rattle.fare_table.specs.Validators.{range_of, ranges_from, ranges_of, share_number}
 use Rattle.fare_table.specs.Validators.{with_range}
 use Rattle.fare_table.specs.Window.{window_in, window_of}
-use Rattle.fare_table.specs.WindowSpan.{span_named}
+use Rattle.tariffs.specs.WindowSpan.{span_named}
 use Rattle.fare_table.specs.Zone.{zone_in, zone_of}
 use Rattle.fare_table.specs.declared.fault.Key.TheVariants as the_key
 use Rattle.fare_table.specs.declared.fault.TableFault.{TableFault}
 use Rattle.fare_table.specs.declared.fault.TableFault.TheVariants as the_fault
 use Rattle.fare_table.specs.declared.fault.TableFault.TheVariants.{Missing, Kind, Range, Mode}
 use Rattle.fare_table.specs.declared.fault.TableFault.TheVariants.{Overlap, Rider}
-use Rattle.fare_table.specs.declared.validators.RangeRest.{RangeRest}
-use Rattle.fare_table.proofs.ApartLemmas.{begins_first}
+use Rattle.tariffs.specs.declared.validators.RangeRest.{RangeRest}
+use Rattle.tariffs.proofs.ApartLemmas.{begins_first}
 use Rattle.fare_table.proofs.RiderLemmas.{Named, by_class, named_with}
 use Rattle.tap_views.proofs.Choices.{or_swap}
-use Rattle.fare_table.specs.declared.window_span.WindowSpan.{WindowSpan}
+use Rattle.tariffs.specs.declared.window_span.WindowSpan.{WindowSpan}
 
 -- ---- one element of `validators`
 reported_three : (tree : Members) (at : Where) (one two three : TableFault)

@@ -13,9 +13,11 @@ use Rattle.fare_table.proofs.ElementLemmas.{ranges_read, step}
 use Rattle.fare_table.proofs.PartLemmas.{bind_ok, parts}
 use Rattle.fare_table.proofs.PayLemmas.{AreRiders, riders_read}
 use Rattle.fare_table.specs.Riders.{rider_of, riders_from, with_rider}
-use Rattle.fare_table.specs.TableMeaning.{TableMeaning, meaning_of_tree}
-use Rattle.fare_table.specs.Validators.{stand_apart, ranges_from}
-use Rattle.fare_table.specs.declared.validators.RangeRest.{RangeRest}
+use Rattle.tariffs.specs.TableMeaning.{TableMeaning}
+use Rattle.fare_table.specs.TableMeaning.{meaning_of_tree}
+use Rattle.tariffs.specs.Validators.{stand_apart}
+use Rattle.fare_table.specs.Validators.{ranges_from}
+use Rattle.tariffs.specs.declared.validators.RangeRest.{RangeRest}
 use Rattle.fare_table.proofs.RiderLemmas.{adds_rider, after_rider}
 
 abbrev Riders : Type 0

@@ -11,7 +11,7 @@ use Rattle.toml.specs.Data.{as_str, as_integer, as_array, as_table}
 use Rattle.fare_table.specs.Classes.{ceiling_of, class_in, class_named, class_of, classes_from}
 use Rattle.fare_table.specs.Classes.{classes_of, default_of, fares_from, fares_of, is_empty}
 use Rattle.fare_table.specs.Classes.{place_of, ride_transfers_of, terms_of}
-use Rattle.fare_table.specs.declared.class.Class.{Class}
+use Rattle.tariffs.specs.declared.class.Class.{Class}
 use Rattle.fare_table.specs.Members.{are_tables, array_at, hold_numbers, hold_strings, hold_tables}
 use Rattle.fare_table.specs.Members.{needed, number_at, number_in, number_or, of_kind, table_at}
 use Rattle.fare_table.specs.Members.{text_at, within}
@@ -21,17 +21,18 @@ use Rattle.fare_table.specs.Riders.{rider_of, riders_from, riders_at, riders_of,
 use Rattle.fare_table.specs.Riders.{with_rider}
 use Rattle.fare_table.specs.TableMeaning.{meaning_of_tree}
 use Rattle.fare_table.specs.Transfers.{name_pair, pairs_from, places_of, transfers_from}
-use Rattle.fare_table.specs.Transfers.{transfers_of, with_pair}
+use Rattle.fare_table.specs.Transfers.{transfers_of}
+use Rattle.tariffs.specs.Transfers.{with_pair}
 use Rattle.fare_table.specs.Validators.{range_in, range_of, ranges_from, ranges_of, with_range}
 use Rattle.fare_table.specs.Window.{window_in, window_of}
-use Rattle.fare_table.specs.WindowSpan.{span_named}
+use Rattle.tariffs.specs.WindowSpan.{span_named}
 use Rattle.fare_table.specs.Zone.{zone_in, zone_of}
 use Rattle.fare_table.specs.declared.fault.Key.{Key}
 use Rattle.fare_table.specs.declared.fault.Key.TheVariants as the_key
 use Rattle.fare_table.specs.declared.fault.TableFault.{TableFault}
 use Rattle.fare_table.specs.declared.fault.TableFault.TheVariants as the_fault
-use Rattle.fare_table.specs.declared.validators.RangeRest.{RangeRest}
-use Rattle.fare_table.specs.declared.window_span.WindowSpan.TheVariants.{Days}
+use Rattle.tariffs.specs.declared.validators.RangeRest.{RangeRest}
+use Rattle.tariffs.specs.declared.window_span.WindowSpan.TheVariants.{Days}
 
 -- the outcome is not the text fault
 abbrev pub NotText : {A : Type 0} → OrFault A → Type 0

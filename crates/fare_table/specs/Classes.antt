@@ -5,13 +5,14 @@ use Rattle.std.specs.Option.{ok_or}
 use Rattle.toml.specs.Data.{Data, Members, no_members, member, get_member, as_table}
 use Rattle.fare_table.specs.Members.{hold_numbers, hold_tables, number_at, number_in, number_or}
 use Rattle.fare_table.specs.Members.{of_kind, table_at, text_at}
-use Rattle.fare_table.specs.Modes.{mode_named, same_name}
+use Rattle.fare_table.specs.Modes.{mode_named}
+use Rattle.tariffs.specs.Names.{same_name}
 use Rattle.fare_table.specs.OrFault.{OrFault, ◌>>=◌}
 use Rattle.fare_table.specs.declared.fault.Key.TheVariants as the_key
 use Rattle.fare_table.specs.declared.fault.TableFault.TheVariants.{Kind, Range, Rider}
-use Rattle.fare_table.specs.declared.class.Class.{Class}
-use Rattle.fare_table.specs.declared.terms.Terms.{Terms}
-use Rattle.fare_table.specs.declared.transfer_terms.TransferTerms.{TransferTerms}
+use Rattle.tariffs.specs.declared.class.Class.{Class}
+use Rattle.tariffs.specs.declared.terms.Terms.{Terms}
+use Rattle.tariffs.specs.declared.transfer_terms.TransferTerms.{TransferTerms}
 
 -- the ceiling that is named, else the price of all rides
 abbrev pub ceiling_of : ℕ → Option Data → OrFault ℕ

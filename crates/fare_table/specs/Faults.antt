@@ -14,9 +14,10 @@ use Rattle.toml.specs.Data.{Data, Items, no_items, item, Members, no_members, me
 use Rattle.toml.specs.Data.{get_item, as_str, as_integer, as_array, as_table}
 use Rattle.fare_table.specs.Classes.{is_empty}
 use Rattle.fare_table.specs.Members.{are_tables, hold_numbers, hold_strings, hold_tables}
-use Rattle.fare_table.specs.Modes.{are_mode_names, same_name}
+use Rattle.fare_table.specs.Modes.{are_mode_names}
+use Rattle.tariffs.specs.Names.{same_name}
 use Rattle.fare_table.specs.Transfers.{name_pair}
-use Rattle.fare_table.specs.WindowSpan.{span_named}
+use Rattle.tariffs.specs.WindowSpan.{span_named}
 use Rattle.fare_table.specs.declared.fault.Key.{Key}
 use Rattle.fare_table.specs.declared.fault.Key.TheVariants as the_key
 use Rattle.fare_table.specs.declared.fault.TableFault.{TableFault}

@@ -1,8 +1,5 @@
 pub mod ByteOrder
 pub mod Classes
-pub mod ClockView
-pub mod Fares
-pub mod Following
 pub mod Faults
 pub mod Key
 pub mod Meaning
@@ -10,17 +7,11 @@ pub mod Members
 pub mod Modes
 pub mod OrFault
 pub mod Paying
-pub mod PosixRule
-pub mod RiderMarks
 pub mod Riders
 pub mod TableMeaning
-pub mod TariffView
-pub mod Terms
 pub mod TextRanges
 pub mod Transfers
-pub mod Until
 pub mod Validators
 pub mod Window
-pub mod WindowSpan
 pub mod Zone
 pub mod inside

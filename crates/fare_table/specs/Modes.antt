@@ -1,11 +1,11 @@
 -- The key `modes`: the names of the modes by their places.
 use Rattle.std.specs.Prelude.{ℕ, ◌&&◌, ◌++◌, ◌∷◌, [], Bool, true, not, List, Ok, Err, codes, length}
-use Rattle.std.specs.Prelude.{nat_eq, nat_le, position, if◌then◌else◌}
+use Rattle.std.specs.Prelude.{nat_le, position, if◌then◌else◌}
 use Rattle.std.specs.Char.{is_ascii_lowercase}
-use Rattle.std.specs.Cmp.Lexicographic.{pointwise}
 use Rattle.std.specs.List.{list_all, list_any}
 use Rattle.std.specs.Option.{ok_or}
 use Rattle.toml.specs.Data.{Items, no_items, item, Members, as_str}
+use Rattle.tariffs.specs.Names.{same_name}
 use Rattle.fare_table.specs.Members.{array_at, of_kind}
 use Rattle.fare_table.specs.OrFault.{OrFault, ◌>>=◌}
 use Rattle.fare_table.specs.declared.fault.Key.TheVariants.{Modes}
@@ -16,10 +16,6 @@ abbrev pub strings_from : List (List ℕ) → Items → OrFault (List (List ℕ)
 strings_from found no_items = Ok found
 strings_from found (item value more) =
     of_kind Modes (as_str value) >>= (λ name. strings_from (found ++ name ∷ []) more)
-
--- two names of the same bytes
-abbrev pub same_name : List ℕ → List ℕ → Bool
-same_name name other = pointwise nat_eq name other
 
 -- 1 to 16 letters `a` to `z`
 abbrev pub is_mode_name : List ℕ → Bool

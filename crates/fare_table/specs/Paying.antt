@@ -2,8 +2,8 @@
 use Rattle.std.specs.Prelude.{◌≡◌, ◌⊎◌, ℕ, ◌*◌, pos, List, Option, None, Some, Ok, codes}
 use Rattle.toml.specs.Data.{Data, Members, string, integer, table, get_member}
 use Rattle.fare_table.specs.Riders.{token_of_digits}
-use Rattle.fare_table.specs.declared.terms.Terms.{Terms}
-use Rattle.fare_table.specs.declared.transfer_terms.TransferTerms.{TransferTerms}
+use Rattle.tariffs.specs.declared.terms.Terms.{Terms}
+use Rattle.tariffs.specs.declared.transfer_terms.TransferTerms.{TransferTerms}
 
 -- this key of the text's `riders` names the token, and its value is the name of this class
 pub record NamesRider (tree : Members) (token key class : List ℕ) : Type 0 where

@@ -1,5 +1,5 @@
 -- The key `riders`: the classes of single riders by their tokens.
-use Rattle.std.specs.Prelude.{ℕ, Bool, List, [], Option, Some, None, Ok, Err, codes, map}
+use Rattle.std.specs.Prelude.{ℕ, Bool, List, [], Option, Some, None, Ok, Err, codes}
 use Rattle.std.specs.Prelude.{if◌then◌else◌}
 use Rattle.std.specs.BTreeMap.{insert_entry, is_at}
 use Rattle.std.specs.Cmp.Lexicographic.{slice_cmp}
@@ -15,8 +15,6 @@ use Rattle.fare_table.specs.Members.{of_kind, hold_strings}
 use Rattle.fare_table.specs.OrFault.{OrFault, ◌>>=◌}
 use Rattle.fare_table.specs.declared.fault.Key.TheVariants as the_key
 use Rattle.fare_table.specs.declared.fault.TableFault.TheVariants.{Kind, Rider}
-use Rattle.tap_views.specs.Token.{bytes_of}
-use Rattle.tap_views.specs.declared.token.Token.{Token}
 
 -- the token that 32 hexadecimal digits name, of either case
 abbrev pub token_of_digits : List ℕ → OrFault (List ℕ)
@@ -58,7 +56,3 @@ riders_at classes (Some value) = do
 -- the riders that the text names, in the order of their tokens
 unfoldable pub riders_of : Members → Members → OrFault (List (List ℕ × ℕ))
 riders_of classes tree = riders_at classes (get_member (codes "riders") tree)
-
--- places of classes by tokens, as places by the tokens' bytes
-abbrev pub by_bytes : List (Token × ℕ) → List (List ℕ × ℕ)
-by_bytes entries = map (λ entry. (bytes_of entry.0, entry.1)) entries

@@ -1,5 +1,5 @@
 -- What the keys of a table's text mean.
-use Rattle.std.specs.Prelude.{ℕ, List, [], Option, Ok}
+use Rattle.std.specs.Prelude.{ℕ, List, [], Ok}
 use Rattle.std.specs.Option.{ok_or}
 use Rattle.toml.specs.Data.{Members}
 use Rattle.toml.specs.Parse.{parse_document}
@@ -12,24 +12,7 @@ use Rattle.fare_table.specs.Validators.{ranges_of}
 use Rattle.fare_table.specs.Window.{window_of}
 use Rattle.fare_table.specs.Zone.{zone_of}
 use Rattle.fare_table.specs.declared.fault.TableFault.TheVariants.{Text}
-use Rattle.fare_table.specs.declared.class.Class.{Class}
-use Rattle.fare_table.specs.declared.validators.RangeRest.{RangeRest}
-use Rattle.fare_table.specs.declared.window_span.WindowSpan.{WindowSpan}
-
--- the modes' names by their places, the pairs of places with a transfer, each once, the classes by
--- their places, their names by the same places, the place of the default class, the ranges of
--- validators by their first numbers, rising, the places of the riders' classes by their tokens,
--- rising, the text of the zone, and how long windows are
-pub record TableMeaning : Type 0 where
-  pub modes : List (List ℕ)
-  pub transfers : List (ℕ × ℕ)
-  pub classes : List Class
-  pub names : List (List ℕ)
-  pub standard : ℕ
-  pub ranges : List (ℕ × RangeRest)
-  pub riders : List (List ℕ × ℕ)
-  pub zone : Option (List ℕ)
-  pub window : WindowSpan
+use Rattle.tariffs.specs.TableMeaning.{TableMeaning}
 
 -- the meaning of a table's tree, or the fault of the first key that has one
 unfoldable pub meaning_of_tree : Members → OrFault TableMeaning

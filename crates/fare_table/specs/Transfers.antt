@@ -1,25 +1,13 @@
 -- The key `transfers`: the pairs of modes between which a ride includes a transfer.
-use Rattle.std.specs.Prelude.{ℕ, ◌≡◌, Contains, ◌==◌, ◌&&◌, ◌++◌, ◌∷◌, [], Bool, List, Option, None}
-use Rattle.std.specs.Prelude.{Ok, codes, if◌then◌else◌, option_map}
-use Rattle.std.specs.List.{list_any}
+use Rattle.std.specs.Prelude.{ℕ, ◌≡◌, Contains, ◌++◌, ◌∷◌, [], List, Option, None}
+use Rattle.std.specs.Prelude.{Ok, codes, option_map}
 use Rattle.std.specs.Option.{option_and_then}
 use Rattle.toml.specs.Data.{Data, Items, no_items, item, Members, as_array, as_str}
+use Rattle.tariffs.specs.Transfers.{with_pair}
 use Rattle.fare_table.specs.Members.{array_at, of_kind}
 use Rattle.fare_table.specs.Modes.{mode_named}
 use Rattle.fare_table.specs.OrFault.{OrFault, ◌>>=◌}
 use Rattle.fare_table.specs.declared.fault.Key.TheVariants as the_key
-
--- the pair goes from the one place to the other
-abbrev pub joins : ℕ → ℕ → ℕ × ℕ → Bool
-joins from to pair = (pair.0 == from) && (pair.1 == to)
-
--- one of the pairs goes from the one place to the other
-abbrev pub has_pair : List (ℕ × ℕ) → ℕ → ℕ → Bool
-has_pair pairs from to = list_any (joins from to) pairs
-
--- the pairs and one more, if it is not yet among them
-abbrev pub with_pair : List (ℕ × ℕ) → ℕ → ℕ → List (ℕ × ℕ)
-with_pair pairs from to = if has_pair pairs from to then pairs else pairs ++ (from, to) ∷ []
 
 -- the two strings of an array of exactly two strings
 abbrev pub two_strings : Items → Option (List ℕ × List ℕ)

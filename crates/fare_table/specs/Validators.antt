@@ -1,8 +1,8 @@
 -- The key `validators`: ranges of validators and their modes.
-use Rattle.std.specs.Prelude.{ℕ, ◌&&◌, Bool, true, List, [], ◌∷◌, Ok, Err, codes, nat_le, nat_lt}
+use Rattle.std.specs.Prelude.{ℕ, ◌&&◌, Bool, List, [], Ok, Err, codes, nat_le}
 use Rattle.std.specs.Prelude.{if◌then◌else◌}
 use Rattle.std.specs.BTreeMap.{insert_entry}
-use Rattle.std.specs.List.{list_all, list_any}
+use Rattle.std.specs.List.{list_any}
 use Rattle.std.specs.Ordering.{nat_cmp}
 use Rattle.toml.specs.Data.{Data, Items, no_items, item, Members, as_table}
 use Rattle.fare_table.specs.Members.{array_at, number_at, of_kind, text_at, are_tables}
@@ -10,18 +10,7 @@ use Rattle.fare_table.specs.Modes.{mode_named}
 use Rattle.fare_table.specs.OrFault.{OrFault, ◌>>=◌}
 use Rattle.fare_table.specs.declared.fault.Key.TheVariants as the_key
 use Rattle.fare_table.specs.declared.fault.TableFault.TheVariants.{Kind, Overlap}
-use Rattle.fare_table.specs.declared.validators.RangeRest.{RangeRest}
-
--- each range begins no later than it ends, and ends before the next one begins
-abbrev pub stand_apart : List (ℕ × RangeRest) → Bool
-stand_apart [] = true
-stand_apart (range ∷ []) = nat_le range.0 range.1.last
-stand_apart (range ∷ next ∷ more) =
-    nat_le range.0 range.1.last && nat_lt range.1.last next.0 && stand_apart (next ∷ more)
-
--- each range's mode is one of this number of modes
-abbrev pub are_modes_below : ℕ → List (ℕ × RangeRest) → Bool
-are_modes_below count ranges = list_all (λ range. nat_lt range.1.mode count) ranges
+use Rattle.tariffs.specs.declared.validators.RangeRest.{RangeRest}
 
 -- the two ranges have a validator in common
 abbrev pub share_number : ℕ × RangeRest → ℕ × RangeRest → Bool

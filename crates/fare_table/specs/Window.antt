@@ -4,11 +4,11 @@ use Rattle.std.specs.Option.{ok_or}
 use Rattle.toml.specs.Data.{Data, Members, get_member, as_str}
 use Rattle.fare_table.specs.Members.{of_kind}
 use Rattle.fare_table.specs.OrFault.{OrFault, ◌>>=◌}
-use Rattle.fare_table.specs.WindowSpan.{span_named}
+use Rattle.tariffs.specs.WindowSpan.{span_named}
 use Rattle.fare_table.specs.declared.fault.Key.TheVariants as the_key
 use Rattle.fare_table.specs.declared.fault.TableFault.TheVariants as the_fault
-use Rattle.fare_table.specs.declared.window_span.WindowSpan.{WindowSpan}
-use Rattle.fare_table.specs.declared.window_span.WindowSpan.TheVariants.{Days}
+use Rattle.tariffs.specs.declared.window_span.WindowSpan.{WindowSpan}
+use Rattle.tariffs.specs.declared.window_span.WindowSpan.TheVariants.{Days}
 
 -- the span of windows that the value names, and seven days if there is none
 abbrev pub window_in : Option Data → OrFault WindowSpan

@@ -1,12 +1,8 @@
 -- The key `zone`: a text, and the rule that it reads as.
 use Rattle.std.specs.Prelude.{◌≡◌, ℕ, List, Option, Some, None, Ok, Err, codes, if◌then◌else◌}
-use Rattle.std.specs.Prelude.{option_map, string_bytes}
-use Rattle.std.specs.Option.{is_some, option_and_then}
+use Rattle.std.specs.Option.{is_some}
 use Rattle.toml.specs.Data.{Data, Members, get_member, as_str}
 use Rattle.fare_table.specs.Members.{of_kind}
-use Rattle.fare_table.specs.PosixRule.{posix_rule}
-use Rattle.fare_table.specs.declared.zone.Zone.{Zone}
-use Rattle.jiff.specs.ZoneView.{plain_zone}
 use Rattle.fare_table.specs.OrFault.{OrFault, ◌>>=◌}
 use Rattle.fare_table.specs.declared.fault.Key.TheVariants as the_key
 use Rattle.fare_table.specs.declared.fault.TableFault.TheVariants as the_fault
@@ -30,11 +26,3 @@ zone_in (Some value) = do
 -- the zone that the text names, if it names one
 unfoldable pub zone_of : Members → OrFault (Option (List ℕ))
 zone_of tree = zone_in (get_member (codes "zone") tree)
-
--- the text of a zone, if there is one
-abbrev pub zone_text : Option Zone → Option (List ℕ)
-zone_text zone = option_map (λ z. string_bytes z.text) zone
-
--- the rule of a zone, if there is one
-abbrev pub zone_rule : Option Zone → Option PosixRule
-zone_rule zone = option_and_then (λ z. posix_rule (plain_zone z.rule)) zone

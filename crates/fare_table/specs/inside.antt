@@ -1,9 +1,2 @@
 -- What only private functions cite. Who reads the contracts of public calls need not read it.
-pub mod Midnight
 pub mod OrFault
-pub mod PosixRule
-pub mod RiderMarks
-pub mod Table
-pub mod Tariff
-pub mod Transfers
-pub mod Validators

@@ -1,6 +1,6 @@
 //! Laws of fare tables. Each function's contract is the law; it has nothing to do, but for
 //! `read_reports_the_first_row`, which reads.
-ghost use Rattle.std.specs.Prelude.{◌≡◌, ◌≢◌, ◌⊎◌, ◌↔◌, ℕ, ◌<◌, ◌≤◌, ◌+ℤ◌, pos, true, List};
+ghost use Rattle.std.specs.Prelude.{◌≡◌, ◌≢◌, ◌⊎◌, ◌↔◌, ℕ, true, List};
 ghost use Rattle.std.specs.Prelude.{Err, None, Ok, Some, IfErr, IfOk, IsErrOf, IsUtf8, position};
 ghost use Rattle.std.specs.Cmp.Lexicographic.{slice_cmp};
 ghost use Rattle.std.specs.List.Sorted.{IsStrictlySortedBy};
@@ -10,45 +10,23 @@ ghost use Rattle.toml.specs.Data.{Members, table, get_member};
 ghost use Rattle.toml.specs.Parse.{parse_document};
 ghost use Rattle.fare_table.specs.ByteOrder.{in_byte_order};
 ghost use Rattle.fare_table.specs.TextRanges.{RangeGives, RangeHas};
-ghost use Rattle.fare_table.specs.Fares.{Fares, class_of, meaning_at, mode_in, ride_terms};
-ghost use Rattle.fare_table.specs.Fares.{terms_at, transfer_terms};
+ghost use Rattle.tariffs.specs.Fares.{class_of, mode_in, ride_terms};
+ghost use Rattle.tariffs.specs.Fares.{terms_at, transfer_terms};
 ghost use Rattle.fare_table.specs.Faults.{first_fault};
-ghost use Rattle.fare_table.specs.Modes.{same_name};
+ghost use Rattle.tariffs.specs.Names.{same_name};
 ghost use Rattle.fare_table.specs.Paying.{Gives, NamesRider, Pays, PaysOn};
-ghost use Rattle.fare_table.specs.TableMeaning.{TableMeaning, meaning_in, meaning_of_tree};
-ghost use Rattle.fare_table.specs.Transfers.{has_pair, ListsPair};
-ghost use Rattle.fare_table.specs.Until.{IsWindowEnd, civil_window_end, day_at, midnight_instant};
-ghost use Rattle.fare_table.specs.Until.{moment_nanos, until};
-ghost use Rattle.fare_table.specs.Validators.{stand_apart};
+ghost use Rattle.tariffs.specs.TableMeaning.{TableMeaning};
+ghost use Rattle.fare_table.specs.TableMeaning.{meaning_in, meaning_of_tree};
+ghost use Rattle.tariffs.specs.Transfers.{has_pair};
+ghost use Rattle.fare_table.specs.Transfers.{ListsPair};
+ghost use Rattle.tariffs.specs.Validators.{stand_apart};
 ghost use Rattle.fare_table.specs.declared.fault.TableFault.{TableFault};
-ghost use Rattle.fare_table.specs.declared.terms.Terms.{Terms};
-ghost use Rattle.fare_table.specs.declared.window_span.WindowSpan.TheVariants.{Days};
-ghost use Rattle.jiff_tz.specs.declared.posix.TimeZone.{TimeZone as PosixRule};
+ghost use Rattle.tariffs.specs.declared.terms.Terms.{Terms};
 
 use crate::fault::TableFault;
-use crate::table::FareTable;
+use crate::read_table::ReadTable;
 use std::alloc::Global;
-
-/// A window ends after it starts.
-pub fn windows_end_later()
-    ensures { (fares : Fares) (start : ℕ) → start < until fares start }
-{}
-
-/// A window has one end: what is its days after its start, or the midnight of its end date, is that
-/// of the table.
-pub fn windows_have_one_end()
-    ensures { (fares : Fares) (start window_end : ℕ)
-        → IsWindowEnd fares.zone (meaning_at fares start).window start window_end
-        → window_end ≡ until fares start }
-{}
-
-/// In a zone a window of four days or more ends at the midnight itself, which is after its start by
-/// any zone's rule.
-pub fn long_windows_end_at_midnight()
-    ensures { (zone : PosixRule) (count start : ℕ) → 4 ≤ count
-        → moment_nanos (civil_window_end zone (Days count) start)
-        ≡ midnight_instant zone (day_at zone (moment_nanos start) +ℤ pos count) }
-{}
+use tariffs::FareTable;
 
 /// A table permits a transfer from one mode to another exactly if its text lists the pair of their
 /// names.

@@ -1,41 +1,23 @@
-//! The fare table of an agency: modes, permitted transfers, terms of rider classes, validators and
-//! the zone of its days, read from a TOML text and looked up at every tap.
+//! The reader of an agency's fare table: a TOML text, and the table that it means, which is one of
+//! `tariffs`. What wrong texts are answered with, by the first fault in the order of the keys.
 //!
-//! That a ride may include one transfer and that paid rides are capped is the rule of the MTA's
-//! OMNY; every number, name, pair and class is data of the table, and the text's layout is this
+//! Every number, name, pair and class is data of the table, and the text's layout is this
 //! project's.
 #![tactic(auto)]
 
 mod bounds;
-mod class;
-mod clock;
 mod fault;
-mod follow_fault;
 pub mod laws;
-mod mode;
 mod read;
-mod riders;
-mod table;
-mod tariff;
-mod terms;
-mod transfer_terms;
-mod transfers;
-mod validators;
-mod window_span;
-mod zone;
+mod read_table;
 
 pub use bounds::{
     MAX_CEILING_CENTS, MAX_FARE_CENTS, MAX_MODE_NAME_BYTES, MAX_RIDE_TRANSFERS, MAX_RIDES,
     MAX_TRANSFER_MINUTES,
 };
-pub use class::Class;
-pub use clock::Clock;
 pub use fault::{Key, TableFault};
-pub use follow_fault::FollowFault;
-pub use mode::{MAX_MODES, Mode};
-pub use table::FareTable;
-pub use tariff::Tariff;
-pub use terms::Terms;
-pub use transfer_terms::TransferTerms;
-pub use validators::RangeRest;
-pub use window_span::WindowSpan;
+pub use read_table::ReadTable;
+pub use tariffs::{
+    Class, Clock, FareTable, FollowFault, MAX_MODES, Mode, RangeRest, Tariff, Terms, TransferTerms,
+    WindowSpan,
+};

@@ -1,7 +1,7 @@
 -- The ledger of a history whose tokens do not fall.
 use Rattle.std.proofs.Common.{ℕ, List, [], ◌++◌, None, refl}
 use Rattle.std.proofs.lemmas.List.Sorted.{IsPermutation-refl}
-use Rattle.fare_table.specs.Fares.{Fares}
+use Rattle.tariffs.specs.Fares.{Fares}
 use Rattle.shard_book.specs.declared.entry.Entry.{Entry}
 use Rattle.fare_texts.specs.LedgerLines.{head_text}
 use Rattle.fare_texts.specs.Ledger.{IsLedgerOver}

@@ -6,7 +6,7 @@ use Rattle.std.specs.Ordering.{eq_by_cmp}
 use Rattle.std.proofs.lemmas.Bool.{cases_Bool}
 use Rattle.std.proofs.lemmas.List.Sorted.{IsPermutation-map, list_any-IsPermutation}
 use Rattle.std.proofs.Math.Bool.{or_self_left}
-use Rattle.fare_table.specs.Fares.{Fares}
+use Rattle.tariffs.specs.Fares.{Fares}
 use Rattle.shard_book.specs.Entry.{own}
 use Rattle.shard_book.specs.SumsByKey.{token_of, tokens}
 use Rattle.shard_book.specs.Rising.{IsRising, rising}

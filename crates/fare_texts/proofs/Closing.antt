@@ -4,7 +4,7 @@ use Rattle.std.proofs.Common.{Some, None, refl, sym, ap, ◌∙◌, append_assoc
 use Rattle.std.proofs.Common.{flat_map, ⊎_elim}
 use Rattle.std.specs.Option.{option_to_list}
 use Rattle.std.proofs.lemmas.Bool.{cases_Bool}
-use Rattle.fare_table.specs.declared.mode.Mode.{Mode}
+use Rattle.tariffs.specs.declared.mode.Mode.{Mode}
 use Rattle.account_rule.specs.Trips.{ends_in_transfer}
 use Rattle.account_rule.specs.Blocks.{last_block}
 use Rattle.account_rule.specs.Laws.{is_ride}

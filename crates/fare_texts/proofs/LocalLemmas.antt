@@ -8,7 +8,7 @@ use Rattle.jiff_core.specs.Timestamp.{nanos_of_seconds}
 use Rattle.jiff.specs.Names.{iso_datetime_text}
 use Rattle.jiff_fmt.specs.Text.{offset_text}
 use Rattle.jiff_tz.specs.declared.posix.TimeZone.{TimeZone as PosixRule}
-use Rattle.fare_table.specs.Until.{moment_nanos, seconds_ahead}
+use Rattle.tariffs.specs.Until.{moment_nanos, seconds_ahead}
 use Rattle.fare_texts.specs.Local.{IsLocalBy}
 
 pub local_of : (zone : Option PosixRule) (offset : Offset) (words clock : List ℕ) (moment : ℕ)

@@ -5,7 +5,7 @@ use Rattle.std.proofs.Common.{append_assoc, append-nil, add-one, drop-cons, arit
 use Rattle.std.specs.Prelude.{slice_get}
 use Rattle.std.proofs.lemmas.List.{get_or-map, length-map, take-append-drop}
 use Rattle.std.proofs.Math.Seq.{take-suc}
-use Rattle.fare_table.specs.Fares.{Fares}
+use Rattle.tariffs.specs.Fares.{Fares}
 use Rattle.shard_book.specs.Entry.{own}
 use Rattle.tap_views.specs.Token.{token_eq}
 use Rattle.shard_book.specs.declared.entry.Entry.{Entry}

@@ -3,8 +3,8 @@ use Rattle.std.specs.Prelude.{ℕ, ◌≡◌, ◌+◌, List, [], ◌∷◌, ◌+
 use Rattle.std.proofs.Common.{refl, sym, ◌∙◌, ap, subst, append_assoc, append-nil}
 use Rattle.std.proofs.lemmas.List.{take_more}
 use Rattle.std.proofs.lemmas.Option.{slice_get_within, get_or_from_slice_get}
-use Rattle.fare_table.specs.Fares.{terms_at}
-use Rattle.fare_table.specs.TableMeaning.{TableMeaning}
+use Rattle.tariffs.specs.Fares.{terms_at}
+use Rattle.tariffs.specs.TableMeaning.{TableMeaning}
 use Rattle.fare_texts.specs.Explained.{AreLaterTerms, IsLaterTerms}
 
 -- one table more

@@ -1,7 +1,7 @@
 -- The whole ledger: its head line and the lines of each token.
 use Rattle.std.proofs.Common.{◌≡◌, ℕ, List, [], ◌++◌, Some, None, ap, subst}
 use Rattle.std.specs.Prelude.{slice_get}
-use Rattle.fare_table.specs.Fares.{Fares}
+use Rattle.tariffs.specs.Fares.{Fares}
 use Rattle.shard_book.specs.Book.{Book}
 use Rattle.shard_book.specs.SumsByKey.{all_entries, tokens}
 use Rattle.shard_book.specs.declared.entry.Entry.{Entry}

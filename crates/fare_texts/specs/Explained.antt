@@ -4,10 +4,10 @@ use Rattle.std.specs.Prelude.{◌≡◌, ℕ, List, [], ◌∷◌, ◌++◌, Opt
 use Rattle.std.specs.Prelude.{slice_get}
 use Rattle.std.specs.Fmt.{decimal}
 use Rattle.std.specs.Option.{option_to_list}
-use Rattle.fare_table.specs.ClockView.{ClockView}
-use Rattle.fare_table.specs.Fares.{Fares, terms_at}
-use Rattle.fare_table.specs.TableMeaning.{TableMeaning}
-use Rattle.fare_table.specs.declared.terms.Terms.{Terms}
+use Rattle.tariffs.specs.ClockView.{ClockView}
+use Rattle.tariffs.specs.Fares.{Fares, terms_at}
+use Rattle.tariffs.specs.TableMeaning.{TableMeaning}
+use Rattle.tariffs.specs.declared.terms.Terms.{Terms}
 use Rattle.account_rule.specs.TokenRules.{TokenRules, rules_of}
 use Rattle.account_rule.specs.Windows.{last_window, shown_window, windows}
 use Rattle.account_rule.specs.declared.no_transfer.NoTransfer.{NoTransfer}

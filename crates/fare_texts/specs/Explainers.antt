@@ -1,6 +1,6 @@
 -- What a explainer stands for.
 use Rattle.std.specs.Prelude.{◌≡◌, ℕ, List, length, map}
-use Rattle.fare_table.specs.Fares.{Fares}
+use Rattle.tariffs.specs.Fares.{Fares}
 use Rattle.account_rule.specs.Replies.{reply}
 use Rattle.account_rule.specs.declared.reply.Answer.TheVariants.{Unknown}
 use Rattle.account_rule.specs.TokenRules.{rules_of}

@@ -7,8 +7,8 @@ use Rattle.jiff_core.specs.Timestamp.{nanos_of_seconds}
 use Rattle.jiff.specs.Names.{iso_datetime_text}
 use Rattle.jiff_fmt.specs.Text.{offset_text}
 use Rattle.jiff_tz.specs.declared.posix.TimeZone.{TimeZone as PosixRule}
-use Rattle.fare_table.specs.ClockView.{ClockView}
-use Rattle.fare_table.specs.Until.{moment_nanos, seconds_ahead}
+use Rattle.tariffs.specs.ClockView.{ClockView}
+use Rattle.tariffs.specs.Until.{moment_nanos, seconds_ahead}
 
 -- `2024-03-08T12:00:00-05:00`: what the zone's clocks show at the moment, with places of a second
 -- if it has some, and how far they are ahead of UTC

@@ -19,12 +19,12 @@ use crate::entries::own_of;
 use crate::ledger::table_of;
 use crate::lines::pass_on;
 use crate::{PrintFault, write_statement_head, write_totals};
-use fare_table::FareTable;
 use lines::write_lines;
 use shard_book::{Entry, ShardBook, totals_of_entries};
 use std::alloc::Global;
 use std::io::Write;
 use tap_views::{NoMemory, Token};
+use tariffs::FareTable;
 use terms::write_terms;
 use window_lines::write_windows;
 

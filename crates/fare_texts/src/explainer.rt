@@ -5,7 +5,7 @@ ghost use Rattle.std.specs.Prelude.{length, map, string_bytes, OnErr, OnOk};
 ghost use Rattle.std.specs.Option.{ForSome};
 ghost use Rattle.account_rule.specs.TokenRules.{rules_of};
 ghost use Rattle.account_rule.specs.Windows.{last_window};
-ghost use Rattle.fare_table.specs.Fares.{Fares};
+ghost use Rattle.tariffs.specs.Fares.{Fares};
 ghost use Rattle.tap_views.specs.Token.{bytes_of};
 ghost use Rattle.shard_book.specs.Entry.{tap_of};
 ghost use Rattle.shard_book.specs.declared.entry.Entry.{Entry};
@@ -17,10 +17,10 @@ ghost use Rattle.fare_texts.specs.ReasonWords.{HasModeOf};
 
 use crate::ledger_line::write_line;
 use account_rule::{Account, NoTransfer, Reason, TapIn, WindowView};
-use fare_table::{Clock, FareTable};
 use shard_book::Entry;
 use std::alloc::AllocError;
 use tap_views::{MOMENT_LIMIT_MS, NoMemory, Token};
+use tariffs::{Clock, FareTable};
 
 /// The tap of an entry, as the account rule sees it. It takes no memory, and refuses an entry alone
 /// that no upload has: one from 2100-01-01T00:00Z on.

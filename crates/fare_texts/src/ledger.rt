@@ -20,11 +20,11 @@ use crate::entries::{by_token, own_of};
 use crate::lines::{PIECE_BYTES, pass_on, write_lines};
 use crate::spot::Spot;
 use crate::{PrintFault, head_line, write_token_lines};
-use fare_table::FareTable;
 use shard_book::{Entry, ShardBook};
 use std::alloc::Global;
 use std::io::Write;
 use tap_views::{NoMemory, Token};
+use tariffs::FareTable;
 
 /// More bytes than a line has.
 pub const LINE_ROOM_BYTES: usize = 1_024;

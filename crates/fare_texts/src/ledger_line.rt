@@ -7,10 +7,10 @@ ghost use Rattle.fare_texts.specs.LedgerLines.{IsLedgerLine, entry_fields, line_
 use crate::reason_fields::write_reason_fields;
 use crate::{Digits, answer_name, write_moment};
 use account_rule::Reason;
-use fare_table::FareTable;
 use shard_book::Entry;
 use std::alloc::AllocError;
 use tap_views::Token;
+use tariffs::FareTable;
 
 /// Appends the line of a token's entry, whose number among the token's lines counts from 1.
 pub fn write_line(

@@ -4,9 +4,9 @@ ghost use Rattle.std.specs.Prelude.{◌≡◌, ◌++◌, OnOk, List, ℕ, codes,
 ghost use Rattle.fare_texts.specs.LedgerLines.{AreLedgerLines, head_text};
 
 use crate::explainer::Explainer;
-use fare_table::{Clock, FareTable};
 use shard_book::Entry;
 use tap_views::{NoMemory, Token};
+use tariffs::{Clock, FareTable};
 
 /// The first line of a ledger, which names the fields.
 pub fn head_line() -> &'static str

@@ -8,16 +8,16 @@ ghost use Rattle.fare_texts.specs.Lines.{AreLinesAlong, HasCome, IsUpTo, NoFall}
 ghost use Rattle.fare_texts.specs.Lines.{NoFallFrom};
 ghost use Rattle.fare_texts.specs.WrittenOut.{Begins, GoesOut};
 ghost use Rattle.fare_texts.specs.inside.Spots.{entries_at_spots};
-ghost use Rattle.fare_table.specs.Fares.{Fares};
+ghost use Rattle.tariffs.specs.Fares.{Fares};
 ghost use Rattle.tap_views.specs.declared.token.Token.{Token};
 ghost use Rattle.shard_book.specs.declared.entry.Entry.{Entry};
 
 use crate::spot::Spot;
 use crate::{Explainer, PrintFault, write_out};
-use fare_table::{Clock, FareTable};
 use shard_book::ShardBook;
 use std::io::Write;
 use tap_views::Token;
+use tariffs::{Clock, FareTable};
 
 /// How many bytes wait at least before they are written out: enough that a write costs little
 /// beside them.

@@ -6,15 +6,15 @@ ghost use Rattle.jiff_core.specs.Timestamp.{nanos_of_seconds};
 ghost use Rattle.jiff_core.specs.declared.civil.datetime.DateTime.{DateTime};
 ghost use Rattle.jiff.specs.Names.{iso_datetime_text};
 ghost use Rattle.jiff_fmt.specs.Text.{offset_text};
-ghost use Rattle.fare_table.specs.Until.{moment_nanos};
+ghost use Rattle.tariffs.specs.Until.{moment_nanos};
 ghost use Rattle.fare_texts.specs.Local.{IsLocal};
 
 use crate::moment::CALENDAR_END_MS;
 use arrayvec::ArrayString;
-use fare_table::Clock;
 use jiff::Timestamp;
 use jiff::tz::Offset;
 use std::alloc::AllocError;
+use tariffs::Clock;
 
 /// Appends the words and what clocks of the table's zone show at the moment, in milliseconds since
 /// 1970-01-01T00:00Z, as `2024-03-08T12:00:00-05:00`. Appends nothing if the table names no zone.

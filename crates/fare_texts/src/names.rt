@@ -4,7 +4,7 @@ ghost use Rattle.std.specs.Prelude.{◌≡◌, ◌<◌, length, Some, slice_get}
 ghost use Rattle.fare_texts.specs.StatementText.{answer_text, mode_text};
 
 use account_rule::Answer;
-use fare_table::FareTable;
+use tariffs::FareTable;
 
 /// The name of the validator's mode at the moment, or `-` if the table does not know the validator.
 pub(crate) fn mode_name(table: &FareTable, moment: u64, validator: u32) -> &str

@@ -9,8 +9,8 @@ ghost use Rattle.fare_texts.specs.NoTransferWords.{IsTooLateText, gap_words, pai
 
 use crate::write_moment;
 use account_rule::{NoTransfer, Reason};
-use fare_table::FareTable;
 use std::alloc::AllocError;
+use tariffs::FareTable;
 
 /// Appends why an entry at the moment is no transfer, if its reason is that of a ride, as `, no
 /// transfer since it is the first known tap`. Else it appends nothing.

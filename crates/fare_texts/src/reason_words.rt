@@ -9,8 +9,8 @@ ghost use Rattle.fare_texts.specs.ReasonWords.{HasModeOf};
 
 use crate::write_moment;
 use account_rule::{Charge, Reason};
-use fare_table::FareTable;
 use std::alloc::AllocError;
+use tariffs::FareTable;
 
 /// Appends why a tap is answered as it is, as ` because the subway ride of 2024-03-08T17:00:00.000Z
 /// gives it`.

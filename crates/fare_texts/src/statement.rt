@@ -12,10 +12,10 @@ use crate::digits::Digits;
 use crate::moment::write_moment;
 use crate::names::{answer_name, mode_name};
 use account_rule::WindowView;
-use fare_table::FareTable;
 use shard_book::{Entry, Lines, Statement};
 use std::alloc::{AllocError, Global};
 use tap_views::Token;
+use tariffs::FareTable;
 
 /// The text of the statement, whole.
 pub fn statement_text(

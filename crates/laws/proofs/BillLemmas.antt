@@ -14,7 +14,7 @@ use Rattle.tap_views.specs.Encoding.{fields_of}
 use Rattle.tap_views.specs.Files.{AreGoodTaps, HasOneReading}
 use Rattle.tap_views.specs.Layout.{Tap}
 use Rattle.tap_views.specs.declared.encoder.TapFields.{TapFields}
-use Rattle.fare_table.specs.Fares.{Fares}
+use Rattle.tariffs.specs.Fares.{Fares}
 use Rattle.tap_views.specs.Token.{bytes_of}
 use Rattle.account_rule.specs.Trips.{ends_in_transfer}
 use Rattle.account_rule.specs.Replies.{live_reply, reply, reply_with, ride_reply}

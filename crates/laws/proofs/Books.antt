@@ -6,7 +6,7 @@ use Rattle.std.specs.Prelude.{slice_get, slice_index_or, ◌⊎◌}
 use Rattle.std.specs.List.{AllByRecursion}
 use Rattle.std.proofs.lemmas.Bool.{cases_Bool}
 use Rattle.tap_views.specs.Shards.{shard_of_token}
-use Rattle.fare_table.specs.Fares.{Fares}
+use Rattle.tariffs.specs.Fares.{Fares}
 use Rattle.shard_book.specs.Book.{AreOfShard, Book}
 use Rattle.shard_book.specs.Entry.{is_of, own}
 use Rattle.shard_book.specs.SumsByKey.{all_entries}

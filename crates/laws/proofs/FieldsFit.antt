@@ -12,7 +12,7 @@ use Rattle.tap_views.specs.Files.{IsFile, AreGoodTaps, AreGoodTapsOfEach}
 use Rattle.tap_views.specs.Layout.{IsBatch, IsTapOf, Layout, Tap, Tap1, Tap2, magic, num, shared}
 use Rattle.tap_views.specs.Layout.{spelling}
 use Rattle.tap_views.specs.declared.encoder.TapFields.{TapFields}
-use Rattle.fare_table.specs.Fares.{Fares}
+use Rattle.tariffs.specs.Fares.{Fares}
 use Rattle.tap_views.specs.Token.{Fits}
 use Rattle.tap_views.proofs.Lists.{All-split, All-unmap}
 use Rattle.tap_views.proofs.TokenBytes.{eight_bytes}

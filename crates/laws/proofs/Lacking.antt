@@ -11,7 +11,7 @@ use Rattle.std.proofs.lemmas.Bool.{and_parts, cases_lt}
 use Rattle.hex.specs.Hex.{encode_lower, encode_with, lower_digits}
 use Rattle.jiff_core.specs.declared.civil.date.Date.{Date}
 use Rattle.jiff_fmt.specs.Text.{date_text, pad2, pad4, year_text}
-use Rattle.fare_table.specs.Fares.{Fares, mode_at}
+use Rattle.tariffs.specs.Fares.{Fares, mode_at}
 use Rattle.account_rule.specs.declared.reason.Charge.{Charge}
 use Rattle.account_rule.specs.declared.reason.Charge.TheVariants.{Full, CeilingCut, CeilingReached}
 use Rattle.account_rule.specs.declared.reason.Charge.TheVariants.{RideLimitReached}

@@ -20,7 +20,7 @@ use Rattle.tap_views.specs.Token.{bytes_of}
 use Rattle.tap_views.specs.declared.token.Token.{Token}
 use Rattle.tap_views.proofs.ReadingLemmas.{one_list}
 use Rattle.tap_views.proofs.Lists.{All-split}
-use Rattle.fare_table.specs.Fares.{Fares, mode_at}
+use Rattle.tariffs.specs.Fares.{Fares, mode_at}
 use Rattle.account_rule.specs.Laws.{is_ride}
 use Rattle.account_rule.specs.Replies.{replies}
 use Rattle.account_rule.specs.TokenRules.{rules_of, token_class, transfers_of}

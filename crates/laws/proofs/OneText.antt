@@ -12,11 +12,11 @@ use Rattle.jiff_core.proofs.DateTimeLemmas.{civil_nanos_injective, time_nanos_in
 use Rattle.jiff.specs.Names.{iso_datetime_text}
 use Rattle.jiff_fmt.specs.Text.{fraction_part, offset_text, pad2, sign_byte, year_text}
 use Rattle.jiff_tz.specs.declared.posix.TimeZone.{TimeZone as PosixRule}
-use Rattle.fare_table.specs.ClockView.{ClockView}
-use Rattle.fare_table.specs.Fares.{Fares, terms_at}
-use Rattle.fare_table.specs.TableMeaning.{TableMeaning}
+use Rattle.tariffs.specs.ClockView.{ClockView}
+use Rattle.tariffs.specs.Fares.{Fares, terms_at}
+use Rattle.tariffs.specs.TableMeaning.{TableMeaning}
 use Rattle.tap_views.specs.Token.{bytes_of}
-use Rattle.fare_table.specs.Until.{moment_nanos}
+use Rattle.tariffs.specs.Until.{moment_nanos}
 use Rattle.tap_views.specs.declared.token.Token.{Token}
 use Rattle.account_rule.specs.TokenRules.{TokenRules, rules_of}
 use Rattle.account_rule.specs.Windows.{last_window}

@@ -18,8 +18,8 @@ use Rattle.tap_views.specs.declared.encoder.TapFields.{TapFields}
 use Rattle.tap_views.specs.Token.{bytes_of, token_eq}
 use Rattle.tap_views.specs.declared.token.Token.{Token}
 use Rattle.tap_views.proofs.ReadingLemmas.{one_list}
-use Rattle.fare_table.specs.Fares.{Fares, class_of, meaning_at, terms_on}
-use Rattle.fare_table.specs.declared.class.Class.{Class}
+use Rattle.tariffs.specs.Fares.{Fares, class_of, meaning_at, terms_on}
+use Rattle.tariffs.specs.declared.class.Class.{Class}
 use Rattle.account_rule.specs.Blocks.{last_block}
 use Rattle.account_rule.specs.Reasons.{given_by, latest, live_reason, reason, ride_of}
 use Rattle.account_rule.specs.Replies.{live_reply, reply}

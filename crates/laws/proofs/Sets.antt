@@ -6,7 +6,7 @@ use Rattle.std.specs.List.Sorted.{IsSorted}
 use Rattle.std.proofs.lemmas.List.Kept.{Contains-dedup, Contains-from_dedup}
 use Rattle.std.proofs.lemmas.List.Kept.{IsStrictlySortedBy-dedup}
 use Rattle.tap_views.specs.declared.encoder.TapFields.{TapFields}
-use Rattle.fare_table.specs.Fares.{Fares}
+use Rattle.tariffs.specs.Fares.{Fares}
 use Rattle.tap_parts.specs.Canonical.{tap_cmp}
 use Rattle.tap_parts.proofs.Total.{tap_cmp_total, tap_cmp_exact}
 use Rattle.laws.proofs.Once.{Among, once, same_set, same_tap}

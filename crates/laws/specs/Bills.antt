@@ -1,6 +1,6 @@
 -- What histories charge: their rides and transfers, and the sums of these.
 use Rattle.std.specs.Prelude.{◌≡◌, ℕ, ◌≤◌, Bool, not, ◌||◌, List, count_by, filter, map, nat_lt}
-use Rattle.fare_table.specs.Fares.{Fares, class_at, class_of, meaning_at, transfer_terms}
+use Rattle.tariffs.specs.Fares.{Fares, class_at, class_of, meaning_at, transfer_terms}
 use Rattle.tap_views.specs.Token.{bytes_of}
 use Rattle.tap_views.specs.declared.token.Token.{Token}
 use Rattle.account_rule.specs.Laws.{is_ride}

@@ -1,7 +1,7 @@
 -- What numbers of 64 bits can hold.
 use Rattle.std.specs.Prelude.{ℕ, ◌<◌, ◌^◌, List, length, All}
-use Rattle.fare_table.specs.Fares.{Fares, class_of, meaning_at, ride_terms}
-use Rattle.fare_table.specs.Terms.{AreRideTerms}
+use Rattle.tariffs.specs.Fares.{Fares, class_of, meaning_at, ride_terms}
+use Rattle.tariffs.specs.Terms.{AreRideTerms}
 use Rattle.laws.specs.Split.{Part}
 
 -- the terms of each token are within their bounds on each mode at each moment, so that no tap costs

@@ -2,7 +2,7 @@
 use Rattle.std.specs.Prelude.{◌≡◌, ℕ, ◌^◌, ◌≤◌, true, List, length, flat_map, Option}
 use Rattle.std.specs.Char.{is_ascii_lowercase}
 use Rattle.std.specs.List.{AllByRecursion, list_all}
-use Rattle.fare_table.specs.Fares.{Fares}
+use Rattle.tariffs.specs.Fares.{Fares}
 use Rattle.shard_book.specs.Book.{AreOfShard, Book, EachBook}
 use Rattle.shard_book.specs.Entry.{own}
 use Rattle.shard_book.specs.History.{IsLegal}

@@ -5,7 +5,7 @@ use Rattle.std.proofs.Common.{append-nil, length-append, if◌then◌else◌}
 use Rattle.std.proofs.lemmas.Slice.Eq.{bytes_eq-Decides}
 use Rattle.std.specs.Prelude.{nat_eq}
 use Rattle.std.specs.Str.{bytes_eq}
-use Rattle.fare_table.specs.Fares.{Fares}
+use Rattle.tariffs.specs.Fares.{Fares}
 use Rattle.ledger_check.specs.FullBalances.{IsFullBalance}
 use Rattle.ledger_check.specs.declared.full_balance.FullBalance.{FullBalance}
 use Rattle.tap_views.specs.declared.encoder.TapFields.{TapFields}

@@ -3,7 +3,7 @@ use Rattle.std.proofs.Common.{◌≡◌, ℕ, ◌+◌, ◌<◌, ◌≤◌, List,
 use Rattle.std.proofs.Common.{subst, ◌∙◌, arith, length-append, le_of_eq}
 use Rattle.std.proofs.lemmas.List.{map-append}
 use Rattle.std.proofs.lemmas.List.Elements.{All-push}
-use Rattle.fare_table.specs.Fares.{Fares}
+use Rattle.tariffs.specs.Fares.{Fares}
 use Rattle.account_rule.specs.Reasons.{reason, replied_by}
 use Rattle.account_rule.specs.Replies.{reply}
 use Rattle.account_rule.specs.TokenRules.{rules_of}

@@ -1,7 +1,7 @@
 -- Pieces of a text, fed to a recount one after another.
 use Rattle.std.proofs.Common.{◌≡◌, ℕ, Bool, List, [], ◌++◌, refl, sym, ap, subst, ◌∙◌, append_assoc}
 use Rattle.std.proofs.Common.{append-nil}
-use Rattle.fare_table.specs.Fares.{Fares}
+use Rattle.tariffs.specs.Fares.{Fares}
 use Rattle.ledger_check.specs.declared.full_balance.FullBalance.{FullBalance}
 use Rattle.tap_views.specs.declared.encoder.TapFields.{TapFields}
 use Rattle.ledger_check.specs.RecountStates.{HasRecounted}

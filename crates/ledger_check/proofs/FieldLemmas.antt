@@ -14,7 +14,7 @@ use Rattle.jiff_fmt.specs.Text.{date_text, pad2, pad4, year_text}
 use Rattle.fare_texts.specs.Moments.{IsMomentText, clock_text}
 use Rattle.tap_views.specs.Token.{bytes_of}
 use Rattle.tap_views.specs.declared.token.Token.{Token}
-use Rattle.fare_table.specs.Fares.{Fares}
+use Rattle.tariffs.specs.Fares.{Fares}
 use Rattle.account_rule.specs.declared.reason.Reason.{Reason}
 use Rattle.fare_texts.specs.StatementText.{answer_text}
 use Rattle.shard_book.specs.declared.entry.Entry.{Entry}

@@ -4,7 +4,7 @@ use Rattle.std.proofs.Common.{◌++◌, length, Option, None, Some, refl, sym, a
 use Rattle.std.proofs.Common.{append_assoc, append-nil, length-append, string_bytes, if◌then◌else◌}
 use Rattle.std.proofs.lemmas.Slice.Eq.{bytes_eq-Decides}
 use Rattle.std.specs.Str.{bytes_eq}
-use Rattle.fare_table.specs.Fares.{Fares}
+use Rattle.tariffs.specs.Fares.{Fares}
 use Rattle.shard_book.specs.Entry.{own}
 use Rattle.shard_book.specs.declared.entry.Entry.{Entry}
 use Rattle.ledger_check.specs.declared.full_balance.FullBalance.{FullBalance}

@@ -1,7 +1,7 @@
 -- What a check of the next line finds, by what its parts found.
 use Rattle.std.proofs.Common.{◌≡◌, ℕ, ◌+◌, ◌^◌, ◌<◌, ◌≤◌, List, [], ◌∷◌, ◌++◌, length, All, Option}
 use Rattle.std.proofs.Common.{Some, sym, ap, subst, ◌∙◌, arith, length-append}
-use Rattle.fare_table.specs.Fares.{Fares}
+use Rattle.tariffs.specs.Fares.{Fares}
 use Rattle.account_rule.specs.declared.reason.Reason.{Reason}
 use Rattle.shard_book.specs.Entry.{own}
 use Rattle.tap_views.specs.Token.{Fits}

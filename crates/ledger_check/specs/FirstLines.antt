@@ -1,6 +1,6 @@
 -- What is reported of the first lines of a text.
 use Rattle.std.specs.Prelude.{◌≡◌, ℕ, List, ◌++◌}
-use Rattle.fare_table.specs.Fares.{Fares}
+use Rattle.tariffs.specs.Fares.{Fares}
 use Rattle.ledger_check.specs.Lines.{lines_of}
 use Rattle.ledger_check.specs.Recounts.{AreTaken, IsRecount, TakenLine, lines_from, recount_text}
 use Rattle.ledger_check.specs.Recounts.{remark_lines}

@@ -3,7 +3,7 @@ use Rattle.std.specs.Prelude.{◌≡◌, ℕ, false, List, [], ◌∷◌, map, O
 use Rattle.ledger_check.specs.Balances.{IsBalance}
 use Rattle.ledger_check.specs.declared.balance.Balance.{Balance}
 use Rattle.tap_views.specs.declared.encoder.TapFields.{TapFields}
-use Rattle.fare_table.specs.Fares.{Fares}
+use Rattle.tariffs.specs.Fares.{Fares}
 use Rattle.tap_views.specs.Token.{bytes_of}
 use Rattle.shard_book.specs.declared.entry.Entry.{Entry}
 use Rattle.ledger_check.specs.Ledger.{AreNext}

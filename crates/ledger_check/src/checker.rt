@@ -2,7 +2,7 @@
 
 ghost use Rattle.std.specs.Prelude.{◌≡◌, ◌++◌, ◌∷◌, [], ℕ, List, IfOk, IsTrue};
 ghost use Rattle.std.specs.Prelude.{map};
-ghost use Rattle.fare_table.specs.Fares.{Fares};
+ghost use Rattle.tariffs.specs.Fares.{Fares};
 ghost use Rattle.shard_book.specs.declared.entry.Entry.{Entry};
 ghost use Rattle.ledger_check.specs.Balances.{IsBalance};
 ghost use Rattle.ledger_check.specs.declared.balance.Balance.{Balance};
@@ -17,10 +17,10 @@ ghost use Rattle.ledger_check.specs.declared.checker.Verdict.TheVariants.{NoLine
 use crate::Balance;
 use crate::bytes::{same_bytes, split_line};
 use crate::replay::{MAX_LINE_BYTES, Replay, Step};
-use fare_table::{Clock, FareTable};
 use fare_texts::head_line;
 use std::alloc::Global;
 use tap_views::NoMemory;
+use tariffs::{Clock, FareTable};
 
 /// What a check finds of a text. Lines count from 1, the head line.
 #[derive(Drop)]

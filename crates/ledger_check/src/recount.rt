@@ -2,7 +2,7 @@
 
 ghost use Rattle.std.specs.Prelude.{◌≡◌, ◌++◌, ◌∷◌, [], ℕ, List, IfOk, OnOk, Bool, nat_eq, true};
 ghost use Rattle.std.specs.Prelude.{string_bytes, ◌<◌, ◌↔◌, IsTrue};
-ghost use Rattle.fare_table.specs.Fares.{Fares};
+ghost use Rattle.tariffs.specs.Fares.{Fares};
 ghost use Rattle.ledger_check.specs.FullBalances.{IsFullBalance};
 ghost use Rattle.ledger_check.specs.declared.full_balance.FullBalance.{FullBalance as AFullBalance};
 ghost use Rattle.tap_views.specs.declared.encoder.TapFields.{TapFields};
@@ -18,10 +18,10 @@ use crate::bytes::{same_bytes, split_line};
 use crate::recount_sums::RecountSums;
 use crate::replay::MAX_LINE_BYTES;
 use crate::walk::{LineFinding, Remark, Walk, write_remark};
-use fare_table::{Clock, FareTable};
 use fare_texts::head_line;
 use std::alloc::{AllocError, Global};
 use tap_views::{NoMemory, TapFields};
+use tariffs::{Clock, FareTable};
 
 /// A line that names no tap.
 const NO_LINE: LineFinding = LineFinding {

@@ -3,7 +3,7 @@
 ghost use Rattle.std.specs.Prelude.{◌≡◌, ◌<◌, ◌≤◌, ◌^◌, ◌+◌, ◌∷◌};
 ghost use Rattle.std.specs.Prelude.{◌++◌, [], ℕ, List, All, IfNone};
 ghost use Rattle.std.specs.Prelude.{IfOk, IfSome, IsTrue, ◌↔◌, string_bytes};
-ghost use Rattle.fare_table.specs.Fares.{Fares};
+ghost use Rattle.tariffs.specs.Fares.{Fares};
 ghost use Rattle.tap_views.specs.Token.{Fits};
 ghost use Rattle.shard_book.specs.declared.entry.Entry.{Entry};
 ghost use Rattle.ledger_check.specs.Ledger.{token_number};
@@ -14,10 +14,10 @@ use crate::bytes::same_bytes;
 use crate::form::has_form;
 use crate::tap::{Tap, read_tap};
 use crate::wanted::write_wanted;
-use fare_table::{Clock, FareTable};
 use fare_texts::Explainer;
 use std::cmp::Ordering;
 use tap_views::{NoMemory, Token};
+use tariffs::{Clock, FareTable};
 
 /// The most bytes of a ledger's line, its newline included.
 pub(crate) const MAX_LINE_BYTES: usize = 255;

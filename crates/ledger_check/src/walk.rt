@@ -2,7 +2,7 @@
 
 ghost use Rattle.std.specs.Prelude.{◌≡◌, ◌<◌, ◌≤◌, ◌^◌, ◌++◌, [], ℕ, List, IfOk, OnOk, length};
 ghost use Rattle.std.specs.Prelude.{string_bytes};
-ghost use Rattle.fare_table.specs.Fares.{Fares};
+ghost use Rattle.tariffs.specs.Fares.{Fares};
 ghost use Rattle.shard_book.specs.Entry.{own};
 ghost use Rattle.shard_book.specs.declared.entry.Entry.{Entry as AnEntry};
 ghost use Rattle.tap_views.specs.Token.{Fits};
@@ -16,12 +16,12 @@ ghost use Rattle.ledger_check.specs.inside.Recounts.{HasJudged, TookTap};
 use crate::bytes::same_bytes;
 use crate::exact::{exact_cents, exact_tap};
 use crate::tap::Tap;
-use fare_table::{Clock, FareTable};
 use fare_texts::{Explainer, write_line};
 use shard_book::Entry;
 use std::alloc::{AllocError, Global};
 use std::cmp::Ordering;
 use tap_views::{NoMemory, Token};
+use tariffs::{Clock, FareTable};
 
 /// A tap that a line names.
 #[derive(Clone, Copy)]

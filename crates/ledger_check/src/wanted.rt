@@ -6,10 +6,10 @@ ghost use Rattle.ledger_check.specs.Replays.{StandsForOwn};
 ghost use Rattle.ledger_check.specs.inside.Replays.{GoesOn};
 
 use account_rule::Answer;
-use fare_table::{Clock, FareTable};
 use fare_texts::{Explainer, write_line};
 use shard_book::Entry;
 use tap_views::NoMemory;
+use tariffs::{Clock, FareTable};
 
 /// Takes one more tap of the explainer's token, and writes the line that it should have in place of
 /// the text.

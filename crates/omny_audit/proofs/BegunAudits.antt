@@ -4,7 +4,7 @@ use Rattle.std.proofs.Common.{◌≡◌, ◌∙◌, ◌++◌, ℕ, Bool, true, L
 use Rattle.std.proofs.Common.{sym, ap, subst, append_assoc, ⊎_elim}
 use Rattle.std.specs.Prelude.{◌↔◌, ◌&&◌, is_some, nat_eq}
 use Rattle.std.specs.Io.KnownBytes.{Consumes}
-use Rattle.fare_table.specs.Fares.{Fares}
+use Rattle.tariffs.specs.Fares.{Fares}
 use Rattle.fare_texts.specs.WrittenOut.{Begins}
 use Rattle.fare_texts.proofs.Beginnings.{begins_front}
 use Rattle.ledger_check.specs.Columns.{read_as}

@@ -7,7 +7,7 @@ use Rattle.std.specs.Prelude.{IfErr, IfSome, Result, Ok, Err, option_map, unwrap
 use Rattle.std.specs.Io.KnownBytes.{Consumes, IsAtEnd, Keeps, prepend_known}
 use Rattle.std.specs.Str.{bytes_eq}
 use Rattle.ledger_check.specs.Columns.{has_traced_head, traced_head}
-use Rattle.fare_table.specs.Fares.{Fares}
+use Rattle.tariffs.specs.Fares.{Fares}
 use Rattle.std.proofs.lemmas.Bool.Decides.{nat_tests}
 use Rattle.std.proofs.lemmas.List.{map-append, take-append-le}
 use Rattle.clap.specs.Words.{Text}

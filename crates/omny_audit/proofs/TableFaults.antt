@@ -1,7 +1,7 @@
 -- What is reported of fare tables that are not loaded, or of their classes, is right.
 use Rattle.std.proofs.Common.{◌≡◌, ◌∙◌, ℕ, false, List, Option, Some, refl, subst, sym}
 use Rattle.std.proofs.lemmas.Bool.{true≢false}
-use Rattle.fare_table.specs.Fares.{Fares}
+use Rattle.tariffs.specs.Fares.{Fares}
 use Rattle.program_manners.proofs.Refusals.{has_refused}
 use Rattle.program_manners.proofs.TablesRefused.{named_among}
 use Rattle.program_manners.specs.Loads.{Loaded, LoadsAll}

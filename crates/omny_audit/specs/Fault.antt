@@ -3,7 +3,7 @@ use Rattle.std.specs.Prelude.{ℕ, List, Bool, true, false, codes}
 use Rattle.std.specs.Prelude.{◌≡◌, ◌≢◌, ◌++◌, [], All, Option, None, Some, IfSome, slice_get, take}
 use Rattle.toml.specs.Data.{Members}
 use Rattle.toml.specs.Parse.{parse_document}
-use Rattle.fare_table.specs.Fares.{Fares}
+use Rattle.tariffs.specs.Fares.{Fares}
 use Rattle.program_manners.specs.Lines.{follow_text, load_text, named_class_text, named_table_text}
 use Rattle.program_manners.specs.Lines.{table_text}
 use Rattle.program_manners.specs.TableLoads.{LoadsTables}

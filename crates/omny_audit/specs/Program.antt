@@ -3,7 +3,7 @@ use Rattle.std.specs.Prelude.{◌≡◌, ◌↔◌, ◌⊎◌, ⊤, ℕ, Bool, t
 use Rattle.std.specs.Prelude.{MatchBool, Option, None, Some}
 use Rattle.std.specs.Io.KnownBytes.{Appends, Keeps}
 use Rattle.clap.specs.Words.{Text}
-use Rattle.fare_table.specs.Fares.{Fares}
+use Rattle.tariffs.specs.Fares.{Fares}
 use Rattle.ledger_check.specs.Balances.{AreGoodFields}
 use Rattle.ledger_check.specs.Columns.{has_traced_head}
 use Rattle.settled_texts.specs.Classes.{AreTrees, class_of_token, tree_at}

@@ -2,7 +2,7 @@
 use Rattle.std.specs.Prelude.{◌≡◌, ◌↔◌, ◌&&◌, ◌||◌, ℕ, Bool, true, false, List, [], ◌++◌, codes}
 use Rattle.std.specs.Prelude.{is_some, Option, None, Some}
 use Rattle.std.specs.Fmt.{decimal}
-use Rattle.fare_table.specs.Fares.{Fares}
+use Rattle.tariffs.specs.Fares.{Fares}
 use Rattle.fare_texts.specs.WrittenOut.{Begins}
 use Rattle.ledger_check.specs.Columns.{read_as}
 use Rattle.ledger_check.specs.Ledger.{IsLedger, IsLedgerOf}

@@ -4,7 +4,7 @@ ghost use Rattle.std.specs.Prelude.{◌≡◌, ◌++◌, ℕ, List, [], Bool, If
 ghost use Rattle.std.specs.Prelude.{◌&&◌, false, if◌then◌else◌, is_some, option_map, string_bytes};
 ghost use Rattle.std.specs.Prelude.{true};
 ghost use Rattle.std.specs.Io.KnownBytes.{Appends, prepend_known};
-ghost use Rattle.fare_table.specs.Fares.{Fares};
+ghost use Rattle.tariffs.specs.Fares.{Fares};
 ghost use Rattle.ledger_check.specs.Balances.{IsBalance};
 ghost use Rattle.ledger_check.specs.FullBalances.{IsFullBalance};
 ghost use Rattle.tap_views.specs.declared.encoder.TapFields.{TapFields};

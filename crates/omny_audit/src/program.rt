@@ -4,7 +4,7 @@ ghost use Rattle.std.specs.Prelude.{None, Option, Some, codes, false, ifâ—Œthenâ
 ghost use Rattle.std.specs.Prelude.{length, map, option_map, string_bytes, true};
 ghost use Rattle.std.specs.Io.KnownBytes.{Keeps};
 ghost use Rattle.clap.specs.Words.{kind_of};
-ghost use Rattle.fare_table.specs.Fares.{Fares};
+ghost use Rattle.tariffs.specs.Fares.{Fares};
 ghost use Rattle.ledger_check.specs.Balances.{IsBalance};
 ghost use Rattle.ledger_check.specs.Columns.{has_traced_head};
 ghost use Rattle.ledger_check.specs.Places.{HasUploads, uploads_of};

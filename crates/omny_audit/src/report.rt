@@ -3,7 +3,7 @@
 ghost use Rattle.std.specs.Prelude.{◌≡◌, ◌&&◌, ◌++◌, ℕ, List, [], IfOk, OnOk, codes, string_bytes};
 ghost use Rattle.std.specs.Prelude.{true};
 ghost use Rattle.std.specs.Fmt.{decimal};
-ghost use Rattle.fare_table.specs.Fares.{Fares};
+ghost use Rattle.tariffs.specs.Fares.{Fares};
 ghost use Rattle.ledger_check.specs.Ledger.{IsLedger};
 ghost use Rattle.omny_audit.specs.Reports.{IsReportFinding, IsReportLine, report_text};
 ghost use Rattle.omny_audit.specs.inside.Reports.{HasSummedFor, text_of};

@@ -3,11 +3,11 @@ use Rattle.std.proofs.Common.{◌≡◌, ◌∙◌, ◌≤◌, ◌*◌, ℕ, ari
 use Rattle.std.specs.Prelude.{pos, ℤ}
 use Rattle.std.proofs.lemmas.Int.{ints}
 use Rattle.jiff_core.specs.Calendar.{days_from_civil}
-use Rattle.fare_table.specs.Fares.{Fares}
-use Rattle.fare_table.specs.Following.{IsFollowFault, last_from}
-use Rattle.fare_table.specs.declared.follow_fault.FollowFault.{FollowFault}
-use Rattle.fare_table.specs.declared.follow_fault.FollowFault.TheVariants.{Date, Followed, Modes}
-use Rattle.fare_table.specs.declared.follow_fault.FollowFault.TheVariants.{NoMemory, Zone}
+use Rattle.tariffs.specs.Fares.{Fares}
+use Rattle.tariffs.specs.Following.{IsFollowFault, last_from}
+use Rattle.tariffs.specs.declared.follow_fault.FollowFault.{FollowFault}
+use Rattle.tariffs.specs.declared.follow_fault.FollowFault.TheVariants.{Date, Followed, Modes}
+use Rattle.tariffs.specs.declared.follow_fault.FollowFault.TheVariants.{NoMemory, Zone}
 use Rattle.program_manners.specs.TableLoads.{IsWrongFrom}
 use Rattle.program_manners.specs.TableWords.{IsMidnight}
 use Rattle.program_manners.specs.declared.table_words.WrittenDate.{WrittenDate}

@@ -5,8 +5,9 @@ use Rattle.std.proofs.Common.{drop, get_or, length, length-append, map, refl, su
 use Rattle.std.proofs.Common.{zero}
 use Rattle.std.specs.Prelude.{IsUtf8, Ok, slice_get}
 use Rattle.std.proofs.lemmas.List.{map_more}
-use Rattle.fare_table.specs.Fares.{Fares}
-use Rattle.fare_table.specs.TableMeaning.{TableMeaning, meaning_in}
+use Rattle.tariffs.specs.Fares.{Fares}
+use Rattle.tariffs.specs.TableMeaning.{TableMeaning}
+use Rattle.fare_table.specs.TableMeaning.{meaning_in}
 use Rattle.program_manners.specs.Loads.{Loaded, LoadsOne}
 use Rattle.program_manners.specs.TableLoads.{Follows, LoadsLater, LoadsTables}
 use Rattle.program_manners.specs.TableWords.{TableNames, file_named}

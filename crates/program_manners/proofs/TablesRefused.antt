@@ -3,9 +3,9 @@ use Rattle.std.proofs.Common.{◌≡◌, ◌∙◌, ℕ, List, [], ◌∷◌, �
 use Rattle.std.proofs.Common.{refl, subst}
 use Rattle.std.proofs.Common.{sym}
 use Rattle.std.specs.Prelude.{◌≢◌}
-use Rattle.fare_table.specs.Fares.{Fares}
+use Rattle.tariffs.specs.Fares.{Fares}
 use Rattle.fare_table.specs.declared.fault.TableFault.{TableFault}
-use Rattle.fare_table.specs.declared.follow_fault.FollowFault.{FollowFault}
+use Rattle.tariffs.specs.declared.follow_fault.FollowFault.{FollowFault}
 use Rattle.program_manners.specs.Loads.{Loaded, LoadsOne}
 use Rattle.program_manners.specs.Refusals.{IsFirstTableFault, IsOneOf}
 use Rattle.program_manners.specs.TableLoads.{CannotFollow, LoadsTables, LoadsUpTo}

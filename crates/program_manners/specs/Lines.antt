@@ -3,8 +3,8 @@ use Rattle.std.specs.Prelude.{ℕ, List, ◌++◌, codes, decimal}
 use Rattle.fare_table.specs.Key.{key_name}
 use Rattle.fare_table.specs.declared.fault.TableFault.{TableFault}
 use Rattle.fare_table.specs.declared.fault.TableFault.TheVariants as table
-use Rattle.fare_table.specs.declared.follow_fault.FollowFault.{FollowFault}
-use Rattle.fare_table.specs.declared.follow_fault.FollowFault.TheVariants as follow
+use Rattle.tariffs.specs.declared.follow_fault.FollowFault.{FollowFault}
+use Rattle.tariffs.specs.declared.follow_fault.FollowFault.TheVariants as follow
 use Rattle.program_manners.specs.declared.file_list.ListFault.{ListFault}
 use Rattle.program_manners.specs.declared.file_list.ListFault.TheVariants as listed
 use Rattle.program_manners.specs.declared.file_list.NameEnd.{NameEnd}

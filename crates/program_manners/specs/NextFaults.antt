@@ -1,6 +1,6 @@
 -- Why a table does not follow others.
 use Rattle.std.specs.Prelude.{ℕ, List}
-use Rattle.fare_table.specs.Fares.{Fares}
+use Rattle.tariffs.specs.Fares.{Fares}
 use Rattle.program_manners.specs.Refusals.{IsFirstTableFault}
 use Rattle.program_manners.specs.TableLoads.{CannotFollow}
 use Rattle.program_manners.specs.declared.following.NextFault.{NextFault}

@@ -1,10 +1,10 @@
 -- Fare tables that are loaded one after another.
 use Rattle.std.specs.Prelude.{◌≡◌, ◌≤◌, ◌++◌, ℕ, List, [], ◌∷◌, IsUtf8, Option, Some}
-use Rattle.fare_table.specs.Fares.{Fares}
-use Rattle.fare_table.specs.Following.{CanFollow, IsFollowFault, last_from, with_next}
+use Rattle.tariffs.specs.Fares.{Fares}
+use Rattle.tariffs.specs.Following.{CanFollow, IsFollowFault, last_from, with_next}
 use Rattle.fare_table.specs.Meaning.{Means}
-use Rattle.fare_table.specs.declared.follow_fault.FollowFault.{FollowFault}
-use Rattle.fare_table.specs.declared.follow_fault.FollowFault.TheVariants.{Date}
+use Rattle.tariffs.specs.declared.follow_fault.FollowFault.{FollowFault}
+use Rattle.tariffs.specs.declared.follow_fault.FollowFault.TheVariants.{Date}
 use Rattle.program_manners.specs.Loads.{Loaded, LoadsOne}
 use Rattle.program_manners.specs.TableWords.{IsMidnight, TableNames, file_named, written_date}
 use Rattle.program_manners.specs.declared.table_words.WrittenDate.{WrittenDate}

@@ -4,8 +4,8 @@ use Rattle.std.specs.Prelude.{None}
 use Rattle.std.specs.Prelude.{Some, codes, drop, false, if◌then◌else◌, is_some, length, nat_le, pos}
 use Rattle.std.specs.Prelude.{slice_index_or, map, take, true}
 use Rattle.jiff_core.specs.Calendar.{days_from_civil, days_in_month}
-use Rattle.fare_table.specs.ClockView.{ClockView}
-use Rattle.fare_table.specs.Until.{midnight_by, moment_nanos}
+use Rattle.tariffs.specs.ClockView.{ClockView}
+use Rattle.tariffs.specs.Until.{midnight_by, moment_nanos}
 use Rattle.program_manners.specs.declared.table_words.DateFault.{DateFault}
 use Rattle.program_manners.specs.declared.table_words.DateFault.TheVariants.{IsFirst, NoDate}
 use Rattle.program_manners.specs.declared.table_words.DateFault.TheVariants.{NotADay}

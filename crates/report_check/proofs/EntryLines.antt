@@ -3,9 +3,9 @@ use Rattle.std.proofs.Common.{◌≡◌, ℕ, ◌≤◌, List, [], ◌∷◌, �
 use Rattle.std.proofs.Common.{refl, sym, ap, subst, ◌∙◌, append_assoc, option_map}
 use Rattle.std.specs.Fmt.{decimal}
 use Rattle.hex.specs.Hex.{encode_lower}
-use Rattle.fare_table.specs.Fares.{Fares, class_of, meaning_at, mode_at, ride_terms}
-use Rattle.fare_table.specs.Terms.{AreRideTerms}
-use Rattle.fare_table.specs.declared.mode.Mode.{Mode}
+use Rattle.tariffs.specs.Fares.{Fares, class_of, meaning_at, mode_at, ride_terms}
+use Rattle.tariffs.specs.Terms.{AreRideTerms}
+use Rattle.tariffs.specs.declared.mode.Mode.{Mode}
 use Rattle.fare_texts.specs.Moments.{IsMomentText}
 use Rattle.fare_texts.specs.StatementText.{answer_text}
 use Rattle.account_rule.specs.Taps.{live_at}

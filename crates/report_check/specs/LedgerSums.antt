@@ -1,7 +1,7 @@
 -- What sums know of a ledger's text that was read.
 use Rattle.std.specs.Prelude.{◌≡◌, ◌≤◌, ◌^◌, ℕ, List, [], ◌∷◌, ◌++◌, MatchBool, false, length, map}
 use Rattle.std.specs.Prelude.{true}
-use Rattle.fare_table.specs.Fares.{Fares}
+use Rattle.tariffs.specs.Fares.{Fares}
 use Rattle.shard_book.specs.declared.entry.Entry.{Entry}
 use Rattle.ledger_check.specs.Ledger.{AreNext, IsLedger}
 use Rattle.ledger_check.specs.Lines.{Lacks, lines_of}

@@ -16,11 +16,11 @@ ghost use Rattle.report_check.specs.EntryLines.{without_moment};
 ghost use Rattle.report_check.specs.inside.RideTerms.{HasRideTerms};
 
 use account_rule::Answer;
-use fare_table::{FareTable, Terms};
 use ledger_check::{field, read_moment, read_small_number};
 use report_texts::{after_word, token_before};
 use shard_book::Entry;
 use tap_views::Token;
+use tariffs::{FareTable, Terms};
 
 /// The name of the validator's mode at the moment, or nothing if the table does not know the
 /// validator.

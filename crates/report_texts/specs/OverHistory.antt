@@ -1,6 +1,6 @@
 -- The texts over a history: the report of uploads, and the statement of a token.
 use Rattle.std.specs.Prelude.{◌≡◌, ℕ, List}
-use Rattle.fare_table.specs.Fares.{Fares}
+use Rattle.tariffs.specs.Fares.{Fares}
 use Rattle.tap_views.specs.declared.token.Token.{Token}
 use Rattle.shard_book.specs.Statement.{IsStatement}
 use Rattle.shard_book.specs.Sums.{sums}

@@ -5,8 +5,8 @@ use Rattle.std.proofs.Common.{drop, get_or, inl, inr, length, map, suc, take, ze
 use Rattle.std.proofs.lemmas.Bool.{cases_lt}
 use Rattle.std.proofs.lemmas.List.{get_or-take, length-take, take_all, take_more}
 use Rattle.std.proofs.lemmas.Option.{get_or_from_slice_get, slice_get_within}
-use Rattle.fare_table.specs.Fares.{Fares}
-use Rattle.fare_table.specs.TableMeaning.{TableMeaning}
+use Rattle.tariffs.specs.Fares.{Fares}
+use Rattle.tariffs.specs.TableMeaning.{TableMeaning}
 use Rattle.std.specs.Prelude.{is_some, nat_le, slice_get, option_map, if◌then◌else◌, string_bytes}
 use Rattle.std.specs.Prelude.{String}
 use Rattle.std.specs.BTreeMap.{BTreeMap, is_at}
@@ -23,7 +23,7 @@ use Rattle.settled_texts.specs.Names.{HasClasses, IsDatedOf, NamesOf, class_by, 
 use Rattle.settled_texts.specs.declared.class_names.ClassNames.{ClassNames}
 use Rattle.settled_texts.specs.declared.class_names.DatedNames.{DatedNames}
 use Rattle.settled_texts.specs.declared.class_names.TextNames.{TextNames}
-use Rattle.fare_table.proofs.KeyLemmas.{same_bytes}
+use Rattle.tariffs.proofs.ByteLemmas.{same_bytes}
 
 pub first_none : (o : Option (List ℕ)) → o ≡ first_class o None
 first_none None = refl

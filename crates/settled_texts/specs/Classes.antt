@@ -9,8 +9,8 @@ use Rattle.hex.specs.Hex.{decode_sized}
 use Rattle.toml.specs.Data.{Data, Members, no_members, member, as_str, as_table, get_member}
 use Rattle.toml.specs.Data.{same_key}
 use Rattle.toml.specs.Parse.{parse_document}
-use Rattle.fare_table.specs.Fares.{Fares}
-use Rattle.fare_table.specs.TableMeaning.{TableMeaning}
+use Rattle.tariffs.specs.Fares.{Fares}
+use Rattle.tariffs.specs.TableMeaning.{TableMeaning}
 
 -- these are the bytes of the token
 abbrev pub is_token : List ℕ → Option (List ℕ) → Bool

@@ -1,6 +1,6 @@
 -- Traced ledgers.
 use Rattle.std.specs.Prelude.{◌≡◌, ℕ, Bool, List, ◌∷◌, None}
-use Rattle.fare_table.specs.Fares.{Fares}
+use Rattle.tariffs.specs.Fares.{Fares}
 use Rattle.fare_texts.specs.Ledger.{IsLedgerOver}
 use Rattle.settlement.specs.Posted.{posted}
 use Rattle.settlement.specs.Settled.{IsSettledHistory}

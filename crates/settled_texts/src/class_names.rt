@@ -18,10 +18,10 @@ ghost use Rattle.settled_texts.specs.Names.{HasClasses, HasRiders, NamesOf, clas
 ghost use Rattle.settled_texts.specs.Names.{rider_by};
 ghost use Rattle.settled_texts.specs.ClassFaults.{HasPlainClasses, IsFaultOf, IsWrongAt};
 
-use fare_table::FareTable;
 use hex::FromHex;
 use std::alloc::{AllocError, Global};
 use std::collections::BTreeMap;
+use tariffs::FareTable;
 use toml::{Table, Value};
 
 const MAX_NAME_BYTES: usize = 64;

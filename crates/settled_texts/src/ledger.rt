@@ -15,13 +15,13 @@ ghost use Rattle.settlement.specs.Posted.{HasName, posted};
 use crate::lines::STRIDE_ROOM_BYTES;
 use crate::rounds::write_lists;
 use crate::seat::Seat;
-use fare_table::FareTable;
 use fare_texts::{Explainer, PrintFault, head_with_room, pass_on};
 use std::alloc::Global;
 use std::io::Write;
 use std::marker::Sync;
 use std::thread::Threads;
 use tap_views::{NoMemory, TapFields, Token};
+use tariffs::FareTable;
 
 /// Counts the taps of the lists. If there are more than memory can hold, the error is want of
 /// memory.

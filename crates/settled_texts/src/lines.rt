@@ -10,11 +10,11 @@ ghost use Rattle.fare_texts.specs.WrittenOut.{Begins, GoesOut};
 ghost use Rattle.settlement.specs.Posted.{posted_after, token_of_tap};
 ghost use Rattle.settled_texts.specs.ExplainedTaps.{AreExplained, NoTapFallsFrom, last_token};
 
-use fare_table::{Clock, FareTable};
 use fare_texts::{Explainer, LINE_ROOM_BYTES, PrintFault, go_on_to, pass_piece};
 use std::alloc::AllocError;
 use std::io::Write;
 use tap_views::{TapFields, Token};
+use tariffs::{Clock, FareTable};
 
 /// How many taps are posted before their lines may go out.
 const STRIDE_TAPS: usize = 64;

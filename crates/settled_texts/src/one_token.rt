@@ -15,13 +15,13 @@ ghost use Rattle.fare_texts.specs.Ledger.{IsLedgerOver};
 ghost use Rattle.settlement.specs.Posted.{posted, token_of_tap};
 ghost use Rattle.settlement.specs.Replays.{HasPosted};
 
-use fare_table::FareTable;
 use fare_texts::{PrintFault, statement_text, write_explained_of, write_ledger_of, write_out};
 use settlement::Replay;
 use shard_book::{Entry, Lines, Statement, totals_of_entries};
 use std::alloc::Global;
 use std::io::Write;
 use tap_views::{NoMemory, TapFields, Token};
+use tariffs::FareTable;
 
 #[derive(Drop)]
 struct PostedTaps {

@@ -16,13 +16,13 @@ ghost use Rattle.settled_texts.specs.ExplainedTaps.{AreExplained, NoTapFallsFrom
 
 use crate::lines::write_taps;
 use crate::seat::Seat;
-use fare_table::{Clock, FareTable};
 use fare_texts::{Explainer, PrintFault, pass_on, write_out};
 use std::io::Write;
 use std::marker::Sync;
 use std::thread;
 use std::thread::Threads;
 use tap_views::TapFields;
+use tariffs::{Clock, FareTable};
 
 /// Lets each seat make the lines of the list at its place.
 fn sit<R: Threads + Sync>(

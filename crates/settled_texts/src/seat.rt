@@ -6,10 +6,10 @@ ghost use Rattle.tap_views.specs.declared.encoder.TapFields.{TapFields};
 ghost use Rattle.settled_texts.specs.inside.Seats.{HasSat, IsSoundList};
 
 use crate::lines::{explain_taps, token_of};
-use fare_table::{Clock, FareTable};
 use fare_texts::Explainer;
 use std::alloc::Global;
 use tap_views::{TapFields, Token};
+use tariffs::{Clock, FareTable};
 
 /// The most taps of a list that a seat takes, so that its text stays small.
 const SEAT_TAPS: usize = 65_536;

@@ -27,12 +27,12 @@ use crate::columns::put_lines;
 use crate::trace::{TracedTap, trace_of};
 use crate::{STRIDE_ROOM_BYTES, least_token, write_taps};
 use fare_service::laws::plain_history;
-use fare_table::{Clock, FareTable};
 use fare_texts::{Explainer, PrintFault, pass_on, write_out};
 use std::alloc::{AllocError, Global};
 use std::io::Write;
 use tap_views::laws::one_reading_each;
 use tap_views::{NoMemory, TapFields};
+use tariffs::{Clock, FareTable};
 
 /// The head line of a ledger, without its line feed.
 const HEAD: &str =

@@ -1,8 +1,8 @@
 -- The good taps of uploads have tokens of 16 bytes.
 use Rattle.std.proofs.Common.{ℕ, List, All, None, map, ap, subst, ◌∙◌, []}
 use Rattle.std.proofs.lemmas.List.Elements.{All-weaker}
-use Rattle.fare_table.specs.Fares.{Fares}
-use Rattle.fare_table.specs.declared.window_span.WindowSpan.TheVariants.{CalendarDay}
+use Rattle.tariffs.specs.Fares.{Fares}
+use Rattle.tariffs.specs.declared.window_span.WindowSpan.TheVariants.{CalendarDay}
 use Rattle.shard_book.specs.Visits.{AreEntriesOf}
 use Rattle.shard_book.specs.declared.entry.Entry.{Entry}
 use Rattle.tap_views.specs.Encoding.{fields_of}

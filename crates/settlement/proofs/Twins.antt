@@ -4,7 +4,7 @@ use Rattle.std.proofs.Common.{sym, ap, ◌∙◌, arith, Option, Some, None}
 use Rattle.std.specs.List.{Contains}
 use Rattle.std.specs.Prelude.{is_some, option_map}
 use Rattle.std.proofs.lemmas.Bool.{le-ltb}
-use Rattle.fare_table.specs.Fares.{Fares, mode_at}
+use Rattle.tariffs.specs.Fares.{Fares, mode_at}
 use Rattle.tap_views.specs.Token.{bytes_of}
 use Rattle.tap_views.specs.declared.token.Token.{Token}
 use Rattle.account_rule.specs.Replies.{reply, reply_with}

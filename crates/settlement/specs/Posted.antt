@@ -1,7 +1,7 @@
 -- Taps that are posted in their order, by their fields.
 use Rattle.std.specs.Prelude.{◌≡◌, List, ◌∷◌, ◌++◌, filter, []}
 use Rattle.tap_views.specs.declared.encoder.TapFields.{TapFields}
-use Rattle.fare_table.specs.Fares.{Fares}
+use Rattle.tariffs.specs.Fares.{Fares}
 use Rattle.tap_views.specs.Token.{Fits, bytes_of, token_eq}
 use Rattle.tap_views.specs.declared.token.Token.{Token}
 use Rattle.account_rule.specs.declared.reply.Answer.TheVariants.{Unknown}

@@ -1,6 +1,6 @@
 -- The account of a token whose taps are posted one after another.
 use Rattle.std.specs.Prelude.{List}
-use Rattle.fare_table.specs.Fares.{Fares}
+use Rattle.tariffs.specs.Fares.{Fares}
 use Rattle.tap_views.specs.Token.{bytes_of}
 use Rattle.account_rule.specs.Stands.{Stands}
 use Rattle.account_rule.specs.TokenRules.{rules_of}

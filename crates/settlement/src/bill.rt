@@ -15,10 +15,10 @@ ghost use Rattle.settlement.specs.Posted.{posted, token_of_tap};
 ghost use Rattle.settlement.specs.inside.Billing.{HasBillRoom, HaveBillRoom, IsFirstToken};
 
 use crate::replay::Replay;
-use fare_table::{Clock, FareTable};
 use shard_book::{HashSeed, Tally, TokenSums, ValidatorTallies};
 use std::alloc::Global;
 use tap_views::{NoMemory, TapFields, Token};
+use tariffs::{Clock, FareTable};
 
 /// What settled taps come to.
 #[derive(Drop)]

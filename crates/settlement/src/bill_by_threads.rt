@@ -7,7 +7,6 @@ ghost use Rattle.settlement.specs.inside.Billing.{IsPartBilled, IsSoundPart};
 use crate::bill::Bill;
 use crate::pieces::Pieces;
 use crate::uploads::Uploads;
-use fare_table::{Clock, FareTable};
 use shard_book::HashSeed;
 use std::alloc::Global;
 use std::marker::Sync;
@@ -15,6 +14,7 @@ use std::thread;
 use std::thread::Threads;
 use tap_parts::{are_in_order, arrange_into, number_of};
 use tap_views::{NoMemory, TapFields};
+use tariffs::{Clock, FareTable};
 
 /// Adds the taps of a part to the bill, in canonical order: as they lie, if that is their order.
 /// `list` is room to work in.

@@ -2,7 +2,7 @@
 
 ghost use Rattle.std.specs.Prelude.{◌≡◌, ◌<◌, List, ◌∷◌, ◌++◌, length, []};
 ghost use Rattle.std.specs.Option.{ForSome};
-ghost use Rattle.fare_table.specs.Fares.{Fares};
+ghost use Rattle.tariffs.specs.Fares.{Fares};
 ghost use Rattle.tap_views.specs.Token.{bytes_of};
 ghost use Rattle.account_rule.specs.TokenRules.{rules_of};
 ghost use Rattle.account_rule.specs.Windows.{last_window};
@@ -13,9 +13,9 @@ ghost use Rattle.settlement.specs.Posted.{token_of_tap, unposted};
 ghost use Rattle.settlement.specs.Replays.{HasPosted};
 
 use account_rule::{Account, TapIn, WindowView};
-use fare_table::{Clock, FareTable};
 use shard_book::Entry;
 use tap_views::{TapFields, Token};
+use tariffs::{Clock, FareTable};
 
 #[inline(always)]
 fn seen(table: &FareTable, tap: &TapFields) -> TapIn

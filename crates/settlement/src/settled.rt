@@ -20,13 +20,13 @@ use crate::pieces::{Pieces, pieces_of};
 use crate::split_taps::{SplitTaps, bytes_of, split_by_threads};
 use crate::uploads::Uploads;
 use fare_service::UploadEnd;
-use fare_table::FareTable;
 use shard_book::HashSeed;
 use std::alloc::{AllocError, Global};
 use std::marker::Sync;
 use std::thread::Threads;
 use tap_parts::{TokenRanges, sort};
 use tap_views::{NoMemory, TapFields, Token};
+use tariffs::FareTable;
 
 /// How many bytes of uploads go to one part: some 40,000 taps. More parts make the split slower,
 /// larger ones the order.

@@ -7,8 +7,8 @@ use Rattle.std.specs.List.{filter}
 use Rattle.std.proofs.lemmas.List.{length-append, map-append, append-nil, append_assoc}
 use Rattle.std.proofs.lemmas.Bool.{cases_Bool}
 use Rattle.std.proofs.lemmas.List.Elements.{filter-append}
-use Rattle.fare_table.specs.Fares.{Fares, mode_at}
-use Rattle.fare_table.specs.declared.mode.Mode.{Mode}
+use Rattle.tariffs.specs.Fares.{Fares, mode_at}
+use Rattle.tariffs.specs.declared.mode.Mode.{Mode}
 use Rattle.account_rule.specs.declared.tap.TapIn.{TapIn}
 use Rattle.account_rule.specs.TokenRules.{rules_of}
 use Rattle.shard_book.specs.declared.accounts.Accounts.{Accounts}

@@ -6,7 +6,7 @@ use Rattle.std.proofs.Common.{refl, sym, ◌∙◌, ap, subst, arith, append-nil
 use Rattle.std.proofs.Common.{length-append}
 use Rattle.std.proofs.lemmas.List.{map-append}
 use Rattle.std.proofs.lemmas.List.Elements.{filter-append}
-use Rattle.fare_table.specs.Fares.{Fares}
+use Rattle.tariffs.specs.Fares.{Fares}
 use Rattle.tap_views.specs.Layout.{Tap}
 use Rattle.account_rule.specs.Replies.{reply}
 use Rattle.account_rule.specs.TokenRules.{TokenRules, rules_of}

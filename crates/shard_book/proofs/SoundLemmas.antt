@@ -4,8 +4,8 @@ use Rattle.std.proofs.Common.{Option, None, ◌<◌, ◌≤◌}
 use Rattle.std.specs.Option.{option_map}
 use Rattle.std.proofs.lemmas.List.Elements.{All-nil, All-push}
 use Rattle.tap_views.specs.Shards.{shard_of_token}
-use Rattle.fare_table.specs.Fares.{Fares, mode_at}
-use Rattle.fare_table.specs.declared.mode.Mode.{Mode}
+use Rattle.tariffs.specs.Fares.{Fares, mode_at}
+use Rattle.tariffs.specs.declared.mode.Mode.{Mode}
 use Rattle.account_rule.specs.declared.tap.TapIn.{TapIn}
 use Rattle.account_rule.specs.Replies.{reply}
 use Rattle.account_rule.specs.TokenRules.{rules_of}

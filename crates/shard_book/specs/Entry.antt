@@ -1,8 +1,8 @@
 -- Entries of a history, and the taps of one token among them.
 use Rattle.std.specs.Prelude.{◌≡◌, ℕ, Bool, List, All, option_map, map, filter, ◌==◌}
 use Rattle.tap_views.specs.Layout.{Tap, num}
-use Rattle.fare_table.specs.Fares.{Fares, mode_at}
-use Rattle.fare_table.specs.declared.mode.Mode.{Mode}
+use Rattle.tariffs.specs.Fares.{Fares, mode_at}
+use Rattle.tariffs.specs.declared.mode.Mode.{Mode}
 use Rattle.account_rule.specs.declared.reply.Reply.{Reply}
 use Rattle.account_rule.specs.declared.tap.TapIn.{TapIn}
 use Rattle.shard_book.specs.declared.entry.Entry.{Entry}

@@ -1,6 +1,6 @@
 -- Legal histories: every reply is the account rule's.
 use Rattle.std.specs.Prelude.{◌≡◌, List, ◌∷◌, ◌++◌}
-use Rattle.fare_table.specs.Fares.{Fares}
+use Rattle.tariffs.specs.Fares.{Fares}
 use Rattle.account_rule.specs.Replies.{reply}
 use Rattle.account_rule.specs.TokenRules.{rules_of}
 use Rattle.shard_book.specs.declared.entry.Entry.{Entry}

@@ -1,6 +1,6 @@
 -- The statement of one token.
 use Rattle.std.specs.Prelude.{◌≡◌, List}
-use Rattle.fare_table.specs.Fares.{Fares}
+use Rattle.tariffs.specs.Fares.{Fares}
 use Rattle.account_rule.specs.TokenRules.{rules_of}
 use Rattle.account_rule.specs.Windows.{last_window}
 use Rattle.shard_book.specs.declared.entry.Entry.{Entry}

@@ -1,8 +1,8 @@
 -- What holds of the windows of a token's taps.
 use Rattle.std.specs.Prelude.{◌≡◌, ◌≤◌, ℕ, List, [], map, filter, flat_map, All, sum_by}
-use Rattle.fare_table.specs.Fares.{Fares, terms_at}
-use Rattle.fare_table.specs.TableMeaning.{TableMeaning}
-use Rattle.fare_table.specs.declared.terms.Terms.{Terms}
+use Rattle.tariffs.specs.Fares.{Fares, terms_at}
+use Rattle.tariffs.specs.TableMeaning.{TableMeaning}
+use Rattle.tariffs.specs.declared.terms.Terms.{Terms}
 use Rattle.account_rule.specs.declared.reply.Reply.{Reply}
 use Rattle.account_rule.specs.Laws.{GrowsWithinLimits, charge_reply, is_ride}
 use Rattle.account_rule.specs.TokenRules.{rules_of}

@@ -21,11 +21,11 @@ ghost use Rattle.tap_views.specs.declared.token.Token.{Token};
 use crate::sums::counts::{Counts, TokenCounts};
 use crate::token_hash::HashSeed;
 use account_rule::{Account, Reply, TapIn};
-use fare_table::{Clock, FareTable};
 use indexmap::IndexMap;
 use indexmap::map::Entry as MapEntry;
 use std::alloc::Global;
 use tap_views::{NoMemory, Token};
+use tariffs::{Clock, FareTable};
 
 /// The most accounts that a book keeps, below 2^32: an entry of the history has 32 bits for the
 /// place of its token's account.

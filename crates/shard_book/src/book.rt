@@ -19,10 +19,10 @@ use crate::prefetch::NO_PLACE;
 use crate::sums::counts::TokenCounts;
 use crate::token_hash::HashSeed;
 use account_rule::{Account, Reply, TapIn};
-use fare_table::{Clock, FareTable};
 use std::alloc::Global;
 use std::marker::Model;
 use tap_views::{NoMemory, TapView, Token};
+use tariffs::{Clock, FareTable};
 
 /// The accounts and the history of one shard.
 ///

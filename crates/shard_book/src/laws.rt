@@ -2,7 +2,7 @@
 
 ghost use Rattle.std.specs.Prelude.{◌≡◌, ◌↔◌, ◌++◌, ℕ, List};
 ghost use Rattle.std.specs.Ordering.{nat_cmp};
-ghost use Rattle.fare_table.specs.Fares.{Fares};
+ghost use Rattle.tariffs.specs.Fares.{Fares};
 ghost use Rattle.shard_book.specs.declared.entry.Entry.{Entry};
 ghost use Rattle.tap_views.specs.declared.token.Token.{Token};
 ghost use Rattle.shard_book.specs.History.{IsLegal};

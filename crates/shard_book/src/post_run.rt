@@ -9,8 +9,8 @@ use crate::book::ShardBook;
 use crate::prefetch::{AT_ONCE, NO_PLACE};
 use crate::replies::Replies;
 use crate::run_end::RunEnd;
-use fare_table::Clock;
 use tap_views::Run;
+use tariffs::Clock;
 
 impl ShardBook {
     /// Posts the taps of a run in their order and appends their replies to `out`, up to the first

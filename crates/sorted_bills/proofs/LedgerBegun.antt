@@ -10,7 +10,7 @@ use Rattle.std.proofs.lemmas.List.{get_or_default, map-append}
 use Rattle.std.proofs.lemmas.List.Elements.{All-append, All-head, All-nil, All-cons, All-tail}
 use Rattle.std.proofs.lemmas.List.Elements.{All-weaker}
 use Rattle.std.proofs.lemmas.List.Sorted.{All-permutation}
-use Rattle.fare_table.specs.Fares.{Fares}
+use Rattle.tariffs.specs.Fares.{Fares}
 use Rattle.tap_views.specs.Encoding.{fields_of}
 use Rattle.tap_views.specs.Files.{IsFile, taps_of_batches}
 use Rattle.tap_views.specs.Layout.{IsBatchIn, IsTapOf, Layout, Tap, Tap1, Tap2, magic, shared}

@@ -1,6 +1,6 @@
 -- The ledger of sorted files.
 use Rattle.std.specs.Prelude.{◌≡◌, ◌<◌, ℕ, All, List, None, Option, Some, map}
-use Rattle.fare_table.specs.Fares.{Fares}
+use Rattle.tariffs.specs.Fares.{Fares}
 use Rattle.fare_texts.specs.Ledger.{IsLedgerOver}
 use Rattle.settlement.specs.Settled.{IsSettledHistory}
 use Rattle.shard_book.specs.declared.entry.Entry.{Entry}

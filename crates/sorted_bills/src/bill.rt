@@ -16,7 +16,6 @@ use crate::fault::BillFault;
 use crate::open_bill::OpenBill;
 use crate::taker::Taker;
 use crate::tap_numbers::{count, ends_of};
-use fare_table::FareTable;
 use placed_files::Placed;
 use settled_texts::least_token;
 use settlement::Billed;
@@ -25,6 +24,7 @@ use sorted_taps::{WINDOW_BYTES, check_files, have_stamps, stamps_of};
 use std::alloc::Global;
 use std::marker::Sync;
 use std::thread::Threads;
+use tariffs::FareTable;
 
 /// The bill of the files, in one pass. Its fault need not be the first one of the files.
 fn bill_of<F: Placed>(

@@ -2,7 +2,7 @@
 
 ghost use Rattle.std.specs.Prelude.{◌≡◌, ◌^◌, ◌<◌, ◌≤◌, true, ℕ, List, Option, IfOk, IfSome, OnOk};
 ghost use Rattle.std.specs.Prelude.{length, map};
-ghost use Rattle.fare_table.specs.Fares.{Fares};
+ghost use Rattle.tariffs.specs.Fares.{Fares};
 ghost use Rattle.report_texts.specs.UploadEnds.{are_posted};
 ghost use Rattle.report_texts.specs.declared.upload_end.UploadEnd.TheVariants.{Posted};
 ghost use Rattle.sorted_taps.specs.Merges.{AreAtEnd};
@@ -13,7 +13,6 @@ ghost use Rattle.sorted_bills.specs.inside.Charged.{AreParts, IsPart};
 use crate::fault::BillFault;
 use crate::part::{Part, part_of};
 use crate::tap_numbers::{count, ends_of};
-use fare_table::FareTable;
 use placed_files::Placed;
 use settlement::{Bill, Billed};
 use shard_book::HashSeed;
@@ -23,6 +22,7 @@ use std::marker::Sync;
 use std::thread;
 use std::thread::Threads;
 use tap_views::Token;
+use tariffs::FareTable;
 
 /// More workers are of no use.
 pub(crate) const MAX_WORKERS: u32 = 64;

@@ -10,10 +10,10 @@ ghost use Rattle.sorted_bills.specs.inside.Taken.{IsReady};
 use crate::fault::BillFault;
 use crate::open_bill::OpenBill;
 use crate::taker::Taker;
-use fare_table::FareTable;
 use placed_files::Placed;
 use std::alloc::Global;
 use tap_views::Token;
+use tariffs::FareTable;
 
 /// Takes the taps of the files that have tokens below the bound, or all if there is none, and adds
 /// them to the bill, which has none yet.

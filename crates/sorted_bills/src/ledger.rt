@@ -14,7 +14,6 @@ use crate::file_checks::check_all;
 use crate::rounds::{Rounds, write_ranges};
 use crate::taker::Taker;
 use crate::tap_numbers::{count, ends_of};
-use fare_table::FareTable;
 use fare_texts::{Explainer, head_with_room, pass_on};
 use placed_files::Placed;
 use report_texts::UploadEnd;
@@ -24,6 +23,7 @@ use std::alloc::Global;
 use std::io::Write;
 use std::marker::Sync;
 use std::thread::Threads;
+use tariffs::FareTable;
 
 /// Writes the ledger of all tokens over the settled history of sorted files: the head line, and a
 /// line for each tap, with the reply and the reason that the account rule has for it after the

@@ -11,12 +11,12 @@ ghost use Rattle.sorted_bills.specs.inside.Explained.{AreExplainedSoFar, IsBegun
 
 use crate::fault::BillFault;
 use crate::taker::Taker;
-use fare_table::{Clock, FareTable};
 use fare_texts::Explainer;
 use placed_files::Placed;
 use settled_texts::write_taps;
 use std::io::Write;
 use tap_views::Token;
+use tariffs::{Clock, FareTable};
 
 /// Takes the taps of the files that have tokens below the bound, or all if there is none, posts
 /// them, and appends their lines to `text`. The lines in `text` may go out first. More taps than

@@ -2,7 +2,7 @@
 
 ghost use Rattle.std.specs.Prelude.{◌≡◌, ◌+◌, ◌<◌, ◌≤◌, ◌^◌, ◌++◌, ◌∷◌, [], List, IfOk, OnOk};
 ghost use Rattle.std.specs.Prelude.{length};
-ghost use Rattle.fare_table.specs.Fares.{Fares};
+ghost use Rattle.tariffs.specs.Fares.{Fares};
 ghost use Rattle.tap_views.specs.Encoding.{AreEarly};
 ghost use Rattle.tap_views.specs.declared.encoder.TapFields.{TapFields};
 ghost use Rattle.fare_texts.specs.Lines.{IsUpTo};
@@ -11,12 +11,12 @@ ghost use Rattle.settlement.specs.Posted.{posted, token_of_tap};
 ghost use Rattle.settled_texts.specs.ExplainedTaps.{NoTapFallsFrom, last_token};
 ghost use Rattle.sorted_bills.specs.inside.OpenBills.{HasRoomFor, IsOpenBill};
 
-use fare_table::{Clock, FareTable};
 use settled_texts::token_of;
 use settlement::{Bill, Replay};
 use shard_book::{HashSeed, Tally, TokenSums, ValidatorTallies};
 use std::alloc::Global;
 use tap_views::{NoMemory, TapFields, Token};
+use tariffs::{Clock, FareTable};
 
 /// The bill of the taps that were added, which come token by token. Of the last token its account
 /// is kept, and what its taps come to.

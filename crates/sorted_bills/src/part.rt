@@ -3,7 +3,7 @@
 ghost use Rattle.std.specs.Prelude.{◌≡◌, ◌≤◌, ◌^◌, ◌+◌, ◌++◌, ℕ, List, Option, IfOk, IsTrue, OnOk};
 ghost use Rattle.std.specs.Prelude.{length, map};
 ghost use Rattle.std.specs.declared.cmp.Ordering.TheVariants.{Less};
-ghost use Rattle.fare_table.specs.Fares.{Fares};
+ghost use Rattle.tariffs.specs.Fares.{Fares};
 ghost use Rattle.tap_views.specs.Token.{token_cmp};
 ghost use Rattle.shard_book.specs.SumsByKey.{token_of};
 ghost use Rattle.shard_book.specs.declared.entry.Entry.{Entry};
@@ -16,7 +16,6 @@ use crate::charges::charge;
 use crate::fault::BillFault;
 use crate::open_bill::OpenBill;
 use crate::taker::Taker;
-use fare_table::FareTable;
 use placed_files::Placed;
 use settled_texts::least_token;
 use settlement::Bill;
@@ -24,6 +23,7 @@ use shard_book::HashSeed;
 use sorted_taps::{Span, WINDOW_BYTES, copies_of, joined};
 use std::alloc::Global;
 use tap_views::{NoMemory, Token};
+use tariffs::FareTable;
 
 #[derive(Drop)]
 pub(crate) struct Part {

@@ -2,14 +2,13 @@
 
 ghost use Rattle.std.specs.Prelude.{◌≡◌, ◌+◌, ◌≤◌, [], All, IfOk, None, OnOk, length, map};
 ghost use Rattle.std.specs.Prelude.{string_bytes};
-ghost use Rattle.fare_table.specs.Fares.{Fares};
+ghost use Rattle.tariffs.specs.Fares.{Fares};
 ghost use Rattle.fare_texts.specs.Explainers.{HasExplained};
 ghost use Rattle.sorted_bills.specs.inside.Ranges.{AreLinesAnywhere, IsRange};
 
 use crate::fault::BillFault;
 use crate::lines_below::explain_below;
 use crate::taker::Taker;
-use fare_table::{Clock, FareTable};
 use fare_texts::{Explainer, pass_on};
 use placed_files::Placed;
 use settled_texts::least_token;
@@ -19,6 +18,7 @@ use std::marker::Sync;
 use std::thread;
 use std::thread::Threads;
 use tap_views::Token;
+use tariffs::{Clock, FareTable};
 
 /// The most taps of a range, so that its lines stay few.
 const MOST_TAPS: u64 = 65_536;

@@ -2,7 +2,7 @@
 
 ghost use Rattle.std.specs.Prelude.{◌≡◌, ◌+◌, ◌≤◌, ◌<◌, ◌^◌, ℕ, All, List, Option, IfErr, IfOk};
 ghost use Rattle.std.specs.Prelude.{IfSome, None, OnErr, OnOk, length, map, string_bytes};
-ghost use Rattle.fare_table.specs.Fares.{Fares};
+ghost use Rattle.tariffs.specs.Fares.{Fares};
 ghost use Rattle.tap_views.specs.declared.token.Token.{Token};
 ghost use Rattle.shard_book.specs.declared.entry.Entry.{Entry};
 ghost use Rattle.sorted_taps.specs.Heads.{IsRanked};
@@ -20,7 +20,6 @@ use crate::lines_below::explain_below;
 use crate::part::is_below;
 use crate::range::{Range, make_ranges};
 use crate::taker::Taker;
-use fare_table::{Clock, FareTable};
 use fare_texts::{Explainer, pass_on, write_out};
 use placed_files::Placed;
 use sorted_taps::{Merge, SortedFault, Span, are_at_end, bounds_of, joined};
@@ -29,6 +28,7 @@ use std::io::Write;
 use std::marker::Sync;
 use std::thread::Threads;
 use tap_views::Token;
+use tariffs::{Clock, FareTable};
 
 /// About how many taps a range has.
 const RANGE_TAPS: u64 = 24_576;

@@ -12,7 +12,8 @@ use Rattle.std.specs.Ordering.{is_eq, nat_cmp}
 use Rattle.toml.specs.Data.{Data, Items, no_items, item, Members, no_members, member, as_table}
 use Rattle.toml.specs.Data.{get_item, get_member}
 use Rattle.fare_table.specs.Faults.{items_of, member_at, members_at, members_of}
-use Rattle.fare_table.proofs.KeyLemmas.{member-here, member-later, same_bytes}
+use Rattle.fare_table.proofs.KeyLemmas.{member-here, member-later}
+use Rattle.tariffs.proofs.ByteLemmas.{same_bytes}
 use Rattle.table_report.specs.Ignored.{IsIgnored, ignored_from, ignored_in, ignored_of}
 use Rattle.table_report.specs.Ignored.{ignored_of_classes, ignored_of_ranges, has_meaning, where_of}
 use Rattle.table_report.specs.declared.holder.KeyHolder.{KeyHolder}

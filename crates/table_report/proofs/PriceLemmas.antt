@@ -6,7 +6,7 @@ use Rattle.std.specs.Prelude.{if◌then◌else◌}
 use Rattle.std.proofs.iter.Rest.{range_with_len_first, range_with_len_none}
 use Rattle.std.specs.List.{range_with_len}
 use Rattle.account_rule.specs.Laws.{place_cents}
-use Rattle.fare_table.specs.declared.terms.Terms.{Terms}
+use Rattle.tariffs.specs.declared.terms.Terms.{Terms}
 use Rattle.table_report.specs.inside.Prices.{is_same, price_line, price_lines}
 
 -- the lines from a ride on

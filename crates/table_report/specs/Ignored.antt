@@ -6,7 +6,7 @@ use Rattle.toml.specs.Data.{as_table}
 use Rattle.std.specs.List.{list_any}
 use Rattle.fare_table.specs.Faults.{Where, top, class, range, items_of, key_word, members_at}
 use Rattle.fare_table.specs.Faults.{members_of}
-use Rattle.fare_table.specs.Modes.{same_name}
+use Rattle.tariffs.specs.Names.{same_name}
 use Rattle.fare_table.specs.declared.fault.Key.{Key}
 use Rattle.fare_table.specs.declared.fault.Key.TheVariants.{Modes, Transfers, Classes, DefaultClass}
 use Rattle.fare_table.specs.declared.fault.Key.TheVariants.{Validators, Riders, Zone, Window, Fare}

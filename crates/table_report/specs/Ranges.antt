@@ -4,7 +4,7 @@ use Rattle.std.specs.Prelude.{None, codes, int_le, nat_le, unsigned_abs, if◌th
 use Rattle.std.specs.List.{list_any}
 use Rattle.std.specs.Option.{is_none, option_and_then}
 use Rattle.toml.specs.Data.{Data, Items, no_items, item, Members, get_member, as_integer, as_table}
-use Rattle.fare_table.specs.Fares.{Fares, mode_in}
+use Rattle.tariffs.specs.Fares.{Fares, mode_in}
 use Rattle.fare_table.specs.Faults.{items_of, holds_of_some}
 
 -- no range of the table has the validator

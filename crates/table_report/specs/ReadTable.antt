@@ -1,8 +1,9 @@
 -- Fare tables that are read from their texts, and texts that are none.
 use Rattle.std.specs.Prelude.{◌≡◌, ⊤, ℕ, List, Err, IsUtf8, None, Ok}
-use Rattle.fare_table.specs.Fares.{Fares}
+use Rattle.tariffs.specs.Fares.{Fares}
 use Rattle.fare_table.specs.Meaning.{Means}
-use Rattle.fare_table.specs.TableMeaning.{TableMeaning, meaning_in}
+use Rattle.tariffs.specs.TableMeaning.{TableMeaning}
+use Rattle.fare_table.specs.TableMeaning.{meaning_in}
 use Rattle.fare_table.specs.declared.fault.TableFault.{TableFault}
 use Rattle.table_report.specs.declared.report.Refusal.{Refusal}
 use Rattle.table_report.specs.declared.report.Refusal.TheVariants as refusal

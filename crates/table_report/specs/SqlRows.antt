@@ -2,12 +2,12 @@
 use Rattle.std.specs.Prelude.{ℕ, List, [], ◌∷◌, Option, None, Some, ◌==◌, if◌then◌else◌, length}
 use Rattle.std.specs.Prelude.{codes, map, slice_index_or}
 use Rattle.std.specs.List.{flat_map, range_with_len}
-use Rattle.fare_table.specs.Fares.{Fares, class_at, is_permitted, ride_terms, transfer_terms}
-use Rattle.fare_table.specs.declared.validators.RangeRest.{RangeRest}
-use Rattle.fare_table.specs.declared.window_span.WindowSpan.{WindowSpan}
-use Rattle.fare_table.specs.declared.window_span.WindowSpan.TheVariants.{Days, CalendarDay}
-use Rattle.fare_table.specs.declared.window_span.WindowSpan.TheVariants.{CalendarMonth}
-use Rattle.fare_table.specs.declared.window_span.WindowSpan.TheVariants.{CalendarWeek}
+use Rattle.tariffs.specs.Fares.{Fares, class_at, is_permitted, ride_terms, transfer_terms}
+use Rattle.tariffs.specs.declared.validators.RangeRest.{RangeRest}
+use Rattle.tariffs.specs.declared.window_span.WindowSpan.{WindowSpan}
+use Rattle.tariffs.specs.declared.window_span.WindowSpan.TheVariants.{Days, CalendarDay}
+use Rattle.tariffs.specs.declared.window_span.WindowSpan.TheVariants.{CalendarMonth}
+use Rattle.tariffs.specs.declared.window_span.WindowSpan.TheVariants.{CalendarWeek}
 use Rattle.hex.specs.Hex.{encode_lower}
 
 -- what stands in a column of a row

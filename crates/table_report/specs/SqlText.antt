@@ -3,7 +3,7 @@ use Rattle.std.specs.Prelude.{ℕ, List, [], ◌∷◌, ◌++◌, ◌==◌, ◌|
 use Rattle.std.specs.Prelude.{nat_lt}
 use Rattle.std.specs.Fmt.{decimal}
 use Rattle.std.specs.List.{flat_map, list_all, list_any}
-use Rattle.fare_table.specs.Fares.{Fares}
+use Rattle.tariffs.specs.Fares.{Fares}
 use Rattle.table_report.specs.SqlRows.{Field, number, text, class_rows, fare_rows, mode_rows}
 use Rattle.table_report.specs.SqlRows.{pair_rows, range_rows, rider_rows, window_rows, zone_rows}
 

@@ -1,7 +1,7 @@
 -- What is warned of: what the rules of a table ignore.
 use Rattle.std.specs.Prelude.{ℕ, ◌+◌, List, [], Option, None, Some, length}
 use Rattle.std.specs.List.{filter}
-use Rattle.fare_table.specs.Fares.{Fares}
+use Rattle.tariffs.specs.Fares.{Fares}
 use Rattle.toml.specs.Data.{Members}
 use Rattle.toml.specs.Parse.{parse_document}
 use Rattle.table_report.specs.Ignored.{ignored_in}

@@ -1,7 +1,7 @@
 //! The lines of a table without a fault.
 
 ghost use Rattle.std.specs.Prelude.{◌≡◌, ◌++◌, ℕ, List, OnOk, string_bytes};
-ghost use Rattle.fare_table.specs.Terms.{IsBoundedClass};
+ghost use Rattle.tariffs.specs.Terms.{IsBoundedClass};
 ghost use Rattle.table_report.specs.inside.NameLine.{IsNameLine};
 
 use crate::clocks::push_changes;

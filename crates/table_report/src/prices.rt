@@ -1,7 +1,7 @@
 //! What the rides of a window cost, one after the other.
 
 ghost use Rattle.std.specs.Prelude.{◌≡◌, ◌++◌, [], OnOk, if◌then◌else◌, string_bytes};
-ghost use Rattle.fare_table.specs.Terms.{AreBoundedTerms};
+ghost use Rattle.tariffs.specs.Terms.{AreBoundedTerms};
 ghost use Rattle.table_report.specs.inside.Prices.{is_same, price_line, prices_text};
 
 use crate::names::mode_name;

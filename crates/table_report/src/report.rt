@@ -3,7 +3,8 @@
 ghost use Rattle.std.specs.Prelude.{◌≡◌, ◌≢◌, ◌↔◌, true, false, IfErr, IfOk, IsUtf8, Ok, OnOk};
 ghost use Rattle.std.specs.Prelude.{option_map};
 ghost use Rattle.std.specs.Io.KnownBytes.{Appends};
-ghost use Rattle.fare_table.specs.TableMeaning.{TableMeaning, meaning_in};
+ghost use Rattle.tariffs.specs.TableMeaning.{TableMeaning};
+ghost use Rattle.fare_table.specs.TableMeaning.{meaning_in};
 ghost use Rattle.table_report.specs.ReadTable.{IsReadFrom, IsRightRefusal};
 ghost use Rattle.table_report.specs.SqlText.{has_names_in_line, sql_text};
 ghost use Rattle.table_report.specs.Warned.{warned_count};
@@ -103,7 +104,8 @@ impl<'t> TableText<'t> {
     ghost use Rattle.std.specs.Prelude.{◌≡◌, ◌≢◌, ◌↔◌, true, false, IfErr, IfOk, IsUtf8, Ok, OnOk};
     ghost use Rattle.std.specs.Prelude.{option_map};
     ghost use Rattle.std.specs.Io.KnownBytes.{Appends};
-    ghost use Rattle.fare_table.specs.TableMeaning.{TableMeaning, meaning_in};
+    ghost use Rattle.tariffs.specs.TableMeaning.{TableMeaning};
+    ghost use Rattle.fare_table.specs.TableMeaning.{meaning_in};
     ghost use Rattle.table_report.specs.ReadTable.{IsReadFrom, IsRightRefusal};
     ghost use Rattle.table_report.specs.SqlText.{has_names_in_line, sql_text};
     ghost use Rattle.table_report.specs.Warned.{warned_count};

@@ -8,8 +8,8 @@ use Rattle.std.proofs.lemmas.List.{map-append}
 use Rattle.std.proofs.lemmas.List.Folds.{list_any-append}
 use Rattle.std.specs.Prelude.{◌≢◌, ◌||◌, slice_get}
 use Rattle.std.specs.List.{AllByRecursion, AllZip, list_any}
-use Rattle.fare_table.specs.Fares.{Fares}
-use Rattle.fare_table.specs.TableMeaning.{TableMeaning}
+use Rattle.tariffs.specs.Fares.{Fares}
+use Rattle.tariffs.specs.TableMeaning.{TableMeaning}
 use Rattle.part_reports.proofs.Risings.{each_push}
 use Rattle.program_manners.specs.TableWords.{TableNames}
 use Rattle.table_report.specs.ReadTable.{ReadTable}

@@ -8,8 +8,9 @@ use Rattle.std.specs.Io.KnownBytes.{Appends}
 use Rattle.std.proofs.KnownBytes.{Appends-nil, Appends-trans}
 use Rattle.std.proofs.lemmas.List.{map-append, take_more}
 use Rattle.std.proofs.lemmas.List.Concat.{flat_map-append}
-use Rattle.fare_table.specs.Fares.{Fares}
-use Rattle.fare_table.specs.TableMeaning.{TableMeaning, meaning_in}
+use Rattle.tariffs.specs.Fares.{Fares}
+use Rattle.tariffs.specs.TableMeaning.{TableMeaning}
+use Rattle.fare_table.specs.TableMeaning.{meaning_in}
 use Rattle.fare_table.specs.declared.fault.TableFault.{TableFault}
 use Rattle.fare_table.specs.declared.fault.TableFault.TheVariants as faults
 use Rattle.program_manners.specs.LineWritten.{LineWritten}

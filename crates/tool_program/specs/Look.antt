@@ -3,7 +3,8 @@ use Rattle.std.specs.Prelude.{◌≡◌, ◌⊎◌, ⊤, ℕ, ◌&&◌, Bool, tr
 use Rattle.std.specs.Prelude.{IsUtf8, MatchBool, Ok, Option, None, Some, flat_map, if◌then◌else◌}
 use Rattle.std.specs.Prelude.{◌+◌, is_some, min, option_map, unwrap_or}
 use Rattle.std.specs.Io.KnownBytes.{Appends}
-use Rattle.fare_table.specs.TableMeaning.{TableMeaning, meaning_in}
+use Rattle.tariffs.specs.TableMeaning.{TableMeaning}
+use Rattle.fare_table.specs.TableMeaning.{meaning_in}
 use Rattle.program_manners.specs.Loads.{Loaded, LoadsOne}
 use Rattle.program_manners.specs.Refusals.{IsFirstTableFault}
 use Rattle.program_manners.specs.declared.loading.LoadFault.{LoadFault}

@@ -3,9 +3,9 @@ use Rattle.std.specs.Prelude.{◌≡◌, ◌≢◌, ◌⊎◌, ⊤, ℕ, ◌-◌
 use Rattle.std.specs.Prelude.{◌&&◌, Option, Some, codes, flat_map, is_none, map}
 use Rattle.std.specs.Io.KnownBytes.{Appends, Keeps}
 use Rattle.std.specs.List.{list_any}
-use Rattle.fare_table.specs.Fares.{Fares}
-use Rattle.fare_table.specs.TableMeaning.{TableMeaning}
-use Rattle.fare_table.specs.declared.follow_fault.FollowFault.{FollowFault}
+use Rattle.tariffs.specs.Fares.{Fares}
+use Rattle.tariffs.specs.TableMeaning.{TableMeaning}
+use Rattle.tariffs.specs.declared.follow_fault.FollowFault.{FollowFault}
 use Rattle.program_manners.specs.LineWritten.{LineWritten}
 use Rattle.program_manners.specs.Lines.{follow_text}
 use Rattle.program_manners.specs.Loads.{Loaded}

@@ -12,9 +12,9 @@ use Rattle.std.specs.List.Sorted.{IsStrictlySortedBy}
 use Rattle.std.specs.Option.{is_some, option_map}
 use Rattle.std.specs.Ordering.{nat_cmp}
 use Rattle.std.specs.declared.cmp.Ordering.TheVariants.{Less}
-use Rattle.fare_table.specs.Fares.{has_number}
-use Rattle.fare_table.specs.TableMeaning.{TableMeaning}
-use Rattle.fare_table.specs.declared.validators.RangeRest.{RangeRest}
+use Rattle.tariffs.specs.Fares.{has_number}
+use Rattle.tariffs.specs.TableMeaning.{TableMeaning}
+use Rattle.tariffs.specs.declared.validators.RangeRest.{RangeRest}
 use Rattle.tap_views.specs.declared.encoder.TapFields.{TapFields}
 use Rattle.tap_views.specs.declared.span.MomentSpan.{MomentSpan}
 use Rattle.upload_checks.specs.SilentDays.{day_of, is_day_of, is_day_looked_at, is_looked_at, is_on}

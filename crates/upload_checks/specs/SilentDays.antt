@@ -5,8 +5,8 @@ use Rattle.std.specs.Prelude.{filter, is_some, nat_eq, nat_le, not, sum_by, ⊤}
 use Rattle.std.specs.List.{list_any}
 use Rattle.tap_views.specs.declared.encoder.TapFields.{TapFields}
 use Rattle.tap_views.specs.declared.span.MomentSpan.{MomentSpan}
-use Rattle.fare_table.specs.Fares.{mode_in}
-use Rattle.fare_table.specs.TableMeaning.{TableMeaning}
+use Rattle.tariffs.specs.Fares.{mode_in}
+use Rattle.tariffs.specs.TableMeaning.{TableMeaning}
 use Rattle.upload_checks.specs.declared.silent_days.SilentDays.{SilentDays}
 use Rattle.upload_checks.specs.declared.silent_days.SilentRun.{SilentRun}
 

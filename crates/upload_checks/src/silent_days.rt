@@ -1,15 +1,15 @@
 //! Days on which validators of a fare table have no tap.
 
 ghost use Rattle.std.specs.Prelude.{◌≡◌, ◌<◌, ◌≤◌, ◌+◌, ◌||◌, [], ℕ, true, IfOk, OnOk, flat_map};
-ghost use Rattle.fare_table.specs.Validators.{stand_apart};
+ghost use Rattle.tariffs.specs.Validators.{stand_apart};
 ghost use Rattle.upload_checks.specs.SilentDays as spec;
 ghost use Rattle.upload_checks.specs.SilentDays.{are_in, is_in};
 ghost use Rattle.upload_checks.specs.inside.SilentRuns.{AreBelow, touches, with_run};
 
 use crate::silent_days::tapped_days::TappedDays;
-use fare_table::Tariff;
 use std::alloc::{AllocError, Global};
 use tap_views::{MomentSpan, NoMemory, TapFields};
+use tariffs::Tariff;
 
 mod tapped_days;
 

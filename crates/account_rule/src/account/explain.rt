@@ -2,9 +2,9 @@
 
 ghost use Rattle.std.specs.Prelude.{◌≡◌, ℕ, ◌<◌, ◌≤◌, ◌++◌, ◌∷◌, [], List, length, Some};
 ghost use Rattle.std.specs.Option.{ForSome};
-ghost use Rattle.fare_table.specs.Terms.{AreRideTerms};
-ghost use Rattle.fare_table.specs.Fares.{ride_terms};
-ghost use Rattle.fare_table.specs.Until.{window_end_in};
+ghost use Rattle.tariffs.specs.Terms.{AreRideTerms};
+ghost use Rattle.tariffs.specs.Fares.{ride_terms};
+ghost use Rattle.tariffs.specs.Until.{window_end_in};
 ghost use Rattle.account_rule.specs.declared.tap.TapIn.{TapIn};
 ghost use Rattle.account_rule.specs.Kept.{IsRoomy, kept_numbers, kept_trip};
 ghost use Rattle.account_rule.specs.inside.Kept.{next_reason, transfers_in, window_at};
@@ -20,7 +20,7 @@ use crate::no_transfer::NoTransfer;
 use crate::reason::Reason;
 use crate::tap::TapIn;
 use crate::window::Window;
-use fare_table::{Clock, FareTable, Mode, Tariff};
+use tariffs::{Clock, FareTable, Mode, Tariff};
 
 impl Account {
     /// Takes one more tap of the token, as `step` does, and returns why the rule replies to it as

@@ -1,7 +1,7 @@
 -- Files that were charged while they were read.
 use Rattle.std.specs.Prelude.{◌≡◌, ℕ, ◌<◌, Bool, List, Option, Some, false, length}
 use Rattle.std.specs.Io.KnownBytes.{Appends}
-use Rattle.fare_table.specs.Fares.{Fares}
+use Rattle.tariffs.specs.Fares.{Fares}
 use Rattle.fare_texts.specs.WrittenOut.{Begins}
 use Rattle.tap_views.specs.declared.token.Token.{Token}
 use Rattle.fare_program.specs.Options.{Asked}

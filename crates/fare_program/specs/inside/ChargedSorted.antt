@@ -1,7 +1,7 @@
 -- Sorted files that were charged: what private functions alone cite.
 use Rattle.std.specs.Prelude.{◌≡◌, ℕ, List, Option, Some, map, true}
 use Rattle.std.specs.Io.KnownBytes.{Appends}
-use Rattle.fare_table.specs.Fares.{Fares}
+use Rattle.tariffs.specs.Fares.{Fares}
 use Rattle.tap_views.specs.declared.token.Token.{Token}
 use Rattle.fare_texts.specs.WrittenOut.{Begins}
 use Rattle.fare_program.specs.Options.{Asked}

@@ -1,7 +1,7 @@
 -- Uploads: what private functions alone cite.
 use Rattle.std.specs.Prelude.{◌≡◌, ℕ, Bool, List, [], ◌++◌, flat_map, Option}
 use Rattle.tap_views.specs.Files.{GoodBatchesView, IsReadAs}
-use Rattle.fare_table.specs.Fares.{Fares}
+use Rattle.tariffs.specs.Fares.{Fares}
 use Rattle.fare_program.specs.Listing.{KeptListing, Listed, StandsFor}
 use Rattle.fare_program.specs.Uploads.{AreReadings, has_no_fault, have_no_fault, lines_from}
 use Rattle.fare_program.specs.Uploads.{listed_in, listing_lines, tap_lines}

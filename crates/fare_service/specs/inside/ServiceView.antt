@@ -1,6 +1,6 @@
 -- ServiceView: what private functions alone cite.
 use Rattle.std.specs.Prelude.{◌≡◌, ℕ, ◌<◌, ◌≤◌, List, length, Some, slice_get}
-use Rattle.fare_table.specs.Fares.{Fares}
+use Rattle.tariffs.specs.Fares.{Fares}
 use Rattle.shared_books.specs.Passes.{SharedBookView}
 use Rattle.fare_service.specs.ServiceView.{ServiceView, shards_of}
 

@@ -2,7 +2,7 @@
 
 ghost use Rattle.std.specs.Prelude.{◌≡◌, ℕ, ◌<◌, List, Some, slice_get};
 ghost use Rattle.tap_views.specs.Layout.{Tap};
-ghost use Rattle.fare_table.specs.Fares.{Fares};
+ghost use Rattle.tariffs.specs.Fares.{Fares};
 ghost use Rattle.report_texts.specs.declared.upload_end.UploadEnd.{UploadEnd};
 ghost use Rattle.fare_service.specs.Headline.{Headline};
 ghost use Rattle.fare_service.specs.Outcomes.{OutcomeView};

@@ -2,7 +2,7 @@
 
 ghost use Rattle.std.specs.Prelude.{◌≡◌, ◌↔◌, ℕ, ◌<◌, List, All, Decides, Some, flat_map, map};
 ghost use Rattle.std.specs.Prelude.{length, slice_get};
-ghost use Rattle.fare_table.specs.Fares.{Fares};
+ghost use Rattle.tariffs.specs.Fares.{Fares};
 ghost use Rattle.tap_views.specs.Layout.{Tap};
 ghost use Rattle.tap_views.specs.Shards.{shard_of_token};
 ghost use Rattle.shard_book.specs.declared.entry.Entry.{Entry};

@@ -7,11 +7,11 @@ ghost use Rattle.fare_service.specs.inside.ServiceView.{AreOpened};
 
 use crate::lending::LentUploads;
 use crate::service::Service;
-use fare_table::FareTable;
 use shard_book::{HashSeed, ShardBook};
 use shared_books::{Pass, SharedBook};
 use std::alloc::Global;
 use tap_views::NoMemory;
+use tariffs::FareTable;
 
 /// A shared book for each shard, without entries, and the first pass to each.
 pub(crate) fn open_books(

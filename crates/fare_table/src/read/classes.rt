@@ -6,7 +6,7 @@ ghost use Rattle.fare_table.specs.Classes.{count_of};
 ghost use Rattle.fare_table.specs.Classes as spec;
 ghost use Rattle.fare_table.specs.declared.fault.TableFault.{TableFault};
 ghost use Rattle.fare_table.specs.inside.OrFault.{Answers, seen_through};
-ghost use Rattle.fare_table.specs.Terms.{AreBoundedTerms, IsBoundedClass};
+ghost use Rattle.tariffs.specs.Terms.{AreBoundedTerms, IsBoundedClass};
 
 use super::members::{
     hold_numbers, hold_tables, number_at, number_in, number_or, of_kind, optional, table_at,
@@ -16,12 +16,9 @@ use super::modes::mode_named;
 use crate::bounds::{
     MAX_CEILING_CENTS, MAX_FARE_CENTS, MAX_RIDE_TRANSFERS, MAX_RIDES, MAX_TRANSFER_MINUTES,
 };
-use crate::class::Class;
 use crate::fault::{Key, TableFault};
-use crate::mode::MAX_MODES;
-use crate::terms::Terms;
-use crate::transfer_terms::TransferTerms;
 use std::alloc::Global;
+use tariffs::{Class, MAX_MODES, Terms, TransferTerms};
 use toml::{Table, Value};
 
 /// A minute in milliseconds.

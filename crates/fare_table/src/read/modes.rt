@@ -5,13 +5,14 @@ ghost use Rattle.std.specs.List.{list_all, list_any};
 ghost use Rattle.std.specs.Char.{is_ascii_lowercase};
 ghost use Rattle.toml.specs.View.{array_view, table_view};
 ghost use Rattle.fare_table.specs.Modes as spec;
+ghost use Rattle.tariffs.specs.Names.{same_name};
 ghost use Rattle.fare_table.specs.inside.OrFault.{Answers};
 
 use super::members::{array_at, of_kind};
 use crate::bounds::MAX_MODE_NAME_BYTES;
 use crate::fault::{Key, TableFault};
-use crate::mode::MAX_MODES;
 use std::alloc::Global;
+use tariffs::MAX_MODES;
 use toml::Table;
 use toml::value::Array;
 
@@ -98,7 +99,7 @@ fn are_distinct(names: &[String]) -> bool
 
 /// Whether the name is among these.
 fn has_name(names: &[String], name: &str) -> bool
-    ensures { result ≡ list_any (spec.same_name name.now) (map string_bytes names.now) }
+    ensures { result ≡ list_any (same_name name.now) (map string_bytes names.now) }
 {
     for other in names {
         if name == other.as_str() {

@@ -6,16 +6,16 @@ ghost use Rattle.fare_table.specs.inside.OrFault.{Answers};
 ghost use Rattle.fare_table.specs.Riders as spec;
 ghost use Rattle.fare_table.specs.Classes.{count_of};
 ghost use Rattle.tap_views.specs.Token.{Fits};
-ghost use Rattle.fare_table.specs.Riders.{by_bytes};
+ghost use Rattle.tariffs.specs.Riders.{by_bytes};
 
 use super::class_names::ClassNames;
 use super::members::{hold_strings, of_kind, optional};
 use crate::fault::{Key, TableFault};
-use crate::riders::Riders;
 use hex::FromHex;
 use std::alloc::Global;
 use std::collections::BTreeMap;
 use tap_views::Token;
+use tariffs::Riders;
 use toml::{Table, Value};
 
 /// The places of the classes of the riders that the text names, by their tokens; none if it has no

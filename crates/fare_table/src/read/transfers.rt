@@ -7,8 +7,8 @@ ghost use Rattle.fare_table.specs.Transfers as spec;
 use super::members::{array_at, of_kind};
 use super::modes::mode_named;
 use crate::fault::{Key, TableFault};
-use crate::transfers::Transfers;
 use std::alloc::Global;
+use tariffs::Transfers;
 use toml::value::Array;
 use toml::{Table, Value};
 

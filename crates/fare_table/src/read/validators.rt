@@ -4,16 +4,17 @@ ghost use Rattle.std.specs.Prelude.{string_bytes};
 ghost use Rattle.std.specs.List.{list_any};
 ghost use Rattle.toml.specs.View.{view, array_view, table_view};
 ghost use Rattle.fare_table.specs.inside.OrFault.{Answers};
-ghost use Rattle.fare_table.specs.Validators.{stand_apart, are_modes_below, share_number};
+ghost use Rattle.tariffs.specs.Validators.{stand_apart, are_modes_below};
+ghost use Rattle.fare_table.specs.Validators.{share_number};
 ghost use Rattle.fare_table.specs.Validators as spec;
-ghost use Rattle.fare_table.specs.inside.Validators.{last_begun};
+ghost use Rattle.tariffs.specs.Validators.{last_begun};
 
 use super::members::{are_tables, array_at, number_at, of_kind, text_at};
 use super::modes::mode_named;
 use crate::fault::{Key, TableFault};
-use crate::validators::{RangeRest, Ranges};
 use std::alloc::Global;
 use std::collections::BTreeMap;
+use tariffs::{RangeRest, Ranges};
 use toml::value::Array;
 use toml::{Table, Value};
 

@@ -1,12 +1,12 @@
 //! The key `window`: a text that says how long windows are.
 ghost use Rattle.std.specs.Prelude.{◌≡◌, IfOk, Some};
 ghost use Rattle.toml.specs.View.{view, table_view};
-ghost use Rattle.fare_table.specs.WindowSpan.{IsBoundedSpan};
+ghost use Rattle.tariffs.specs.WindowSpan.{IsBoundedSpan};
 ghost use Rattle.fare_table.specs.Window as spec;
 
 use super::members::{of_kind, optional};
 use crate::fault::{Key, TableFault};
-use crate::window_span::WindowSpan;
+use tariffs::WindowSpan;
 use toml::{Table, Value};
 
 /// The span of the windows of the text; seven days if it has no such key.

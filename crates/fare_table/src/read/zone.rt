@@ -3,15 +3,16 @@ ghost use Rattle.std.specs.Prelude.{◌≡◌, IfOk, Some, string_bytes};
 ghost use Rattle.jiff.specs.ZoneView.{plain_zone};
 ghost use Rattle.toml.specs.View.{view, table_view};
 ghost use Rattle.fare_table.specs.inside.OrFault.{Answers};
-ghost use Rattle.fare_table.specs.PosixRule.{posix_rule};
-ghost use Rattle.fare_table.specs.Zone.{IsZoneOf, zone_rule, zone_text};
+ghost use Rattle.tariffs.specs.PosixRule.{posix_rule};
+ghost use Rattle.fare_table.specs.Zone.{IsZoneOf};
+ghost use Rattle.tariffs.specs.Zone.{zone_rule, zone_text};
 ghost use Rattle.fare_table.specs.Zone as spec;
 
 use super::members::{of_kind, optional};
 use crate::fault::{Key, TableFault};
-use crate::zone::Zone;
 use jiff::tz::TimeZone;
 use std::alloc::Global;
+use tariffs::Zone;
 use toml::{Table, Value};
 
 /// The zone of the text; none if it has no such key.

@@ -10,10 +10,10 @@ use crate::{
     Explainer, write_entry_words, write_local, write_moment, write_no_transfer, write_reason_words,
 };
 use account_rule::{NoTransfer, Reason};
-use fare_table::{Clock, FareTable};
 use shard_book::Entry;
 use std::alloc::AllocError;
 use tap_views::{NoMemory, Token};
+use tariffs::{Clock, FareTable};
 
 /// Appends the line of an entry that has this reason and, if it is a ride, is no transfer because
 /// of `none`.

@@ -6,8 +6,8 @@ ghost use Rattle.fare_texts.specs.Explained.{AreLaterTerms, AreTermsLines, IsLat
 ghost use Rattle.fare_texts.specs.Explained.{terms_line, terms_words};
 
 use crate::write_moment;
-use fare_table::{FareTable, Terms};
 use std::alloc::AllocError;
+use tariffs::{FareTable, Terms};
 
 /// Appends what a line of terms has behind its first words, with the end of the line.
 #[tactic(auto, unfolding(crate::specs::Explained::terms_words))]

@@ -10,10 +10,10 @@ ghost use Rattle.fare_texts.specs.Explained.{IsExplainedWindow};
 use super::windows::windows_of;
 use crate::{write_local, write_moment, write_window_words};
 use account_rule::WindowView;
-use fare_table::{Clock, FareTable};
 use shard_book::Entry;
 use std::alloc::{AllocError, Global};
 use tap_views::{NoMemory, Token};
+use tariffs::{Clock, FareTable};
 
 /// Appends the line of a window behind its first word.
 fn write_line(

@@ -11,10 +11,10 @@ ghost use Rattle.fare_texts.specs.inside.Windows.{window_ended};
 
 use crate::Explainer;
 use account_rule::{Answer, Reply, WindowView};
-use fare_table::{Clock, FareTable};
 use shard_book::Entry;
 use std::alloc::Global;
 use tap_views::{NoMemory, Token};
+use tariffs::{Clock, FareTable};
 
 /// Whether the reply is to a ride, charged or free.
 fn is_ride(reply: Reply) -> bool

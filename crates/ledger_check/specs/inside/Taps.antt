@@ -1,7 +1,7 @@
 -- The tap of an entry, as a line names it.
 use Rattle.std.specs.Prelude.{◌≡◌, ℕ, ◌^◌, ◌<◌, List}
 use Rattle.account_rule.specs.declared.reason.Reason.{Reason}
-use Rattle.fare_table.specs.Fares.{Fares}
+use Rattle.tariffs.specs.Fares.{Fares}
 use Rattle.fare_texts.specs.LedgerLines.{IsLedgerLine}
 use Rattle.tap_views.specs.Token.{bytes_of}
 use Rattle.shard_book.specs.declared.entry.Entry.{Entry}

@@ -1,6 +1,6 @@
 -- Verdicts: what private functions alone cite.
 use Rattle.std.specs.Prelude.{ℕ, ◌+◌, if◌then◌else◌, List, [], ◌∷◌, ◌++◌, Option, Some, None}
-use Rattle.fare_table.specs.Fares.{Fares}
+use Rattle.tariffs.specs.Fares.{Fares}
 use Rattle.ledger_check.specs.declared.checker.LinesSoFar.{LinesSoFar}
 use Rattle.ledger_check.specs.declared.checker.Verdict.{Verdict}
 use Rattle.ledger_check.specs.Verdicts.{HasTaken, IsTrueOf}

@@ -1,7 +1,7 @@
 -- Findings: what private functions alone cite.
 use Rattle.std.specs.Prelude.{◌≡◌, ◌⊎◌, ℕ, Bool, List, [], map, nat_eq, Option, IsTrue, true}
 use Rattle.std.specs.Io.KnownBytes.{Appends}
-use Rattle.fare_table.specs.Fares.{Fares}
+use Rattle.tariffs.specs.Fares.{Fares}
 use Rattle.shard_book.specs.declared.entry.Entry.{Entry}
 use Rattle.fare_texts.specs.WrittenOut.{Begins}
 use Rattle.ledger_check.specs.FirstLines.{AreFirstTaken}

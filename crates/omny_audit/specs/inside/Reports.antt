@@ -1,6 +1,6 @@
 -- Reports: what private functions alone cite.
 use Rattle.std.specs.Prelude.{ℕ, List, Option, None, Some, option_map}
-use Rattle.fare_table.specs.Fares.{Fares}
+use Rattle.tariffs.specs.Fares.{Fares}
 use Rattle.omny_audit.specs.declared.report.ReportWithSums.{ReportWithSums}
 use Rattle.report_check.specs.LedgerSums.{HasSummed}
 

@@ -1,6 +1,6 @@
 -- What private functions alone say of the lines of a ledger.
 use Rattle.std.specs.Prelude.{◌≡◌, ℕ, List, [], ◌∷◌, ◌++◌}
-use Rattle.fare_table.specs.Fares.{Fares}
+use Rattle.tariffs.specs.Fares.{Fares}
 use Rattle.ledger_check.specs.Ledger.{AreNext}
 use Rattle.shard_book.specs.declared.entry.Entry.{Entry}
 

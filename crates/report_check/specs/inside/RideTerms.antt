@@ -1,7 +1,7 @@
 -- What a tap's ride may cost: what private functions alone cite.
 use Rattle.std.specs.Prelude.{◌≡◌, ℕ, Some}
-use Rattle.fare_table.specs.Fares.{Fares, class_of, meaning_at, mode_at, ride_terms}
-use Rattle.fare_table.specs.Terms.{AreRideTerms}
+use Rattle.tariffs.specs.Fares.{Fares, class_of, meaning_at, mode_at, ride_terms}
+use Rattle.tariffs.specs.Terms.{AreRideTerms}
 use Rattle.tap_views.specs.Token.{bytes_of}
 use Rattle.tap_views.specs.declared.token.Token.{Token}
 

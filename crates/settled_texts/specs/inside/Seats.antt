@@ -1,6 +1,6 @@
 -- What a thread makes of a list of taps. Private functions alone cite this.
 use Rattle.std.specs.Prelude.{◌≡◌, ◌≤◌, true, List, [], length, string_bytes}
-use Rattle.fare_table.specs.Fares.{Fares}
+use Rattle.tariffs.specs.Fares.{Fares}
 use Rattle.tap_views.specs.declared.token.Token.{Token}
 use Rattle.tap_views.specs.Encoding.{AreEarly}
 use Rattle.tap_views.specs.declared.encoder.TapFields.{TapFields}

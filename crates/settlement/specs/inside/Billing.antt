@@ -2,7 +2,7 @@
 use Rattle.std.specs.Prelude.{◌≡◌, ◌≢◌, ◌+◌, ◌*◌, ◌^◌, ◌<◌, ◌≤◌, ℕ, List, ◌∷◌, ◌++◌, All, flat_map}
 use Rattle.std.specs.Prelude.{length, map, slice_index_or, []}
 use Rattle.std.specs.List.{AllZip}
-use Rattle.fare_table.specs.Fares.{Fares}
+use Rattle.tariffs.specs.Fares.{Fares}
 use Rattle.tap_views.specs.declared.encoder.TapFields.{TapFields}
 use Rattle.tap_views.specs.Encoding.{AreEarly}
 use Rattle.tap_parts.specs.Canonical.{HasTokenBytes, IsCanonical}

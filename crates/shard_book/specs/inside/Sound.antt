@@ -1,6 +1,6 @@
 -- What always holds of a book's parts.
 use Rattle.std.specs.Prelude.{ℕ, ◌<◌, ◌≤◌, List}
-use Rattle.fare_table.specs.Fares.{Fares}
+use Rattle.tariffs.specs.Fares.{Fares}
 use Rattle.account_rule.specs.TokenRules.{rules_of}
 use Rattle.shard_book.specs.declared.accounts.Accounts.{Accounts}
 use Rattle.shard_book.specs.declared.entry.Entry.{Entry}

@@ -1,8 +1,8 @@
 -- A book that stands for none: what is left of a pass that was joined into another speaks of some
 -- book.
 use Rattle.std.specs.Prelude.{[], None}
-use Rattle.fare_table.specs.Fares.{Fares}
-use Rattle.fare_table.specs.declared.window_span.WindowSpan.TheVariants.{CalendarDay}
+use Rattle.tariffs.specs.Fares.{Fares}
+use Rattle.tariffs.specs.declared.window_span.WindowSpan.TheVariants.{CalendarDay}
 use Rattle.shard_book.specs.Book.{Book}
 
 -- a table without modes, ranges and riders

@@ -4,13 +4,13 @@ use super::results::{Full, ReadFault, Readout, Visit};
 use super::rule::{Opening, PassState, Slot, TurnRule};
 use super::{Pass, SharedBook};
 use atomic_table::Table;
-use fare_table::Clock;
 use shard_book::{Replies, ShardBook};
 use std::alloc::Global;
 use std::snapshot::Snapshot;
 use std::sync::Wait;
 use std::sync::atomic::{AtomicBool, AtomicU64};
 use tap_views::{NoMemory, Run, Token};
+use tariffs::Clock;
 
 impl SharedBook {
     ghost use Rattle.std.specs.Prelude.{◌≡◌, ◌+◌, ◌^◌, ◌≤◌, [], length, IfOk, IfErr};

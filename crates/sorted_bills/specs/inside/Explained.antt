@@ -1,6 +1,6 @@
 -- Lines of taps of merged files: what private functions alone cite.
 use Rattle.std.specs.Prelude.{◌≡◌, ◌++◌, ℕ, All, List, Option, Some, map}
-use Rattle.fare_table.specs.Fares.{Fares}
+use Rattle.tariffs.specs.Fares.{Fares}
 use Rattle.tap_views.specs.declared.encoder.TapFields.{TapFields}
 use Rattle.tap_views.specs.declared.token.Token.{Token}
 use Rattle.fare_texts.specs.Lines.{AreLinesAlong, IsUpTo}

@@ -1,6 +1,6 @@
 -- Lines of the taps of a range of the tokens: what private functions alone cite.
 use Rattle.std.specs.Prelude.{◌≡◌, ◌≤◌, ℕ, All, List, ◌++◌, [], Option, Some, IfSome, map}
-use Rattle.fare_table.specs.Fares.{Fares}
+use Rattle.tariffs.specs.Fares.{Fares}
 use Rattle.tap_views.specs.declared.encoder.TapFields.{TapFields}
 use Rattle.tap_views.specs.declared.token.Token.{Token}
 use Rattle.fare_texts.specs.Lines.{AreUpTo, IsUpTo}

@@ -3,7 +3,7 @@ use Rattle.std.specs.Prelude.{ℕ, ◌+◌, ◌==◌, Bool, false, if◌then◌e
 use Rattle.std.specs.Prelude.{Option, None, Some, codes}
 use Rattle.std.specs.Fmt.{decimal}
 use Rattle.account_rule.specs.Laws.{place_cents}
-use Rattle.fare_table.specs.declared.terms.Terms.{Terms}
+use Rattle.tariffs.specs.declared.terms.Terms.{Terms}
 use Rattle.table_report.specs.SqlRows.{places}
 
 -- the cents of the rides of a window up to the limit, and of one more, by their places

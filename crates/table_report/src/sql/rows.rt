@@ -2,9 +2,9 @@
 
 ghost use Rattle.std.specs.Prelude.{◌≡◌, ◌<◌, ◌≤◌, ◌++◌, OnOk, Some, codes, length};
 ghost use Rattle.std.specs.Prelude.{map, string_bytes};
-ghost use Rattle.fare_table.specs.declared.validators.RangeRest.{RangeRest};
-ghost use Rattle.fare_table.specs.Fares.{class_at, is_permitted, ride_terms};
-ghost use Rattle.fare_table.specs.declared.class.Class.{Class};
+ghost use Rattle.tariffs.specs.declared.validators.RangeRest.{RangeRest};
+ghost use Rattle.tariffs.specs.Fares.{class_at, is_permitted, ride_terms};
+ghost use Rattle.tariffs.specs.declared.class.Class.{Class};
 ghost use Rattle.hex.specs.Hex.{encode_lower};
 ghost use Rattle.tap_views.specs.Token.{bytes_of};
 ghost use Rattle.table_report.specs.SqlRows.{class_row, default_mark, fare_row, mode_row, name_at};

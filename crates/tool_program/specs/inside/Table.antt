@@ -3,7 +3,7 @@ use Rattle.std.specs.Prelude.{◌≡◌, ◌≢◌, ◌⊎◌, ⊤, ℕ, Bool, t
 use Rattle.std.specs.Prelude.{None, Some, is_none, map}
 use Rattle.std.specs.Io.KnownBytes.{Appends}
 use Rattle.std.specs.List.{AllByRecursion, AllZip}
-use Rattle.fare_table.specs.Fares.{Fares}
+use Rattle.tariffs.specs.Fares.{Fares}
 use Rattle.fare_table.specs.declared.fault.TableFault.TheVariants as faults
 use Rattle.program_manners.specs.LineWritten.{LineWritten}
 use Rattle.program_manners.specs.Lines.{follow_text}

@@ -2,7 +2,7 @@
 use Rattle.std.specs.Prelude.{◌≡◌, ℕ, ◌+◌, ◌*◌, ◌<◌, ◌≤◌, ◌&&◌, All, Bool, List, [], ◌∷◌, Option}
 use Rattle.std.specs.Prelude.{Some}
 use Rattle.std.specs.Prelude.{None, if◌then◌else◌, nat_eq, nat_le, nat_lt, not, sum_by, true, false}
-use Rattle.fare_table.specs.declared.validators.RangeRest.{RangeRest}
+use Rattle.tariffs.specs.declared.validators.RangeRest.{RangeRest}
 use Rattle.upload_checks.specs.SilentDays.{AreApart, size_of}
 use Rattle.upload_checks.specs.declared.silent_days.SilentDays.{SilentDays}
 use Rattle.upload_checks.specs.declared.silent_days.SilentRun.{SilentRun}

@@ -3,8 +3,8 @@
 ghost use Rattle.std.specs.Prelude.{◌≡◌, ◌<◌, ◌≤◌, ◌+◌, ◌++◌, ◌∷◌, ◌||◌, ◌&&◌, [], ℕ, All, List};
 ghost use Rattle.std.specs.Prelude.{IfOk, OnOk, flat_map, nat_eq, nat_le, nat_lt, not, true};
 ghost use Rattle.std.specs.List.{list_any};
-ghost use Rattle.fare_table.specs.Fares.{has_number};
-ghost use Rattle.fare_table.specs.Validators.{stand_apart};
+ghost use Rattle.tariffs.specs.Fares.{has_number};
+ghost use Rattle.tariffs.specs.Validators.{stand_apart};
 ghost use Rattle.tap_views.specs.declared.encoder.TapFields.{TapFields};
 ghost use Rattle.upload_checks.specs.SilentDays as spec;
 ghost use Rattle.upload_checks.specs.SilentDays.{AreApart, are_in, is_day_of};
@@ -12,10 +12,10 @@ ghost use Rattle.upload_checks.specs.inside.SilentRuns.{AreBelow, IsFirstTapped,
 ghost use Rattle.upload_checks.specs.inside.TappedDays.{AreDaysOf, has_day, has_visit_on};
 
 use crate::silent_days::{SilentDays, SilentRun};
-use fare_table::{RangeRest, Tariff};
 use std::alloc::{AllocError, Global};
 use std::collections::BTreeSet;
 use tap_views::{MomentSpan, TapFields};
+use tariffs::{RangeRest, Tariff};
 
 const DAY_MS: u64 = 86_400_000;
 

@@ -1,7 +1,7 @@
 use Rattle.std.proofs.Common.{◌∙◌, arith, subst}
 use Rattle.std.proofs.lemmas.List.{length-map}
 use Rattle.std.proofs.lemmas.Result.{IfErr-weaker, IfOk-weaker}
-use Rattle.fare_table.specs.Fares.{Fares}
+use Rattle.tariffs.specs.Fares.{Fares}
 use Rattle.fare_service.proofs.LentFiles.{lent_number}
 use Rattle.fare_program.specs.Program.{ShowsAsked}
 use Rattle.fare_program.specs.inside.Options.{asked_of}

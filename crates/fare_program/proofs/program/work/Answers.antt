@@ -2,7 +2,7 @@ use Rattle.std.proofs.Common.{ap, subst, ◌≡◌, refl}
 use Rattle.std.specs.Prelude.{IfSome, is_some}
 use Rattle.std.proofs.KnownBytes.{Keeps-refl, Keeps-trans}
 use Rattle.std.proofs.lemmas.Result.{IfErr-weaker, IfOk-weaker, err_from_is_err_and}
-use Rattle.fare_table.specs.Fares.{Fares}
+use Rattle.tariffs.specs.Fares.{Fares}
 use Rattle.tap_views.specs.declared.token.Token.{Token}
 use Rattle.fare_program.specs.Program.{Does, IsTokenIn}
 use Rattle.fare_program.specs.Settling.{ShowsSettled}

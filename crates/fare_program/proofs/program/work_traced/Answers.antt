@@ -1,6 +1,6 @@
 use Rattle.std.proofs.Common.{ℕ, List, Vec, Global, Bor, ap, map, subst, sym, ◌≡◌, true}
 use Rattle.std.specs.Prelude.{option_map}
-use Rattle.fare_table.specs.Fares.{Fares}
+use Rattle.tariffs.specs.Fares.{Fares}
 use Rattle.program_manners.specs.TableViews.{names_of}
 use Rattle.settled_texts.proofs.Classes.{class_kept}
 use Rattle.std.proofs.lemmas.Result.{IfErr-weaker, IfOk-weaker}

@@ -2,7 +2,7 @@ use Rattle.std.proofs.Common.{◌≡◌, ◌+ℤ◌, ◌∙◌, ap, arith}
 use Rattle.std.proofs.lemmas.Int.{ints}
 use Rattle.jiff.proofs.SpanFacts.{signed_arith}
 use Rattle.jiff_core.specs.Timestamp.{nanos_of_seconds}
-use Rattle.fare_table.specs.Until.{moment_nanos}
+use Rattle.tariffs.specs.Until.{moment_nanos}
 use Rattle.fare_texts.proofs.local.clock_text.Goals as goal
 
 pub returns : goal.returns

@@ -1,5 +1,5 @@
 use Rattle.std.proofs.Common.{◌≡◌, ℕ, List, Some, subst}
-use Rattle.fare_table.specs.Fares.{Fares}
+use Rattle.tariffs.specs.Fares.{Fares}
 use Rattle.tap_views.specs.declared.token.Token.{Token}
 use Rattle.shard_book.specs.Entry.{own}
 use Rattle.shard_book.specs.declared.entry.Entry.{Entry}

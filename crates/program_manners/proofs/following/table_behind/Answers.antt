@@ -1,8 +1,8 @@
 use Rattle.std.proofs.Common.{◌∙◌, ap}
 use Rattle.std.specs.Prelude.{ℤ, pos}
 use Rattle.jiff_core.specs.Calendar.{days_from_civil}
-use Rattle.fare_table.specs.ClockView.{ClockView}
-use Rattle.fare_table.specs.Until.{midnight_by}
+use Rattle.tariffs.specs.ClockView.{ClockView}
+use Rattle.tariffs.specs.Until.{midnight_by}
 use Rattle.program_manners.specs.TableWords.{IsMidnight}
 use Rattle.program_manners.proofs.FollowFaults.{day_same, why_not}
 use Rattle.program_manners.proofs.following.table_behind.Goals as goal

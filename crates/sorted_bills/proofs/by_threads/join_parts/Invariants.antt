@@ -1,6 +1,6 @@
 use Rattle.std.proofs.Common.{◌*◌, ◌^◌, ◌≤◌, ℕ, List}
 use Rattle.std.specs.Prelude.{Option}
-use Rattle.fare_table.specs.Fares.{Fares}
+use Rattle.tariffs.specs.Fares.{Fares}
 use Rattle.sorted_bills.specs.inside.Charged.{AreParts, IsPart}
 use Rattle.sorted_bills.proofs.by_threads.join_parts.Given as goal
 

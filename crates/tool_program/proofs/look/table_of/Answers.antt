@@ -3,8 +3,9 @@ use Rattle.std.specs.Option.{ok_or}
 use Rattle.toml.specs.Data.{Members}
 use Rattle.toml.specs.Parse.{parse_document}
 use Rattle.fare_table.specs.OrFault.{◌>>=◌}
-use Rattle.fare_table.specs.TableMeaning.{TableMeaning, meaning_of_tree}
-use Rattle.fare_table.specs.Validators.{stand_apart}
+use Rattle.tariffs.specs.TableMeaning.{TableMeaning}
+use Rattle.fare_table.specs.TableMeaning.{meaning_of_tree}
+use Rattle.tariffs.specs.Validators.{stand_apart}
 use Rattle.fare_table.specs.declared.fault.TableFault.TheVariants.{Text}
 use Rattle.program_manners.proofs.Refusals.{first_table_fault}
 use Rattle.tool_program.proofs.look.table_of.Goals as goal

@@ -1,7 +1,7 @@
 use Rattle.std.proofs.Common.{◌&&◌, ◌||◌, ◌∙◌, ap, flat_map, sym}
 use Rattle.std.specs.BTreeSet as sorted
 use Rattle.std.specs.List.{list_any}
-use Rattle.fare_table.specs.Fares.{has_number}
+use Rattle.tariffs.specs.Fares.{has_number}
 use Rattle.upload_checks.specs.SilentDays.{is_day_of}
 use Rattle.upload_checks.specs.inside.TappedDays.{visit_cmp}
 use Rattle.upload_checks.proofs.KeptLemmas.{found_by, keys_within, knows_is, looked_days}

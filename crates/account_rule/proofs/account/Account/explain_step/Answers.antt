@@ -2,8 +2,8 @@
 -- case's, and the account then stands for one tap more, as after a step.
 use Rattle.std.proofs.Common.{◌≡◌, ◌≤◌, List, [], ◌∷◌, ◌++◌, Some, refl, sym, ◌∙◌, arith}
 use Rattle.account_rule.specs.declared.window.Window.{Window}
-use Rattle.fare_table.specs.Fares.{class_of, meaning_at, ride_terms}
-use Rattle.fare_table.specs.Until.{window_end_in}
+use Rattle.tariffs.specs.Fares.{class_of, meaning_at, ride_terms}
+use Rattle.tariffs.specs.Until.{window_end_in}
 use Rattle.account_rule.specs.Replies.{reply_with, ride_reply}
 use Rattle.account_rule.specs.Windows.{charge, paid_by}
 use Rattle.account_rule.specs.inside.Kept.{window_at}

@@ -1,6 +1,6 @@
 -- Each way out is one of the rule's cases: the first ride, stale, a transfer or a later ride.
 use Rattle.std.proofs.Common.{◌≡◌, ◌<◌, ◌≤◌, List, [], ◌∷◌, ◌++◌, Some, arith, refl, ◌∙◌, length}
-use Rattle.fare_table.specs.Fares.{class_of, meaning_at}
+use Rattle.tariffs.specs.Fares.{class_of, meaning_at}
 use Rattle.account_rule.specs.TokenRules.{rules_of}
 use Rattle.account_rule.specs.Kept.{kept_numbers, kept_of, kept_trip}
 use Rattle.account_rule.specs.Stands.{StandsForSome, Stands}

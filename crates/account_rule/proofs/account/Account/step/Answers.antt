@@ -2,7 +2,7 @@
 -- stale, a transfer or a later ride.
 use Rattle.std.proofs.Common.{◌≡◌, ◌<◌, ◌≤◌, List, [], ◌∷◌, ◌++◌, Some, arith, refl, sym, ap, ◌∙◌}
 use Rattle.std.proofs.Common.{length, subst}
-use Rattle.fare_table.specs.Fares.{class_of, meaning_at}
+use Rattle.tariffs.specs.Fares.{class_of, meaning_at}
 use Rattle.account_rule.specs.Replies.{reply}
 use Rattle.account_rule.specs.TokenRules.{rules_of}
 use Rattle.account_rule.specs.Kept.{kept_numbers, kept_of, kept_trip}

@@ -1,6 +1,6 @@
 use Rattle.std.proofs.Common.{sym, ◌∙◌, ap, subst}
 use Rattle.std.specs.Prelude.{slice_get, string_bytes}
-use Rattle.fare_table.specs.Fares.{Fares}
+use Rattle.tariffs.specs.Fares.{Fares}
 use Rattle.fare_texts.specs.StatementText.{IsStatementText}
 use Rattle.tap_views.specs.Token.{bytes_of}
 use Rattle.tap_views.specs.Shards.{shard_of_token}

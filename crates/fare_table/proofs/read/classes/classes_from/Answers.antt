@@ -4,8 +4,8 @@ use Rattle.std.proofs.lemmas.Grind.{common_steps}
 use Rattle.toml.specs.Data.{Data, Members, member}
 use Rattle.toml.specs.View.{members_view, view}
 use Rattle.fare_table.specs.Classes.{class_in, classes_from, count_of}
-use Rattle.fare_table.specs.Terms.{IsBoundedClass}
-use Rattle.fare_table.specs.declared.class.Class.{Class}
+use Rattle.tariffs.specs.Terms.{IsBoundedClass}
+use Rattle.tariffs.specs.declared.class.Class.{Class}
 use Rattle.fare_table.proofs.read.classes.classes_from.Goals as goal
 
 classes-step : (modes : List (List ℕ)) (earlier found : List Class) (key : List ℕ) (value : Data)

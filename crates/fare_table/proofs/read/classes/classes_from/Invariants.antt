@@ -1,7 +1,7 @@
 use Rattle.std.proofs.Common.{◌≡◌, ◌+◌, [], All, length, map, string_bytes}
 use Rattle.toml.specs.View.{members_view}
 use Rattle.fare_table.specs.Classes.{classes_from, count_of}
-use Rattle.fare_table.specs.Terms.{IsBoundedClass}
+use Rattle.tariffs.specs.Terms.{IsBoundedClass}
 use Rattle.fare_table.proofs.read.classes.classes_from.Given as goal
 
 abbrev pub invariant-loop-name : goal.invariant-loop-name

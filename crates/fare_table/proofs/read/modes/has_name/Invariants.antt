@@ -1,6 +1,6 @@
 use Rattle.std.proofs.Common.{◌≡◌, drop, map, string_bytes}
 use Rattle.std.specs.List.{list_any}
-use Rattle.fare_table.specs.Modes.{same_name}
+use Rattle.tariffs.specs.Names.{same_name}
 use Rattle.fare_table.proofs.read.modes.has_name.Given as goal
 
 -- what is left decides

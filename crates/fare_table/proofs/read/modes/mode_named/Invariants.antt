@@ -1,6 +1,6 @@
 use Rattle.std.proofs.Common.{◌≡◌, ◌+◌, drop, map, string_bytes}
 use Rattle.std.specs.List.{position_or_len}
-use Rattle.fare_table.specs.Modes.{same_name}
+use Rattle.tariffs.specs.Names.{same_name}
 use Rattle.fare_table.proofs.read.modes.mode_named.Given as goal
 
 -- the first mode of the name is the first one among those that are left

@@ -6,8 +6,9 @@ use Rattle.std.specs.Cmp.Lexicographic.{slice_cmp}
 use Rattle.std.specs.Ordering.{nat_cmp}
 use Rattle.toml.specs.Data.{Data, Members, member}
 use Rattle.toml.specs.View.{members_view, view}
-use Rattle.fare_table.proofs.RiderBytes.{found-by_bytes, insert-by_bytes}
-use Rattle.fare_table.specs.Riders.{is_rider, rider_of, riders_from, by_bytes}
+use Rattle.tariffs.proofs.RiderBytes.{found-by_bytes, insert-by_bytes}
+use Rattle.fare_table.specs.Riders.{is_rider, rider_of, riders_from}
+use Rattle.tariffs.specs.Riders.{by_bytes}
 use Rattle.fare_table.specs.declared.fault.TableFault.TheVariants.{Rider}
 use Rattle.fare_table.specs.Classes.{count_of}
 use Rattle.tap_views.specs.Token.{Fits, token_cmp}

@@ -3,7 +3,8 @@ use Rattle.std.proofs.Common.{get_or, suc, add-one, arith, Bor}
 use Rattle.std.proofs.Math.Seq.{drop-cons}
 use Rattle.std.proofs.lemmas.Result.{err_from_is_err_and}
 use Rattle.fare_table.specs.OrFault.{◌>>=◌}
-use Rattle.fare_table.specs.Transfers.{places_of, transfers_from, with_pair}
+use Rattle.fare_table.specs.Transfers.{places_of, transfers_from}
+use Rattle.tariffs.specs.Transfers.{with_pair}
 use Rattle.fare_table.proofs.read.transfers.transfers_from.Goals as goal
 
 -- the names of a pair

@@ -1,6 +1,6 @@
 use Rattle.std.proofs.Common.{◌≡◌, ◌∙◌, ◌++◌, ◌∷◌, [], Some, None, ap, sym}
 use Rattle.fare_table.proofs.OverlapLemmas.{begun, last_begun-begun, last_of, last_of-append}
-use Rattle.fare_table.specs.inside.Validators.{last_begun}
+use Rattle.tariffs.specs.Validators.{last_begun}
 use Rattle.fare_table.proofs.read.validators.last_upto.Goals as goal
 
 pub returns-in-Some : goal.returns-in-Some

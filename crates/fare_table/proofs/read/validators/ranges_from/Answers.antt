@@ -9,7 +9,7 @@ use Rattle.toml.specs.View.{items_view, view}
 use Rattle.toml.specs.declared.value.Value.{Value}
 use Rattle.fare_table.proofs.OverlapLemmas.{stands-insert, known-insert}
 use Rattle.fare_table.specs.Validators.{range_in, ranges_from, share_number}
-use Rattle.fare_table.specs.declared.validators.RangeRest.{RangeRest}
+use Rattle.tariffs.specs.declared.validators.RangeRest.{RangeRest}
 use Rattle.fare_table.proofs.read.validators.ranges_from.Goals as goal
 
 ranges-step : (modes : List (List ℕ)) (earlier ranges : List (ℕ × RangeRest)) (value : Data)

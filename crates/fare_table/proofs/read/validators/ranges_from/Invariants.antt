@@ -1,6 +1,7 @@
 use Rattle.std.proofs.Common.{◌≡◌, [], true, drop, length, map, string_bytes}
 use Rattle.toml.specs.View.{items_view}
-use Rattle.fare_table.specs.Validators.{stand_apart, are_modes_below, ranges_from}
+use Rattle.tariffs.specs.Validators.{stand_apart, are_modes_below}
+use Rattle.fare_table.specs.Validators.{ranges_from}
 use Rattle.fare_table.proofs.read.validators.ranges_from.Given as goal
 
 abbrev pub invariant-loop-value : goal.invariant-loop-value

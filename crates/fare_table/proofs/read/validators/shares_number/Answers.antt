@@ -1,8 +1,8 @@
 use Rattle.std.proofs.Common.{◌≡◌, ◌∙◌, ℕ, false, Option, Some, None, option_map, refl, sym}
 use Rattle.std.specs.Prelude.{nat_le}
 use Rattle.fare_table.proofs.OverlapLemmas.{reaches, shares-last_begun}
-use Rattle.fare_table.specs.inside.Validators.{last_begun}
-use Rattle.fare_table.specs.declared.validators.RangeRest.{RangeRest}
+use Rattle.tariffs.specs.Validators.{last_begun}
+use Rattle.tariffs.specs.declared.validators.RangeRest.{RangeRest}
 use Rattle.fare_table.proofs.read.validators.shares_number.Goals as goal
 
 reaches-Some : (first last : ℕ) (range : Option (ℕ × RangeRest))

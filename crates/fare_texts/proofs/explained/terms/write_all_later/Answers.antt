@@ -1,5 +1,5 @@
 use Rattle.std.proofs.Common.{[], ◌++◌, refl, sym, subst, append-nil, string_bytes}
-use Rattle.fare_table.specs.declared.terms.Terms.{Terms}
+use Rattle.tariffs.specs.declared.terms.Terms.{Terms}
 use Rattle.fare_texts.specs.Explained.{IsLaterTerms}
 use Rattle.fare_texts.proofs.Parts.{in_parts}
 use Rattle.fare_texts.proofs.TermsLines.{next_terms}

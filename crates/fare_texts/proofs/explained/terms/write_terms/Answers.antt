@@ -1,5 +1,5 @@
 use Rattle.std.proofs.Common.{◌++◌, ◌∙◌, ap, refl, string_bytes}
-use Rattle.fare_table.specs.Fares.{terms_at}
+use Rattle.tariffs.specs.Fares.{terms_at}
 use Rattle.fare_texts.specs.Explained.{terms_line}
 use Rattle.fare_texts.proofs.Parts.{in_parts}
 use Rattle.fare_texts.proofs.explained.terms.write_terms.Goals as goal

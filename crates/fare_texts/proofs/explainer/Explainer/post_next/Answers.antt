@@ -3,8 +3,8 @@
 use Rattle.std.proofs.Common.{◌≡◌, ℕ, ◌+◌, ◌∷◌, [], ◌++◌, List, Option, map, option_map, refl, ap}
 use Rattle.std.proofs.Common.{sym, subst, ◌∙◌, length-append}
 use Rattle.std.proofs.lemmas.List.{map-append}
-use Rattle.fare_table.specs.Fares.{Fares, mode_at}
-use Rattle.fare_table.specs.declared.mode.Mode.{Mode}
+use Rattle.tariffs.specs.Fares.{Fares, mode_at}
+use Rattle.tariffs.specs.declared.mode.Mode.{Mode}
 use Rattle.tap_views.specs.declared.token.Token.{Token}
 use Rattle.account_rule.specs.Reasons.{reason, replied_by}
 use Rattle.account_rule.specs.Replies.{reply}

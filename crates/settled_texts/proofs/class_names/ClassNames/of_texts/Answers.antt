@@ -2,7 +2,7 @@ use Rattle.std.proofs.Common.{◌≡◌, ◌∙◌, ◌+◌, ◌<◌, ℕ, List,
 use Rattle.std.proofs.Common.{drop, length}
 use Rattle.std.proofs.Common.{map, subst, sym, take}
 use Rattle.std.specs.Prelude.{slice_get}
-use Rattle.fare_table.specs.TableMeaning.{TableMeaning}
+use Rattle.tariffs.specs.TableMeaning.{TableMeaning}
 use Rattle.settled_texts.specs.ClassFaults.{HasPlainClasses}
 use Rattle.settled_texts.proofs.Classes.{at_place, behind_first, next_trees, plain_before}
 use Rattle.settled_texts.proofs.Classes.{plain_more}

@@ -1,7 +1,7 @@
 use Rattle.std.proofs.Common.{◌∙◌, ◌++◌, [], ap, codes, drop}
 use Rattle.std.specs.Fmt.{decimal}
-use Rattle.fare_table.specs.Fares.{class_at}
-use Rattle.fare_table.specs.declared.class.Class.{Class}
+use Rattle.tariffs.specs.Fares.{class_at}
+use Rattle.tariffs.specs.declared.class.Class.{Class}
 use Rattle.fare_texts.proofs.Parts.{in_parts}
 use Rattle.table_report.proofs.PlaceLemmas.{next_field}
 use Rattle.table_report.specs.SqlRows.{class_row, default_mark, name_at}

@@ -1,6 +1,6 @@
 use Rattle.std.proofs.Common.{◌∙◌, ◌++◌, [], ap, codes, drop}
 use Rattle.std.specs.Fmt.{decimal}
-use Rattle.fare_table.specs.Fares.{ride_terms}
+use Rattle.tariffs.specs.Fares.{ride_terms}
 use Rattle.fare_texts.proofs.Parts.{in_parts}
 use Rattle.table_report.proofs.PlaceLemmas.{next_field}
 use Rattle.table_report.specs.SqlRows.{fare_row, name_at}

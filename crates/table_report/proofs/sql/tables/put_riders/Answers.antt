@@ -1,5 +1,5 @@
 use Rattle.std.proofs.Common.{◌++◌, ap, codes}
-use Rattle.fare_table.specs.Riders.{by_bytes}
+use Rattle.tariffs.specs.Riders.{by_bytes}
 use Rattle.tap_views.specs.Token.{bytes_of}
 use Rattle.table_report.proofs.PlaceLemmas.{first_put, none_left}
 use Rattle.table_report.specs.SqlRows.{rider_row, rider_rows}

@@ -1,5 +1,5 @@
 use Rattle.std.proofs.Common.{◌≡◌, ◌++◌, codes, map}
-use Rattle.fare_table.specs.Riders.{by_bytes}
+use Rattle.tariffs.specs.Riders.{by_bytes}
 use Rattle.table_report.specs.SqlRows.{rider_row, rider_rows}
 use Rattle.table_report.specs.SqlText.{statements}
 use Rattle.table_report.proofs.sql.tables.put_riders.Given as goal

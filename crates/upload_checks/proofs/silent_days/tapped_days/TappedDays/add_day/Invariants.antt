@@ -1,7 +1,7 @@
 use Rattle.std.proofs.Common.{◌≡◌, ◌&&◌, ◌||◌, ℕ, drop, nat_eq, not, take, true}
 use Rattle.std.specs.List.{list_any}
-use Rattle.fare_table.specs.Fares.{has_number}
-use Rattle.fare_table.specs.Validators.{stand_apart}
+use Rattle.tariffs.specs.Fares.{has_number}
+use Rattle.tariffs.specs.Validators.{stand_apart}
 use Rattle.upload_checks.specs.SilentDays.{are_in}
 use Rattle.upload_checks.specs.inside.SilentRuns.{AreBelow, next_first}
 use Rattle.upload_checks.specs.inside.TappedDays.{has_visit_on}

@@ -1,7 +1,7 @@
 use Rattle.std.proofs.Common.{◌+◌, ◌&&◌, ◌<◌, ℕ, All, List, not, subst, arith}
 use Rattle.std.proofs.lemmas.List.Elements.{All-head, All-rest}
 use Rattle.std.specs.List.{list_any}
-use Rattle.fare_table.specs.Fares.{has_number}
+use Rattle.tariffs.specs.Fares.{has_number}
 use Rattle.upload_checks.specs.inside.TappedDays.{has_visit_on}
 use Rattle.upload_checks.proofs.KeptLemmas.{below_days, day_step, days_left}
 use Rattle.upload_checks.proofs.RunLemmas.{below_later}

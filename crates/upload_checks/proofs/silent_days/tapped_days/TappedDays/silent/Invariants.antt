@@ -3,7 +3,7 @@ use Rattle.std.specs.BTreeMap.{is_at}
 use Rattle.std.specs.List.{list_any}
 use Rattle.std.specs.List.Sorted.{IsStrictlySortedBy}
 use Rattle.std.specs.Ordering.{nat_cmp}
-use Rattle.fare_table.specs.Fares.{has_number}
+use Rattle.tariffs.specs.Fares.{has_number}
 use Rattle.upload_checks.specs.SilentDays.{are_in}
 use Rattle.upload_checks.specs.inside.SilentRuns.{AreBelow}
 use Rattle.upload_checks.specs.inside.TappedDays.{has_day, has_visit_on}

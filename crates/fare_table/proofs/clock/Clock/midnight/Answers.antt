@@ -1,7 +1,0 @@
-use Rattle.std.proofs.Common.{arith}
-use Rattle.std.proofs.lemmas.Int.{ints}
-use Rattle.fare_table.proofs.clock.Clock.midnight.Goals as goal
-
-pub returns-else-millis-lt0-clause-moment : goal.returns-else-millis-lt0-clause-moment
-returns-else-millis-lt0-clause-moment c =
-    omega (arith, ints, c.midnight_millis-millis.ensures, c.if-millis-lt0.false)

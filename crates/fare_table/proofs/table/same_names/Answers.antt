@@ -1,6 +1,0 @@
-use Rattle.std.proofs.Common.{◌∙◌}
-use Rattle.fare_table.proofs.DatedLemmas.{names-mapped}
-use Rattle.fare_table.proofs.table.same_names.Goals as goal
-
-pub returns : goal.returns
-returns c = c.eq.ensures ∙ names-mapped c.args.names.now c.args.others.now

@@ -1,8 +1,0 @@
--- What contracts see of a tariff.
-use Rattle.fare_table.specs.ClockView.{ClockView}
-use Rattle.fare_table.specs.TableMeaning.{TableMeaning}
-
--- what the text means, and what its clocks go by: the rule that the zone's text reads as
-pub record TariffView : Type 0 where
-  pub meaning : TableMeaning
-  pub zone : ClockView

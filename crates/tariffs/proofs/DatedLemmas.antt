@@ -1,0 +1,133 @@
+-- Which of the tables that follow one another is valid at a moment.
+use Rattle.std.proofs.Common.{◌≡◌, ◌<◌, ◌≤◌, ℕ, zero, suc, Bool, true, false, cond, List, [], ◌∷◌}
+use Rattle.std.proofs.Common.{Option, Some, None, All, refl, sym, ap, ◌∙◌, arith, string_bytes, map}
+use Rattle.std.proofs.Common.{◌&&◌, String, Global, get_or, length}
+use Rattle.std.specs.Prelude.{nat_le, slice_get}
+use Rattle.std.specs.String.{string_eq}
+use Rattle.std.proofs.lemmas.Bool.{true≢false}
+use Rattle.std.specs.Cmp.Lexicographic.{bytes_decides, pointwise, pointwise_decides}
+use Rattle.std.proofs.lemmas.Bool.{leb-true}
+use Rattle.tariffs.specs.Fares.{Fares, meaning_at, valid_at}
+use Rattle.tariffs.specs.Names.{same_name}
+use Rattle.tariffs.specs.TableMeaning.{TableMeaning}
+use Rattle.tariffs.specs.declared.table.DatedTariff.{DatedTariff}
+use Rattle.tariffs.specs.inside.Table.{HasModes, begun, dated_meaning, first_from, same_names}
+use Rattle.tariffs.specs.inside.Table.{same_zone}
+
+-- before the first date the first table is valid
+pub valid-before : (meaning : TableMeaning) (later : List (ℕ × TableMeaning)) (moment : ℕ)
+    → moment < first_from later → valid_at meaning later moment ≡ meaning
+unfolding valid_at
+valid-before meaning [] moment before = refl
+valid-before meaning (next ∷ later) moment before =
+    by (nat_le next.0 moment) refl
+  where
+    by : (b : Bool) → nat_le next.0 moment ≡ b
+        → cond b (valid_at next.1 later moment) meaning ≡ meaning
+    by true is = let no = leb-true next.0 moment is in absurd (omega arith)
+    by false is = refl
+
+-- the table behind some of those that follow
+abbrev pub nth_valid : TableMeaning → List (ℕ × TableMeaning) → ℕ → TableMeaning
+nth_valid meaning later zero = meaning
+nth_valid meaning [] (suc place) = meaning
+nth_valid meaning (next ∷ later) (suc place) = nth_valid next.1 later place
+
+begun_one : (meaning : TableMeaning) (next : ℕ × TableMeaning) (later : List (ℕ × TableMeaning))
+    (moment : ℕ) (b : Bool)
+    → valid_at next.1 later moment ≡ nth_valid next.1 later (begun moment later)
+    → cond b (valid_at next.1 later moment) meaning
+    ≡ nth_valid meaning (next ∷ later) (cond b (suc (begun moment later)) 0)
+begun_one meaning next later moment true is = is
+begun_one meaning next later moment false is = refl
+
+pub valid-begun : (meaning : TableMeaning) (later : List (ℕ × TableMeaning)) (moment : ℕ)
+    → valid_at meaning later moment ≡ nth_valid meaning later (begun moment later)
+unfolding valid_at
+valid-begun meaning [] moment = refl
+valid-begun meaning (next ∷ later) moment =
+    begun_one meaning next later moment (nat_le next.0 moment) (valid-begun next.1 later moment)
+
+-- the table at a place is the one behind it
+pub nth-get : (meaning : TableMeaning) (later : List (ℕ × TableMeaning)) (place : ℕ)
+    (next : ℕ × TableMeaning)
+    → slice_get later place ≡ Some next → nth_valid meaning later (suc place) ≡ next.1
+nth-get meaning [] place next is = absurd (cc)
+nth-get meaning (one ∷ later) zero next is = let same : one ≡ next = cc in ap (λ n. n.1) same
+nth-get meaning (one ∷ later) (suc place) next is = nth-get one.1 later place next is
+
+-- what a tariff says that stands at a place stands there among what all say
+pub got : (items : List DatedTariff) (place : ℕ) (item : DatedTariff) → place < length items
+    → item ≡ get_or items place item
+    → slice_get (map dated_meaning items) place ≡ Some (dated_meaning item)
+got [] place item below is = absurd (omega arith)
+got (one ∷ items) zero item below is = ap (λ d. Some (dated_meaning d)) (sym is)
+got (one ∷ items) (suc place) item below is = got items place item (omega arith) is
+
+-- if the same number of those that follow have begun, one table is valid
+pub valid-same : (fares : Fares) (earlier moment : ℕ)
+    → begun earlier fares.later ≡ begun moment fares.later
+    → meaning_at fares earlier ≡ meaning_at fares moment
+unfolding meaning_at
+valid-same fares earlier moment same =
+    valid-begun fares.meaning fares.later earlier
+    ∙ ap (nth_valid fares.meaning fares.later) same
+    ∙ sym (valid-begun fares.meaning fares.later moment)
+
+-- before the first date the first table is valid, also at each earlier moment
+pub first_valid : (fares : Fares) (earlier moment : ℕ) → earlier ≤ moment
+    → moment < first_from fares.later → meaning_at fares earlier ≡ fares.meaning
+unfolding meaning_at
+first_valid fares earlier moment order before =
+    valid-before fares.meaning fares.later earlier (omega arith)
+
+modes_one : (modes : List (List ℕ)) (valid meaning : TableMeaning) (b : Bool)
+    → valid.modes ≡ modes → meaning.modes ≡ modes → (cond b valid meaning).modes ≡ modes
+modes_one modes valid meaning true is first = is
+modes_one modes valid meaning false is first = first
+
+-- all tables have the modes of the first one
+pub valid-modes : (modes : List (List ℕ)) (meaning : TableMeaning)
+    (later : List (ℕ × TableMeaning)) (moment : ℕ)
+    → meaning.modes ≡ modes → All (HasModes modes) later
+    → (valid_at meaning later moment).modes ≡ modes
+unfolding valid_at
+valid-modes modes meaning [] moment first alike = first
+valid-modes modes meaning (next ∷ later) moment first alike =
+    modes_one modes (valid_at next.1 later moment) meaning (nat_le next.0 moment)
+    (valid-modes modes next.1 later moment (alike 0 next (omega arith))
+    (λ k d below. alike (suc k) d (omega arith))) first
+
+pub meaning-modes : (fares : Fares) (moment : ℕ) → All (HasModes fares.meaning.modes) fares.later
+    → (meaning_at fares moment).modes ≡ fares.meaning.modes
+unfolding meaning_at
+meaning-modes fares moment alike =
+    valid-modes fares.meaning.modes fares.meaning fares.later moment refl alike
+
+-- texts that are compared one by one are compared by their bytes
+pub names-mapped : (names others : List (String Global))
+    → pointwise string_eq names others
+    ≡ pointwise same_name (map string_bytes names) (map string_bytes others)
+names-mapped [] [] = refl
+names-mapped [] (other ∷ others) = refl
+names-mapped (name ∷ names) [] = refl
+names-mapped (name ∷ names) (other ∷ others) =
+    ap (λ (b : Bool). same_name (string_bytes name) (string_bytes other) && b)
+    (names-mapped names others)
+
+-- names that are the same one by one are the same list
+pub names-same : (names others : List (List ℕ)) → same_names names others ≡ true → others ≡ names
+names-same names others same = sym ((pointwise_decides bytes_decides names others).0 same)
+
+pub names-other : (names others : List (List ℕ)) → same_names names others ≡ false
+    → others ≡ names → ⊥
+names-other names others other same =
+    true≢false (sym ((pointwise_decides bytes_decides names others).1 (sym same)) ∙ other)
+
+-- the same of zones
+pub zones-same : (text other : Option (List ℕ)) → same_zone text other ≡ true → other ≡ text
+zones-same None None same = refl
+zones-same None (Some other) same = absurd (true≢false (sym same))
+zones-same (Some text) None same = absurd (true≢false (sym same))
+zones-same (Some text) (Some other) same =
+    ap (λ t. Some t) (sym ((bytes_decides text other).0 same))

@@ -1,0 +1,7 @@
+pub mod ApartLemmas
+pub mod ByteLemmas
+pub mod DatedLemmas
+pub mod MaskLemmas
+pub mod RiderBytes
+pub mod TokenMarks
+pub mod UntilLemmas

@@ -1,0 +1,85 @@
+-- A fare table, as contracts see it, and what is looked up in it.
+use Rattle.std.specs.Prelude.{ℕ, ◌&&◌, Bool, if◌then◌else◌, List, [], ◌∷◌, Option, option_map}
+use Rattle.std.specs.Prelude.{unwrap_or, nat_le, slice_index, slice_index_or}
+use Rattle.std.specs.Cmp.Lexicographic.{slice_cmp}
+use Rattle.std.specs.List.{find}
+use Rattle.std.specs.Map.{lookup}
+use Rattle.std.specs.Ordering.{nat_cmp, is_eq}
+use Rattle.tariffs.specs.ClockView.{ClockView}
+use Rattle.tariffs.specs.TableMeaning.{TableMeaning}
+use Rattle.tariffs.specs.Transfers.{has_pair}
+use Rattle.tariffs.specs.declared.class.Class.{Class}
+use Rattle.tariffs.specs.declared.terms.Terms.{Terms}
+use Rattle.tariffs.specs.declared.transfer_terms.TransferTerms.{TransferTerms}
+use Rattle.tariffs.specs.declared.validators.RangeRest.{RangeRest}
+
+-- what the table's text means, what the texts mean that follow it, each with the moment from which
+-- it is valid, and what the clocks of all of them go by
+pub record Fares : Type 0 where
+  pub meaning : TableMeaning
+  pub later : List (ℕ × TableMeaning)
+  pub zone : ClockView
+
+-- what is valid at the moment: the first meaning until a later one is valid, and so on
+unfoldable pub valid_at : TableMeaning → List (ℕ × TableMeaning) → ℕ → TableMeaning
+valid_at meaning [] moment = meaning
+valid_at meaning (next ∷ later) moment =
+    if nat_le next.0 moment then valid_at next.1 later moment else meaning
+
+-- the meaning that is valid at the moment
+unfoldable pub meaning_at : Fares → ℕ → TableMeaning
+meaning_at fares moment = valid_at fares.meaning fares.later moment
+
+-- the range has this validator
+abbrev pub has_number : ℕ → ℕ × RangeRest → Bool
+has_number validator range = nat_le range.0 validator && nat_le validator range.1.last
+
+-- the range of this validator
+abbrev pub range_at : List (ℕ × RangeRest) → ℕ → Option (ℕ × RangeRest)
+range_at ranges validator = find (has_number validator) ranges
+
+-- the mode of this validator, as a place in the list of modes
+abbrev pub mode_in : TableMeaning → ℕ → Option ℕ
+mode_in meaning validator = option_map (λ range. range.1.mode) (range_at meaning.ranges validator)
+
+-- the mode that this validator has at the moment
+abbrev pub mode_at : Fares → ℕ → ℕ → Option ℕ
+mode_at fares moment validator = mode_in (meaning_at fares moment) validator
+
+-- whether a ride includes a transfer from the one mode to the other
+abbrev pub is_permitted : TableMeaning → ℕ → ℕ → Bool
+is_permitted meaning from to = has_pair meaning.transfers from to
+
+-- the place of the rider's class: of the rider's own, else of the default class
+abbrev pub class_of : TableMeaning → List ℕ → ℕ
+class_of meaning token =
+    unwrap_or (lookup (λ rider. is_eq (slice_cmp nat_cmp token rider)) meaning.riders)
+    meaning.standard
+
+-- a class that no table has: it stands for a place that has none
+abbrev pub no_class : Class
+no_class = record {
+  terms = record { fare = 0; rides = 0; ceiling = 0 };
+  fares = [];
+  transfers = record { taps = 0; time = 0 };
+}
+
+-- the class at a place
+abbrev pub class_at : TableMeaning → ℕ → Class
+class_at meaning place = slice_index_or meaning.classes place no_class
+
+-- what a class pays for a ride on a mode: the mode's fare, under the limits of the class
+abbrev pub terms_on : Class → ℕ → Terms
+terms_on class mode = record class.terms { fare = slice_index class.fares mode }
+
+-- what the class at the place pays for a ride on the mode
+abbrev pub ride_terms : TableMeaning → ℕ → ℕ → Terms
+ride_terms meaning place mode = terms_on (class_at meaning place) mode
+
+-- what the rides of the class at the place give
+abbrev pub transfer_terms : TableMeaning → ℕ → TransferTerms
+transfer_terms meaning place = (class_at meaning place).transfers
+
+-- what the rider's class pays on a mode of which it names no fare
+abbrev pub terms_at : TableMeaning → List ℕ → Terms
+terms_at meaning token = (class_at meaning (class_of meaning token)).terms

@@ -1,0 +1,17 @@
+pub mod ClockView
+pub mod Fares
+pub mod Following
+pub mod Names
+pub mod PosixRule
+pub mod RiderMarks
+pub mod Riders
+pub mod TableMeaning
+pub mod TariffParts
+pub mod TariffView
+pub mod Terms
+pub mod Transfers
+pub mod Until
+pub mod Validators
+pub mod WindowSpan
+pub mod Zone
+pub mod inside

@@ -1,0 +1,37 @@
+-- What holds of the parts of every tariff, and what contracts see of them.
+use Rattle.std.specs.Prelude.{◌≡◌, ◌<◌, ◌≤◌, true, All, length, map, string_bytes}
+use Rattle.std.specs.Map.{values_of}
+use Rattle.tariffs.specs.Terms.{IsBoundedClass}
+use Rattle.tariffs.specs.Zone.{zone_rule, zone_text}
+use Rattle.tariffs.specs.declared.tariff.TariffParts.{TariffParts}
+use Rattle.tariffs.specs.WindowSpan.{IsBoundedSpan}
+use Rattle.tariffs.specs.TariffView.{TariffView}
+use Rattle.tariffs.specs.Validators.{are_modes_below}
+
+-- what contracts see of the parts of a tariff
+abbrev pub view_of : TariffParts → TariffView
+view_of parts = record {
+  meaning = record {
+    modes = map string_bytes parts.modes.items;
+    transfers = parts.transfers;
+    classes = parts.classes.items;
+    names = map string_bytes parts.names.items;
+    standard = parts.standard;
+    ranges = parts.ranges;
+    riders = parts.riders;
+    zone = zone_text parts.zone;
+    window = parts.window;
+  };
+  zone = record { rule = zone_rule parts.zone };
+}
+
+-- at most 32 modes, ranges of modes of the tariff, classes and days of windows within their bounds,
+-- a name of each class, and places that have a class
+pub record AreSound (parts : TariffParts) : Type 0 where
+  pub few : length parts.modes.items ≤ 32
+  pub known : are_modes_below (length parts.modes.items) parts.ranges ≡ true
+  pub classes : All IsBoundedClass parts.classes.items
+  pub named : length parts.names.items ≡ length parts.classes.items
+  pub standard : parts.standard < length parts.classes.items
+  pub window : IsBoundedSpan parts.window
+  pub riders : All (λ place. place < length parts.classes.items) (values_of parts.riders)

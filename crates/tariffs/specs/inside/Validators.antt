@@ -1,0 +1,23 @@
+-- Validators: what private functions alone cite.
+use Rattle.std.specs.Prelude.{◌≡◌, ℕ, ◌+◌, ◌&&◌, Bool, true, false, List, [], ◌∷◌}
+use Rattle.std.specs.Prelude.{length, map, nat_le, nat_lt}
+use Rattle.std.specs.List.{AllWithin}
+use Rattle.tariffs.specs.declared.validators.RangeRest.{RangeRest}
+use Rattle.tariffs.specs.Validators.{stand_apart}
+
+-- each number is below the next one
+abbrev pub is_rising : List ℕ → Bool
+is_rising [] = true
+is_rising (first ∷ []) = true
+is_rising (first ∷ next ∷ more) = nat_lt first next && is_rising (next ∷ more)
+
+-- ranges that rise and stand apart, and their first numbers
+pub record AreSearchable (ranges : List (ℕ × RangeRest)) (firsts : List ℕ) : Type 0 where
+  pub apart : stand_apart ranges ≡ true
+  pub same : firsts ≡ map (λ range. range.0) ranges
+
+-- each number before the index is not above `number`, and each from `size` places after the index
+-- on is
+pub record IsSplitAt (number : ℕ) (firsts : List ℕ) (index size : ℕ) : Type 0 where
+  pub front : AllWithin (λ first. nat_le first number ≡ true) firsts 0 index
+  pub back : AllWithin (λ first. nat_le first number ≡ false) firsts (index + size) (length firsts)

@@ -1,0 +1,221 @@
+//! Where windows end.
+ghost use Rattle.std.specs.Prelude.{◌≡◌, ◌<◌, ◌+◌, pos, ◌+ℤ◌, ◌*ℤ◌, ◌<ℤ◌, ◌≤ℤ◌, neg_ℤ};
+ghost use Rattle.std.specs.Int.{int_max};
+ghost use Rattle.jiff.specs.Words.{epoch_day};
+ghost use Rattle.jiff.specs.ZoneView.{plain_zone};
+ghost use Rattle.tariffs.specs.WindowSpan.{IsBoundedSpan};
+ghost use Rattle.tariffs.specs.Until.{IsCivilWindowEnd, IsEndDate, IsPlainWindowEnd};
+ghost use Rattle.tariffs.specs.inside.Midnight.{IsMidnight};
+ghost use Rattle.tariffs.specs.Until.{moment_nanos};
+
+use crate::window_span::WindowSpan;
+use jiff::civil::{Date, DateTime};
+use jiff::tz::{Offset, TimeZone};
+use jiff::{Timestamp, ToSpan};
+use std::marker::Model;
+
+/// A day in milliseconds.
+const DAY_MS: u64 = 86_400_000;
+
+/// Says where the windows of one fare table end. A worker makes its own from the table.
+#[derive(Drop)]
+pub struct Clock {
+    /// The rule of the table's zone, if it names one.
+    zone: Option<TimeZone<'static>>,
+}
+
+impl Model for Clock {
+    ghost use Rattle.tariffs.specs.ClockView.{ClockView};
+
+    ghost Value = { ClockView };
+
+    ghost use Rattle.tariffs.specs.inside.PosixRule.{HasRule, rule_of};
+
+    ghost view = { λ c. record { rule = rule_of c.zone } };
+
+    ghost invariant = { λ c. HasRule c.zone };
+}
+
+impl Clock {
+    ghost use Rattle.std.specs.Prelude.{◌≡◌, ◌<◌, ◌⊎◌, pos, ◌*ℤ◌, ◌<ℤ◌, ◌≤ℤ◌, IfSome, None};
+    ghost use Rattle.std.specs.Prelude.{option_map};
+    ghost use Rattle.jiff.specs.Words.{epoch_day};
+    ghost use Rattle.tariffs.specs.inside.PosixRule.{HasRule, rule_of};
+    ghost use Rattle.tariffs.specs.WindowSpan.{IsBoundedSpan};
+    ghost use Rattle.tariffs.specs.Until.{IsWindowEnd, midnight_by, moment_nanos, seconds_ahead};
+    ghost use Rattle.tariffs.specs.Until.{window_end_in};
+
+    /// A clock of this zone or of none.
+    pub(crate) fn new(zone: Option<TimeZone<'static>>) -> Clock
+        requires { HasRule zone }
+        ensures { result ≡ record { rule = rule_of zone.entry } }
+    {
+        Clock { zone }
+    }
+
+    /// The end of a window of this length that starts at the moment, both in milliseconds since
+    /// 1970-01-01T00:00Z; the moment lies before 2100-01-01T00:00Z. Without a zone a window of `n`
+    /// days ends `n * 24` hours later. One of a calendar day, week or month ends at the next 00:00
+    /// in UTC of a day, a Monday or the first of a month. With a zone each ends at 00:00 by its
+    /// clocks, and one of `n` days on the `n`th date after the start's (seven days are the MTA's
+    /// window; when it ends is this project's choice). A midnight that clocks skip takes the offset
+    /// before the gap, one that comes twice is the earlier. Each ends at least a millisecond after
+    /// its start. It takes no memory.
+    #[inline]
+    pub fn window_end(&self, span: WindowSpan, moment: u64) -> u64
+        requires span { IsBoundedSpan span }
+        requires moment { moment < 4_102_444_800_000 }
+        ensures value { result ≡ window_end_in self.now span moment }
+        ensures window_end { IsWindowEnd self.now span moment result }
+        ensures after { moment < result }
+    {
+        match &self.zone {
+            Some(zone) => civil_window_end(zone, span, moment),
+            None => plain_window_end(span, moment),
+        }
+    }
+
+    /// The moment of 00:00 of a date, by the zone's clocks or in UTC without a zone, in
+    /// milliseconds since 1970-01-01T00:00Z. A midnight that clocks skip takes the offset before
+    /// the gap, one that comes twice is the earlier. `None` for a date before 1970 or after 2099,
+    /// and for one that begins before 1970-01-01T00:00Z.
+    pub fn midnight(&self, date: Date) -> Option<u64>
+        ensures moment { IfSome result (λ moment. moment_nanos moment
+            ≡ midnight_by self.now.rule (epoch_day date)) }
+        ensures years { IfSome result (λ _. (pos 1970 ≤ℤ date.year) × (date.year ≤ℤ pos 2099)) }
+        ensures none { result ≡ None → (date.year <ℤ pos 1970) ⊎ ((pos 2099 <ℤ date.year)
+            ⊎ (midnight_by self.now.rule (epoch_day date) <ℤ pos 0)) }
+    {
+        let year = date.year();
+        if year < 1970 || 2099 < year {
+            return None;
+        }
+        let millis = self.midnight_millis(date);
+        if millis < 0 {
+            None
+        } else {
+            Some(millis as u64)
+        }
+    }
+
+    /// The milliseconds of 00:00 of a date of 1970 to 2099.
+    fn midnight_millis(&self, date: Date) -> i64
+        requires low { pos 1970 ≤ℤ date.year }
+        requires high { date.year ≤ℤ pos 2099 }
+        ensures { result *ℤ pos 1_000_000 ≡ midnight_by self.now.rule (epoch_day date) }
+    {
+        match &self.zone {
+            Some(zone) => midnight_millis(zone, date),
+            None => midnight_millis(&TimeZone::UTC, date),
+        }
+    }
+
+    /// How far the zone's clocks are ahead of UTC at the moment, in milliseconds since
+    /// 1970-01-01T00:00Z; the moment lies before 9999-12-30T22:00Z. `None` if the table names no
+    /// zone.
+    pub fn offset_at(&self, moment: u64) -> Option<Offset>
+        requires { moment < 253_402_207_200_000 }
+        ensures { option_map (λ offset. offset.seconds) result
+            ≡ option_map (λ zone. seconds_ahead zone moment) self.now.rule }
+    {
+        match &self.zone {
+            Some(zone) => Some(zone.to_offset(instant(moment))),
+            None => None,
+        }
+    }
+}
+
+/// The window end of a table without a zone.
+#[inline]
+fn plain_window_end(span: WindowSpan, moment: u64) -> u64
+    requires span { IsBoundedSpan span }
+    requires moment { moment < 4_102_444_800_000 }
+    ensures window_end { IsPlainWindowEnd span moment result }
+    ensures after { moment < result }
+{
+    match span {
+        WindowSpan::Days(count) => moment + u64::from(count) * DAY_MS,
+        calendar => civil_window_end(&TimeZone::UTC, calendar, moment),
+    }
+}
+
+/// The window end under a zone. Kept out of `window_end`, so that the few instructions of a table
+/// without a zone stand where it is called.
+#[inline(never)]
+fn civil_window_end(zone: &TimeZone<'static>, span: WindowSpan, moment: u64) -> u64
+    requires span { IsBoundedSpan span }
+    requires moment { moment < 4_102_444_800_000 }
+    ensures window_end { IsCivilWindowEnd (plain_zone zone.now) span moment result }
+    ensures after { moment < result }
+{
+    let start = instant(moment);
+    let shown = zone.to_offset(start).to_datetime(start);
+    let midnight = DateTime::from(end_date(span, shown.date()));
+    let window_end = zone.to_timestamp(midnight).unwrap();
+    end_after(moment, window_end.as_millisecond())
+}
+
+/// The milliseconds of 00:00 of a date by the clocks of a zone.
+fn midnight_millis(zone: &TimeZone<'static>, date: Date) -> i64
+    requires low { pos 1970 ≤ℤ date.year }
+    requires high { date.year ≤ℤ pos 2099 }
+    ensures at { IsMidnight (plain_zone zone.now) date (result *ℤ pos 1_000_000) }
+    ensures low { neg_ℤ (pos 5_000_000_000_000) ≤ℤ result }
+    ensures high { result ≤ℤ pos 5_000_000_000_000 }
+{
+    let midnight = DateTime::from(date);
+    let instant = zone.to_timestamp(midnight).unwrap();
+    instant.as_millisecond()
+}
+
+/// The later of an instant and of the millisecond after a moment.
+fn end_after(moment: u64, instant: i64) -> u64
+    requires { moment < 4_102_444_800_000 }
+    ensures { pos result ≡ int_max (pos (moment + 1)) instant }
+{
+    let first = moment + 1;
+    if (first as i64) < instant {
+        instant as u64
+    } else {
+        first
+    }
+}
+
+/// The moment as an instant of the zone's library.
+fn instant(moment: u64) -> Timestamp
+    requires { moment < 253_402_207_200_000 }
+    ensures { result.nanosecond ≡ moment_nanos moment }
+{
+    Timestamp::from_millisecond(moment as i64).unwrap()
+}
+
+/// The date at whose 00:00 a window ends that starts on this one.
+fn end_date(span: WindowSpan, shown: Date) -> Date
+    requires span { IsBoundedSpan span }
+    requires low { neg_ℤ (pos 10) ≤ℤ epoch_day shown }
+    requires high { epoch_day shown ≤ℤ pos 50_000 }
+    ensures date { IsEndDate span shown result }
+    ensures after { epoch_day shown <ℤ epoch_day result }
+    ensures near { epoch_day result ≤ℤ (epoch_day shown +ℤ pos 31) }
+{
+    match span {
+        WindowSpan::Days(count) => days_later(shown, i64::from(count)),
+        WindowSpan::CalendarDay => days_later(shown, 1),
+        WindowSpan::CalendarWeek => {
+            let weekday = i64::from(shown.weekday().to_monday_zero_offset());
+            days_later(shown, 7 - weekday)
+        }
+        WindowSpan::CalendarMonth => days_later(shown.last_of_month(), 1),
+    }
+}
+
+/// The date this number of days after this one.
+fn days_later(date: Date, days: i64) -> Date
+    requires low { neg_ℤ (pos 10) ≤ℤ epoch_day date }
+    requires high { epoch_day date ≤ℤ pos 50_100 }
+    requires some { pos 1 ≤ℤ days }
+    requires few { days ≤ℤ pos 31 }
+    ensures { epoch_day result ≡ epoch_day date +ℤ days }
+{
+    date.checked_add(days.days()).unwrap()
+}

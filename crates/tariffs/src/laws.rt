@@ -1,0 +1,28 @@
+//! Laws of fare tables. Each function's contract is the law; it has nothing to do.
+ghost use Rattle.std.specs.Prelude.{◌≡◌, ℕ, ◌<◌, ◌≤◌, ◌+ℤ◌, pos};
+ghost use Rattle.tariffs.specs.Fares.{Fares, meaning_at};
+ghost use Rattle.tariffs.specs.Until.{IsWindowEnd, civil_window_end, day_at, midnight_instant};
+ghost use Rattle.tariffs.specs.Until.{moment_nanos, until};
+ghost use Rattle.tariffs.specs.declared.window_span.WindowSpan.TheVariants.{Days};
+ghost use Rattle.jiff_tz.specs.declared.posix.TimeZone.{TimeZone as PosixRule};
+
+/// A window ends after it starts.
+pub fn windows_end_later()
+    ensures { (fares : Fares) (start : ℕ) → start < until fares start }
+{}
+
+/// A window has one end: what is its days after its start, or the midnight of its end date, is that
+/// of the table.
+pub fn windows_have_one_end()
+    ensures { (fares : Fares) (start window_end : ℕ)
+        → IsWindowEnd fares.zone (meaning_at fares start).window start window_end
+        → window_end ≡ until fares start }
+{}
+
+/// In a zone a window of four days or more ends at the midnight itself, which is after its start by
+/// any zone's rule.
+pub fn long_windows_end_at_midnight()
+    ensures { (zone : PosixRule) (count start : ℕ) → 4 ≤ count
+        → moment_nanos (civil_window_end zone (Days count) start)
+        ≡ midnight_instant zone (day_at zone (moment_nanos start) +ℤ pos count) }
+{}

@@ -1,0 +1,82 @@
+//! Marks: a quick test that is false for most tokens that `riders` does not name, so that few
+//! tokens are searched for.
+
+ghost use Rattle.std.specs.Prelude.{◌≡◌, ◌<◌, ◌≤◌, ◌*◌, true, All, IfOk, length};
+ghost use Rattle.std.specs.Map.{keys_of};
+ghost use Rattle.tariffs.specs.RiderMarks.{is_marked, mark_place};
+
+use std::alloc::Global;
+use std::collections::BTreeMap;
+use std::marker::Model;
+use tap_views::{NoMemory, Token};
+
+/// The least number of marks for each token. With this number, most other tokens have none at their
+/// place.
+const MARKS_FOR_EACH: usize = 8;
+
+/// A mark for each of some tokens, at the place that its last bits give.
+///
+/// A token without a mark at its place is none of them. One with a mark may be, since tokens share
+/// places: who asks looks further then. So places that many tokens share cost time alone.
+#[derive(Drop)]
+pub(crate) struct RiderMarks {
+    /// A power of two of them, so that a place is found without a division. None if there is no
+    /// token.
+    marks: Vec<bool>,
+}
+
+impl Model for RiderMarks {
+    ghost use Rattle.std.specs.Prelude.{Bool, List};
+
+    ghost Value = { List Bool };
+
+    ghost view = { λ m. m.marks.items };
+}
+
+impl RiderMarks {
+    /// The marks of a map's tokens. `NoMemory` is returned if a growth is refused.
+    pub(crate) fn new(alloc: Global, riders: &BTreeMap<Token, u32>) -> Result<RiderMarks, NoMemory>
+        ensures marked { IfOk result
+            (λ marks. All (λ token. is_marked marks token ≡ true) (keys_of riders.now.entries)) }
+        ensures few { IfOk result (λ marks. length marks ≤ 16 * length riders.now.entries) }
+    {
+        let mut marks = vec![in alloc; false; marks_for(riders.len())?]?;
+        for token in riders.keys() {
+            let place = mark_place(*token, marks.len());
+            marks[place] = true;
+        }
+        Ok(RiderMarks { marks })
+    }
+
+    /// Whether there is a mark at the token's place.
+    pub(crate) fn has(&self, token: Token) -> bool
+        ensures { result ≡ is_marked self.now token }
+    {
+        !self.marks.is_empty() && self.marks[mark_place(token, self.marks.len())]
+    }
+}
+
+/// The place of the token's mark among this number of marks, a power of two: its last bits, which
+/// spread well, since most tokens are random.
+fn mark_place(token: Token, marks: usize) -> usize
+    requires { 0 < marks }
+    ensures place { result ≡ mark_place token marks }
+    ensures inside { result < marks }
+{
+    token.low() as usize & (marks - 1)
+}
+
+/// How many marks this number of tokens has. A number that `usize` does not hold is also more than
+/// memory holds, so it is returned as refused memory.
+fn marks_for(tokens: usize) -> Result<usize, NoMemory>
+    ensures some { IfOk result (λ marks. 0 < tokens → 0 < marks) }
+    ensures few { IfOk result (λ marks. marks ≤ 16 * tokens) }
+{
+    if tokens == 0 {
+        return Ok(0);
+    }
+    tokens
+        .saturating_mul(MARKS_FOR_EACH)
+        .checked_next_power_of_two()
+        .ok_or(NoMemory)
+}

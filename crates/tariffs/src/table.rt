@@ -1,0 +1,391 @@
+//! The fare table and its look-ups.
+ghost use Rattle.std.specs.Prelude.{◌≡◌, ℕ, ◌<◌, ◌≤◌, [], length, option_map, IfSome, IfErr, IfOk};
+ghost use Rattle.std.specs.Prelude.{IsTrue, IsOk, None, Some, All, map, slice_get, string_bytes};
+ghost use Rattle.tariffs.specs.Fares.{meaning_at, mode_at, terms_at};
+ghost use Rattle.tariffs.specs.Following.{CanFollow, IsFollowFault, with_next};
+ghost use Rattle.tariffs.specs.Following as spec;
+ghost use Rattle.tariffs.specs.inside.Table.{begun, dated_meaning, same_names, same_zone};
+ghost use Rattle.std.specs.Arc.{arc_value};
+ghost use Rattle.tariffs.specs.Riders.{by_bytes};
+ghost use Rattle.tariffs.specs.Terms.{AreBoundedTerms, IsBoundedClass};
+ghost use Rattle.tariffs.specs.WindowSpan.{IsBoundedSpan};
+
+use crate::class::Class;
+use crate::clock::Clock;
+use crate::follow_fault::FollowFault;
+use crate::mode::Mode;
+use crate::tariff::Tariff;
+use crate::terms::Terms;
+use crate::validators::RangeRest;
+use crate::window_span::WindowSpan;
+use std::alloc::Global;
+use std::collections::BTreeMap;
+use std::marker::Model;
+use std::sync::Arc;
+use tap_views::{NoMemory, Token};
+
+/// An agency's fare table: the tariff of one text, and those of texts that follow it, each from a
+/// date on.
+#[derive(Drop)]
+pub struct FareTable {
+    /// The tariff that is valid first. One for all clones, since each book has a clone and none
+    /// changes it.
+    first: Arc<Tariff>,
+    /// The moment from which the next tariff is valid, so that a look-up before it compares once;
+    /// `u64::MAX` if none follows.
+    until: u64,
+    /// The tariffs that follow, in the order of their dates.
+    later: Vec<DatedTariff>,
+}
+
+impl Model for FareTable {
+    ghost use Rattle.std.specs.Arc.{arc_value};
+    ghost use Rattle.tariffs.specs.Fares.{Fares};
+
+    ghost Value = { Fares };
+
+    ghost use Rattle.std.specs.Prelude.{map};
+    ghost use Rattle.tariffs.specs.inside.Table.{dated_meaning, fares_of, AreDated};
+
+    ghost view = { λ t. fares_of (arc_value t.first) t.later.items };
+
+    ghost invariant = { λ t. AreDated (arc_value t.first).meaning.modes t.until
+        (map dated_meaning t.later.items) };
+}
+
+/// A tariff that follows others.
+#[derive(Drop)]
+struct DatedTariff {
+    /// The moment from which it is valid, in milliseconds since 1970-01-01T00:00Z.
+    from: u64,
+    tariff: Arc<Tariff>,
+}
+
+impl FareTable {
+    /// A table of one tariff, which no other follows. `NoMemory` is returned if a growth is refused.
+    pub fn new(alloc: Global, tariff: Tariff) -> Result<FareTable, NoMemory>
+        ensures meaning { IfOk result (λ t. t.meaning ≡ tariff.meaning) }
+        ensures zone { IfOk result (λ t. t.zone ≡ tariff.zone) }
+        ensures alone { IfOk result (λ t. t.later ≡ []) }
+    {
+        Ok(FareTable {
+            first: Arc::new(alloc, tariff)?,
+            until: u64::MAX,
+            later: Vec::new(alloc),
+        })
+    }
+
+    /// These tables, and one that is valid from the moment on, in milliseconds since
+    /// 1970-01-01T00:00Z. If it cannot follow, the error says why.
+    pub fn followed_by(mut self, from: u64, next: FareTable) -> Result<FareTable, FollowFault>
+        ensures follows { IfOk result (λ _. CanFollow self from next) }
+        ensures tables { IfOk result (λ t. t ≡ with_next self from next.meaning) }
+        ensures fault { IfErr result (IsFollowFault self from next) }
+    {
+        if let Some(fault) = self.follow_fault(from, &next) {
+            return Err(fault);
+        }
+        match self.push(from, next.first) {
+            Ok(()) => Ok(self),
+            Err(NoMemory) => Err(FollowFault::NoMemory),
+        }
+    }
+
+    /// A clock of the zone of all its tariffs, which says where windows end. It always returns,
+    /// since a rule of a zone takes no memory.
+    pub fn clock(&self, _alloc: Global) -> Result<Clock, NoMemory>
+        ensures answers { IsOk result }
+        ensures zone { IfOk result (λ c. c ≡ self.now.zone) }
+    {
+        Ok(self.first.clock())
+    }
+
+    /// An equal table, which shares this one's tariffs. `NoMemory` is returned if a growth is
+    /// refused, or if a tariff is shared too often to be counted.
+    pub fn try_clone(&self, alloc: Global) -> Result<FareTable, NoMemory>
+        ensures { IfOk result (λ t. t ≡ self.now) }
+    {
+        let mut later = Vec::new(alloc);
+        for dated in &self.later {
+            later.push(DatedTariff {
+                from: dated.from,
+                tariff: Arc::try_clone(&dated.tariff)?,
+            })?;
+        }
+        Ok(FareTable {
+            first: Arc::try_clone(&self.first)?,
+            until: self.until,
+            later,
+        })
+    }
+
+    /// The tariff that is valid at the moment, in milliseconds since 1970-01-01T00:00Z.
+    #[inline]
+    pub fn at(&self, moment: u64) -> &Tariff
+        ensures meaning { result.now.meaning ≡ meaning_at self.now moment }
+        ensures modes { result.now.meaning.modes ≡ self.now.meaning.modes }
+    {
+        if self.is_first_at(moment) {
+            return &self.first;
+        }
+        self.later_at(moment)
+    }
+
+    /// Whether the first tariff is valid at the moment and at each before it. That it says no costs
+    /// its caller a look-up and no more.
+    #[inline(always)]
+    pub fn is_first_at(&self, moment: u64) -> bool
+        ensures { IsTrue result → (earlier : ℕ) → earlier ≤ moment
+            → meaning_at self.now earlier ≡ self.now.meaning }
+    {
+        moment < self.until
+    }
+
+    /// The tariff that is valid first. The look-ups below that take no moment are its own.
+    pub fn first(&self) -> &Tariff
+        ensures { result.now.meaning ≡ self.now.meaning }
+    {
+        &self.first
+    }
+
+    /// How many tariffs follow the first one.
+    pub fn later_len(&self) -> usize
+        ensures { result ≡ length self.now.later }
+    {
+        self.later.len()
+    }
+
+    /// The tariff at the place among those that follow the first one, in the order of their dates,
+    /// behind the moment from which it is valid, in milliseconds since 1970-01-01T00:00Z.
+    pub fn later(&self, place: usize) -> (u64, &Tariff)
+        requires { place < length self.now.later }
+        ensures { slice_get self.now.later place ≡ Some (result.0, result.1.now.meaning) }
+    {
+        let dated = &self.later[place];
+        (dated.from, &dated.tariff)
+    }
+
+    /// Whether one tariff is valid at both moments: none comes after the earlier one up to the
+    /// later one. That it says no costs its caller a look-up and no more.
+    #[inline]
+    pub fn is_one_tariff(&self, earlier: u64, moment: u64) -> bool
+        requires { earlier ≤ moment }
+        ensures { IsTrue result → meaning_at self.now earlier ≡ meaning_at self.now moment }
+    {
+        self.is_first_at(moment) || self.none_between(earlier, moment)
+    }
+
+    /// The mode of a validator at the moment, or `None` if no range of the tariff has it that is
+    /// valid then.
+    #[inline(always)]
+    pub fn mode_of(&self, moment: u64, validator: u32) -> Option<Mode>
+        ensures mode { option_map (λ m. m.place) result ≡ mode_at self.now moment validator }
+        ensures within { IfSome result (λ m. m.place < length self.now.meaning.modes) }
+        ensures few { length self.now.meaning.modes ≤ 32 }
+    {
+        if self.is_first_at(moment) {
+            return self.first.mode_of(validator);
+        }
+        self.later_mode_of(moment, validator)
+    }
+
+    /// The mode's name. All tariffs have the same modes.
+    pub fn mode_name(&self, mode: Mode) -> &str
+        requires { mode.place < length self.now.meaning.modes }
+        ensures { slice_get self.now.meaning.modes mode.place ≡ Some result.now }
+    {
+        self.first.mode_name(mode)
+    }
+
+    /// The names of the modes by their places.
+    pub fn mode_names(&self) -> &[String]
+        ensures names { map string_bytes result.now ≡ self.now.meaning.modes }
+        ensures few { length result.now ≤ 32 }
+    {
+        self.first.mode_names()
+    }
+
+    /// The classes by their places.
+    pub fn classes(&self) -> &[Class]
+        ensures classes { result.now ≡ self.now.meaning.classes }
+        ensures bounds { All IsBoundedClass result.now }
+    {
+        self.first.classes()
+    }
+
+    /// The names of the classes by their places, in their byte order.
+    pub fn class_names(&self) -> &[String]
+        ensures names { map string_bytes result.now ≡ self.now.meaning.names }
+        ensures each { length result.now ≡ length self.now.meaning.classes }
+    {
+        self.first.class_names()
+    }
+
+    /// The place of the class of all riders that have none of their own.
+    pub fn default_class(&self) -> u32
+        ensures class { result ≡ self.now.meaning.standard }
+        ensures there { result < length self.now.meaning.classes }
+    {
+        self.first.default_class()
+    }
+
+    /// The pairs of places of modes with a transfer, each once, in the order of the text.
+    pub fn pairs(&self) -> &[(u8, u8)]
+        ensures { result.now ≡ self.now.meaning.transfers }
+    {
+        self.first.pairs()
+    }
+
+    /// The ranges of validators, each by its first number, rising.
+    pub fn ranges(&self) -> &[(u32, RangeRest)]
+        ensures { result.now ≡ self.now.meaning.ranges }
+    {
+        self.first.ranges()
+    }
+
+    /// The places of the classes of riders that have their own, by their tokens, rising.
+    pub fn riders(&self) -> &BTreeMap<Token, u32>
+        ensures { by_bytes result.now.entries ≡ self.now.meaning.riders }
+    {
+        self.first.riders()
+    }
+
+    /// The text of the zone, if the table names one. All tariffs have the same.
+    pub fn zone_text(&self) -> Option<&str>
+        ensures { option_map (λ text. text.now) result ≡ self.now.meaning.zone }
+    {
+        self.first.zone_text()
+    }
+
+    /// How long windows are.
+    pub fn window_span(&self) -> WindowSpan
+        ensures window { result ≡ self.now.meaning.window }
+        ensures bounds { IsBoundedSpan result }
+    {
+        self.first.window_span()
+    }
+
+    /// What the rider of a token pays, in cents, on a mode of which the rider's class, else the
+    /// default class, names no fare.
+    pub fn terms_of(&self, token: &[u8]) -> Terms
+        requires { length token.now ≡ 16 }
+        ensures terms { result ≡ terms_at self.now.meaning token.now }
+        ensures bounds { AreBoundedTerms result }
+    {
+        self.first.terms_of(token)
+    }
+
+    /// What `mode_of` answers. Kept out of it, so that a run with one tariff has a compare where it
+    /// is called and no more.
+    #[cold]
+    #[inline(never)]
+    fn later_mode_of(&self, moment: u64, validator: u32) -> Option<Mode>
+        ensures mode { option_map (λ m. m.place) result ≡ mode_at self.now moment validator }
+        ensures within { IfSome result (λ m. m.place < length self.now.meaning.modes) }
+        ensures few { length self.now.meaning.modes ≤ 32 }
+    {
+        let tariff = self.later_at(moment);
+        tariff.mode_of(validator)
+    }
+
+    /// The tariff that is valid at the moment, of those that follow and the first. Kept out of
+    /// `at`, as `later_mode_of` out of `mode_of`.
+    #[cold]
+    #[inline(never)]
+    fn later_at(&self, moment: u64) -> &Tariff
+        ensures meaning { result.now.meaning ≡ meaning_at self.now moment }
+        ensures modes { result.now.meaning.modes ≡ self.now.meaning.modes }
+    {
+        let begun = begun(&self.later, moment);
+        if begun == 0 {
+            &self.first
+        } else {
+            &self.later[begun - 1].tariff
+        }
+    }
+
+    /// Whether no tariff is valid from a moment after the earlier one up to the later one.
+    #[cold]
+    #[inline(never)]
+    fn none_between(&self, earlier: u64, moment: u64) -> bool
+        requires { earlier ≤ moment }
+        ensures { IsTrue result → meaning_at self.now earlier ≡ meaning_at self.now moment }
+    {
+        begun(&self.later, earlier) == begun(&self.later, moment)
+    }
+
+    /// Why the next table cannot follow from the moment on, if it cannot.
+    fn follow_fault(&self, from: u64, next: &FareTable) -> Option<FollowFault>
+        ensures fault { IfSome result (IsFollowFault self.now from next.now) }
+        ensures none { result ≡ None → CanFollow self.now from next.now }
+    {
+        if from <= last_from(&self.later) {
+            return Some(FollowFault::Date);
+        }
+        if !same_zone(self.zone_text(), next.zone_text()) {
+            return Some(FollowFault::Zone);
+        }
+        if !same_names(self.mode_names(), next.mode_names()) {
+            return Some(FollowFault::Modes);
+        }
+        if !next.later.as_slice().is_empty() {
+            return Some(FollowFault::Followed);
+        }
+        None
+    }
+
+    /// Adds a tariff that is valid from the moment on. Unchanged if memory is refused.
+    fn push(&mut self, from: u64, tariff: Arc<Tariff>) -> Result<(), NoMemory>
+        requires { (arc_value tariff).meaning.modes ≡ self.old.meaning.modes }
+        ensures { IfOk result (λ _. self.new ≡ with_next self.old from (arc_value tariff).meaning) }
+    {
+        self.later.push(DatedTariff { from, tariff })?;
+        self.until = self.later[0].from;
+        Ok(())
+    }
+}
+
+/// How many of the tariffs are valid at the moment or were before, up to the first that is not yet.
+fn begun(later: &[DatedTariff], moment: u64) -> usize
+    ensures count { result ≡ begun moment (map dated_meaning later.now) }
+    ensures bound { result ≤ length later.now }
+{
+    let mut count = 0;
+    for dated in later {
+        if moment < dated.from {
+            return count;
+        }
+        count += 1;
+    }
+    count
+}
+
+/// The moment from which the last of the tariffs is valid, and 0 if there is none.
+fn last_from(later: &[DatedTariff]) -> u64
+    ensures { result ≡ spec.last_from 0 (map dated_meaning later.now) }
+{
+    let mut last = 0;
+    for dated in later {
+        last = dated.from;
+    }
+    last
+}
+
+/// Whether both name one zone, or none.
+fn same_zone(text: Option<&str>, other: Option<&str>) -> bool
+    ensures { result ≡ same_zone (option_map (λ t. t.now) text.entry)
+        (option_map (λ t. t.now) other.entry) }
+{
+    match (text, other) {
+        (Some(text), Some(other)) => text == other,
+        (None, None) => true,
+        _ => false,
+    }
+}
+
+/// Whether both have the same names in the same order.
+fn same_names(names: &[String], others: &[String]) -> bool
+    ensures { result ≡ same_names (map string_bytes names.now) (map string_bytes others.now) }
+{
+    names == others
+}

@@ -1,0 +1,253 @@
+//! A tariff: what one text of a fare table says, and its look-ups.
+ghost use Rattle.std.specs.Prelude.{◌≡◌, ◌<◌, ◌≤◌, length, option_map, IfSome, Some, map};
+ghost use Rattle.std.specs.Prelude.{All, slice_get, string_bytes};
+ghost use Rattle.tariffs.specs.Fares.{class_of, is_permitted, mode_in, ride_terms, terms_at};
+ghost use Rattle.tariffs.specs.Fares.{transfer_terms};
+ghost use Rattle.tariffs.specs.inside.PosixRule.{HasRule, rule_of};
+ghost use Rattle.tariffs.specs.Riders.{by_bytes};
+ghost use Rattle.tariffs.specs.WindowSpan.{IsBoundedSpan};
+ghost use Rattle.tariffs.specs.Zone.{zone_rule, zone_text};
+ghost use Rattle.tariffs.specs.TariffParts.{AreSound, view_of};
+ghost use Rattle.tariffs.specs.Terms.{AreBoundedTerms, AreRideTerms, IsBoundedClass};
+
+use crate::class::Class;
+use crate::clock::Clock;
+use crate::mode::Mode;
+use crate::riders::Riders;
+use crate::terms::Terms;
+use crate::transfer_terms::TransferTerms;
+use crate::transfers::Transfers;
+use crate::validators::{RangeRest, Ranges};
+use crate::window_span::WindowSpan;
+use crate::zone::Zone;
+use jiff::tz::TimeZone;
+use std::collections::BTreeMap;
+use std::marker::Model;
+use tap_views::Token;
+
+/// What one text of a fare table says: the fares that are valid at a moment. Look-ups take no
+/// memory; those of validators and riders are searches by halves, which a guess or a mark mostly
+/// saves, that of a transfer reads one bit.
+#[derive(Drop)]
+pub struct Tariff {
+    /// What the text says.
+    parts: TariffParts,
+}
+
+impl Model for Tariff {
+    ghost use Rattle.tariffs.specs.TariffView.{TariffView};
+
+    ghost Value = { TariffView };
+
+    ghost use Rattle.tariffs.specs.TariffParts.{view_of, AreSound};
+
+    ghost view = { λ t. view_of t.parts };
+
+    ghost invariant = { λ t. AreSound t.parts };
+}
+
+/// The parts of a tariff.
+#[derive(Drop)]
+pub struct TariffParts {
+    /// The names of the modes by their places.
+    pub modes: Vec<String>,
+    /// The permitted transfers.
+    pub transfers: Transfers,
+    /// The classes by their places.
+    pub classes: Vec<Class>,
+    /// The names of the classes by their places.
+    pub names: Vec<String>,
+    /// The place of the default class.
+    pub standard: u32,
+    /// The ranges of validators and their modes.
+    pub ranges: Ranges,
+    /// The classes of single riders.
+    pub riders: Riders,
+    /// The zone, if the table names one.
+    pub zone: Option<Zone>,
+    /// How long windows are.
+    pub window: WindowSpan,
+}
+
+impl Tariff {
+    /// The tariff of these parts.
+    pub fn new(parts: TariffParts) -> Tariff
+        requires { AreSound parts }
+        ensures { result ≡ view_of parts }
+    {
+        Tariff { parts }
+    }
+
+    /// A clock of the tariff's zone.
+    pub(crate) fn clock(&self) -> Clock
+        ensures { result ≡ self.now.zone }
+    {
+        Clock::new(rule(&self.parts.zone))
+    }
+
+    /// The mode of a validator, or `None` if no range has it.
+    pub fn mode_of(&self, validator: u32) -> Option<Mode>
+        ensures mode { option_map (λ m. m.place) result ≡ mode_in self.now.meaning validator }
+        ensures within { IfSome result (λ m. m.place < length self.now.meaning.modes) }
+        ensures few { length self.now.meaning.modes ≤ 32 }
+    {
+        let rest = self.parts.ranges.at(validator)?;
+        Some(Mode { place: rest.mode })
+    }
+
+    /// Whether a ride of the one mode includes a transfer to the other: whether the pair stands in
+    /// `transfers`.
+    pub fn permits(&self, from: Mode, to: Mode) -> bool
+        requires from { from.place < length self.now.meaning.modes }
+        requires to { to.place < length self.now.meaning.modes }
+        ensures { result ≡ is_permitted self.now.meaning from.place to.place }
+    {
+        self.parts.transfers.permits(from.place, to.place)
+    }
+
+    /// The mode's name.
+    pub fn mode_name(&self, mode: Mode) -> &str
+        requires { mode.place < length self.now.meaning.modes }
+        ensures { slice_get self.now.meaning.modes mode.place ≡ Some result.now }
+    {
+        self.parts.modes[mode.place as usize].as_str()
+    }
+
+    /// The place of the class of a token's rider: of the rider's own class, else of the default
+    /// one. `ride_terms` and `transfer_terms` say what the class pays and gives, so that the token
+    /// is looked up once.
+    pub fn class_of(&self, token: &[u8]) -> u32
+        requires { length token.now ≡ 16 }
+        ensures class { result ≡ class_of self.now.meaning token.now }
+        ensures there { result < length self.now.meaning.classes }
+    {
+        match self.parts.riders.class_of(token) {
+            Some(class) => class,
+            None => self.parts.standard,
+        }
+    }
+
+    /// What the class at the place pays for a ride on the mode, in cents.
+    pub fn ride_terms(&self, class: u32, mode: Mode) -> Terms
+        requires class { class < length self.now.meaning.classes }
+        requires mode { mode.place < length self.now.meaning.modes }
+        ensures terms { result ≡ ride_terms self.now.meaning class mode.place }
+        ensures bounds { AreRideTerms result }
+    {
+        let class = &self.parts.classes[class as usize];
+        Terms {
+            fare: class.fares[mode.place as usize],
+            rides: class.terms.rides,
+            ceiling: class.terms.ceiling,
+        }
+    }
+
+    /// What the rides of the class at the place give: a number of taps, and a time in milliseconds.
+    pub fn transfer_terms(&self, class: u32) -> TransferTerms
+        requires { class < length self.now.meaning.classes }
+        ensures terms { result ≡ transfer_terms self.now.meaning class }
+        ensures taps { result.taps ≤ 9 }
+        ensures time { result.time ≤ 86_400_000 }
+    {
+        self.parts.classes[class as usize].transfers
+    }
+
+    /// The names of the modes by their places.
+    pub fn mode_names(&self) -> &[String]
+        ensures names { map string_bytes result.now ≡ self.now.meaning.modes }
+        ensures few { length result.now ≤ 32 }
+    {
+        self.parts.modes.as_slice()
+    }
+
+    /// The classes by their places.
+    pub fn classes(&self) -> &[Class]
+        ensures classes { result.now ≡ self.now.meaning.classes }
+        ensures bounds { All IsBoundedClass result.now }
+    {
+        self.parts.classes.as_slice()
+    }
+
+    /// The names of the classes by their places, in their byte order.
+    pub fn class_names(&self) -> &[String]
+        ensures names { map string_bytes result.now ≡ self.now.meaning.names }
+        ensures each { length result.now ≡ length self.now.meaning.classes }
+    {
+        self.parts.names.as_slice()
+    }
+
+    /// The place of the class of all riders that have none of their own.
+    pub fn default_class(&self) -> u32
+        ensures class { result ≡ self.now.meaning.standard }
+        ensures there { result < length self.now.meaning.classes }
+    {
+        self.parts.standard
+    }
+
+    /// The pairs of places of modes with a transfer, each once, in the order of the text.
+    pub fn pairs(&self) -> &[(u8, u8)]
+        ensures { result.now ≡ self.now.meaning.transfers }
+    {
+        self.parts.transfers.all()
+    }
+
+    /// The ranges of validators, each by its first number, rising.
+    pub fn ranges(&self) -> &[(u32, RangeRest)]
+        ensures { result.now ≡ self.now.meaning.ranges }
+    {
+        self.parts.ranges.all()
+    }
+
+    /// The places of the classes of riders that have their own, by their tokens, rising.
+    pub fn riders(&self) -> &BTreeMap<Token, u32>
+        ensures { by_bytes result.now.entries ≡ self.now.meaning.riders }
+    {
+        self.parts.riders.all()
+    }
+
+    /// The text of the zone, if the table names one.
+    pub fn zone_text(&self) -> Option<&str>
+        ensures { option_map (λ text. text.now) result ≡ self.now.meaning.zone }
+    {
+        text_of(&self.parts.zone)
+    }
+
+    /// How long windows are.
+    pub fn window_span(&self) -> WindowSpan
+        ensures window { result ≡ self.now.meaning.window }
+        ensures bounds { IsBoundedSpan result }
+    {
+        self.parts.window
+    }
+
+    /// What the rider of a token pays, in cents, on a mode of which the rider's class, else the
+    /// default class, names no fare.
+    pub fn terms_of(&self, token: &[u8]) -> Terms
+        requires { length token.now ≡ 16 }
+        ensures terms { result ≡ terms_at self.now.meaning token.now }
+        ensures bounds { AreBoundedTerms result }
+    {
+        self.parts.classes[self.class_of(token) as usize].terms
+    }
+}
+
+/// The text of a zone, if there is one.
+fn text_of(zone: &Option<Zone>) -> Option<&str>
+    ensures { option_map (λ text. text.now) result ≡ zone_text zone.now }
+{
+    match zone {
+        Some(zone) => Some(zone.text.as_str()),
+        None => None,
+    }
+}
+
+/// The rule of a zone, if there is one.
+fn rule(zone: &Option<Zone>) -> Option<TimeZone<'static>>
+    ensures rule { rule_of result ≡ zone_rule zone.now }
+    ensures has_rule { HasRule result }
+{
+    match zone {
+        Some(zone) => Some(zone.rule),
+        None => None,
+    }
+}
