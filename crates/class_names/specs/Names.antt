@@ -8,10 +8,10 @@ use Rattle.std.specs.Map.{lookup}
 use Rattle.std.specs.Ordering.{nat_cmp}
 use Rattle.std.specs.declared.alloc.Global.{Global}
 use Rattle.toml.specs.Data.{Members}
-use Rattle.settled_texts.specs.Classes.{class_among, class_of_token}
-use Rattle.settled_texts.specs.declared.class_names.ClassNames.{ClassNames}
-use Rattle.settled_texts.specs.declared.class_names.DatedNames.{DatedNames}
-use Rattle.settled_texts.specs.declared.class_names.TextNames.{TextNames}
+use Rattle.class_names.specs.Classes.{class_among, class_of_token}
+use Rattle.class_names.specs.declared.names.ClassNames.{ClassNames}
+use Rattle.class_names.specs.declared.names.DatedNames.{DatedNames}
+use Rattle.class_names.specs.declared.names.TextNames.{TextNames}
 
 -- the class that is kept for a rider's token
 abbrev pub rider_by : BTreeMap (List ℕ) (String Global) → List ℕ → Option (List ℕ)

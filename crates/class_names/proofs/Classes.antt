@@ -17,12 +17,12 @@ use Rattle.std.specs.Ordering.{nat_cmp}
 use Rattle.std.specs.declared.alloc.Global.{Global}
 use Rattle.toml.specs.Data.{Members, same_key}
 use Rattle.toml.specs.Parse.{parse_document}
-use Rattle.settled_texts.specs.Classes.{AreLaterTrees, AreTrees, class_of_token, first_class}
-use Rattle.settled_texts.specs.Classes.{tree_at}
-use Rattle.settled_texts.specs.Names.{HasClasses, IsDatedOf, NamesOf, class_by, names_at, rider_by}
-use Rattle.settled_texts.specs.declared.class_names.ClassNames.{ClassNames}
-use Rattle.settled_texts.specs.declared.class_names.DatedNames.{DatedNames}
-use Rattle.settled_texts.specs.declared.class_names.TextNames.{TextNames}
+use Rattle.class_names.specs.Classes.{AreLaterTrees, AreTrees, class_of_token, first_class}
+use Rattle.class_names.specs.Classes.{tree_at}
+use Rattle.class_names.specs.Names.{HasClasses, IsDatedOf, NamesOf, class_by, names_at, rider_by}
+use Rattle.class_names.specs.declared.names.ClassNames.{ClassNames}
+use Rattle.class_names.specs.declared.names.DatedNames.{DatedNames}
+use Rattle.class_names.specs.declared.names.TextNames.{TextNames}
 use Rattle.fare_table.proofs.KeyLemmas.{same_bytes}
 
 pub first_none : (o : Option (List ℕ)) → o ≡ first_class o None

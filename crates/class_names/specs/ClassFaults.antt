@@ -2,10 +2,10 @@
 use Rattle.std.specs.Prelude.{◌≡◌, ℕ, List, All, IsUtf8, None, Some, false, slice_get, take, true}
 use Rattle.toml.specs.Data.{Members}
 use Rattle.toml.specs.Parse.{parse_document}
-use Rattle.settled_texts.specs.Classes.{default_in, has_plain_classes}
-use Rattle.settled_texts.specs.declared.class_names.ClassFault.{ClassFault}
-use Rattle.settled_texts.specs.declared.class_names.ClassFault.TheVariants.{Name, NoMemory, Text}
-use Rattle.settled_texts.specs.declared.class_names.WrongNames.{WrongNames}
+use Rattle.class_names.specs.Classes.{default_in, has_plain_classes}
+use Rattle.class_names.specs.declared.names.ClassFault.{ClassFault}
+use Rattle.class_names.specs.declared.names.ClassFault.TheVariants.{Name, NoMemory, Text}
+use Rattle.class_names.specs.declared.names.WrongNames.{WrongNames}
 
 -- The fault is one of the text: it names a class that no ledger can have, or it is no TOML or names
 -- no default class. Memory may be refused at any time.

@@ -3,10 +3,10 @@ use Rattle.std.proofs.Common.{drop, length}
 use Rattle.std.proofs.Common.{map, subst, sym, take}
 use Rattle.std.specs.Prelude.{slice_get}
 use Rattle.fare_table.specs.TableMeaning.{TableMeaning}
-use Rattle.settled_texts.specs.ClassFaults.{HasPlainClasses}
-use Rattle.settled_texts.proofs.Classes.{at_place, behind_first, next_trees, plain_before}
-use Rattle.settled_texts.proofs.Classes.{plain_more}
-use Rattle.settled_texts.proofs.class_names.ClassNames.of_texts.Goals as goal
+use Rattle.class_names.specs.ClassFaults.{HasPlainClasses}
+use Rattle.class_names.proofs.Classes.{at_place, behind_first, next_trees, plain_before}
+use Rattle.class_names.proofs.Classes.{plain_more}
+use Rattle.class_names.proofs.names.ClassNames.of_texts.Goals as goal
 
 pub loop-place-preserved : goal.loop-place-preserved
 loop-place-preserved c =

@@ -11,12 +11,12 @@ ghost use Rattle.hex.specs.Hex.{decode_sized};
 ghost use Rattle.toml.specs.Data.{Members, as_str, as_table, get_member, same_key};
 ghost use Rattle.toml.specs.Parse.{parse_document};
 ghost use Rattle.toml.specs.View.{table_view, view};
-ghost use Rattle.settled_texts.specs.Classes.{AreTrees, are_plain, class_at, default_in};
-ghost use Rattle.settled_texts.specs.Classes.{first_class, has_plain_classes, is_bare};
-ghost use Rattle.settled_texts.specs.Classes.{is_plain_name, is_plain_or_none, riders_in};
-ghost use Rattle.settled_texts.specs.Names.{HasClasses, HasRiders, NamesOf, class_by, class_in};
-ghost use Rattle.settled_texts.specs.Names.{rider_by};
-ghost use Rattle.settled_texts.specs.ClassFaults.{HasPlainClasses, IsFaultOf, IsWrongAt};
+ghost use Rattle.class_names.specs.Classes.{AreTrees, are_plain, class_at, default_in};
+ghost use Rattle.class_names.specs.Classes.{first_class, has_plain_classes, is_bare};
+ghost use Rattle.class_names.specs.Classes.{is_plain_name, is_plain_or_none, riders_in};
+ghost use Rattle.class_names.specs.Names.{HasClasses, HasRiders, NamesOf, class_by, class_in};
+ghost use Rattle.class_names.specs.Names.{rider_by};
+ghost use Rattle.class_names.specs.ClassFaults.{HasPlainClasses, IsFaultOf, IsWrongAt};
 
 use fare_table::FareTable;
 use hex::FromHex;
@@ -38,7 +38,7 @@ pub enum ClassFault {
 }
 
 impl From<AllocError> for ClassFault {
-    ghost use Rattle.settled_texts.specs.declared.class_names.ClassFault.TheVariants.{
+    ghost use Rattle.class_names.specs.declared.names.ClassFault.TheVariants.{
       NoMemory as ForMemory,
     };
 

@@ -1,6 +1,6 @@
 use Rattle.std.proofs.Common.{◌∙◌, sym, string_bytes}
-use Rattle.settled_texts.proofs.Classes.{kept_before, kept_now}
-use Rattle.settled_texts.proofs.class_names.keep.Goals as goal
+use Rattle.class_names.proofs.Classes.{kept_before, kept_now}
+use Rattle.class_names.proofs.names.keep.Goals as goal
 
 pub returns-then-contains_key : goal.returns-then-contains_key
 returns-then-contains_key c = λ other.

@@ -1,7 +1,7 @@
 use Rattle.std.proofs.Common.{◌≡◌, length}
 use Rattle.std.specs.List.{list_all}
-use Rattle.settled_texts.specs.Classes.{is_bare}
-use Rattle.settled_texts.proofs.class_names.are_bare.Given as goal
+use Rattle.class_names.specs.Classes.{is_bare}
+use Rattle.class_names.proofs.names.are_bare.Given as goal
 
 -- all are so if those are that are left
 abbrev pub invariant-loop-first : goal.invariant-loop-first

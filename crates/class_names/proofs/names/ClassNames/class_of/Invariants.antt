@@ -1,6 +1,6 @@
 use Rattle.std.proofs.Common.{◌≡◌, drop}
-use Rattle.settled_texts.specs.Names.{names_at}
-use Rattle.settled_texts.proofs.class_names.ClassNames.class_of.Given as goal
+use Rattle.class_names.specs.Names.{names_at}
+use Rattle.class_names.proofs.names.ClassNames.class_of.Given as goal
 
 -- what is left decides
 abbrev pub invariant-loop-dated : goal.invariant-loop-dated

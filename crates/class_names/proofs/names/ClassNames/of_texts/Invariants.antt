@@ -2,10 +2,10 @@ use Rattle.std.proofs.Common.{◌≡◌, ◌+◌, ◌<◌, ℕ, List, Some, drop
 use Rattle.std.specs.Prelude.{slice_get}
 use Rattle.toml.specs.Data.{Members}
 use Rattle.toml.specs.Parse.{parse_document}
-use Rattle.settled_texts.specs.ClassFaults.{HasPlainClasses}
-use Rattle.settled_texts.specs.Classes.{AreLaterTrees}
-use Rattle.settled_texts.specs.Names.{HasClasses}
-use Rattle.settled_texts.proofs.class_names.ClassNames.of_texts.Given as goal
+use Rattle.class_names.specs.ClassFaults.{HasPlainClasses}
+use Rattle.class_names.specs.Classes.{AreLaterTrees}
+use Rattle.class_names.specs.Names.{HasClasses}
+use Rattle.class_names.proofs.names.ClassNames.of_texts.Given as goal
 
 -- the names so far are those of the texts so far, and each of these is plain
 abbrev pub invariant-loop-place : goal.invariant-loop-place

@@ -3,10 +3,10 @@ use Rattle.std.proofs.Common.{◌∙◌, ℕ, List, Bool, Option, String, Global
 use Rattle.std.specs.Prelude.{◌&&◌}
 use Rattle.toml.specs.View.{members_view, view}
 use Rattle.toml.specs.declared.value.Value.{Value}
-use Rattle.settled_texts.specs.Classes.{are_plain, class_among, class_at, first_class}
-use Rattle.settled_texts.specs.Names.{rider_by}
-use Rattle.settled_texts.proofs.Classes.{first_first, first_none}
-use Rattle.settled_texts.proofs.class_names.classes_of.Goals as goal
+use Rattle.class_names.specs.Classes.{are_plain, class_among, class_at, first_class}
+use Rattle.class_names.specs.Names.{rider_by}
+use Rattle.class_names.proofs.Classes.{first_first, first_none}
+use Rattle.class_names.proofs.names.classes_of.Goals as goal
 
 pub loop-key-preserved : goal.loop-key-preserved
 loop-key-preserved c =

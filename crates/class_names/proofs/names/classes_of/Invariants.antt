@@ -1,8 +1,8 @@
 use Rattle.std.proofs.Common.{◌≡◌, ℕ, List}
 use Rattle.toml.specs.View.{members_view}
-use Rattle.settled_texts.specs.Classes.{are_plain, class_among, first_class}
-use Rattle.settled_texts.specs.Names.{rider_by}
-use Rattle.settled_texts.proofs.class_names.classes_of.Given as goal
+use Rattle.class_names.specs.Classes.{are_plain, class_among, first_class}
+use Rattle.class_names.specs.Names.{rider_by}
+use Rattle.class_names.proofs.names.classes_of.Given as goal
 
 -- the classes of the whole are those that are kept and those of what is left
 abbrev pub invariant-loop-key : goal.invariant-loop-key

@@ -1,8 +1,6 @@
-use Rattle.std.proofs.Common.{refl, subst}
-use Rattle.std.specs.List.{AllZip}
-use Rattle.settled_texts.specs.Names.{IsDatedOf}
-use Rattle.settled_texts.proofs.Classes.{texts_more}
-use Rattle.settled_texts.proofs.class_names.ClassNames.followed_by.Goals as goal
+use Rattle.std.proofs.Common.{refl}
+use Rattle.class_names.proofs.Classes.{texts_more}
+use Rattle.class_names.proofs.names.ClassNames.followed_by.Goals as goal
 
 pub returns : goal.returns
 returns c = λ tree other later before next. record {
