@@ -8,8 +8,8 @@ use Rattle.std.proofs.lemmas.Iterator.Search.{position_from_yields_List}
 use Rattle.std.proofs.lemmas.List.{take_all}
 use Rattle.std.proofs.lemmas.List.Splits.{slice_split_first, slice_split_none}
 use Rattle.std.proofs.lemmas.List.Sums.{fails_before_first}
-use Rattle.ledger_changes.specs.Ledgers.{fields_of}
-use Rattle.ledger_changes.proofs.form.first_field.Goals as goal
+use Rattle.ledger_fields.specs.RowLines.{fields_of}
+use Rattle.ledger_fields.proofs.form.first_field.Goals as goal
 
 abbrev is_comma : ℕ → Bool
 is_comma byte = byte == 44

@@ -1,17 +1,14 @@
 //! The form of a ledger's line: its fields, and the row that they make.
 
-ghost use Rattle.std.specs.Prelude.{◌≡◌, ◌≢◌, ◌∷◌, ◌++◌, ◌<◌, ◌^◌, [], ℕ, List, MatchOption, IfOk};
+ghost use Rattle.std.specs.Prelude.{◌≡◌, ◌≢◌, ◌∷◌, ◌++◌, ◌<◌, ◌^◌, [], ℕ, List, MatchOption};
 ghost use Rattle.std.specs.Prelude.{IsTrue, ◌↔◌, codes, length};
 ghost use Rattle.std.specs.Fmt.{decimal};
-ghost use Rattle.ledger_changes.specs.Ledgers.{IsRowLine, IsTokenText, fields_of, is_token_digit};
-ghost use Rattle.ledger_changes.specs.Rows.{Row};
-ghost use Rattle.ledger_changes.specs.RowFields.{row_of_fields};
-ghost use Rattle.ledger_changes.specs.inside.Fields.{all_fields};
-ghost use Rattle.ledger_changes.specs.inside.LedgerRows.{row_of};
+ghost use Rattle.ledger_fields.specs.RowLines.{IsRowLine, IsTokenText, fields_of, is_token_digit};
+ghost use Rattle.ledger_fields.specs.Rows.{Row};
+ghost use Rattle.ledger_fields.specs.RowFields.{row_of_fields};
+ghost use Rattle.ledger_fields.specs.inside.Fields.{all_fields};
 
-use crate::row::LedgerRow;
 use itoa::Buffer;
-use std::alloc::{AllocError, Global};
 
 /// The fields of a ledger's line, as their texts.
 #[derive(Clone, Copy)]
@@ -151,33 +148,4 @@ pub fn row_fields(line: &[u8]) -> Option<RowFields<'_>>
         cents,
         reason: fields.reason,
     })
-}
-
-/// The bytes, in memory of their own.
-fn owned(alloc: Global, bytes: &[u8]) -> Result<Vec<u8>, AllocError>
-    ensures { IfOk result (λ own. own.items ≡ bytes.now) }
-{
-    let mut own = Vec::new(alloc);
-    own.extend_from_slice(bytes)?;
-    Ok(own)
-}
-
-impl RowFields<'_> {
-    /// The row, in memory of its own.
-    pub(crate) fn to_row(self, alloc: Global) -> Result<LedgerRow, AllocError>
-        ensures { IfOk result (λ row. row_of row ≡ row_of_fields self.entry) }
-    {
-        let token = owned(alloc, self.token)?;
-        let moment = owned(alloc, self.moment)?;
-        let answer = owned(alloc, self.answer)?;
-        let reason = owned(alloc, self.reason)?;
-        Ok(LedgerRow {
-            token,
-            moment,
-            validator: self.validator,
-            answer,
-            cents: self.cents,
-            reason,
-        })
-    }
 }

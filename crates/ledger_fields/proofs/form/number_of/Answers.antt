@@ -7,7 +7,7 @@ use Rattle.std.proofs.lemmas.Bool.Decides.{Decides-eqb}
 use Rattle.std.proofs.lemmas.Fmt.{IsAscii-decimal, parse-decimal}
 use Rattle.std.proofs.lemmas.Slice.Eq.{slice_eq-Decides}
 use Rattle.std.proofs.lemmas.Str.{IsUtf8-from_ascii}
-use Rattle.ledger_changes.proofs.form.number_of.Goals as goal
+use Rattle.ledger_fields.proofs.form.number_of.Goals as goal
 use Rattle.tap_views.proofs.Choices.{MatchOption_none}
 
 pub returns-in_err-number-in-Ok : goal.returns-in_err-number-in-Ok

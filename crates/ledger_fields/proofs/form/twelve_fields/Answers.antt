@@ -1,6 +1,6 @@
 use Rattle.std.proofs.Common.{ap, arith, length, ◌==◌}
 use Rattle.std.proofs.lemmas.List.Splits.{length-slice_split}
-use Rattle.ledger_changes.proofs.form.twelve_fields.Goals as goal
+use Rattle.ledger_fields.proofs.form.twelve_fields.Goals as goal
 
 pub returns-in-Some : goal.returns-in-Some
 returns-in-Some c = λ twelve.

@@ -1,6 +1,6 @@
 -- The fields of a ledger's line that say what it charges.
-use Rattle.ledger_changes.specs.Rows.{Row}
-use Rattle.ledger_changes.specs.declared.form.RowFields.{RowFields}
+use Rattle.ledger_fields.specs.Rows.{Row}
+use Rattle.ledger_fields.specs.declared.form.RowFields.{RowFields}
 
 -- the row that they make
 abbrev pub row_of_fields : RowFields → Row

@@ -1,6 +1,6 @@
 use Rattle.std.proofs.Common.{rules, ◌≡◌, ◌∷◌, ◌∙◌, [], ℕ, List, ap, true}
 use Rattle.std.specs.Fmt.{decimal}
-use Rattle.ledger_changes.proofs.form.row_fields.Goals as goal
+use Rattle.ledger_fields.proofs.form.row_fields.Goals as goal
 
 pub returns : goal.returns
 returns c =

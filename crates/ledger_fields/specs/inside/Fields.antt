@@ -1,6 +1,6 @@
 -- The fields of a line, as the code has them.
 use Rattle.std.specs.Prelude.{ℕ, List, [], ◌∷◌}
-use Rattle.ledger_changes.specs.declared.form.LineFields.{LineFields}
+use Rattle.ledger_fields.specs.declared.form.LineFields.{LineFields}
 
 -- all twelve, in order
 abbrev pub all_fields : LineFields → List (List ℕ)
