@@ -12,7 +12,7 @@ use Rattle.fare_table.specs.declared.fault.TableFault.{TableFault}
 use Rattle.fare_table.specs.declared.fault.TableFault.TheVariants.{Missing, Text}
 use Rattle.fare_table.specs.declared.fault.Key.TheVariants as the_key
 use Rattle.fare_table.proofs.PartLemmas.{parts}
-use Rattle.settled_texts.specs.Classes.{default_in}
+use Rattle.class_names.specs.Classes.{default_in}
 
 -- steps of which the first gives no value
 stuck : {A B : Type 0} (x : Result A TableFault) (f : A → Result B TableFault) (y : B)

@@ -11,9 +11,9 @@ use Rattle.program_manners.specs.TablesFaults.{IsTablesFault}
 use Rattle.program_manners.specs.declared.loading.LoadFault.{LoadFault}
 use Rattle.program_manners.specs.declared.table_loads.TablesFault.{TablesFault}
 use Rattle.program_manners.specs.declared.table_loads.TablesFault.TheVariants as unloaded
-use Rattle.settled_texts.specs.ClassFaults.{IsFaultOf, IsWrongAt}
-use Rattle.settled_texts.specs.declared.class_names.ClassFault.TheVariants as class
-use Rattle.settled_texts.specs.declared.class_names.WrongNames.{WrongNames}
+use Rattle.class_names.specs.ClassFaults.{IsFaultOf, IsWrongAt}
+use Rattle.class_names.specs.declared.names.ClassFault.TheVariants as class
+use Rattle.class_names.specs.declared.names.WrongNames.{WrongNames}
 use Rattle.fare_program.specs.Causes.{IsRightFault, RefusesClass}
 use Rattle.fare_program.specs.Fault.{status_of}
 use Rattle.fare_program.specs.Options.{Asked}

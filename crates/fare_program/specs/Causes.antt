@@ -9,7 +9,7 @@ use Rattle.program_manners.specs.TableRefusals.{RefusesNamed, RefusesOnly, Refus
 use Rattle.program_manners.specs.TableWords.{TableNames, file_named}
 use Rattle.program_manners.specs.declared.loading.LoadFault.{LoadFault}
 use Rattle.sorted_bills.specs.Faults.{HaveTooManyTaps}
-use Rattle.settled_texts.specs.Classes.{has_plain_classes}
+use Rattle.class_names.specs.Classes.{has_plain_classes}
 use Rattle.sorted_taps.specs.Checked.{IsFirstUnsorted}
 use Rattle.toml.specs.Data.{Members}
 use Rattle.toml.specs.Parse.{parse_document}

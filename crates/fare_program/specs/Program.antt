@@ -25,7 +25,7 @@ use Rattle.program_manners.specs.TableWords.{TableNames}
 use Rattle.program_manners.specs.LineWritten.{LineWritten}
 use Rattle.fare_program.specs.Uploads.{IsListing}
 use Rattle.toml.specs.Data.{Members}
-use Rattle.settled_texts.specs.Classes.{AreTrees, class_of_token, tree_at}
+use Rattle.class_names.specs.Classes.{AreTrees, class_of_token, tree_at}
 use Rattle.settled_texts.specs.Ledgers.{IsTracedLedger}
 
 -- If tables are named, their files were loaded in order: the first table, and each later one from

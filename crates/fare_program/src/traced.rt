@@ -13,9 +13,9 @@ ghost use Rattle.program_manners.specs.Loads.{Loaded};
 ghost use Rattle.program_manners.specs.TableLoads.{LoadsTables};
 ghost use Rattle.program_manners.specs.TableViews.{names_of};
 ghost use Rattle.program_manners.specs.declared.loading.LoadFault.{LoadFault};
-ghost use Rattle.settled_texts.specs.Classes.{AreTrees};
+ghost use Rattle.class_names.specs.Classes.{AreTrees};
 ghost use Rattle.settled_texts.specs.Ledgers.{IsTracedLedger};
-ghost use Rattle.settled_texts.specs.Names.{HasClasses, class_by};
+ghost use Rattle.class_names.specs.Names.{HasClasses, class_by};
 
 use crate::fault::Fault;
 use fare_table::FareTable;

@@ -10,7 +10,8 @@ use Rattle.fare_texts.specs.WrittenOut.{Begins}
 use Rattle.fare_texts.proofs.Beginnings.{begins_behind, begins_front, begins_nothing, begins_whole}
 use Rattle.ledger_changes.specs.Changes.{Pair, is_changed}
 use Rattle.ledger_changes.specs.Ledgers.{IsSettledLedger}
-use Rattle.ledger_changes.specs.Rows.{Row, key_cmp}
+use Rattle.ledger_fields.specs.Rows.{Row}
+use Rattle.ledger_changes.specs.Rows.{key_cmp}
 use Rattle.ledger_changes.specs.Texts.{IsCorrectionsText, correction_line, corrections_head}
 use Rattle.ledger_changes.specs.Texts.{corrections_lines, removed_in}
 use Rattle.ledger_changes.specs.Tokens.{IsCorrectionsByTokenText, tokens_head, tokens_lines}

@@ -19,7 +19,8 @@ use Rattle.std.proofs.lemmas.List.Sums.{sum_by-append}
 use Rattle.std.proofs.KnownBytes.{Appends-trans}
 use Rattle.ledger_changes.specs.Changes.{AreCorrections, Pair, is_changed}
 use Rattle.ledger_changes.specs.Ledgers.{IsSettledLedger}
-use Rattle.ledger_changes.specs.Rows.{Key, Row, is_same_text, key_cmp, text_cmp}
+use Rattle.ledger_fields.specs.Rows.{Key, Row}
+use Rattle.ledger_changes.specs.Rows.{is_same_text, key_cmp, text_cmp}
 use Rattle.ledger_changes.specs.Texts.{cents_of, is_removed}
 use Rattle.ledger_changes.specs.Tokens.{AreTokensOf, IsCorrectionsByTokenText, Sums, is_added}
 use Rattle.ledger_changes.specs.Tokens.{is_kept, is_of_token, of_token, sums_of, token_line}

@@ -8,7 +8,8 @@ use Rattle.std.specs.declared.cmp.Ordering.{Ordering}
 use Rattle.std.specs.declared.cmp.Ordering.TheVariants.{Less, Equal, Greater}
 use Rattle.std.proofs.lemmas.Cmp.{nat_cmp_total, on_total, then_total}
 use Rattle.std.proofs.lemmas.Bool.{and_parts}
-use Rattle.ledger_changes.specs.Rows.{Charge, Key, is_same_charge, is_same_text, key_cmp, text_cmp}
+use Rattle.ledger_fields.specs.Rows.{Charge, Key}
+use Rattle.ledger_changes.specs.Rows.{is_same_charge, is_same_text, key_cmp, text_cmp}
 use Rattle.tap_views.proofs.Orderings.{first_equal, then_equal}
 
 pub key_cmp_total : IsTotalOrder key_cmp

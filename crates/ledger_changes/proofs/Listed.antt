@@ -4,7 +4,7 @@ use Rattle.std.proofs.Common.{sym, ap, subst, ◌∙◌, arith, All, Option, Non
 use Rattle.std.proofs.lemmas.List.Elements.{All-cons, All-nil, All-weaker}
 use Rattle.ledger_changes.specs.Changes.{AreCorrections, AreSideBySide, IsSameOrListed, Pair, agree}
 use Rattle.ledger_changes.specs.Changes.{is_changed}
-use Rattle.ledger_changes.specs.Rows.{Charge, Row}
+use Rattle.ledger_fields.specs.Rows.{Charge, Row}
 use Rattle.ledger_changes.proofs.Beside.{one_side_by_side}
 use Rattle.ledger_changes.proofs.Keys.{same_charge}
 

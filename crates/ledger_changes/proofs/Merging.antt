@@ -15,7 +15,8 @@ use Rattle.std.proofs.lemmas.List.Sorted.{ranks_by}
 use Rattle.std.proofs.KnownBytes.{Appends-nil, Appends-trans}
 use Rattle.ledger_changes.specs.Changes.{AreSideBySide, IsSomeLine, Pair, UseUp, UsesUp}
 use Rattle.ledger_changes.specs.Changes.{afters, befores, is_changed, row_of}
-use Rattle.ledger_changes.specs.Rows.{Charge, Key, Row, key_cmp}
+use Rattle.ledger_fields.specs.Rows.{Charge, Key, Row}
+use Rattle.ledger_changes.specs.Rows.{key_cmp}
 use Rattle.ledger_changes.specs.Ledgers.{IsSettledLedger}
 use Rattle.ledger_changes.specs.declared.row.LedgerRow.{LedgerRow}
 use Rattle.ledger_changes.specs.Texts.{IsCorrectionsText, correction_line, corrections_head}

@@ -8,8 +8,8 @@ use Rattle.fare_texts.specs.LedgerLines.{head_text}
 use Rattle.ledger_changes.specs.Faults.{IsOfLedger}
 use Rattle.ledger_changes.specs.FirstWrongLines.{BeginsWithRows}
 use Rattle.ledger_changes.specs.FirstWrongLines.{NamesFirstWrong}
-use Rattle.ledger_changes.specs.Ledgers.{IsRowLine}
-use Rattle.ledger_changes.specs.Rows.{Row}
+use Rattle.ledger_fields.specs.RowLines.{IsRowLine}
+use Rattle.ledger_fields.specs.Rows.{Row}
 use Rattle.ledger_changes.specs.declared.fault.Bill.{Bill}
 use Rattle.ledger_changes.specs.declared.fault.CorrectionsFault.{CorrectionsFault}
 use Rattle.ledger_changes.specs.declared.fault.CorrectionsFault.TheVariants.{Form, Order, Unread}

@@ -1,16 +1,16 @@
 -- A ledger goes on from row to row.
-use Rattle.std.proofs.Common.{◌≡◌, ℕ, List, [], ◌∷◌, ◌++◌, Option, Some, None, Bool, true, false}
-use Rattle.std.proofs.Common.{refl, sym, ap, subst, ◌∙◌, arith, length, length-append, codes, ◌==◌}
-use Rattle.std.specs.Prelude.{if◌then◌else◌}
+use Rattle.std.proofs.Common.{◌≡◌, ℕ, List, [], ◌∷◌, ◌++◌, Option, Some, None}
+use Rattle.std.proofs.Common.{refl, sym, ap, subst, ◌∙◌, arith, length, length-append, codes}
 use Rattle.std.specs.Io.BufRead.{drop_through, take_through}
-use Rattle.std.proofs.lemmas.Fmt.{decimal_injective}
-use Rattle.std.proofs.lemmas.List.{append_cancel_right}
-use Rattle.ledger_changes.specs.Ledgers.{AreRowLines, IsRowLine, IsSettledLedger, fields_of}
+use Rattle.ledger_changes.specs.Ledgers.{AreRowLines, IsSettledLedger}
+use Rattle.ledger_fields.specs.RowLines.{IsRowLine}
 use Rattle.fare_texts.specs.LedgerLines.{head_text}
-use Rattle.ledger_changes.specs.Rows.{Row}
+use Rattle.ledger_fields.specs.Rows.{Row}
 use Rattle.ledger_changes.specs.inside.LedgerRows.{rows_in}
 use Rattle.ledger_changes.specs.inside.Standings.{HasRowsAt, IsAtRow, IsKnown, IsMoved, MayFollow}
 use Rattle.ledger_changes.specs.inside.Standings.{ReadsRow, StandsBefore}
+use Rattle.ledger_fields.proofs.OneRow.{one_row}
+use Rattle.tap_views.proofs.FirstLines.{taken_none}
 use Rattle.ledger_changes.proofs.Sorted.{Rise, rise_head, rise_more, rise_none, rise_one, rise_tail}
 
 -- ---- one line
@@ -20,53 +20,7 @@ not_nothing front is = absurd (omega (arith, ap length is, length-append front (
 no_row_of_nothing : (row : Row) → ¬ (IsRowLine row [])
 no_row_of_nothing row is = not_nothing is.text is.shown
 
--- a line has one row
-abbrev twelve : List ℕ → List ℕ → List ℕ → List ℕ → List ℕ → List ℕ → List ℕ → List ℕ → List ℕ
-    → List ℕ → List ℕ → List ℕ → List (List ℕ)
-twelve a b c d e f g h i j k l = a ∷ b ∷ c ∷ d ∷ e ∷ f ∷ g ∷ h ∷ i ∷ j ∷ k ∷ l ∷ []
-
-record Same (a c d f g k a' c' d' f' g' k' : List ℕ) : Type 0 where
-  pub token : a ≡ a'
-  pub moment : c ≡ c'
-  pub validator : d ≡ d'
-  pub answer : f ≡ f'
-  pub cents : g ≡ g'
-  pub reason : k ≡ k'
-
-same_fields : (a b c d e f g h i j k l a' b' c' d' e' f' g' h' i' j' k' l' : List ℕ)
-    → twelve a b c d e f g h i j k l ≡ twelve a' b' c' d' e' f' g' h' i' j' k' l'
-    → Same a c d f g k a' c' d' f' g' k'
-same_fields a b c d e f g h i j k l a' b' c' d' e' f' g' h' i' j' k' l' is =
-    record { token = cc; moment = cc; validator = cc; answer = cc; cents = cc; reason = cc }
-
--- a line has one row
-pub one_row : (a b : Row) (line : List ℕ) → IsRowLine a line → IsRowLine b line → a ≡ b
-one_row a b line is also =
-    let text : is.text ≡ also.text =
-    append_cancel_right is.text also.text (codes "\n") (sym is.shown ∙ also.shown) in
-    let same = same_fields _ _ _ _ _ _ _ _ _ _ _ _ _ _ _ _ _ _ _ _ _ _ _ _
-    (sym is.fields ∙ ap fields_of text ∙ also.fields) in
-    let validator : a.key.validator ≡ b.key.validator =
-    decimal_injective a.key.validator b.key.validator (omega (arith, is.validator))
-    (omega (arith, also.validator)) same.validator in
-    let cents : a.charge.cents ≡ b.charge.cents =
-    decimal_injective a.charge.cents b.charge.cents (omega (arith, is.cents))
-    (omega (arith, also.cents)) same.cents in
-    λ i. record {
-      key = record { token = same.token i; moment = same.moment i; validator = validator i };
-      charge = record { answer = same.answer i; cents = cents i; reason = same.reason i };
-    }
-
 -- ---- what is read of a text
-some_taken : (b : Bool) (x : ℕ) (front : List ℕ) → (if b then x ∷ [] else x ∷ front) ≡ [] → ⊥
-some_taken true x front is = absurd (omega (arith, ap length is))
-some_taken false x front is = absurd (omega (arith, ap length is))
-
--- no line is left of no bytes alone
-pub taken_none : (left : List ℕ) → take_through 10 left ≡ [] → left ≡ []
-taken_none [] is = refl
-taken_none (x ∷ left) is = absurd (some_taken (x == 10) x (take_through 10 left) is)
-
 pub reads_end : (left line : List ℕ) (after : Option (List ℕ)) → line ≡ take_through 10 left
     → after ≡ Some (drop_through 10 left) → line ≡ [] → ReadsRow left None after
 reads_end left line after taken behind none =

@@ -6,7 +6,8 @@ use Rattle.std.specs.List.Sorted.{IsSorted}
 use Rattle.std.specs.Ordering.{is_lt}
 use Rattle.std.proofs.lemmas.List.Elements.{recursion_from_All}
 use Rattle.std.proofs.lemmas.List.Sorted.{ranks_by, sorted_far}
-use Rattle.ledger_changes.specs.Rows.{Row, key_cmp}
+use Rattle.ledger_fields.specs.Rows.{Row}
+use Rattle.ledger_changes.specs.Rows.{key_cmp}
 use Rattle.ledger_changes.proofs.Keys.{key_cmp_total}
 
 -- the key of the later row is not below that of the row

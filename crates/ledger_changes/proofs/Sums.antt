@@ -5,7 +5,7 @@ use Rattle.std.specs.List.{sum_by}
 use Rattle.std.proofs.lemmas.List.Sums.{sum_by-cons, sum_by-append}
 use Rattle.ledger_changes.specs.Changes.{AddUp, AreCorrections, Pair, afters, agree, befores}
 use Rattle.ledger_changes.specs.Changes.{is_changed, row_of, weight_of}
-use Rattle.ledger_changes.specs.Rows.{Charge, Key, Row}
+use Rattle.ledger_fields.specs.Rows.{Charge, Key, Row}
 use Rattle.ledger_changes.proofs.Keys.{same_charge}
 
 module _ (weight : Key → Charge → ℕ) where

@@ -10,7 +10,8 @@ use Rattle.std.proofs.lemmas.List.Sums.{sum_by-cons}
 use Rattle.std.proofs.lemmas.Map.Keys.{sorted_head, sorted_tail}
 use Rattle.std.proofs.lemmas.Map.Made.{Contains-tail}
 use Rattle.ledger_changes.specs.Changes.{AreCorrections, Pair, weight_of}
-use Rattle.ledger_changes.specs.Rows.{Charge, Key, Row, is_same_text, text_cmp}
+use Rattle.ledger_fields.specs.Rows.{Charge, Key, Row}
+use Rattle.ledger_changes.specs.Rows.{is_same_text, text_cmp}
 use Rattle.ledger_changes.specs.Texts.{cents_of}
 use Rattle.ledger_changes.specs.Tokens.{AreTokensOf, TokensAddUp, of_token}
 use Rattle.ledger_changes.proofs.ByToken.{Listed, more_same, same_is}

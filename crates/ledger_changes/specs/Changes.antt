@@ -3,7 +3,8 @@ use Rattle.std.specs.Prelude.{◌≡◌, ◌+◌, ℕ, Bool, true, false, not, L
 use Rattle.std.specs.Prelude.{flat_map}
 use Rattle.std.specs.Prelude.{Option, None, Some, ⊤, sum_by, Contains, ◌⊎◌}
 use Rattle.std.specs.List.Sorted.{IsSorted}
-use Rattle.ledger_changes.specs.Rows.{Charge, Key, Row, is_same_charge, key_cmp}
+use Rattle.ledger_fields.specs.Rows.{Charge, Key, Row}
+use Rattle.ledger_changes.specs.Rows.{is_same_charge, key_cmp}
 
 -- a line of one bill beside the line of the other that has the same key; a line that has none
 -- beside it stands alone

@@ -3,8 +3,9 @@ use Rattle.std.specs.Prelude.{◌≡◌, ◌≢◌, ◌⊎◌, ◌+◌, ◌-◌,
 use Rattle.std.specs.Io.BufRead.{drop_through, take_through}
 use Rattle.std.specs.List.Sorted.{IsSorted}
 use Rattle.fare_texts.specs.LedgerLines.{head_text}
-use Rattle.ledger_changes.specs.Ledgers.{IsRowLine}
-use Rattle.ledger_changes.specs.Rows.{Row, key_cmp}
+use Rattle.ledger_fields.specs.RowLines.{IsRowLine}
+use Rattle.ledger_fields.specs.Rows.{Row}
+use Rattle.ledger_changes.specs.Rows.{key_cmp}
 use Rattle.ledger_changes.specs.declared.fault.CorrectionsFault.{CorrectionsFault}
 use Rattle.ledger_changes.specs.declared.fault.CorrectionsFault.TheVariants.{Form, Order, Unread}
 use Rattle.ledger_changes.specs.declared.fault.CorrectionsFault.TheVariants.{Write, NoMemory}

@@ -1,42 +1,11 @@
 -- What is read: settled ledgers, as far as corrections look at them.
-use Rattle.std.specs.Prelude.{◌≡◌, ◌==◌, ◌<◌, ◌^◌, ◌&&◌, ◌||◌, ℕ, Bool, true, List, [], ◌∷◌, ◌++◌}
-use Rattle.std.specs.Prelude.{All, codes, length, nat_le}
-use Rattle.std.specs.Fmt.{decimal}
+use Rattle.std.specs.Prelude.{◌≡◌, ℕ, List, [], ◌∷◌}
 use Rattle.std.specs.Io.BufRead.{drop_through, take_through}
-use Rattle.std.specs.List.{slice_split}
 use Rattle.std.specs.List.Sorted.{IsSorted}
 use Rattle.fare_texts.specs.LedgerLines.{head_text}
-use Rattle.ledger_changes.specs.Rows.{Row, key_cmp}
-
--- the fields of a line, cut at its commas
-abbrev pub fields_of : List ℕ → List (List ℕ)
-fields_of text = slice_split (λ byte. byte == 44) text
-
--- a digit of a token: `0` to `9`, or `a` to `f`
-abbrev pub is_token_digit : ℕ → Bool
-is_token_digit byte = (nat_le 48 byte && nat_le byte 57) || (nat_le 97 byte && nat_le byte 102)
-
--- the digits of a token
-pub record IsTokenText (text : List ℕ) : Type 0 where
-  pub number : length text ≡ 32
-  pub each : All (λ byte. is_token_digit byte ≡ true) text
-
--- the line has the twelve fields of a ledger's line, and these of them make the row
-pub record IsRowLine (row : Row) (line : List ℕ) : Type 0 where
-  pub token : IsTokenText row.key.token
-  pub validator : row.key.validator < 2 ^ 32
-  pub cents : row.charge.cents < 2 ^ 32
-  pub number : List ℕ
-  pub mode : List ℕ
-  pub start : List ℕ
-  pub until : List ℕ
-  pub ride : List ℕ
-  pub points_at : List ℕ
-  pub text : List ℕ
-  pub shown : line ≡ text ++ codes "\n"
-  pub fields : fields_of text ≡ row.key.token ∷ number ∷ row.key.moment
-      ∷ decimal row.key.validator ∷ mode ∷ row.charge.answer ∷ decimal row.charge.cents ∷ start
-      ∷ until ∷ ride ∷ row.charge.reason ∷ points_at ∷ []
+use Rattle.ledger_fields.specs.RowLines.{IsRowLine}
+use Rattle.ledger_fields.specs.Rows.{Row}
+use Rattle.ledger_changes.specs.Rows.{key_cmp}
 
 -- the text has a line for each row, in order, and nothing else
 abbrev pub AreRowLines : List Row → List ℕ → Type 0

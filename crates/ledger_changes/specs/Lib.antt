@@ -2,7 +2,6 @@ pub mod Changes
 pub mod Faults
 pub mod FirstWrongLines
 pub mod Ledgers
-pub mod RowFields
 pub mod Rows
 pub mod Texts
 pub mod Tokens

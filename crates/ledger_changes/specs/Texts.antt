@@ -5,7 +5,7 @@ use Rattle.std.specs.Prelude.{if◌then◌else◌, nat_le, Option, None, Some}
 use Rattle.std.specs.Fmt.{decimal}
 use Rattle.ledger_changes.specs.Changes.{AreCorrections, Pair}
 use Rattle.ledger_changes.specs.Ledgers.{IsSettledLedger}
-use Rattle.ledger_changes.specs.Rows.{Charge, Row}
+use Rattle.ledger_fields.specs.Rows.{Charge, Row}
 
 -- the head line
 abbrev pub corrections_head : List ℕ

@@ -5,7 +5,8 @@ use Rattle.std.specs.Fmt.{decimal}
 use Rattle.std.specs.List.Sorted.{IsStrictlySortedBy}
 use Rattle.ledger_changes.specs.Changes.{AreCorrections, Pair}
 use Rattle.ledger_changes.specs.Ledgers.{IsSettledLedger}
-use Rattle.ledger_changes.specs.Rows.{Charge, Row, is_same_text, text_cmp}
+use Rattle.ledger_fields.specs.Rows.{Charge, Row}
+use Rattle.ledger_changes.specs.Rows.{is_same_text, text_cmp}
 use Rattle.ledger_changes.specs.Texts.{cents_of, difference, is_only_before, is_removed, removed_in}
 
 -- the correction is one of the token

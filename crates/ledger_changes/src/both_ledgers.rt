@@ -7,7 +7,7 @@ ghost use Rattle.fare_texts.specs.WrittenOut.{Begins};
 ghost use Rattle.ledger_changes.specs.Faults.{IsOfLedger};
 ghost use Rattle.ledger_changes.specs.FirstWrongLines.{NamesFirstWrong};
 ghost use Rattle.ledger_changes.specs.Ledgers.{IsSettledLedger};
-ghost use Rattle.ledger_changes.specs.Rows.{Row};
+ghost use Rattle.ledger_fields.specs.Rows.{Row};
 ghost use Rattle.ledger_changes.specs.Texts.{IsCorrectionsText, corrections_lines, removed_in};
 ghost use Rattle.ledger_changes.specs.declared.fault.Bill.{Bill as ABill};
 ghost use Rattle.ledger_changes.specs.declared.fault.Bill.TheVariants.{New, Old};

@@ -3,7 +3,7 @@
 ghost use Rattle.std.specs.Prelude.{◌≡◌, ℕ, List, All};
 ghost use Rattle.ledger_changes.specs.Changes.{AddUp, AreCorrections, AreSideBySide};
 ghost use Rattle.ledger_changes.specs.Changes.{IsSameOrListed, Pair};
-ghost use Rattle.ledger_changes.specs.Rows.{Row};
+ghost use Rattle.ledger_fields.specs.Rows.{Row};
 ghost use Rattle.ledger_changes.specs.Tokens.{AreTokensOf, TokensAddUp};
 
 /// Corrections add up: the change of every sum over lines is the sum of the lines' changes.

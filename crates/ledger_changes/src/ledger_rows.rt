@@ -9,7 +9,7 @@ ghost use Rattle.std.specs.Option.{option_map};
 ghost use Rattle.ledger_changes.specs.Faults.{IsOfLedger};
 ghost use Rattle.ledger_changes.specs.FirstWrongLines.{NamesFirstWrong};
 ghost use Rattle.ledger_changes.specs.Ledgers.{AreRowLines, IsSettledLedger};
-ghost use Rattle.ledger_changes.specs.Rows.{Row};
+ghost use Rattle.ledger_fields.specs.Rows.{Row};
 ghost use Rattle.ledger_changes.specs.declared.fault.Bill.{Bill as ABill};
 ghost use Rattle.ledger_changes.specs.inside.LedgerRows.{row_of, rows_in};
 ghost use Rattle.ledger_changes.specs.inside.ReadTo.{HasReadTo, IsOfNoRow, next_number};
@@ -17,9 +17,9 @@ ghost use Rattle.ledger_changes.specs.inside.Standings.{HasRows, IsKnown, IsMove
 ghost use Rattle.ledger_changes.specs.inside.Standings.{ReadsRow, standing, StandsBefore};
 
 use crate::fault::{Bill, CorrectionsFault};
-use crate::form::row_fields;
 use crate::row::LedgerRow;
 use fare_texts::head_line;
+use ledger_fields::row_fields;
 use std::alloc::Global;
 use std::io::{BufRead, ErrorKind};
 use std::mem;
@@ -101,7 +101,7 @@ impl<R: BufRead + Drop> LedgerRows<R> {
             return Ok(None);
         }
         match row_fields(&self.line) {
-            Some(fields) => Ok(Some(fields.to_row(alloc)?)),
+            Some(fields) => Ok(Some(LedgerRow::of_fields(alloc, fields)?)),
             None => Err(CorrectionsFault::Form(self.bill, self.lines)),
         }
     }

@@ -5,7 +5,6 @@
 mod both_ledgers;
 mod correction_text;
 mod fault;
-mod form;
 pub mod laws;
 mod ledger_rows;
 mod row;
@@ -14,5 +13,4 @@ mod token_sums;
 
 pub use both_ledgers::corrections;
 pub use fault::{Bill, CorrectionsFault};
-pub use form::{RowFields, row_fields};
 pub use token_corrections::corrections_by_token;

@@ -1,9 +1,12 @@
 //! A line of a ledger, as far as corrections look at it.
 
-ghost use Rattle.std.specs.Prelude.{◌≡◌};
+ghost use Rattle.std.specs.Prelude.{◌≡◌, IfOk};
 ghost use Rattle.ledger_changes.specs.Rows.{is_same_charge, key_cmp};
-ghost use Rattle.ledger_changes.specs.inside.LedgerRows.{charge_of, key_of};
+ghost use Rattle.ledger_changes.specs.inside.LedgerRows.{charge_of, key_of, row_of};
+ghost use Rattle.ledger_fields.specs.RowFields.{row_of_fields};
 
+use ledger_fields::RowFields;
+use std::alloc::{AllocError, Global};
 use std::cmp::Ordering;
 
 #[derive(Drop)]
@@ -19,7 +22,37 @@ pub(crate) struct LedgerRow {
     pub(crate) reason: Vec<u8>,
 }
 
+/// The bytes, in memory of their own.
+fn owned(alloc: Global, bytes: &[u8]) -> Result<Vec<u8>, AllocError>
+    ensures { IfOk result (λ own. own.items ≡ bytes.now) }
+{
+    let mut own = Vec::new(alloc);
+    own.extend_from_slice(bytes)?;
+    Ok(own)
+}
+
 impl LedgerRow {
+    /// The row that the fields make, in memory of its own.
+    pub(crate) fn of_fields(
+        alloc: Global,
+        fields: RowFields<'_>,
+    ) -> Result<LedgerRow, AllocError>
+        ensures { IfOk result (λ row. row_of row ≡ row_of_fields fields) }
+    {
+        let token = owned(alloc, fields.token)?;
+        let moment = owned(alloc, fields.moment)?;
+        let answer = owned(alloc, fields.answer)?;
+        let reason = owned(alloc, fields.reason)?;
+        Ok(LedgerRow {
+            token,
+            moment,
+            validator: fields.validator,
+            answer,
+            cents: fields.cents,
+            reason,
+        })
+    }
+
     /// How the rows come one after the other: by token, moment and validator.
     pub(crate) fn compare(&self, other: &LedgerRow) -> Ordering
         ensures { result ≡ key_cmp (key_of self.now) (key_of other.now) }

@@ -21,8 +21,8 @@ use Rattle.omny_audit.specs.Program.{HasLoaded, IsRightAuditFault, IsTracedAs}
 use Rattle.omny_audit.specs.Program.{LoadsNamedFiles, LoadsReport, compared}
 use Rattle.omny_audit.specs.Traced.{Wanted}
 use Rattle.omny_audit.proofs.TableFaults.{classes_are_right}
-use Rattle.settled_texts.specs.ClassFaults.{IsWrongAt}
-use Rattle.settled_texts.specs.declared.class_names.WrongNames.{WrongNames}
+use Rattle.class_names.specs.ClassFaults.{IsWrongAt}
+use Rattle.class_names.specs.declared.names.WrongNames.{WrongNames}
 use Rattle.program_manners.specs.TableLoads.{LoadsTables}
 use Rattle.program_manners.specs.TableViews.{wrong_of}
 use Rattle.program_manners.specs.TableWords.{date_text, table_files, wrong_word}

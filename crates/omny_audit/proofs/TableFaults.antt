@@ -12,9 +12,9 @@ use Rattle.program_manners.specs.declared.loading.LoadFault.{LoadFault}
 use Rattle.program_manners.specs.declared.output.WriteEnd.{WriteEnd}
 use Rattle.program_manners.specs.declared.table_loads.TablesFault.{TablesFault}
 use Rattle.program_manners.specs.declared.table_loads.TablesFault.TheVariants as unloaded
-use Rattle.settled_texts.specs.ClassFaults.{IsFaultOf, IsWrongAt}
-use Rattle.settled_texts.specs.declared.class_names.ClassFault.TheVariants as class
-use Rattle.settled_texts.specs.declared.class_names.WrongNames.{WrongNames}
+use Rattle.class_names.specs.ClassFaults.{IsFaultOf, IsWrongAt}
+use Rattle.class_names.specs.declared.names.ClassFault.TheVariants as class
+use Rattle.class_names.specs.declared.names.WrongNames.{WrongNames}
 use Rattle.omny_audit.specs.Fault.{IsRightFault, IsTold, LoadsUnplainClass, NamesOneOf}
 use Rattle.omny_audit.specs.Fault.{is_unwritten}
 use Rattle.omny_audit.specs.declared.fault.Fault.{Fault}

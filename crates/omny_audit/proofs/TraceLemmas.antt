@@ -9,8 +9,8 @@ use Rattle.std.specs.Str.{bytes_eq}
 use Rattle.std.proofs.Math.Bool.{or-false}
 use Rattle.std.proofs.lemmas.Slice.Eq.{bytes_eq-Decides}
 use Rattle.tap_views.specs.declared.encoder.TapFields.{TapFields}
-use Rattle.settled_texts.specs.Names.{class_by}
-use Rattle.settled_texts.specs.declared.class_names.ClassNames.{ClassNames}
+use Rattle.class_names.specs.Names.{class_by}
+use Rattle.class_names.specs.declared.names.ClassNames.{ClassNames}
 use Rattle.fare_texts.specs.LedgerLines.{head_text}
 use Rattle.ledger_check.specs.Columns.{TracedLine, cut_line, read_as, traced_head, untraced_by}
 use Rattle.ledger_check.specs.Columns.{untraced_line, untraced_lines}

@@ -15,7 +15,7 @@ use Rattle.program_manners.specs.declared.loading.LoadFault.TheVariants as load
 use Rattle.program_manners.specs.declared.output.WriteEnd.{WriteEnd}
 use Rattle.program_manners.specs.declared.output.WriteEnd.TheVariants as end
 use Rattle.program_manners.specs.Refusals.{IsOneOf, HasRefused, Refuses}
-use Rattle.settled_texts.specs.Classes.{has_plain_classes}
+use Rattle.class_names.specs.Classes.{has_plain_classes}
 use Rattle.omny_audit.specs.declared.fault.Fault.{Fault}
 use Rattle.omny_audit.specs.declared.fault.Fault.TheVariants.{ClassName, Date, File, Follow, Ledger}
 use Rattle.omny_audit.specs.declared.fault.Fault.TheVariants.{Table}

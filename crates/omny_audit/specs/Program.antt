@@ -6,7 +6,7 @@ use Rattle.clap.specs.Words.{Text}
 use Rattle.tariffs.specs.Fares.{Fares}
 use Rattle.ledger_check.specs.Balances.{AreGoodFields}
 use Rattle.ledger_check.specs.Columns.{has_traced_head}
-use Rattle.settled_texts.specs.Classes.{AreTrees, class_of_token, tree_at}
+use Rattle.class_names.specs.Classes.{AreTrees, class_of_token, tree_at}
 use Rattle.toml.specs.Data.{Members}
 use Rattle.tap_views.specs.declared.encoder.TapFields.{TapFields}
 use Rattle.omny_audit.specs.Reports.{HasBegunAudit, IsAudit, IsRightAudit}

@@ -29,7 +29,7 @@ ghost use Rattle.program_manners.specs.TableViews.{names_of};
 ghost use Rattle.program_manners.specs.TableWords.{date_text, table_files, wrong_word};
 ghost use Rattle.program_manners.specs.Words.{IsRequest};
 ghost use Rattle.program_manners.specs.declared.table_words.DateFault.{DateFault};
-ghost use Rattle.settled_texts.specs.ClassFaults.{IsWrongAt};
+ghost use Rattle.class_names.specs.ClassFaults.{IsWrongAt};
 
 use crate::audit::audit_over;
 use crate::fault::Fault;
@@ -47,7 +47,7 @@ use program_manners::{
     Complaints, NamedClassLine, Output, TableWord, TableWords, Tables, WrongWord, load_tables,
     show_answer,
 };
-use settled_texts::{ClassFault, ClassNames, WrongNames};
+use class_names::{ClassFault, ClassNames, WrongNames};
 use shard_book::HashSeed;
 use std::alloc::Global;
 use std::io::Write;

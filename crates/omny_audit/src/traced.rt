@@ -5,7 +5,7 @@ ghost use Rattle.std.specs.Prelude.{None, OnOk, Option, Some, false, is_some, le
 ghost use Rattle.std.specs.Prelude.{option_map, string_bytes, true};
 ghost use Rattle.std.specs.Option.{option_or};
 ghost use Rattle.tap_views.specs.declared.encoder.TapFields.{TapFields as ATap};
-ghost use Rattle.settled_texts.specs.Names.{class_by};
+ghost use Rattle.class_names.specs.Names.{class_by};
 ghost use Rattle.ledger_check.specs.Columns.{TracedLine, cut_of, read_as, untraced_by};
 ghost use Rattle.ledger_check.specs.Columns.{untraced_line};
 ghost use Rattle.ledger_check.specs.Columns.{untraced_lines};
@@ -28,7 +28,7 @@ use fare_texts::head_line;
 use ledger_check::{
     CutLine, PlaceFinding, Places, cut_line, same_bytes, split_line, tap_of_line, traced_head_line,
 };
-use settled_texts::ClassNames;
+use class_names::ClassNames;
 use std::alloc::{AllocError, Global};
 use tap_views::TapFields;
 

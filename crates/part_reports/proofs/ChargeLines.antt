@@ -5,8 +5,8 @@ use Rattle.account_rule.specs.declared.reply.Answer.TheVariants.{Paid, Transfer,
 use Rattle.account_rule.specs.declared.reply.Answer.TheVariants.{Unknown}
 use Rattle.account_rule.specs.declared.reply.Reply.{Reply}
 use Rattle.fare_texts.specs.StatementText.{answer_text}
-use Rattle.ledger_changes.specs.Rows.{Row}
-use Rattle.ledger_changes.proofs.Readings.{one_row}
+use Rattle.ledger_fields.specs.Rows.{Row}
+use Rattle.ledger_fields.proofs.OneRow.{one_row}
 use Rattle.part_reports.specs.Charges.{IsChargeOf, LineCharge}
 use Rattle.part_reports.specs.TokenLines.{TokenLine}
 use Rattle.shard_book.specs.Sums.{sums_of_replies}

@@ -4,7 +4,7 @@ use Rattle.std.proofs.Common.{sym, ap, subst, ◌∙◌, append_assoc}
 use Rattle.part_reports.specs.declared.fault.MergeFault.{MergeFault}
 use Rattle.fare_texts.specs.ReportLines.{number_line}
 use Rattle.part_reports.specs.inside.LinesRead.{IsRead}
-use Rattle.part_reports.proofs.Unique.{number_line_unique}
+use Rattle.report_texts.proofs.Unique.{number_line_unique}
 
 -- a number's word, and what may stand behind it
 pub record Counting {V : Type 0} (May : ℕ → V → Type 0) (Whole : V → Type 0) (size : V → ℕ) : Type 0

@@ -1,7 +1,7 @@
 -- The first line of a text.
-use Rattle.std.proofs.Common.{◌≡◌, ℕ, List, [], ◌∷◌, ◌++◌, length, Bool, true, false, refl, sym}
+use Rattle.std.proofs.Common.{◌≡◌, ℕ, List, [], ◌∷◌, ◌++◌, length, refl, sym}
 use Rattle.std.proofs.Common.{Option, Some, None, ap, subst, ◌∙◌, arith}
-use Rattle.std.specs.Prelude.{◌==◌, if◌then◌else◌, IfSome}
+use Rattle.std.specs.Prelude.{IfSome}
 use Rattle.std.specs.Io.BufRead.{drop_through, take_through}
 use Rattle.shard_book.specs.Sums.{Sums}
 use Rattle.tap_views.specs.declared.token.Token.{Token}
@@ -16,7 +16,7 @@ use Rattle.part_reports.specs.declared.merging.LineKind.{LineKind}
 use Rattle.part_reports.specs.declared.merging.LineKind.TheVariants.{Tokens, Entries}
 use Rattle.part_reports.proofs.OneLine.{IsOneLine, entry_line_is_one, taken_one, token_line_is_one}
 use Rattle.part_reports.proofs.Unique.{entry_line_unique, token_line_unique}
-use Rattle.ledger_changes.proofs.Readings.{taken_none}
+use Rattle.tap_views.proofs.FirstLines.{taken_and_left, taken_none}
 
 -- ---- single lines
 pub line_is_one : (kind : LineKind) (line : TokenLine) → IsLineOfKind kind line
@@ -51,18 +51,6 @@ pub line_unique : (kind : LineKind) (a b : TokenLine) (x y : List ℕ) → IsLin
     → IsLineOfKind kind b → a.text ++ x ≡ b.text ++ y → (a ≡ b) × (x ≡ y)
 line_unique (Tokens left rest) a b x y is also same = sum_line_unique a b x y is also same
 line_unique Entries a b x y is also same = entry_line_unique a b x y is also same
-
--- ---- what a reader takes and leaves
-both_parts : (b : Bool) (x : ℕ) (xs ys zs : List ℕ) → ys ++ zs ≡ xs
-    → (if b then x ∷ [] else x ∷ ys) ++ (if b then xs else zs) ≡ x ∷ xs
-both_parts true x xs ys zs is = refl
-both_parts false x xs ys zs is = ap (λ rest. x ∷ rest) is
-
--- a text is its first line and what is behind it
-pub taken_and_left : (text : List ℕ) → take_through 10 text ++ drop_through 10 text ≡ text
-taken_and_left [] = refl
-taken_and_left (x ∷ xs) = both_parts (x == 10) x xs (take_through 10 xs) (drop_through 10 xs)
-    (taken_and_left xs)
 
 -- ---- the first line
 pub first_is_source : (kind : LineKind) (text : List ℕ) (at : Standing) → at.line

@@ -16,7 +16,7 @@ use Rattle.part_reports.specs.inside.Kinds.{AreTexts, IsTextOf}
 use Rattle.part_reports.specs.inside.Standings.{StandsInText, Standing}
 use Rattle.part_reports.specs.declared.merging.LineKind.{LineKind}
 use Rattle.part_reports.specs.declared.merging.LineKind.TheVariants.{Entries}
-use Rattle.part_reports.proofs.Firsts.{taken_and_left}
+use Rattle.tap_views.proofs.FirstLines.{taken_and_left}
 
 -- ---- the head line
 head_taken : (rest : List ℕ) → take_through 10 (head_text ++ rest) ≡ head_text

@@ -26,7 +26,8 @@ use Rattle.part_reports.specs.inside.LinesRead.{IsRead}
 use Rattle.part_reports.specs.inside.Standings.{StandsInText, Standing}
 use Rattle.part_reports.specs.inside.Sums.{AreFew, AreFrontsCounted, WithFront}
 use Rattle.part_reports.proofs.TextsRead.{no_files, split}
-use Rattle.part_reports.proofs.Unique.{number_line_unique, totals_line_unique}
+use Rattle.report_texts.proofs.Unique.{number_line_unique}
+use Rattle.part_reports.proofs.Unique.{totals_line_unique}
 use Rattle.part_reports.proofs.WholeFronts.{IsUnique, behind_ends, behind_totals, ends_unique}
 use Rattle.part_reports.proofs.WholeFronts.{reported_parts, tokens_text, validators_unique}
 

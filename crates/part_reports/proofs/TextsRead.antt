@@ -16,7 +16,7 @@ use Rattle.part_reports.specs.Reports.{end_texts, all_ends}
 use Rattle.part_reports.specs.Texts.{AreLeft}
 use Rattle.part_reports.specs.inside.UploadEnds.{HaveReadEnds, AreEndsAdded, HaveMoreEnds}
 use Rattle.part_reports.proofs.EndsRead.{some_line}
-use Rattle.part_reports.proofs.Unique.{end_line_unique}
+use Rattle.report_texts.proofs.Unique.{end_line_unique}
 use Rattle.report_texts.specs.Report.{upload_line, upload_lines}
 use Rattle.report_texts.specs.UploadEnds.{is_posted, taps_of_end}
 use Rattle.report_texts.specs.declared.upload_end.UploadEnd.{UploadEnd}

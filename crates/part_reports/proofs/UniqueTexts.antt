@@ -15,7 +15,8 @@ use Rattle.fare_texts.specs.ReportLines.{number_line, token_line, validator_line
 use Rattle.part_reports.specs.Reports.{IsPartReport, Report, report_text, HasTapNumbers}
 use Rattle.part_reports.specs.TokenLines.{TokenLine, text_of}
 use Rattle.report_texts.proofs.Tokens.{token_digits}
-use Rattle.part_reports.proofs.Unique.{end_line_unique, entry_line_unique, number_line_unique}
+use Rattle.report_texts.proofs.Unique.{end_line_unique, number_line_unique}
+use Rattle.part_reports.proofs.Unique.{entry_line_unique}
 use Rattle.part_reports.proofs.Unique.{token_line_unique, totals_line_unique, validator_line_unique}
 use Rattle.report_texts.specs.Report.{upload_line, upload_lines}
 use Rattle.report_texts.specs.declared.upload_end.UploadEnd.{UploadEnd}

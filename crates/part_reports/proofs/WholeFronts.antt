@@ -16,7 +16,8 @@ use Rattle.part_reports.specs.Faults.{IsOfTexts}
 use Rattle.report_texts.specs.Numbers.{AreCounts, IsUploadEnd, IsValidatorSum}
 use Rattle.part_reports.specs.inside.LinesRead.{IsRead, BeginsWithValue}
 use Rattle.part_reports.proofs.ListsWritten.{lines_unique, end_lines_from, flat_map_from}
-use Rattle.part_reports.proofs.Unique.{end_line_unique, number_line_unique, totals_line_unique}
+use Rattle.report_texts.proofs.Unique.{end_line_unique, number_line_unique}
+use Rattle.part_reports.proofs.Unique.{totals_line_unique}
 use Rattle.part_reports.proofs.Unique.{validator_line_unique}
 
 -- what is written determines the value and what is behind it

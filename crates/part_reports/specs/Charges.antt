@@ -2,8 +2,8 @@
 use Rattle.std.specs.Prelude.{◌≡◌, ℕ, [], ◌∷◌}
 use Rattle.account_rule.specs.declared.reply.Reply.{Reply}
 use Rattle.fare_texts.specs.StatementText.{answer_text}
-use Rattle.ledger_changes.specs.Ledgers.{IsRowLine}
-use Rattle.ledger_changes.specs.Rows.{Row}
+use Rattle.ledger_fields.specs.RowLines.{IsRowLine}
+use Rattle.ledger_fields.specs.Rows.{Row}
 use Rattle.part_reports.specs.TokenLines.{TokenLine}
 use Rattle.shard_book.specs.Sums.{Sums, sums_of_replies}
 use Rattle.tap_views.specs.declared.token.Token.{Token}

@@ -10,7 +10,7 @@ ghost use Rattle.shard_book.specs.Sums.{sums_of, sums_of_replies};
 ghost use Rattle.tap_views.specs.declared.token.Token.{Token as AToken};
 
 use account_rule::Answer;
-use ledger_changes::row_fields;
+use ledger_fields::row_fields;
 use shard_book::{Totals, ValidatorSum};
 
 /// Whether this is the word.

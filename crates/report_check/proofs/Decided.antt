@@ -23,7 +23,7 @@ use Rattle.report_check.specs.declared.verdict.ReportVerdict.TheVariants.{Taps}
 use Rattle.ledger_check.proofs.LineLemmas.{lacks-tested}
 use Rattle.report_check.proofs.EndsReported.{next_end, number_line_is, section_same, upload_line_is}
 use Rattle.report_check.proofs.Through.{taken_line}
-use Rattle.part_reports.proofs.Firsts.{taken_and_left}
+use Rattle.tap_views.proofs.FirstLines.{taken_and_left}
 
 -- what a report has behind its uploads
 abbrev behind_uploads : List Entry → List ℕ

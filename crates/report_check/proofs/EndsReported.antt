@@ -11,7 +11,7 @@ use Rattle.ledger_check.proofs.ColumnLemmas.{decimal_lacks_feed}
 use Rattle.ledger_check.proofs.LineLemmas.{lacks-tested}
 use Rattle.ledger_check.proofs.RecountLemmas.{line_ends}
 use Rattle.ledger_check.specs.Lines.{IsLine, Lacks}
-use Rattle.part_reports.proofs.Unique.{end_line_unique, number_line_unique}
+use Rattle.report_texts.proofs.Unique.{end_line_unique, number_line_unique}
 use Rattle.report_check.specs.Reports.{IsReportEnd}
 use Rattle.report_texts.proofs.EndTexts.{line_words, refused_spelt, small_number}
 use Rattle.report_texts.specs.Report.{upload_line, upload_lines, uploads_section}

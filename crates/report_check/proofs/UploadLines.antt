@@ -13,7 +13,7 @@ use Rattle.report_texts.specs.declared.upload_end.UploadEnd.TheVariants.{Posted,
 use Rattle.report_texts.specs.declared.upload_end.UploadEnd.TheVariants.{Undrawn}
 use Rattle.report_check.specs.Reports.{BeginsWithUploads, IsNoUploadLine, IsReportEnd}
 use Rattle.report_check.specs.inside.UploadLines.{IsUnfinished}
-use Rattle.part_reports.proofs.Firsts.{taken_and_left}
+use Rattle.tap_views.proofs.FirstLines.{taken_and_left}
 
 pub finished : (end : UploadEnd) → IsUploadEnd end → IsReportEnd end
 finished (Posted taps) fits = fits

@@ -4,3 +4,4 @@ pub mod EndTexts
 pub mod Nones
 pub mod Parts
 pub mod Tokens
+pub mod Unique

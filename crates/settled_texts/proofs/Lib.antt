@@ -1,4 +1,3 @@
-pub mod Classes
 pub mod Joined
 pub mod Numbering
 pub mod OwnEntries

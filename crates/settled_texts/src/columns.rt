@@ -5,9 +5,9 @@ ghost use Rattle.std.specs.Prelude.{◌==◌, if◌then◌else◌};
 ghost use Rattle.std.specs.Fmt.{decimal};
 ghost use Rattle.settled_texts.specs.Columns.{columns_by, columns_of, with_columns};
 ghost use Rattle.settled_texts.specs.inside.Feeds.{feeds};
-ghost use Rattle.settled_texts.specs.Names.{class_by};
+ghost use Rattle.class_names.specs.Names.{class_by};
 
-use crate::class_names::ClassNames;
+use class_names::ClassNames;
 use crate::trace::TracedTap;
 use itoa::Buffer;
 use std::alloc::AllocError;

@@ -4,7 +4,6 @@
 //! class of its token's rider, and the upload and the place there that its tap came from.
 #![tactic(auto)]
 
-mod class_names;
 mod columns;
 mod ledger;
 mod lines;

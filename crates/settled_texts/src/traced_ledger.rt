@@ -19,10 +19,10 @@ ghost use Rattle.settled_texts.specs.ExplainedTaps.{AreExplained, NoTapFallsFrom
 ghost use Rattle.settled_texts.specs.Columns.{columns_by, head_columns, with_columns};
 ghost use Rattle.settled_texts.specs.inside.Feeds.{feeds};
 ghost use Rattle.settled_texts.specs.Ledgers.{IsTracedLedger};
-ghost use Rattle.settled_texts.specs.Names.{class_by};
+ghost use Rattle.class_names.specs.Names.{class_by};
 ghost use Rattle.settled_texts.specs.Traces.{taps_of_trace};
 
-use crate::class_names::ClassNames;
+use class_names::ClassNames;
 use crate::columns::put_lines;
 use crate::trace::{TracedTap, trace_of};
 use crate::{STRIDE_ROOM_BYTES, least_token, write_taps};

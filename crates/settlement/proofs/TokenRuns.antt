@@ -23,7 +23,7 @@ use Rattle.shard_book.specs.declared.entry.Entry.{Entry}
 use Rattle.tap_views.proofs.TokenLemmas.{high_back, low_back, token_cmp-total, token_cmp-ties}
 use Rattle.tap_views.proofs.Orderings.{first_not_less}
 use Rattle.shard_book.specs.Plain.{answered, token_of_bytes}
-use Rattle.settlement.specs.inside.Apart.{AreBelow}
+use Rattle.tap_views.specs.TokenLists.{AreBelow}
 use Rattle.settlement.specs.Posted.{HasName, posted, posted_after, token_of_tap, unposted}
 use Rattle.settlement.proofs.Concats.{posted_append}
 use Rattle.tap_parts.proofs.Total.{tap_cmp_total}

@@ -9,6 +9,7 @@ use Rattle.std.proofs.lemmas.List.Elements.{All-head, All-tail, All-nil, All-con
 use Rattle.std.proofs.lemmas.List.Elements.{All-weaker, recursion_from_All}
 use Rattle.std.proofs.lemmas.Map.Views.{All-insert_key}
 use Rattle.tap_views.specs.Token.{token_cmp, token_eq}
+use Rattle.tap_views.specs.TokenLists.{AreBelow}
 use Rattle.tap_views.specs.declared.token.Token.{Token}
 use Rattle.shard_book.specs.Entry.{is_of, own}
 use Rattle.shard_book.specs.Rising.{rising}
@@ -23,10 +24,6 @@ use Rattle.std.specs.Ordering.{eq_by_cmp}
 use Rattle.std.specs.Set.{is_member}
 use Rattle.std.proofs.Math.Bool.{or_self_left}
 use Rattle.shard_book.proofs.OwnEntries.{own_all}
-
--- each of the tokens is below each of the others
-abbrev AreBelow : List Token → List Token → Type 0
-AreBelow tokens others = All (λ token. All (λ other. token_cmp token other ≡ Less) others) tokens
 
 -- ---- two lists
 sorted_append : (xs ys : List Token) → IsStrictlySortedBy token_cmp xs

@@ -25,7 +25,7 @@ use Rattle.settlement.specs.Posted.{posted, posted_after, token_of_tap, unposted
 use Rattle.settlement.specs.Bills.{IsBillOf}
 use Rattle.settlement.specs.Replays.{HasPosted}
 use Rattle.settlement.specs.declared.bill.Bill.{Bill}
-use Rattle.settlement.specs.inside.Apart.{AreBelow}
+use Rattle.tap_views.specs.TokenLists.{AreBelow}
 use Rattle.settlement.proofs.Concats.{posted_append}
 use Rattle.settlement.proofs.Ranges.{posted_below}
 use Rattle.settlement.proofs.TokenRuns.{posted_length, tokens_are}

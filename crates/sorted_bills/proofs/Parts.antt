@@ -16,7 +16,7 @@ use Rattle.fare_texts.proofs.Rising.{up_chain, up_itself}
 use Rattle.settlement.specs.Bills.{IsBillOf}
 use Rattle.settlement.specs.Posted.{posted, token_of_tap}
 use Rattle.settlement.specs.declared.bill.Bill.{Bill}
-use Rattle.settlement.specs.inside.Apart.{AreBelow}
+use Rattle.tap_views.specs.TokenLists.{AreBelow}
 use Rattle.settlement.specs.inside.Billing.{HaveBillRoom}
 use Rattle.settlement.proofs.Ranges.{posted_below}
 use Rattle.settlement.proofs.TokenRuns.{less_up, posted_length, tokens_posted, up_less}

@@ -3,6 +3,7 @@ mod Cuts
 pub mod Deciding
 mod Encodings
 mod Finding
+pub mod FirstLines
 mod Fronts
 mod Grammar
 pub mod Lists

@@ -8,4 +8,5 @@ pub mod Runs
 pub mod Shards
 pub mod TapOrder
 pub mod Token
+pub mod TokenLists
 pub mod inside

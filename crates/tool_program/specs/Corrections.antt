@@ -5,7 +5,7 @@ use Rattle.std.specs.Io.KnownBytes.{Appends, Keeps}
 use Rattle.fare_texts.specs.WrittenOut.{Begins}
 use Rattle.ledger_changes.specs.FirstWrongLines.{IsWrongForm, IsWrongOrder}
 use Rattle.ledger_changes.specs.Ledgers.{IsSettledLedger}
-use Rattle.ledger_changes.specs.Rows.{Row}
+use Rattle.ledger_fields.specs.Rows.{Row}
 use Rattle.ledger_changes.specs.Texts.{IsCorrectionsText}
 use Rattle.ledger_changes.specs.Tokens.{IsCorrectionsByTokenText}
 use Rattle.part_reports.specs.declared.fault.Wrong.TheVariants as wrong

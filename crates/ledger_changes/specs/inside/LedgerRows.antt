@@ -1,6 +1,6 @@
 -- A line of a ledger, as the code has it.
 use Rattle.std.specs.Prelude.{List, [], ◌∷◌, Option, Some, None}
-use Rattle.ledger_changes.specs.Rows.{Charge, Key, Row}
+use Rattle.ledger_fields.specs.Rows.{Charge, Key, Row}
 use Rattle.ledger_changes.specs.declared.row.LedgerRow.{LedgerRow}
 
 abbrev pub key_of : LedgerRow → Key

@@ -7,7 +7,8 @@ use Rattle.std.specs.List.Sorted.{IsSorted}
 use Rattle.std.specs.Option.{option_map}
 use Rattle.fare_texts.specs.LedgerLines.{head_text}
 use Rattle.ledger_changes.specs.FirstWrongLines.{BeginsWithRows, HasNoRow}
-use Rattle.ledger_changes.specs.Rows.{Row, key_cmp}
+use Rattle.ledger_fields.specs.Rows.{Row}
+use Rattle.ledger_changes.specs.Rows.{key_cmp}
 use Rattle.ledger_changes.specs.declared.fault.CorrectionsFault.{CorrectionsFault}
 use Rattle.ledger_changes.specs.declared.fault.CorrectionsFault.TheVariants.{Form, Order}
 use Rattle.ledger_changes.specs.inside.LedgerRows.{row_of}

@@ -4,8 +4,10 @@ use Rattle.std.specs.Io.BufRead.{drop_through, take_through}
 use Rattle.std.specs.List.Sorted.{IsSorted}
 use Rattle.std.specs.Option.{option_map}
 use Rattle.std.specs.Ordering.{is_lt}
-use Rattle.ledger_changes.specs.Ledgers.{AreRowLines, IsRowLine}
-use Rattle.ledger_changes.specs.Rows.{Row, key_cmp}
+use Rattle.ledger_changes.specs.Ledgers.{AreRowLines}
+use Rattle.ledger_fields.specs.RowLines.{IsRowLine}
+use Rattle.ledger_fields.specs.Rows.{Row}
+use Rattle.ledger_changes.specs.Rows.{key_cmp}
 use Rattle.ledger_changes.specs.inside.LedgerRows.{row_of}
 use Rattle.ledger_changes.specs.declared.ledger_rows.LedgerRows.{LedgerRows}
 

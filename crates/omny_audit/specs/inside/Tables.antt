@@ -1,8 +1,8 @@
 -- Classes that fare tables name: what private functions alone cite.
 use Rattle.std.specs.Prelude.{◌≡◌, ◌≢◌, ◌∷◌, [], ℕ, Some, map, slice_get}
 use Rattle.program_manners.specs.TableWords.{TableNames, file_named}
-use Rattle.settled_texts.specs.declared.class_names.ClassFault.TheVariants as class
-use Rattle.settled_texts.specs.declared.class_names.WrongNames.{WrongNames}
+use Rattle.class_names.specs.declared.names.ClassFault.TheVariants as class
+use Rattle.class_names.specs.declared.names.WrongNames.{WrongNames}
 use Rattle.omny_audit.specs.declared.fault.Fault.{Fault}
 use Rattle.omny_audit.specs.declared.fault.Fault.TheVariants.{ClassName, NamedClass, NoMemory}
 

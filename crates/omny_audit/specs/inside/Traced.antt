@@ -1,6 +1,6 @@
 -- Traced ledgers: what private functions alone cite.
 use Rattle.std.specs.Prelude.{◌≡◌, ◌⊎◌, ℕ, ◌<◌, List, ◌++◌, length, Option, None, Some, option_map}
-use Rattle.settled_texts.specs.Names.{class_by}
+use Rattle.class_names.specs.Names.{class_by}
 use Rattle.tap_views.specs.declared.encoder.TapFields.{TapFields}
 use Rattle.ledger_check.specs.Columns.{untraced_lines}
 use Rattle.ledger_check.specs.Lines.{Lacks, lines_of}

@@ -1,8 +1,5 @@
 -- Lists that share no token.
-use Rattle.std.specs.Prelude.{◌≡◌, List, ◌∷◌, All, []}
-use Rattle.std.specs.declared.cmp.Ordering.TheVariants.{Less}
-use Rattle.tap_views.specs.Token.{token_cmp}
-use Rattle.tap_views.specs.declared.token.Token.{Token}
+use Rattle.std.specs.Prelude.{◌≡◌, List, ◌∷◌, []}
 use Rattle.shard_book.specs.Entry.{own}
 use Rattle.shard_book.specs.declared.entry.Entry.{Entry}
 use Rattle.tap_views.specs.declared.encoder.TapFields.{TapFields}
@@ -12,7 +9,3 @@ use Rattle.settlement.specs.Posted.{token_of_tap}
 abbrev pub AreOthers : List Entry → List TapFields → Type 0
 AreOthers entries [] = Unit {0}
 AreOthers entries (tap ∷ taps) = (own (token_of_tap tap) entries ≡ []) × AreOthers entries taps
-
--- each of the tokens is below each of the others
-abbrev pub AreBelow : List Token → List Token → Type 0
-AreBelow tokens others = All (λ token. All (λ other. token_cmp token other ≡ Less) others) tokens

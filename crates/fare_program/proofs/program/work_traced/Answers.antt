@@ -2,14 +2,14 @@ use Rattle.std.proofs.Common.{ℕ, List, Vec, Global, Bor, ap, map, subst, sym, 
 use Rattle.std.specs.Prelude.{option_map}
 use Rattle.tariffs.specs.Fares.{Fares}
 use Rattle.program_manners.specs.TableViews.{names_of}
-use Rattle.settled_texts.proofs.Classes.{class_kept}
+use Rattle.class_names.proofs.Classes.{class_kept}
 use Rattle.std.proofs.lemmas.Result.{IfErr-weaker, IfOk-weaker}
 use Rattle.std.proofs.KnownBytes.{Keeps-refl}
 use Rattle.fare_program.proofs.WritesFailed.{begun_by}
 use Rattle.fare_program.specs.Program.{LoadsFiles, RunsTraced, names_to_load}
 use Rattle.fare_program.specs.inside.Options.{asked_of}
 use Rattle.settled_texts.specs.Ledgers.{IsTracedLedger}
-use Rattle.settled_texts.specs.Names.{class_by}
+use Rattle.class_names.specs.Names.{class_by}
 use Rattle.tap_views.proofs.Choices.{IfErr_handed_on}
 use Rattle.fare_program.specs.Causes.{IsRightFault}
 use Rattle.fare_program.specs.Fault.{status_of}

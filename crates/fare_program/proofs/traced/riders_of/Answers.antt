@@ -4,10 +4,10 @@ use Rattle.std.proofs.lemmas.List.{length-map}
 use Rattle.std.proofs.lemmas.Option.{slice_get_within}
 use Rattle.toml.specs.Data.{Members}
 use Rattle.program_manners.proofs.NextTables.{tables_counted, tables_read}
-use Rattle.settled_texts.specs.ClassFaults.{IsFaultOf, IsWrongAt}
-use Rattle.settled_texts.specs.Classes.{AreTrees}
-use Rattle.settled_texts.specs.Names.{HasClasses}
-use Rattle.settled_texts.specs.declared.class_names.WrongNames.{WrongNames}
+use Rattle.class_names.specs.ClassFaults.{IsFaultOf, IsWrongAt}
+use Rattle.class_names.specs.Classes.{AreTrees}
+use Rattle.class_names.specs.Names.{HasClasses}
+use Rattle.class_names.specs.declared.names.WrongNames.{WrongNames}
 use Rattle.fare_program.proofs.DefaultClasses.{has_default}
 use Rattle.fare_program.proofs.TableCauses.{classes_are_right}
 use Rattle.fare_program.proofs.traced.riders_of.Goals as goal

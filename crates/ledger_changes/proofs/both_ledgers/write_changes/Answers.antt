@@ -5,7 +5,7 @@ use Rattle.fare_texts.specs.WrittenOut.{Begins}
 use Rattle.fare_texts.proofs.Beginnings.{begins_whole}
 use Rattle.ledger_changes.specs.Texts.{corrections_lines}
 use Rattle.ledger_changes.proofs.Begun.{going_begun, lines_begun, written_begun, written_then}
-use Rattle.ledger_changes.specs.Rows.{Row}
+use Rattle.ledger_fields.specs.Rows.{Row}
 use Rattle.ledger_changes.specs.declared.fault.Bill.TheVariants.{New, Old}
 use Rattle.ledger_changes.specs.declared.row.LedgerRow.{LedgerRow}
 use Rattle.ledger_changes.specs.inside.Written.{changes_of, next_sides, row_in}

@@ -6,7 +6,7 @@ use Rattle.fare_texts.proofs.Beginnings.{begins_whole}
 use Rattle.ledger_changes.specs.inside.Sums.{ended_lines, sum_in}
 use Rattle.ledger_changes.proofs.Begun.{ended_begun, going_begun, summed_begun, summed_last}
 use Rattle.ledger_changes.proofs.Begun.{summed_then}
-use Rattle.ledger_changes.specs.Rows.{Row}
+use Rattle.ledger_fields.specs.Rows.{Row}
 use Rattle.ledger_changes.specs.declared.fault.Bill.TheVariants.{New, Old}
 use Rattle.ledger_changes.specs.declared.row.LedgerRow.{LedgerRow}
 use Rattle.ledger_changes.specs.inside.Written.{changes_of, next_sides, row_in}

@@ -6,8 +6,8 @@ use Rattle.std.proofs.lemmas.Option.{slice_get_within}
 use Rattle.ledger_check.specs.Columns.{has_traced_head}
 use Rattle.program_manners.proofs.NextTables.{tables_counted}
 use Rattle.program_manners.specs.TableViews.{names_of}
-use Rattle.settled_texts.proofs.Classes.{class_kept}
-use Rattle.settled_texts.specs.Classes.{AreTrees}
+use Rattle.class_names.proofs.Classes.{class_kept}
+use Rattle.class_names.specs.Classes.{AreTrees}
 use Rattle.omny_audit.specs.Program.{AreWanted}
 use Rattle.omny_audit.specs.Traced.{Wanted}
 use Rattle.omny_audit.specs.inside.Traced.{uploads_in, wanted_of}

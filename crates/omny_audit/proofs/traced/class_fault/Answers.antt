@@ -3,7 +3,7 @@ use Rattle.std.specs.Prelude.{option_map}
 use Rattle.std.proofs.lemmas.Bool.{false≢true}
 use Rattle.tap_views.specs.declared.encoder.TapFields.{TapFields}
 use Rattle.ledger_check.specs.Columns.{cut_of}
-use Rattle.settled_texts.specs.Names.{class_by}
+use Rattle.class_names.specs.Names.{class_by}
 use Rattle.omny_audit.specs.Traced.{class_fault, traced_by}
 use Rattle.omny_audit.proofs.TraceLemmas.{fault_none, fault_some}
 use Rattle.omny_audit.proofs.traced.class_fault.Goals as goal

@@ -1,5 +1,5 @@
 use Rattle.std.proofs.Common.{◌≡◌, ◌∙◌, ◌++◌, ℕ, List, true, ap, append_assoc, rules, tests}
-use Rattle.settled_texts.specs.Names.{class_by}
+use Rattle.class_names.specs.Names.{class_by}
 use Rattle.omny_audit.specs.Traced.{class_text, place_text}
 use Rattle.omny_audit.specs.inside.Traced.{uploads_in}
 use Rattle.omny_audit.proofs.TraceLemmas.{columns_reported}

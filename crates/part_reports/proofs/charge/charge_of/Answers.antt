@@ -1,7 +1,7 @@
 use Rattle.std.proofs.Common.{◌∙◌, ap, refl}
-use Rattle.ledger_changes.specs.RowFields.{row_of_fields}
-use Rattle.ledger_changes.specs.Rows.{Row}
-use Rattle.ledger_changes.proofs.Readings.{one_row}
+use Rattle.ledger_fields.specs.RowFields.{row_of_fields}
+use Rattle.ledger_fields.specs.Rows.{Row}
+use Rattle.ledger_fields.proofs.OneRow.{one_row}
 use Rattle.part_reports.proofs.charge.charge_of.Goals as goal
 use Rattle.tap_views.proofs.Choices.{MatchOption_none}
 

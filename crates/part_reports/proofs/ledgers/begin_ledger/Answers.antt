@@ -9,7 +9,7 @@ use Rattle.part_reports.specs.inside.BegunLedgers.{IsBegunLedger, IsOfFirstLines
 use Rattle.part_reports.specs.inside.Standings.{standing}
 use Rattle.part_reports.proofs.LedgerTexts.{behind_head, no_head, no_lines}
 use Rattle.part_reports.specs.inside.Reported.{IsOfText, next_number}
-use Rattle.part_reports.proofs.Firsts.{taken_and_left}
+use Rattle.tap_views.proofs.FirstLines.{taken_and_left}
 use Rattle.part_reports.proofs.LedgersFirst.{first_other, head_wrong, ok_both, second_wrong}
 use Rattle.part_reports.proofs.ReportedOf.{of_text}
 use Rattle.part_reports.proofs.ledgers.begin_ledger.Goals as goal

@@ -2,7 +2,7 @@ use Rattle.std.proofs.Common.{◌≡◌, ◌∙◌, ◌==◌, ℕ, List, [], ◌
 use Rattle.std.proofs.Common.{false, refl}
 use Rattle.std.proofs.lemmas.Bool.{eqb-true}
 use Rattle.settled_texts.specs.Columns.{columns_by, with_columns}
-use Rattle.settled_texts.specs.Names.{class_by}
+use Rattle.class_names.specs.Names.{class_by}
 use Rattle.settled_texts.proofs.TracedLines.{with_other}
 use Rattle.settled_texts.proofs.columns.put_byte.Goals as goal
 

@@ -1,7 +1,7 @@
 use Rattle.std.proofs.Common.{◌≡◌, ◌++◌, drop, length}
 use Rattle.settled_texts.specs.Columns.{columns_by, with_columns}
 use Rattle.settled_texts.specs.inside.Feeds.{feeds}
-use Rattle.settled_texts.specs.Names.{class_by}
+use Rattle.class_names.specs.Names.{class_by}
 use Rattle.settled_texts.proofs.columns.put_lines.Given as goal
 
 -- what was put, and what is left to put, is the whole

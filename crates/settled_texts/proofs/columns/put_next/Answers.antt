@@ -1,6 +1,6 @@
 use Rattle.std.proofs.Common.{ℕ, List, ◌++◌, ap}
 use Rattle.std.proofs.lemmas.List.{nil_from_length}
-use Rattle.settled_texts.specs.Names.{class_by}
+use Rattle.class_names.specs.Names.{class_by}
 use Rattle.settled_texts.proofs.TracedLines.{none_left}
 use Rattle.settled_texts.proofs.columns.put_next.Goals as goal
 

@@ -19,7 +19,7 @@ use Rattle.fare_texts.specs.WrittenOut.{Begins}
 use Rattle.fare_texts.proofs.Beginnings.{begins_front, begins_more, begins_whole}
 use Rattle.settled_texts.specs.Columns.{columns_by, with_columns}
 use Rattle.settled_texts.specs.inside.Feeds.{feeds}
-use Rattle.settled_texts.specs.Names.{class_by}
+use Rattle.class_names.specs.Names.{class_by}
 use Rattle.settled_texts.specs.Traces.{taps_of_trace}
 use Rattle.settled_texts.specs.declared.trace.TracedTap.{TracedTap}
 use Rattle.settled_texts.proofs.TracedLines.{columns_on, left_on}

@@ -4,7 +4,7 @@ use Rattle.tap_views.specs.Encoding.{AreEarly}
 use Rattle.settled_texts.specs.ExplainedTaps.{AreExplained, last_token}
 use Rattle.settled_texts.specs.Columns.{columns_by, with_columns}
 use Rattle.settled_texts.specs.inside.Feeds.{feeds}
-use Rattle.settled_texts.specs.Names.{class_by}
+use Rattle.class_names.specs.Names.{class_by}
 use Rattle.settled_texts.specs.Traces.{taps_of_trace}
 use Rattle.settled_texts.specs.declared.trace.TracedTap.{TracedTap}
 use Rattle.settled_texts.proofs.traced_ledger.write_lines.Given as goal

@@ -13,7 +13,7 @@ use Rattle.fare_texts.proofs.PieceWriting.{come_first}
 use Rattle.settlement.specs.Posted.{posted}
 use Rattle.settled_texts.proofs.Rows.{canonical_falls, posted_falls}
 use Rattle.settled_texts.specs.Columns.{columns_by, head_columns, with_columns}
-use Rattle.settled_texts.specs.Names.{class_by}
+use Rattle.class_names.specs.Names.{class_by}
 use Rattle.settled_texts.specs.Traces.{taps_of_trace}
 use Rattle.settled_texts.proofs.TracedLines.{head_on}
 use Rattle.settled_texts.proofs.traced_ledger.write_trace.Goals as goal

@@ -9,7 +9,7 @@ use Rattle.tap_views.specs.declared.encoder.TapFields.{TapFields}
 use Rattle.fare_texts.specs.Ledger.{IsLedgerOver}
 use Rattle.settlement.specs.Posted.{HasName, posted}
 use Rattle.settled_texts.specs.Columns.{columns_by, head_columns, with_columns}
-use Rattle.settled_texts.specs.Names.{class_by}
+use Rattle.class_names.specs.Names.{class_by}
 use Rattle.settled_texts.specs.Traces.{taps_of_trace}
 use Rattle.settled_texts.specs.declared.trace.TracedTap.{TracedTap}
 use Rattle.settled_texts.proofs.Settled.{trace_settled}

@@ -1,6 +1,6 @@
 use Rattle.std.proofs.Common.{rules, ◌≡◌, ◌∙◌, [], sym, subst}
 use Rattle.std.proofs.lemmas.Result.{err_from_is_err_and}
-use Rattle.ledger_changes.specs.Ledgers.{IsRowLine}
+use Rattle.ledger_fields.specs.RowLines.{IsRowLine}
 use Rattle.ledger_changes.proofs.ReadTo.{no_form}
 use Rattle.ledger_changes.proofs.Readings.{no_row_lines, reads_end}
 use Rattle.ledger_changes.proofs.ledger_rows.LedgerRows.read_row.Goals as goal

@@ -1,0 +1,3 @@
+pub mod ClassFaults
+pub mod Classes
+pub mod Names

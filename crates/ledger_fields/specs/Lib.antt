@@ -1,0 +1,4 @@
+pub mod RowFields
+pub mod RowLines
+pub mod Rows
+pub mod inside
