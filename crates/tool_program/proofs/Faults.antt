@@ -13,11 +13,11 @@ use Rattle.part_reports.specs.declared.fault.MergeFault.TheVariants as merge
 use Rattle.part_texts.specs.declared.wrong.Wrong.{Wrong}
 use Rattle.program_manners.specs.declared.output.WriteEnd.{WriteEnd}
 use Rattle.program_manners.specs.declared.output.WriteEnd.TheVariants as writes
-use Rattle.tool_tasks.specs.Fault.{failed_as}
 use Rattle.tool_program.specs.Merge.{IsRightMergeFault}
+use Rattle.tool_program.specs.inside.Fault.{IsNamedAs}
+use Rattle.tool_tasks.specs.Fault.{failed_as}
 use Rattle.tool_tasks.specs.declared.fault.Fault.{Fault}
 use Rattle.tool_tasks.specs.declared.fault.Fault.TheVariants.{Line, NoMemory, Taps, Unread}
-use Rattle.tool_program.specs.inside.Fault.{IsNamedAs}
 
 -- a number of few texts is its own
 pub few_from : (count first place : ℕ) → count < 2 ^ 64 → number_from first place < count

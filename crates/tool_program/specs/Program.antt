@@ -9,6 +9,8 @@ use Rattle.program_manners.specs.declared.loading.LoadFault.{LoadFault}
 use Rattle.program_manners.specs.declared.output.WriteEnd.{WriteEnd}
 use Rattle.program_manners.specs.declared.table_words.DateFault.{DateFault}
 use Rattle.tap_rows.specs.declared.agency.summary.Summary.{Summary}
+use Rattle.tool_program.specs.Merge.{GivesUpMerge, MergesReports}
+use Rattle.tool_program.specs.MergeLedgers.{GivesUpLedgers, MergesLedgers}
 use Rattle.tool_tasks.specs.Corrections.{Corrects, GivesUpCorrections, IsWarned}
 use Rattle.tool_tasks.specs.Decode.{AreReported, Decoded, Decodes, DecodesFaulty, GivesUpDecode}
 use Rattle.tool_tasks.specs.Decode.{are_whole}
@@ -17,8 +19,6 @@ use Rattle.tool_tasks.specs.EncodeRows.{EncodesRows, GivesUpRows, IsSummaryRepor
 use Rattle.tool_tasks.specs.Fault.{IsFaultReported}
 use Rattle.tool_tasks.specs.GoodPart.{GivesUpGoodPart, KeepsGoodPart}
 use Rattle.tool_tasks.specs.Look.{GivesUpLook, Looks, LooksFaulty}
-use Rattle.tool_program.specs.Merge.{GivesUpMerge, MergesReports}
-use Rattle.tool_program.specs.MergeLedgers.{GivesUpLedgers, MergesLedgers}
 use Rattle.tool_tasks.specs.MergeSorted.{GivesUpMergeSorted, Merges}
 use Rattle.tool_tasks.specs.Names.{escaped}
 use Rattle.tool_tasks.specs.Sink.{Made}

@@ -3,11 +3,11 @@ ghost use Rattle.std.specs.Prelude.{◌≡◌, ◌≢◌, ◌⊎◌, ◌++◌, �
 ghost use Rattle.std.specs.Prelude.{OnOk, option_map, slice_get, true};
 ghost use Rattle.part_texts.specs.Texts.{AreLeft};
 ghost use Rattle.program_manners.specs.Loads.{Loaded};
-ghost use Rattle.tool_tasks.specs.Fault.{IsFaultReported};
 ghost use Rattle.tool_program.specs.Merge.{GivesUpMerge, MergesReports, StopsMerge};
 ghost use Rattle.tool_program.specs.Merge.{WritesReport};
-ghost use Rattle.tool_tasks.specs.declared.fault.Fault.{Fault as AFault};
 ghost use Rattle.tool_program.specs.inside.Fault.{IsNamedAs};
+ghost use Rattle.tool_tasks.specs.Fault.{IsFaultReported};
+ghost use Rattle.tool_tasks.specs.declared.fault.Fault.{Fault as AFault};
 
 use part_reports::MergeFault;
 use program_manners::{Complaints, Output, WriteEnd};

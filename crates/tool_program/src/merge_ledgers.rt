@@ -8,9 +8,9 @@ ghost use Rattle.part_reports.specs.Ledgers.{NamesFirstWrongLine, NamesWrongLedg
 ghost use Rattle.part_reports.specs.LedgersWithReports.{NamesWrongBeside};
 ghost use Rattle.part_texts.specs.Texts.{AreLeft};
 ghost use Rattle.program_manners.specs.Loads.{Loaded};
-ghost use Rattle.tool_tasks.specs.Fault.{IsFaultReported};
 ghost use Rattle.tool_program.specs.MergeLedgers.{GivesUpLedgers, IsWholeLedger, MergesLedgers};
 ghost use Rattle.tool_program.specs.MergeLedgers.{StopsLedgers, WritesLedger};
+ghost use Rattle.tool_tasks.specs.Fault.{IsFaultReported};
 ghost use Rattle.tool_tasks.specs.declared.fault.Fault.{Fault as AFault};
 
 use crate::merge::fault_of;

@@ -3,9 +3,9 @@ ghost use Rattle.std.specs.Prelude.{◌≡◌, ◌⊎◌, ◌≤◌, ℕ, Bool, 
 ghost use Rattle.std.specs.Prelude.{string_bytes};
 ghost use Rattle.program_manners.specs.LineWritten.{LineWritten};
 ghost use Rattle.program_manners.specs.declared.output.WriteEnd.{WriteEnd as AWriteEnd};
-ghost use Rattle.tool_tasks.specs.Fault.{IsFaultReported};
 ghost use Rattle.tool_program.specs.Program.{IsDone, IsGivenUp, IsPartlyDone, mistake_line};
 ghost use Rattle.tool_program.specs.Program.{run_of, wrong_date_text};
+ghost use Rattle.tool_tasks.specs.Fault.{IsFaultReported};
 ghost use Rattle.tool_tasks.specs.declared.fault.Fault.TheVariants.{NoMemory};
 ghost use Rattle.tool_words.specs.Asked.{asked_by, sort};
 ghost use Rattle.tool_words.specs.Mistakes.{mistake_text};
