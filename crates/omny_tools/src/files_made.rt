@@ -94,8 +94,8 @@ fn remove_begun(rt: &HostRuntime, file: BegunFile) {
 
 impl Sink for FilesMade<'_> {
     ghost use Rattle.std.specs.Prelude.{◌≡◌, ⊤, ℕ, IfErr, OnOk, List, None, Option};
-    ghost use Rattle.tool_program.specs.Sink.{IsNotMade, Made, MakesOne, StopsFile};
-    ghost use Rattle.tool_program.specs.declared.sink.MakeFault.TheVariants.{Unmade};
+    ghost use Rattle.tool_tasks.specs.Sink.{IsNotMade, Made, MakesOne, StopsFile};
+    ghost use Rattle.tool_tasks.specs.declared.sink.MakeFault.TheVariants.{Unmade};
 
     type File = BegunFile;
 

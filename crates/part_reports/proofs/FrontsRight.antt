@@ -28,7 +28,7 @@ use Rattle.part_reports.specs.inside.ReadTo.{IsFirstWrong, IsOfForm, IsReadTo}
 use Rattle.part_reports.specs.inside.Reported.{next_number}
 use Rattle.part_reports.specs.declared.fault.MergeFault.{MergeFault}
 use Rattle.part_reports.specs.declared.fault.MergeFault.TheVariants.{Line}
-use Rattle.part_reports.specs.declared.fault.Wrong.TheVariants.{NotPosted, Order, Validators}
+use Rattle.part_texts.specs.declared.wrong.Wrong.TheVariants.{NotPosted, Order, Validators}
 use Rattle.part_reports.specs.declared.front.Front.{Front}
 use Rattle.part_reports.proofs.EndsRead.{All-last}
 use Rattle.part_reports.proofs.LinesRight.{fails, first_wrong, no_form, of_line, read_one}

@@ -14,7 +14,7 @@ use Rattle.report_texts.specs.declared.upload_end.UploadEnd.{UploadEnd}
 use Rattle.part_reports.specs.Faults.{IsOfTexts, number_from}
 use Rattle.part_reports.specs.Reports.{IsMerged, IsPartReport, IsWrongReportAt, NamesWrongText}
 use Rattle.part_reports.specs.Reports.{Report, all_ends, end_texts, report_text}
-use Rattle.part_reports.specs.Texts.{AreLeft}
+use Rattle.part_texts.specs.Texts.{AreLeft}
 use Rattle.part_reports.specs.TokenLines.{IsMergedByToken, TokenLine, text_of}
 use Rattle.part_reports.specs.declared.fault.MergeFault.{MergeFault}
 use Rattle.part_reports.specs.declared.fault.MergeFault.TheVariants.{Line, Taps, Unread, Write}

@@ -13,7 +13,7 @@ use Rattle.part_reports.specs.declared.upload_ends.UploadEnds.{UploadEnds}
 use Rattle.part_reports.specs.Faults.{IsOfTexts}
 use Rattle.report_texts.specs.Numbers.{IsUploadEnd}
 use Rattle.part_reports.specs.Reports.{end_texts, all_ends}
-use Rattle.part_reports.specs.Texts.{AreLeft}
+use Rattle.part_texts.specs.Texts.{AreLeft}
 use Rattle.part_reports.specs.inside.UploadEnds.{HaveReadEnds, AreEndsAdded, HaveMoreEnds}
 use Rattle.part_reports.proofs.EndsRead.{some_line}
 use Rattle.report_texts.proofs.Unique.{end_line_unique}

@@ -36,8 +36,8 @@ use Rattle.part_reports.specs.inside.Parts.{BegunReport, begun_text, left_text}
 use Rattle.part_reports.specs.inside.ReadTo.{IsReadTo}
 use Rattle.part_reports.specs.inside.Standings.{IsBehindOne, IsLineOfKind}
 use Rattle.part_reports.specs.inside.SumsLeft.{left_of, sums_left}
-use Rattle.part_reports.specs.declared.fault.Wrong.{Wrong}
-use Rattle.part_reports.specs.declared.fault.Wrong.TheVariants.{Twice}
+use Rattle.part_texts.specs.declared.wrong.Wrong.{Wrong}
+use Rattle.part_texts.specs.declared.wrong.Wrong.TheVariants.{Twice}
 use Rattle.part_reports.specs.declared.merging.LineKind.{LineKind}
 use Rattle.part_reports.specs.declared.merging.LineKind.TheVariants.{Tokens, Entries}
 use Rattle.part_reports.specs.declared.sums_left.SumsLeft.{SumsLeft}

@@ -20,10 +20,10 @@ use Rattle.part_reports.specs.Reports.{report_text}
 use Rattle.part_reports.specs.declared.fault.MergeFault.{MergeFault}
 use Rattle.part_reports.specs.declared.fault.MergeFault.TheVariants.{Line, Taps, Unread, Write}
 use Rattle.part_reports.specs.declared.fault.MergeFault.TheVariants.{NoMemory}
-use Rattle.part_reports.specs.declared.fault.Wrong.{Wrong}
-use Rattle.part_reports.specs.declared.fault.Wrong.TheVariants.{Form, NotPosted, Order, Twice}
-use Rattle.part_reports.specs.declared.fault.Wrong.TheVariants.{Sums as TooManySums, Tokens}
-use Rattle.part_reports.specs.declared.fault.Wrong.TheVariants.{Validators}
+use Rattle.part_texts.specs.declared.wrong.Wrong.{Wrong}
+use Rattle.part_texts.specs.declared.wrong.Wrong.TheVariants.{Form, NotPosted, Order, Twice}
+use Rattle.part_texts.specs.declared.wrong.Wrong.TheVariants.{Sums as TooManySums, Tokens}
+use Rattle.part_texts.specs.declared.wrong.Wrong.TheVariants.{Validators}
 
 -- What the first lines of a part's report say. Of the section that is being read: the number in its
 -- head, and its lines so far. `OfWhole` is the report at its end.

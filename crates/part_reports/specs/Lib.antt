@@ -5,6 +5,5 @@ pub mod FirstWrongLines
 pub mod Ledgers
 pub mod LedgersWithReports
 pub mod Reports
-pub mod Texts
 pub mod TokenLines
 pub mod inside

@@ -22,9 +22,10 @@ ghost use Rattle.part_reports.specs.inside.Fronts.{ends_text, reported_text, val
 ghost use Rattle.part_reports.specs.Reports.{added};
 ghost use Rattle.part_reports.specs.inside.LinesRead.{IsRead};
 
-use crate::fault::{MergeFault, Wrong};
+use crate::fault::MergeFault;
 use crate::line_reader::LineReader;
 use crate::sums_left::SumsLeft;
+use part_texts::Wrong;
 use report_texts::{UploadEnd, end_of, head_of, totals_of, validator_sum_of};
 use shard_book::{Totals, ValidatorSum};
 use std::alloc::Global;

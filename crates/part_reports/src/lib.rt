@@ -22,7 +22,8 @@ mod sums_left;
 mod upload_ends;
 mod writing;
 
-pub use fault::{MergeFault, Wrong};
+pub use fault::MergeFault;
 pub use ledgers::merge_ledgers;
 pub use ledgers_with_reports::merge_ledgers_with_reports;
+pub use part_texts::Wrong;
 pub use reports::merge;

@@ -22,11 +22,12 @@ ghost use Rattle.part_reports.specs.inside.Standings.{MayEnd, MayFollow, MayFoll
 ghost use Rattle.part_reports.specs.inside.Standings.{MayFollowToken, StandsInText};
 ghost use Rattle.part_reports.specs.inside.Standings.{IsMovedAt, IsStuckAt, Standing, standing};
 
-use crate::fault::{MergeFault, Wrong};
+use crate::fault::MergeFault;
 use crate::ledger_line::ledger_token_of;
 use crate::line_reader::LineReader;
 use crate::sums_left::SumsLeft;
 use crate::writing::write_text;
+use part_texts::Wrong;
 use report_texts::token_sum_of;
 use std::alloc::{AllocError, Global};
 use std::cmp::Ordering;

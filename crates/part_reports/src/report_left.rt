@@ -20,12 +20,13 @@ ghost use Rattle.part_reports.specs.inside.Reported.{IsOfReader, IsOfText};
 ghost use Rattle.part_reports.specs.inside.WrongBeside.{HasNoReport, IsOfEither, left_number};
 
 use crate::charge::charge_of;
-use crate::fault::{MergeFault, Wrong};
+use crate::fault::MergeFault;
 use crate::line_reader::LineReader;
 use crate::merging::OrderedText;
 use crate::reports::read_part;
 use crate::sums::{add_validator, no_sums};
 use crate::sums_left::SumsLeft;
+use part_texts::Wrong;
 use report_texts::token_sum_of;
 use shard_book::Totals;
 use std::alloc::Global;

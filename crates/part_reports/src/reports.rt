@@ -18,7 +18,7 @@ ghost use Rattle.part_reports.specs.Reports.{HaveTaps, NamesWrongText, all_ends}
 ghost use Rattle.part_reports.specs.Reports.{report_text};
 ghost use Rattle.part_reports.specs.FirstWrongLines.{NamesFirstWrong};
 ghost use Rattle.fare_texts.specs.WrittenOut.{Begins};
-ghost use Rattle.part_reports.specs.Texts.{AreLeft};
+ghost use Rattle.part_texts.specs.Texts.{AreLeft};
 ghost use Rattle.part_reports.specs.inside.Reported.{AreNumbered, IsOfText, text_number};
 ghost use Rattle.part_reports.specs.inside.FirstWrong.{IsCounted};
 ghost use Rattle.part_reports.specs.inside.ReadTo.{IsFirstWrongBehind, NamesFirstWrongReport};
@@ -30,7 +30,7 @@ ghost use Rattle.part_reports.specs.inside.Whole.{validators_in};
 ghost use Rattle.part_reports.specs.inside.Fronts.{front_text as text_before_tokens};
 ghost use Rattle.shard_book.specs.Sums.{sums_of};
 
-use crate::fault::{MergeFault, Wrong};
+use crate::fault::MergeFault;
 use crate::front::read_front;
 use crate::line_reader::LineReader;
 use crate::merging::{LineKind, OrderedText, write_merged};
@@ -40,6 +40,7 @@ use crate::upload_ends::UploadEnds;
 use crate::upload_ends::read::read_ends;
 use crate::writing::write_text;
 use fare_texts::write_totals;
+use part_texts::Wrong;
 use report_texts::{write_section_head, write_validator};
 use shard_book::{Totals, ValidatorSum};
 use std::alloc::{AllocError, Global};

@@ -1,33 +1,23 @@
--- Faults of texts that were not opened, or that were.
-use Rattle.std.proofs.Common.{◌≡◌, ◌∙◌, ◌<◌, ◌+◌, ◌^◌, ◌⊎◌, ℕ, List, [], ◌∷◌, ◌++◌, length}
-use Rattle.std.proofs.Common.{arith, inl, inr, refl, subst, sym, Err, None, Ok, Option, Result}
+-- Faults of texts that are merged.
+use Rattle.std.proofs.Common.{◌≡◌, ◌∙◌, ◌<◌, ◌+◌, ◌^◌, ◌⊎◌, ℕ, List, length}
+use Rattle.std.proofs.Common.{arith, inl, inr, refl, subst, sym, None, Option}
 use Rattle.std.proofs.Common.{Some}
 use Rattle.std.proofs.lemmas.Option.{slice_get_within}
-use Rattle.std.specs.Prelude.{IfErr, IfOk, slice_get}
+use Rattle.std.specs.Prelude.{slice_get}
 use Rattle.part_reports.specs.Faults.{number_from}
 use Rattle.part_reports.specs.FirstWrongLines.{IsFirstWrongOfEnds, IsFirstWrongOfReport}
 use Rattle.part_reports.specs.FirstWrongLines.{NamesFirstWrong}
 use Rattle.part_reports.specs.Reports.{HaveTaps, NamesWrongText}
 use Rattle.part_reports.specs.declared.fault.MergeFault.{MergeFault}
 use Rattle.part_reports.specs.declared.fault.MergeFault.TheVariants as merge
-use Rattle.part_reports.specs.declared.fault.Wrong.{Wrong}
-use Rattle.program_manners.specs.Refusals.{IsOneOf}
+use Rattle.part_texts.specs.declared.wrong.Wrong.{Wrong}
 use Rattle.program_manners.specs.declared.output.WriteEnd.{WriteEnd}
 use Rattle.program_manners.specs.declared.output.WriteEnd.TheVariants as writes
-use Rattle.tool_program.specs.Fault.{failed_as}
 use Rattle.tool_program.specs.Merge.{IsRightMergeFault}
-use Rattle.tool_program.specs.declared.fault.Fault.{Fault}
-use Rattle.tool_program.specs.declared.fault.Fault.TheVariants.{Line, NoMemory, Taps, Unread}
 use Rattle.tool_program.specs.inside.Fault.{IsNamedAs}
-
--- a word of one of two lists
-pub one_among : (word : List ℕ) (xs ys : List (List ℕ)) → IsOneOf word xs ⊎ IsOneOf word ys
-    → IsOneOf word (xs ++ ys)
-one_among word [] ys (inl is) = absurd is
-one_among word [] ys (inr is) = is
-one_among word (x ∷ xs) ys (inl (inl is)) = inl is
-one_among word (x ∷ xs) ys (inl (inr is)) = inr (one_among word xs ys (inl is))
-one_among word (x ∷ xs) ys (inr is) = inr (one_among word xs ys (inr is))
+use Rattle.tool_tasks.specs.Fault.{failed_as}
+use Rattle.tool_tasks.specs.declared.fault.Fault.{Fault}
+use Rattle.tool_tasks.specs.declared.fault.Fault.TheVariants.{Line, NoMemory, Taps, Unread}
 
 -- a number of few texts is its own
 pub few_from : (count first place : ℕ) → count < 2 ^ 64 → number_from first place < count
@@ -97,18 +87,3 @@ right_merge words ends reports end merge.Write reported few is of first taps =
     right_write words ends reports end reported is
 right_merge words ends reports end merge.NoMemory NoMemory few is of first taps = tt
 right_merge words ends reports end fault reported few is of first taps = absurd is
-
--- how it ended, if what was written went out, or did not
-pub ended_after : {T : Type 0} (before : Result T Fault) (fault : Fault)
-    (end end' : Option WriteEnd) (Done : T → Type 0) (Stops : Fault → Type 0) (Ends : Type 0)
-    → IfOk before Done → IfErr before Stops
-    → (fault ≡ failed_as end') ⊎ ((before ≡ Err fault) × (end' ≡ end))
-    → ((value : T) → Done value → fault ≡ failed_as end' → Ends)
-    → ((first : Fault) → Stops first → fault ≡ failed_as end' → Ends)
-    → (Stops fault → end' ≡ end → Ends) → Ends
-ended_after {T} (Ok value) fault end end' Done Stops Ends done stops (inl is) whole again kept =
-    whole value done is
-ended_after {T} (Err first) fault end end' Done Stops Ends done stops (inl is) whole again kept =
-    again first stops is
-ended_after {T} before fault end end' Done Stops Ends done stops (inr (is, same)) whole again kept =
-    kept (subst (λ (r : Result T Fault). IfErr r Stops) is stops) same

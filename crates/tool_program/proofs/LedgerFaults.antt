@@ -8,15 +8,15 @@ use Rattle.part_reports.specs.Ledgers.{NamesFirstWrongLine, NamesWrongLedger}
 use Rattle.part_reports.specs.LedgersWithReports.{NamesWrongBeside}
 use Rattle.part_reports.specs.declared.fault.MergeFault.{MergeFault}
 use Rattle.part_reports.specs.declared.fault.MergeFault.TheVariants as merge
-use Rattle.part_reports.specs.declared.fault.Wrong.{Wrong}
+use Rattle.part_texts.specs.declared.wrong.Wrong.{Wrong}
 use Rattle.program_manners.specs.declared.output.WriteEnd.{WriteEnd}
 use Rattle.program_manners.specs.declared.output.WriteEnd.TheVariants as writes
-use Rattle.tool_program.specs.Fault.{failed_as}
 use Rattle.tool_program.specs.MergeLedgers.{IsRightLedgersFault, IsWholeLedger, NamesFirstWrong}
 use Rattle.tool_program.specs.MergeLedgers.{NamesWrongText}
-use Rattle.tool_program.specs.declared.fault.Fault.{Fault}
-use Rattle.tool_program.specs.declared.fault.Fault.TheVariants.{Line, NoMemory, Unread}
 use Rattle.tool_program.specs.inside.Fault.{IsNamedAs}
+use Rattle.tool_tasks.specs.Fault.{failed_as}
+use Rattle.tool_tasks.specs.declared.fault.Fault.{Fault}
+use Rattle.tool_tasks.specs.declared.fault.Fault.TheVariants.{Line, NoMemory, Unread}
 
 -- a write that failed is reported as its writer remembers it
 pub right_ledgers_write : (words ledgers reports : List (List ℕ)) (end : Option WriteEnd)

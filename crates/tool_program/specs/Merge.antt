@@ -11,11 +11,11 @@ use Rattle.program_manners.specs.declared.loading.LoadFault.{LoadFault}
 use Rattle.program_manners.specs.declared.output.WriteEnd.{WriteEnd}
 use Rattle.program_manners.specs.declared.output.WriteEnd.TheVariants as writes
 use Rattle.report_texts.specs.UploadEnds.{is_posted}
-use Rattle.tool_program.specs.Fault.{IsRefusal}
-use Rattle.tool_program.specs.Source.{OpensBoth}
-use Rattle.tool_program.specs.declared.fault.Fault.{Fault}
-use Rattle.tool_program.specs.declared.fault.Fault.TheVariants.{Closed, Line, NoMemory, Taps}
-use Rattle.tool_program.specs.declared.fault.Fault.TheVariants.{Unread, Write}
+use Rattle.tool_tasks.specs.Fault.{IsRefusal}
+use Rattle.tool_tasks.specs.Source.{OpensBoth}
+use Rattle.tool_tasks.specs.declared.fault.Fault.{Fault}
+use Rattle.tool_tasks.specs.declared.fault.Fault.TheVariants.{Closed, Line, NoMemory, Taps}
+use Rattle.tool_tasks.specs.declared.fault.Fault.TheVariants.{Unread, Write}
 
 -- what was written is, whole, the report that the texts are merged into; each upload was posted, or
 -- not

@@ -8,16 +8,16 @@ use Rattle.part_reports.specs.FirstWrongBeside.{IsFirstWrongOfPart, IsWrongBesid
 use Rattle.part_reports.specs.Ledgers.{IsFirstWrongOfLedger, IsMergedLedger, IsWrongLedgerAt}
 use Rattle.part_reports.specs.LedgersWithReports.{AddsUpToNoReportAt, IsMergedWithReports}
 use Rattle.part_reports.specs.LedgersWithReports.{IsNoReportAt}
-use Rattle.part_reports.specs.declared.fault.Wrong.{Wrong}
+use Rattle.part_texts.specs.declared.wrong.Wrong.{Wrong}
 use Rattle.program_manners.specs.Loads.{Loaded}
 use Rattle.program_manners.specs.declared.loading.LoadFault.{LoadFault}
 use Rattle.program_manners.specs.declared.output.WriteEnd.{WriteEnd}
 use Rattle.program_manners.specs.declared.output.WriteEnd.TheVariants as writes
-use Rattle.tool_program.specs.Fault.{IsRefusal}
-use Rattle.tool_program.specs.Source.{OpensBoth}
-use Rattle.tool_program.specs.declared.fault.Fault.{Fault}
-use Rattle.tool_program.specs.declared.fault.Fault.TheVariants.{Closed, Line, NoMemory, Unread}
-use Rattle.tool_program.specs.declared.fault.Fault.TheVariants.{Write}
+use Rattle.tool_tasks.specs.Fault.{IsRefusal}
+use Rattle.tool_tasks.specs.Source.{OpensBoth}
+use Rattle.tool_tasks.specs.declared.fault.Fault.{Fault}
+use Rattle.tool_tasks.specs.declared.fault.Fault.TheVariants.{Closed, Line, NoMemory, Unread}
+use Rattle.tool_tasks.specs.declared.fault.Fault.TheVariants.{Write}
 
 -- The text is the ledger of the whole, of these ledgers of parts. If there is a report for each,
 -- the lines of each ledger add up to its report.

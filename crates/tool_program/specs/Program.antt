@@ -9,28 +9,28 @@ use Rattle.program_manners.specs.declared.loading.LoadFault.{LoadFault}
 use Rattle.program_manners.specs.declared.output.WriteEnd.{WriteEnd}
 use Rattle.program_manners.specs.declared.table_words.DateFault.{DateFault}
 use Rattle.tap_rows.specs.declared.agency.summary.Summary.{Summary}
-use Rattle.tool_program.specs.Corrections.{Corrects, GivesUpCorrections, IsWarned}
-use Rattle.tool_program.specs.Decode.{AreReported, Decoded, Decodes, DecodesFaulty, GivesUpDecode}
-use Rattle.tool_program.specs.Decode.{are_whole}
-use Rattle.tool_program.specs.Encode.{EncodesTable, GivesUpEncode}
-use Rattle.tool_program.specs.EncodeRows.{EncodesRows, GivesUpRows, IsSummaryReported}
-use Rattle.tool_program.specs.Fault.{IsFaultReported}
-use Rattle.tool_program.specs.GoodPart.{GivesUpGoodPart, KeepsGoodPart}
-use Rattle.tool_program.specs.Look.{GivesUpLook, Looks, LooksFaulty}
 use Rattle.tool_program.specs.Merge.{GivesUpMerge, MergesReports}
 use Rattle.tool_program.specs.MergeLedgers.{GivesUpLedgers, MergesLedgers}
-use Rattle.tool_program.specs.MergeSorted.{GivesUpMergeSorted, Merges}
-use Rattle.tool_program.specs.Names.{escaped}
-use Rattle.tool_program.specs.Sink.{Made}
-use Rattle.tool_program.specs.Sort.{GivesUpSort, Sorts, ends_name, refused_lines}
-use Rattle.tool_program.specs.Split.{GivesUpSplit, Splits}
-use Rattle.tool_program.specs.Table.{EndsIll, EndsWell}
-use Rattle.tool_program.specs.Uploads.{GivesUpWith, Listed, ListsFaulty, ListsWith, are_sound}
-use Rattle.tool_program.specs.declared.fault.Fault.{Fault}
-use Rattle.tool_program.specs.declared.fault.Fault.TheVariants.{NoMemory}
-use Rattle.tool_program.specs.declared.sink.NewFault.{NewFault}
-use Rattle.tool_program.specs.declared.sort.SortWords.{SortWords}
-use Rattle.tool_program.specs.declared.split.SplitWords.{SplitWords}
+use Rattle.tool_tasks.specs.Corrections.{Corrects, GivesUpCorrections, IsWarned}
+use Rattle.tool_tasks.specs.Decode.{AreReported, Decoded, Decodes, DecodesFaulty, GivesUpDecode}
+use Rattle.tool_tasks.specs.Decode.{are_whole}
+use Rattle.tool_tasks.specs.Encode.{EncodesTable, GivesUpEncode}
+use Rattle.tool_tasks.specs.EncodeRows.{EncodesRows, GivesUpRows, IsSummaryReported}
+use Rattle.tool_tasks.specs.Fault.{IsFaultReported}
+use Rattle.tool_tasks.specs.GoodPart.{GivesUpGoodPart, KeepsGoodPart}
+use Rattle.tool_tasks.specs.Look.{GivesUpLook, Looks, LooksFaulty}
+use Rattle.tool_tasks.specs.MergeSorted.{GivesUpMergeSorted, Merges}
+use Rattle.tool_tasks.specs.Names.{escaped}
+use Rattle.tool_tasks.specs.Sink.{Made}
+use Rattle.tool_tasks.specs.Sort.{GivesUpSort, Sorts, ends_name, refused_lines}
+use Rattle.tool_tasks.specs.Split.{GivesUpSplit, Splits}
+use Rattle.tool_tasks.specs.Table.{EndsIll, EndsWell}
+use Rattle.tool_tasks.specs.Uploads.{GivesUpWith, Listed, ListsFaulty, ListsWith, are_sound}
+use Rattle.tool_tasks.specs.declared.fault.Fault.{Fault}
+use Rattle.tool_tasks.specs.declared.fault.Fault.TheVariants.{NoMemory}
+use Rattle.tool_tasks.specs.declared.sink.NewFault.{NewFault}
+use Rattle.tool_tasks.specs.declared.sort.SortWords.{SortWords}
+use Rattle.tool_tasks.specs.declared.split.SplitWords.{SplitWords}
 use Rattle.tool_words.specs.Asked.{Asked, CorrectionsAsked, SortAsked, SplitAsked, corrections}
 use Rattle.tool_words.specs.Asked.{decode, encode, encode_rows, good_part, look, merge}
 use Rattle.tool_words.specs.Asked.{merge_ledgers, mistake, sort, split, table, uploads, wrong_date}

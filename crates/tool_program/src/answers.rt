@@ -2,16 +2,15 @@
 ghost use Rattle.std.specs.Prelude.{◌≡◌, ◌≢◌, ◌≤◌, ◌⊎◌, IfErr};
 ghost use Rattle.clap.specs.Words.{kind_of};
 ghost use Rattle.program_manners.specs.Words.{IsRequest};
-ghost use Rattle.tool_program.specs.Fault.{IsFaultReported, failed_as};
-ghost use Rattle.tool_program.specs.declared.fault.Fault.TheVariants.{NoMemory};
+ghost use Rattle.tool_tasks.specs.Fault.{IsFaultReported, failed_as};
+ghost use Rattle.tool_tasks.specs.declared.fault.Fault.TheVariants.{NoMemory};
 
-use crate::fault::{Fault, finish, say};
-use crate::names::Escaped;
 use clap::Error;
 use clap::error::ErrorKind;
 use program_manners::{Complaints, Output};
 use std::alloc::Global;
 use std::io::Write;
+use tool_tasks::{Escaped, Fault, finish, say};
 
 /// Writes a text of several lines, with its other control characters escaped, since it may have
 /// words of the command line.

@@ -1,20 +1,19 @@
 //! `merge`, and the texts of parts.
 ghost use Rattle.std.specs.Prelude.{◌≡◌, ◌≢◌, ◌⊎◌, ◌++◌, ℕ, List, IfErr, IfOk, Some, false, map};
 ghost use Rattle.std.specs.Prelude.{OnOk, option_map, slice_get, true};
-ghost use Rattle.part_reports.specs.Texts.{AreLeft};
+ghost use Rattle.part_texts.specs.Texts.{AreLeft};
 ghost use Rattle.program_manners.specs.Loads.{Loaded};
-ghost use Rattle.tool_program.specs.Fault.{IsFaultReported};
 ghost use Rattle.tool_program.specs.Merge.{GivesUpMerge, MergesReports, StopsMerge};
 ghost use Rattle.tool_program.specs.Merge.{WritesReport};
-ghost use Rattle.tool_program.specs.declared.fault.Fault.{Fault as AFault};
 ghost use Rattle.tool_program.specs.inside.Fault.{IsNamedAs};
+ghost use Rattle.tool_tasks.specs.Fault.{IsFaultReported};
+ghost use Rattle.tool_tasks.specs.declared.fault.Fault.{Fault as AFault};
 
-use crate::fault::{Fault, finish, say};
-use crate::source::{Both, Source, open_both};
 use part_reports::MergeFault;
 use program_manners::{Complaints, Output, WriteEnd};
 use std::alloc::Global;
 use std::io::{BufRead, Write};
+use tool_tasks::{Both, Fault, Source, finish, open_both, say};
 
 /// The word of the text of this number. Texts are numbered through both lists.
 fn word_of<'a>(first: &[&'a str], second: &[&'a str], text: usize) -> Option<&'a str>

@@ -6,20 +6,19 @@ ghost use Rattle.part_reports.specs.Faults.{IsOfTaps, IsOfTexts};
 ghost use Rattle.part_reports.specs.FirstWrongBeside.{NamesFirstWrongBeside};
 ghost use Rattle.part_reports.specs.Ledgers.{NamesFirstWrongLine, NamesWrongLedger};
 ghost use Rattle.part_reports.specs.LedgersWithReports.{NamesWrongBeside};
-ghost use Rattle.part_reports.specs.Texts.{AreLeft};
+ghost use Rattle.part_texts.specs.Texts.{AreLeft};
 ghost use Rattle.program_manners.specs.Loads.{Loaded};
-ghost use Rattle.tool_program.specs.Fault.{IsFaultReported};
 ghost use Rattle.tool_program.specs.MergeLedgers.{GivesUpLedgers, IsWholeLedger, MergesLedgers};
 ghost use Rattle.tool_program.specs.MergeLedgers.{StopsLedgers, WritesLedger};
-ghost use Rattle.tool_program.specs.declared.fault.Fault.{Fault as AFault};
+ghost use Rattle.tool_tasks.specs.Fault.{IsFaultReported};
+ghost use Rattle.tool_tasks.specs.declared.fault.Fault.{Fault as AFault};
 
-use crate::fault::{Fault, finish, say};
 use crate::merge::fault_of;
-use crate::source::{Both, Source, open_both};
 use part_reports::MergeFault;
 use program_manners::{Complaints, Output};
 use std::alloc::Global;
 use std::io::{BufRead, Write};
+use tool_tasks::{Both, Fault, Source, finish, open_both, say};
 
 /// Writes the ledger of the whole. If there is a report for each ledger, each is compared with its
 /// own.

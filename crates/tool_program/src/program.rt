@@ -3,34 +3,18 @@ ghost use Rattle.std.specs.Prelude.{◌≡◌, ◌⊎◌, ◌≤◌, ℕ, Bool, 
 ghost use Rattle.std.specs.Prelude.{string_bytes};
 ghost use Rattle.program_manners.specs.LineWritten.{LineWritten};
 ghost use Rattle.program_manners.specs.declared.output.WriteEnd.{WriteEnd as AWriteEnd};
-ghost use Rattle.tool_program.specs.Fault.{IsFaultReported};
 ghost use Rattle.tool_program.specs.Program.{IsDone, IsGivenUp, IsPartlyDone, mistake_line};
 ghost use Rattle.tool_program.specs.Program.{run_of, wrong_date_text};
-ghost use Rattle.tool_program.specs.declared.fault.Fault.TheVariants.{NoMemory};
+ghost use Rattle.tool_tasks.specs.Fault.{IsFaultReported};
+ghost use Rattle.tool_tasks.specs.declared.fault.Fault.TheVariants.{NoMemory};
 ghost use Rattle.tool_words.specs.Asked.{asked_by, sort};
 ghost use Rattle.tool_words.specs.Mistakes.{mistake_text};
 ghost use Rattle.tool_words.specs.Tasks.{asked_of, sorting_of};
 ghost use Rattle.tool_words.specs.ToolLine.{AsksForText, Parses};
 
 use crate::answers::show;
-use crate::corrections::corrections_over;
-use crate::decode::decode_over;
-use crate::encode::encode_over;
-use crate::encode_rows::encode_rows_over;
-use crate::fault::{Fault, say};
-use crate::good_part::good_part_over;
-use crate::look::look_over;
 use crate::merge::merge_over;
 use crate::merge_ledgers::merge_ledgers_over;
-use crate::merge_sorted::merge_sorted_over;
-use crate::names::Escaped;
-use crate::placed::PlacedFiles;
-use crate::sink::Sink;
-use crate::sort::{SortWords, sort_over};
-use crate::source::Source;
-use crate::split::{SplitWords, split_over};
-use crate::table::table_over;
-use crate::uploads::uploads_over;
 use jiff::Timestamp;
 use program_manners::{Complaints, Output, WrongWord};
 use std::alloc::Global;
@@ -38,6 +22,11 @@ use std::hash::RandomState;
 use std::io::Write;
 use std::marker::Sync;
 use std::thread::Threads;
+use tool_tasks::{
+    Escaped, Fault, PlacedFiles, Sink, SortWords, Source, SplitWords, corrections_over,
+    decode_over, encode_over, encode_rows_over, good_part_over, look_over, merge_sorted_over, say,
+    sort_over, split_over, table_over, uploads_over,
+};
 use tool_words::{Mistake, SortingWords, Task, read};
 
 /// Says what is wrong with the words, and gives the status.

@@ -19,7 +19,7 @@ use Rattle.part_reports.specs.inside.Reported.{next_number}
 use Rattle.part_reports.specs.inside.Fronts.{ReportedFront}
 use Rattle.part_reports.specs.declared.fault.MergeFault.{MergeFault}
 use Rattle.part_reports.specs.declared.fault.MergeFault.TheVariants.{Line}
-use Rattle.part_reports.specs.declared.fault.Wrong.TheVariants.{Form, Sums as TooManySums}
+use Rattle.part_texts.specs.declared.wrong.Wrong.TheVariants.{Form, Sums as TooManySums}
 use Rattle.part_reports.specs.declared.front.Front.{Front}
 use Rattle.part_reports.specs.declared.sums.WholeSums.{WholeSums}
 

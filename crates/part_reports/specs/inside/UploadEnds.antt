@@ -4,8 +4,8 @@ use Rattle.std.specs.Prelude.{All, Err, IsTrue, Ok, length, sum_by, ⊤}
 use Rattle.std.specs.Io.BufRead.{take_through}
 use Rattle.part_reports.specs.declared.fault.MergeFault.{MergeFault}
 use Rattle.part_reports.specs.declared.fault.MergeFault.TheVariants.{Line}
-use Rattle.part_reports.specs.declared.fault.Wrong.{Wrong}
-use Rattle.part_reports.specs.declared.fault.Wrong.TheVariants.{Form}
+use Rattle.part_texts.specs.declared.wrong.Wrong.{Wrong}
+use Rattle.part_texts.specs.declared.wrong.Wrong.TheVariants.{Form}
 use Rattle.part_reports.specs.inside.FirstWrong.{up_to_64}
 use Rattle.part_reports.specs.declared.upload_ends.UploadEnds.{UploadEnds}
 use Rattle.part_reports.specs.Faults.{IsOfTexts}

@@ -8,7 +8,7 @@ ghost use Rattle.part_reports.specs.inside.Reported.{IsOfReader, next_number};
 ghost use Rattle.report_texts.specs.Numbers.{IsUploadEnd};
 ghost use Rattle.report_texts.specs.declared.upload_end.UploadEnd.{UploadEnd as AnEnd};
 ghost use Rattle.part_reports.specs.Reports.{NamesWrongText, end_texts, all_ends};
-ghost use Rattle.part_reports.specs.Texts.{AreLeft};
+ghost use Rattle.part_texts.specs.Texts.{AreLeft};
 ghost use Rattle.part_reports.specs.inside.UploadEnds.{HaveReadEnds, AreEndsAdded, IsNextEnd};
 ghost use Rattle.part_reports.specs.inside.UploadEnds.{IsFirstNoEnd};
 

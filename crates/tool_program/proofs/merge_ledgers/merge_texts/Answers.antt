@@ -1,8 +1,8 @@
 use Rattle.std.proofs.Common.{◌++◌, map, subst}
 use Rattle.std.proofs.KnownBytes.{Appends-kept}
 use Rattle.fare_texts.proofs.Beginnings.{begins_kept, begins_whole}
-use Rattle.tool_program.proofs.LedgerFaults.{right_ledgers, right_ledgers_write}
 use Rattle.tool_program.specs.inside.Fault.{IsNamedAs}
+use Rattle.tool_program.proofs.LedgerFaults.{right_ledgers, right_ledgers_write}
 use Rattle.tool_program.proofs.merge_ledgers.merge_texts.Goals as goal
 
 pub returns-in-Ok-finish-clause-done : goal.returns-in-Ok-finish-clause-done

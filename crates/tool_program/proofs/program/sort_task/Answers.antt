@@ -1,10 +1,10 @@
 use Rattle.std.proofs.Common.{◌≡◌, Bor, List, false, map, refl, subst, ℕ}
 use Rattle.report_texts.specs.UploadEnds.{are_posted}
 use Rattle.report_texts.specs.declared.upload_end.UploadEnd.{UploadEnd}
-use Rattle.tool_program.specs.Decode.{AreReported}
-use Rattle.tool_program.specs.MergeSorted.{GivesUpMergeSorted}
-use Rattle.tool_program.specs.Sort.{GivesUpSort, Sorts, refused_lines}
-use Rattle.tool_program.specs.declared.sort.SortWords.{SortWords}
+use Rattle.tool_tasks.specs.Decode.{AreReported}
+use Rattle.tool_tasks.specs.MergeSorted.{GivesUpMergeSorted}
+use Rattle.tool_tasks.specs.Sort.{GivesUpSort, Sorts, refused_lines}
+use Rattle.tool_tasks.specs.declared.sort.SortWords.{SortWords}
 use Rattle.tool_program.proofs.program.sort_task.Goals as goal
 
 pub returns-then-words-clause-given_up : goal.returns-then-words-clause-given_up

@@ -7,8 +7,8 @@ use Rattle.tool_words.proofs.Entered.{some_is}
 use Rattle.tool_program.specs.Merge.{GivesUpMerge}
 use Rattle.tool_program.specs.MergeLedgers.{GivesUpLedgers}
 use Rattle.tool_program.specs.Program.{mistake_line, wrong_date_text}
-use Rattle.tool_program.specs.Split.{GivesUpSplit}
-use Rattle.tool_program.specs.declared.split.SplitWords.{SplitWords}
+use Rattle.tool_tasks.specs.Split.{GivesUpSplit}
+use Rattle.tool_tasks.specs.declared.split.SplitWords.{SplitWords}
 use Rattle.tool_program.proofs.program.task_over.Goals as goal
 
 pub returns-in-Sort-clause-done : goal.returns-in-Sort-clause-done

@@ -1,0 +1,25 @@
+use Rattle.std.proofs.Common.{map}
+use Rattle.std.proofs.lemmas.Result.{err_from_is_err_and}
+use Rattle.fare_texts.proofs.Beginnings.{begins_nothing}
+use Rattle.tool_tasks.proofs.FoundRows.{row_exists}
+use Rattle.tool_tasks.proofs.look.rows.write_row.Goals as goal
+
+pub returns-in_err-text-clause-stops : goal.returns-in_err-text-clause-stops
+returns-in_err-text-clause-stops g c =
+    let text = row_exists (map (λ w. w.now) c.args.names.now) c.args.row in
+    let p = err_from_is_err_and c.from_residual.result c.from_residual.ensures.1 in
+    rw (p.1) (text.0, text.1, begins_nothing (g.W.Write.contents c.args.out.now) text.0)
+
+pub returns-in-Ok-clause-done : goal.returns-in-Ok-clause-done
+returns-in-Ok-clause-done g c = (
+  c.as_bytes.result.now,
+  rw c.as_bytes.ensures.value c.in_ok-text.ensures,
+  c.in-Ok.ensures.ok,
+)
+
+pub returns-clause-stops : goal.returns-clause-stops
+returns-clause-stops g c = (
+  c.as_bytes.result.now,
+  rw c.as_bytes.ensures.value c.in_ok-text.ensures,
+  c.in-Err.ensures.begun,
+)

@@ -1,0 +1,263 @@
+-- What `encode` of an agency's own CSV does: of the word of its file, and of the words that say how
+-- it is read.
+use Rattle.std.specs.Prelude.{◌≡◌, ◌⊎◌, ⊤, ◌+◌, ℕ, List, [], ◌∷◌, ◌++◌, Bool, Option, None, Some}
+use Rattle.std.specs.Prelude.{codes, decimal, option_map, slice_get}
+use Rattle.std.specs.Borrow.{Bor}
+use Rattle.std.specs.Io.KnownBytes.{Keeps}
+use Rattle.program_manners.specs.LineWritten.{LineWritten}
+use Rattle.program_manners.specs.Loads.{Loaded}
+use Rattle.program_manners.specs.declared.loading.LoadFault.{LoadFault}
+use Rattle.program_manners.specs.declared.output.WriteEnd.{WriteEnd}
+use Rattle.program_manners.specs.declared.output.WriteEnd.TheVariants as writes
+use Rattle.tap_rows.specs.Agencies.{IsFirstRefused, IsRowsEncoded, IsUploadBegun, IsWanting}
+use Rattle.tap_rows.specs.AgencyTexts.{first_record}
+use Rattle.tap_rows.specs.Devices.{AreDevices, Device, IsDevicesFault, devices_of}
+use Rattle.tap_rows.specs.declared.agency.choice.Choice.{Choice}
+use Rattle.tap_rows.specs.declared.agency.choice.Condition.{Condition}
+use Rattle.tap_rows.specs.declared.agency.choice.Separator.{Separator}
+use Rattle.tap_rows.specs.declared.agency.fault.Wanted.{Wanted}
+use Rattle.tap_rows.specs.declared.agency.fault.Wanted.TheVariants as wanted
+use Rattle.tap_rows.specs.declared.agency.summary.Summary.{Summary}
+use Rattle.tap_rows.specs.declared.devices.fault.DevicesFault.TheVariants as devices
+use Rattle.tool_tasks.specs.Encode.{ReadsTwice}
+use Rattle.tool_tasks.specs.Fault.{IsRefusal}
+use Rattle.tool_tasks.specs.Sink.{IsNewName, IsNotMade, Made, Makes, RefusesNew}
+use Rattle.tool_tasks.specs.Source.{HasOpened}
+use Rattle.tool_tasks.specs.Uploads.{IsMomentOrDash}
+use Rattle.tool_words.specs.declared.task.RowsWords.{RowsWords}
+use Rattle.tool_tasks.specs.declared.fault.Fault.{Fault}
+use Rattle.tool_tasks.specs.declared.fault.Fault.TheVariants.{Closed, Devices, Exists, NoMemory}
+use Rattle.tool_tasks.specs.declared.fault.Fault.TheVariants.{Rows, SomeChanged, Unmade, Unread}
+use Rattle.tool_tasks.specs.declared.fault.Fault.TheVariants.{Write}
+use Rattle.tool_tasks.specs.declared.sink.NewFault.{NewFault}
+use Rattle.tool_tasks.specs.declared.sink.NewFault.TheVariants as newly
+use Rattle.tool_tasks.specs.declared.wrong_tables.WrongDevices.TheVariants as wrong_devices
+use Rattle.tool_tasks.specs.declared.wrong_tables.WrongRows.TheVariants as wrong_rows
+
+-- the word, if there is one
+abbrev pub word_in : Option (Bor (List ℕ)) → Option (List ℕ)
+word_in word = option_map (λ w. w.now) word
+
+-- the words that there are
+abbrev pub words_in : Option (List ℕ) → List (List ℕ)
+words_in None = []
+words_in (Some word) = word ∷ []
+
+-- ---- how the rows are read
+-- the choice is that of the words, of rows that have the names of these devices if there are such
+pub record IsChoice (words : RowsWords) (devices : Option (List Device)) (choice : Choice)
+    : Type 0 where
+  pub separator : choice.separator ≡ words.separator
+  pub token : choice.token.now ≡ words.token.now
+  pub validator : choice.validator.now ≡ words.validator.now
+  pub moment : choice.moment.now ≡ words.moment.now
+  pub table : option_map (λ table. devices_of table.now) choice.devices ≡ devices
+  pub only : choice.only.now ≡ words.only.items
+
+-- beside rows with this separator, the texts are that of the device table, if there is one
+abbrev pub AreDeviceTexts : Separator → List (List ℕ) → Option (List Device) → Type 0
+AreDeviceTexts separator [] None = ⊤
+AreDeviceTexts separator (text ∷ []) (Some devices) = AreDevices separator text devices
+AreDeviceTexts separator texts devices = ⊥
+
+-- the device table was loaded, if the words name one
+pub record HasDevices (words : RowsWords) (loaded loaded' : Option (List Loaded))
+    (devices : Option (List Device)) : Type 0 where
+  pub texts : List (List ℕ)
+  pub opened : HasOpened (words_in (word_in words.devices)) loaded loaded' texts
+  pub are : AreDeviceTexts words.separator texts devices
+
+-- The text was read under the name of the word: once if the refused rows have a file, and else
+-- twice, so that what was read again may be another one.
+abbrev pub ReadsText : Option (List ℕ) → List ℕ → Option (List Loaded) → Option (List Loaded)
+    → List ℕ → List ℕ → Type 0
+ReadsText None word loaded loaded' text again = ReadsTwice word loaded loaded' text again
+ReadsText (Some refused) word loaded loaded' text again =
+    HasOpened (word ∷ []) loaded loaded' (text ∷ []) × (again ≡ text)
+
+-- ---- all is well
+-- the beginning of a summary's line
+abbrev pub rows_counts : Summary → List ℕ
+rows_counts summary = codes "read "
+    ++ (decimal (summary.taps + summary.left_out + summary.refused)
+    ++ (codes " taps " ++ (decimal summary.taps ++ (codes " left out " ++ (decimal summary.left_out
+    ++ (codes " refused " ++ (decimal summary.refused ++ codes " first ")))))))
+
+-- The line of a summary: how many rows were read, how many are taps, left out and refused, and the
+-- first and the last moment.
+pub record IsSummaryLine (summary : Summary) (line : List ℕ) : Type 0 where
+  pub first : List ℕ
+  pub last : List ℕ
+  pub is_first : IsMomentOrDash (option_map (λ span. span.first) summary.span) first
+  pub is_last : IsMomentOrDash (option_map (λ span. span.last) summary.span) last
+  pub shown : line ≡ rows_counts summary ++ (first ++ (codes " last " ++ last))
+
+-- the line of the summary was reported, unless a write of it failed
+pub record IsSummaryReported (summary : Summary) (said said' : Option (List ℕ)) (failed : Bool)
+    : Type 0 where
+  pub line : List ℕ
+  pub is_line : IsSummaryLine summary line
+  pub written : LineWritten said said' failed line
+
+-- the file of the refused rows, if it has a name
+abbrev pub refused_files : Option (List ℕ) → List ℕ → List Made
+refused_files None bytes = []
+refused_files (Some name) bytes = record { name = name; bytes = bytes } ∷ []
+
+-- no file had the name of that of the refused rows, if it has one
+abbrev pub IsNewFile : Option (List ℕ) → Option (List Made) → Type 0
+IsNewFile None made = ⊤
+IsNewFile (Some name) made = IsNewName made name
+
+-- The text was read, and what was written is, whole, the upload of the rows that are kept, as they
+-- were when they were read last. The file of the refused rows was made, if it has a name; if it has
+-- none, no row is refused.
+pub record EncodesText (refused : Option (List ℕ)) (word : List ℕ) (choice : Choice)
+    (loaded loaded' : Option (List Loaded)) (made made' : Option (List Made))
+    (out out' : Option (List ℕ)) (summary : Summary) : Type 0 where
+  pub text : List ℕ
+  pub again : List ℕ
+  pub reads : ReadsText refused word loaded loaded' text again
+  pub refusals : List ℕ
+  pub encoded : IsRowsEncoded choice again out out' (Some []) (Some refusals) summary
+  pub is_new : IsNewFile refused made
+  pub files : Makes made made' (refused_files refused refusals)
+  pub whole : refused ≡ None → summary.first_refused ≡ None
+
+-- the device table was loaded, if the words name one, and then the text was encoded
+pub record EncodesRows (words : RowsWords) (word : List ℕ)
+    (loaded loaded' : Option (List Loaded)) (made made' : Option (List Made))
+    (out out' : Option (List ℕ)) (summary : Summary) : Type 0 where
+  pub devices : Option (List Device)
+  pub choice : Choice
+  pub is_choice : IsChoice words devices choice
+  pub between : Option (List Loaded)
+  pub of_devices : HasDevices words loaded between devices
+  pub encodes : EncodesText (word_in words.refused) word choice between loaded' made made' out out'
+      summary
+
+-- ---- a fault
+-- the name is that of the column that is wanted
+abbrev pub IsColumnName : RowsWords → Wanted → List ℕ → Type 0
+IsColumnName words wanted.Token name = name ≡ words.token.now
+IsColumnName words wanted.Validator name = name ≡ words.validator.now
+IsColumnName words wanted.Moment name = name ≡ words.moment.now
+IsColumnName words (wanted.Only place) name =
+    (condition : Condition) → slice_get words.only.items place ≡ Some condition
+    → name ≡ condition.column.now
+
+-- the head of the text lacks a column of this name, which the words ask for
+abbrev pub LacksColumn : RowsWords → Choice → List ℕ → List ℕ → Type 0
+LacksColumn words choice text name = (column : Wanted) × IsColumnName words column name
+    × IsWanting choice (first_record choice.separator text) column
+
+-- The fault is the right one of a text that was read under this word: of its head, or of its first
+-- row that is refused, nothing was written. A row is refused, and the text is said to have changed,
+-- only if the refused rows have no file; and it changed. A write failed as the writer remembers it,
+-- or one to the file of the refused rows did: `Failed`. A read may fail, and memory may be refused,
+-- at any time.
+abbrev pub IsRightRowsFault : RowsWords → Option (List ℕ) → List ℕ → Choice → List ℕ → List ℕ
+    → Option WriteEnd → Type 0 → Fault → Option (List ℕ) → Option (List ℕ) → Type 0
+IsRightRowsFault words refused word choice text again end Failed
+    (Rows named (wrong_rows.Column name)) out out' =
+    (named.now ≡ word) × LacksColumn words choice text name.now × Keeps out out'
+IsRightRowsFault words refused word choice text again end Failed
+    (Rows named (wrong_rows.Row number why)) out out' =
+    (named.now ≡ word) × (refused ≡ None) × IsFirstRefused choice text number why × Keeps out out'
+IsRightRowsFault words refused word choice text again end Failed SomeChanged out out' =
+    (refused ≡ None) × (¬ (text ≡ again))
+IsRightRowsFault words refused word choice text again end Failed (Unread named) out out' =
+    named.now ≡ word
+IsRightRowsFault words refused word choice text again end Failed Write out out' =
+    (end ≡ Some writes.Refused) ⊎ Failed
+IsRightRowsFault words refused word choice text again end Failed Closed out out' =
+    end ≡ Some writes.Closed
+IsRightRowsFault words refused word choice text again end Failed NoMemory out out' = ⊤
+IsRightRowsFault words refused word choice text again end Failed fault out out' = ⊥
+
+-- The fault is the right one of a text that was read under this word. What was written is a
+-- beginning of an upload of its first taps, as they were when they were read last.
+pub record StopsRows (words : RowsWords) (refused : Option (List ℕ)) (word : List ℕ)
+    (choice : Choice) (text again : List ℕ) (end : Option WriteEnd) (Failed : Type 0)
+    (fault : Fault) (out out' : Option (List ℕ)) : Type 0 where
+  pub right : IsRightRowsFault words refused word choice text again end Failed fault out out'
+  pub begun : IsUploadBegun choice again out out'
+
+-- the file of the refused rows, which has this name, could not be made
+abbrev pub IsRefusedUnmade : Option (List ℕ) → Option (List ℕ) → Type 0
+IsRefusedUnmade None failed = ⊥
+IsRefusedUnmade (Some name) failed = IsNotMade failed name
+
+-- the text was read, and the encoding was broken off
+pub record BreaksOffText (words : RowsWords) (refused : Option (List ℕ)) (word : List ℕ)
+    (choice : Choice) (loaded loaded' : Option (List Loaded)) (failed : Option (List ℕ))
+    (end : Option WriteEnd) (fault : Fault) (out out' : Option (List ℕ)) : Type 0 where
+  pub text : List ℕ
+  pub again : List ℕ
+  pub reads : ReadsText refused word loaded loaded' text again
+  pub stops : StopsRows words refused word choice text again end (IsRefusedUnmade refused failed)
+      fault out out'
+
+-- the sink did not begin the file of the refused rows, which the fault names, for its reason
+abbrev pub IsNotBegun : Option (List ℕ) → Option (List ℕ × NewFault) → Fault → Type 0
+IsNotBegun (Some name) unbegun (Exists named) =
+    (named.now ≡ name) × RefusesNew unbegun name newly.Exists
+IsNotBegun (Some name) unbegun (Unmade named) =
+    (named.now ≡ name) × RefusesNew unbegun name newly.Unmade
+IsNotBegun refused unbegun fault = ⊥
+
+-- The file of the refused rows was not begun, or the text was not opened, or memory was refused
+-- before, and nothing was written; or the text was read, and the encoding was broken off.
+abbrev pub GivesUpText : RowsWords → Option (List ℕ) → List ℕ → Choice → Option (List Loaded)
+    → Option (List Loaded) → Option (Option (List ℕ) × LoadFault) → Option (List ℕ × NewFault)
+    → Option (List ℕ) → Option WriteEnd → Fault → Option (List ℕ) → Option (List ℕ) → Type 0
+GivesUpText words refused word choice loaded loaded' unread unbegun failed end fault out out' =
+    ((IsRefusal unread (word ∷ []) fault ⊎ IsNotBegun refused unbegun fault) × Keeps out out')
+    ⊎ BreaksOffText words refused word choice loaded loaded' failed end fault out out'
+
+-- the text is no device table beside rows with this separator, as the fault of this word reports
+abbrev pub IsDevicesFaultOf : List ℕ → Separator → List ℕ → Fault → Type 0
+IsDevicesFaultOf word separator text (Devices named wrong_devices.Head) =
+    (named.now ≡ word) × IsDevicesFault separator text devices.Head
+IsDevicesFaultOf word separator text (Devices named (wrong_devices.Row number why)) =
+    (named.now ≡ word) × IsDevicesFault separator text (devices.Row number why)
+IsDevicesFaultOf word separator text fault = ⊥
+
+-- the file that the word names was loaded, and is no device table
+pub record RefusesDevices (word : List ℕ) (separator : Separator)
+    (loaded loaded' : Option (List Loaded)) (fault : Fault) : Type 0 where
+  pub text : List ℕ
+  pub opened : HasOpened (word ∷ []) loaded loaded' (text ∷ [])
+  pub wrong : IsDevicesFaultOf word separator text fault
+
+-- there is no device table: it was not loaded, or memory was refused; or it is none
+abbrev pub StopsDevices : Option (List ℕ) → Separator → Option (List Loaded)
+    → Option (List Loaded) → Option (Option (List ℕ) × LoadFault) → Fault → Type 0
+StopsDevices None separator loaded loaded' unread fault = ⊥
+StopsDevices (Some word) separator loaded loaded' unread fault =
+    IsRefusal unread (word ∷ []) fault ⊎ RefusesDevices word separator loaded loaded' fault
+
+-- the device table was loaded, if the words name one, and then the encoding was given up
+pub record GivesUpBehindDevices (words : RowsWords) (word : List ℕ)
+    (loaded loaded' : Option (List Loaded)) (unread : Option (Option (List ℕ) × LoadFault))
+    (unbegun : Option (List ℕ × NewFault)) (failed : Option (List ℕ)) (end : Option WriteEnd)
+    (fault : Fault) (out out' : Option (List ℕ)) : Type 0 where
+  pub devices : Option (List Device)
+  pub choice : Choice
+  pub is_choice : IsChoice words devices choice
+  pub between : Option (List Loaded)
+  pub of_devices : HasDevices words loaded between devices
+  pub gives_up : GivesUpText words (word_in words.refused) word choice between loaded' unread
+      unbegun failed end fault out out'
+
+-- The encoding was given up: there is no device table, and nothing was written; or behind it. No
+-- file was made.
+abbrev pub GivesUpRows : RowsWords → List ℕ → Option (List Loaded) → Option (List Loaded)
+    → Option (Option (List ℕ) × LoadFault) → Option (List Made) → Option (List Made)
+    → Option (List ℕ × NewFault) → Option (List ℕ) → Option WriteEnd → Fault → Option (List ℕ)
+    → Option (List ℕ) → Type 0
+GivesUpRows words word loaded loaded' unread made made' unbegun failed end fault out out' =
+    (made' ≡ made)
+    × ((StopsDevices (word_in words.devices) words.separator loaded loaded' unread fault
+    × Keeps out out')
+    ⊎ GivesUpBehindDevices words word loaded loaded' unread unbegun failed end fault out out')

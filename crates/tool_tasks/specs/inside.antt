@@ -1,0 +1,12 @@
+-- What only private functions cite. Who reads the contracts of public calls need not read it.
+pub mod Decode
+pub mod EncodeRows
+pub mod Fault
+pub mod GoodPart
+pub mod Look
+pub mod LookRows
+pub mod Sort
+pub mod Split
+pub mod Table
+pub mod UploadTokens
+pub mod Uploads

@@ -1,0 +1,552 @@
+//! `encode` of an agency's own CSV.
+ghost use Rattle.std.specs.Prelude.{◌≡◌, ◌≢◌, ◌≤◌, ℕ, IfErr, IfOk, List, None, Ok, OnOk, Option};
+ghost use Rattle.std.specs.Prelude.{Some, option_map, string_bytes, true};
+ghost use Rattle.std.specs.Io.KnownBytes.{Keeps};
+ghost use Rattle.program_manners.specs.Loads.{Loaded, OpensOne};
+ghost use Rattle.program_manners.specs.Refusals.{IsOneOf};
+ghost use Rattle.program_manners.specs.declared.output.WriteEnd.{WriteEnd as AnEnd};
+ghost use Rattle.tap_rows.specs.Agencies.{IsRowsEncoded};
+ghost use Rattle.tap_rows.specs.Devices.{devices_of};
+ghost use Rattle.tap_rows.specs.declared.agency.summary.Summary.{Summary as ASummary};
+ghost use Rattle.tool_tasks.specs.EncodeRows.{EncodesRows, GivesUpRows};
+ghost use Rattle.tool_tasks.specs.EncodeRows.{HasDevices, IsChoice, IsColumnName};
+ghost use Rattle.tool_tasks.specs.EncodeRows.{IsSummaryLine, IsSummaryReported, StopsDevices};
+ghost use Rattle.tool_tasks.specs.EncodeRows.{StopsRows, word_in};
+ghost use Rattle.tool_tasks.specs.Fault.{IsFaultReported, IsRefusal};
+ghost use Rattle.tool_tasks.specs.Names.{file_named};
+ghost use Rattle.tool_tasks.specs.declared.fault.Fault.{Fault as AFault};
+ghost use Rattle.tool_tasks.specs.inside.EncodeRows.{EncodesOnce, EndsRows, HasEncoded};
+ghost use Rattle.tool_tasks.specs.inside.EncodeRows.{HasEncodedAll, HasGivenUp, HasGivenUpAll};
+ghost use Rattle.tool_tasks.specs.inside.EncodeRows.{HasLoadedDevices, IsNamedDevicesFault};
+ghost use Rattle.tool_tasks.specs.inside.EncodeRows.{IsNewFault, IsRowsFault, IsUnfinished};
+ghost use Rattle.tool_tasks.specs.inside.EncodeRows.{StopsOnce};
+
+use crate::fault::{Fault, finish, say};
+use crate::names::file_of;
+use crate::sink::{MakeFault, NewFault, Sink};
+use crate::source::{Shown, Source, load_text, load_upload, open_text, open_text_shown};
+use crate::uploads::push_moment;
+use crate::wrong_tables::{WrongDevices, WrongRows};
+use program_manners::{Complaints, Output, WriteEnd};
+use std::alloc::{AllocError, Global};
+use std::hash::RandomState;
+use std::io::{Read, Write};
+use tap_rows::{
+    AgencyFault, Choice, DeviceTable, DevicesFault, Separator, Summary, Wanted, encode_rows,
+    encode_some_rows, read_devices,
+};
+use tool_words::RowsWords;
+
+/// The choice that the words make, with the devices that they name.
+fn choice<'c>(words: &'c RowsWords<'_>, devices: Option<&'c DeviceTable>) -> Choice<'c>
+    ensures { IsChoice words.entry.now (option_map (λ d. devices_of d.now) devices.entry) result }
+{
+    Choice {
+        separator: words.separator,
+        token: words.token.as_bytes(),
+        validator: words.validator.as_bytes(),
+        devices,
+        moment: words.moment.as_bytes(),
+        only: &words.only,
+    }
+}
+
+/// The name of the column of the condition at this place.
+fn only_column<'a>(words: &RowsWords<'a>, place: usize) -> &'a str
+    ensures { IsColumnName words.now (Wanted.Only place) result.now }
+{
+    match words.only.get(place) {
+        Some(condition) => condition.column,
+        None => "",
+    }
+}
+
+/// The name of a column.
+fn name_of<'a>(words: &RowsWords<'a>, wanted: Wanted) -> &'a str
+    ensures { IsColumnName words.now wanted result.now }
+{
+    match wanted {
+        Wanted::Token => words.token,
+        Wanted::Validator => words.validator,
+        Wanted::Moment => words.moment,
+        Wanted::Only(place) => only_column(words, place),
+    }
+}
+
+/// Why the file of the word is no device table.
+fn fault_of_devices<'a>(word: &'a str, fault: DevicesFault) -> Fault<'a>
+    ensures { IsNamedDevicesFault word.entry.now fault result }
+{
+    match fault {
+        DevicesFault::Head => Fault::Devices(word, WrongDevices::Head),
+        DevicesFault::Row { number, wrong } => {
+            Fault::Devices(word, WrongDevices::Row(number, wrong))
+        }
+        DevicesFault::NoMemory => Fault::NoMemory,
+    }
+}
+
+/// The device table in the file that the word names, beside rows with this separator.
+fn load_devices<'a, S: Source>(
+    alloc: Global,
+    seed: RandomState,
+    separator: Separator,
+    word: &'a str,
+    source: &mut S,
+) -> Result<DeviceTable, Fault<'a>>
+    ensures table { IfOk result (λ table. HasLoadedDevices word.entry.now separator
+        (S.loaded source.old) (S.loaded source.new) (devices_of table)) }
+    ensures stops { IfErr result (StopsDevices (Some word.entry.now) separator
+        (S.loaded source.old) (S.loaded source.new) (S.refused source.new)) }
+{
+    let text = load_upload(alloc, source, word)?;
+    match read_devices(alloc, seed, separator, &text) {
+        Ok(devices) => Ok(devices),
+        Err(fault) => Err(fault_of_devices(word, fault)),
+    }
+}
+
+/// The device table, if the words name one.
+fn devices_in<'a, S: Source>(
+    alloc: Global,
+    seed: RandomState,
+    words: &RowsWords<'a>,
+    source: &mut S,
+) -> Result<Option<DeviceTable>, Fault<'a>>
+    ensures table { IfOk result (λ table. HasDevices words.now (S.loaded source.old)
+        (S.loaded source.new) (option_map devices_of table)) }
+    ensures stops { IfErr result (StopsDevices (word_in words.now.devices) words.now.separator
+        (S.loaded source.old) (S.loaded source.new) (S.refused source.new)) }
+{
+    match words.devices {
+        Some(word) => match load_devices(alloc, seed, words.separator, word, source) {
+            Ok(devices) => Ok(Some(devices)),
+            Err(fault) => Err(fault),
+        },
+        None => Ok(None),
+    }
+}
+
+/// The line of how many rows there are of each kind, and of the first and the last moment, without
+/// its line feed.
+fn summary_line(alloc: Global, summary: &Summary) -> Result<String, AllocError>
+    ensures { IfOk result (λ line. IsSummaryLine summary.now (string_bytes line)) }
+{
+    let read = summary.rows();
+    let taps = summary.taps;
+    let left_out = summary.left_out;
+    let refused = summary.refused;
+    let mut line = format!(in alloc;
+        "read {read} taps {taps} left out {left_out} refused {refused} first "
+    )?;
+    push_moment(&mut line, summary.span.map(|span| span.first))?;
+    line.push_str(" last ")?;
+    push_moment(&mut line, summary.span.map(|span| span.last))?;
+    Ok(line)
+}
+
+/// Why the refused rows were not written, as their writer remembers it. If it remembers no write
+/// that failed, memory was refused.
+fn fault_of_refused<'a>(refused_end: Option<WriteEnd>) -> Fault<'a>
+    ensures { (words : RowsWords) (word : List ℕ) (end : Option AnEnd)
+        → IsRowsFault words word end refused_end AgencyFault.RefusedWrite result }
+{
+    match refused_end {
+        Some(_) => Fault::Write,
+        None => Fault::NoMemory,
+    }
+}
+
+/// Why the rows of the file of the word were not encoded. Their writer remembers `end`, and that of
+/// the refused rows `refused_end`.
+fn fault_of<'a>(
+    words: &RowsWords<'a>,
+    word: &'a str,
+    fault: AgencyFault,
+    end: Option<WriteEnd>,
+    refused_end: Option<WriteEnd>,
+) -> Fault<'a>
+    ensures { IsRowsFault words.now word.entry.now end refused_end fault result }
+{
+    match fault {
+        AgencyFault::Column(wanted) => Fault::Rows(word, WrongRows::Column(name_of(words, wanted))),
+        AgencyFault::Row { number, reason } => Fault::Rows(word, WrongRows::Row(number, reason)),
+        AgencyFault::Unread => Fault::Unread(word),
+        AgencyFault::Changed => Fault::SomeChanged,
+        AgencyFault::Write => Fault::of_write(end),
+        AgencyFault::RefusedWrite => fault_of_refused(refused_end),
+        AgencyFault::NoMemory => Fault::NoMemory,
+    }
+}
+
+/// Lets all that was written go out. Gives the line of the summary, or why the rows were not
+/// encoded. The writer of the refused rows remembers `refused_end`.
+fn end_rows<'a, W: Write>(
+    alloc: Global,
+    words: &RowsWords<'a>,
+    word: &'a str,
+    encoded: Result<Summary, AgencyFault>,
+    refused_end: Option<WriteEnd>,
+    out: &mut Output<W>,
+) -> Result<String, Fault<'a>>
+    ensures kept { Keeps (W.contents out.old.writer) (W.contents out.new.writer) }
+    ensures done { IfOk result (λ line. (summary : ASummary) × (encoded ≡ Ok summary)
+        × IsSummaryLine summary (string_bytes line)) }
+    ensures fault { IfErr result (EndsRows words.now word.entry.now encoded out.new.end
+        refused_end) }
+    ensures flushed { OnOk result (out.new.is_flushed ≡ true) }
+{
+    match finish(out) {
+        Err(unwritten) => Err(unwritten),
+        Ok(()) => match encoded {
+            Ok(summary) => match summary_line(alloc, &summary) {
+                Ok(line) => Ok(line),
+                Err(_) => Err(Fault::NoMemory),
+            },
+            Err(fault) => Err(fault_of(words, word, fault, out.end(), refused_end)),
+        },
+    }
+}
+
+/// Writes the upload of rows of which none is refused, and lets it go out: they are read twice.
+/// Gives the line of their summary.
+fn encode_twice<'a, R: Read + Drop, T: Read + Drop, W: Write>(
+    alloc: Global,
+    choice: &Choice<'_>,
+    words: &RowsWords<'a>,
+    word: &'a str,
+    text: R,
+    again: T,
+    out: &mut Output<W>,
+) -> Result<String, Fault<'a>>
+    ensures done { IfOk result (λ line. (bytes : List ℕ) → T.remaining again ≡ Some bytes
+        → (summary : ASummary) × IsSummaryLine summary (string_bytes line)
+        × IsRowsEncoded choice.now bytes (W.contents out.old.writer) (W.contents out.new.writer)
+        None None summary × (summary.first_refused ≡ None)) }
+    ensures stops { IfErr result (λ fault. (bytes later : List ℕ) → R.remaining text ≡ Some bytes
+        → T.remaining again ≡ Some later
+        → StopsRows words.now None word.entry.now choice.now bytes later out.new.end ⊥ fault
+        (W.contents out.old.writer) (W.contents out.new.writer)) }
+    ensures flushed { OnOk result (out.new.is_flushed ≡ true) }
+{
+    let encoded = encode_rows(alloc, choice, text, again, out);
+    end_rows(alloc, words, word, encoded, None, out)
+}
+
+/// Writes the upload of the rows that are kept, and the refused rows to `refused`, and lets the
+/// upload go out. Gives the line of the summary.
+fn encode_once<'a, R: Read + Drop, W: Write, X: Write>(
+    alloc: Global,
+    choice: &Choice<'_>,
+    words: &RowsWords<'a>,
+    word: &'a str,
+    text: R,
+    out: &mut Output<W>,
+    refused: &mut Output<X>,
+) -> Result<String, Fault<'a>>
+    ensures done { IfOk result (λ line. (bytes : List ℕ) → R.remaining text ≡ Some bytes
+        → (summary : ASummary) × IsSummaryLine summary (string_bytes line)
+        × IsRowsEncoded choice.now bytes (W.contents out.old.writer) (W.contents out.new.writer)
+        (X.contents refused.old.writer) (X.contents refused.new.writer) summary) }
+    ensures stops { IfErr result (λ fault. (bytes name : List ℕ) → R.remaining text ≡ Some bytes
+        → StopsRows words.now (Some name) word.entry.now choice.now bytes bytes out.new.end
+        (refused.new.end ≢ None) fault (W.contents out.old.writer) (W.contents out.new.writer)) }
+    ensures flushed { OnOk result (out.new.is_flushed ≡ true) }
+{
+    let encoded = encode_some_rows(alloc, choice, text, out, refused);
+    end_rows(alloc, words, word, encoded, refused.end(), out)
+}
+
+/// Encodes a file of this number of bytes, which is opened twice. Gives the line of its summary.
+fn encode_file<'a, S: Source, W: Write>(
+    alloc: Global,
+    choice: &Choice<'_>,
+    words: &RowsWords<'a>,
+    word: &'a str,
+    bytes: u64,
+    source: &mut S,
+    out: &mut Output<W>,
+) -> Result<String, Fault<'a>>
+    ensures done { IfOk result (λ line. HasEncodedAll word.entry.now choice.now
+        (S.loaded source.old) (S.loaded source.new) (W.contents out.old.writer)
+        (W.contents out.new.writer) (string_bytes line)) }
+    ensures stops { IfErr result (λ fault. HasGivenUpAll words.now word.entry.now choice.now
+        (S.loaded source.old) (S.loaded source.new) (S.refused source.new) out.new.end fault
+        (W.contents out.old.writer) (W.contents out.new.writer)) }
+    ensures flushed { OnOk result (out.new.is_flushed ≡ true) }
+{
+    let checked = Shown {
+        bytes,
+        verb: "checked",
+    };
+    let encoded = Shown {
+        bytes,
+        verb: "encoded",
+    };
+    let mut text = open_text_shown(source, word, checked)?;
+    let mut again = open_text_shown(source, word, encoded)?;
+    let done = encode_twice(alloc, choice, words, word, &mut text, &mut again, out);
+    source.end_shown(&mut text);
+    source.end_shown(&mut again);
+    done
+}
+
+/// Encodes what is loaded first: standard input or a pipe. Gives the line of its summary.
+fn encode_loaded<'a, S: Source, W: Write>(
+    alloc: Global,
+    choice: &Choice<'_>,
+    words: &RowsWords<'a>,
+    word: &'a str,
+    source: &mut S,
+    out: &mut Output<W>,
+) -> Result<String, Fault<'a>>
+    ensures done { IfOk result (λ line. HasEncodedAll word.entry.now choice.now
+        (S.loaded source.old) (S.loaded source.new) (W.contents out.old.writer)
+        (W.contents out.new.writer) (string_bytes line)) }
+    ensures stops { IfErr result (λ fault. HasGivenUpAll words.now word.entry.now choice.now
+        (S.loaded source.old) (S.loaded source.new) (S.refused source.new) out.new.end fault
+        (W.contents out.old.writer) (W.contents out.new.writer)) }
+    ensures flushed { OnOk result (out.new.is_flushed ≡ true) }
+{
+    let text = load_text(alloc, source, word)?;
+    let checked = text.as_slice();
+    let encoded = text.as_slice();
+    encode_twice(alloc, choice, words, word, checked, encoded, out)
+}
+
+/// Encodes the rows of the file that the word names, of which none is refused. Gives the line of
+/// their summary.
+fn encode_all<'a, S: Source, W: Write>(
+    alloc: Global,
+    choice: &Choice<'_>,
+    words: &RowsWords<'a>,
+    word: &'a str,
+    source: &mut S,
+    out: &mut Output<W>,
+) -> Result<String, Fault<'a>>
+    ensures done { IfOk result (λ line. HasEncodedAll word.entry.now choice.now
+        (S.loaded source.old) (S.loaded source.new) (W.contents out.old.writer)
+        (W.contents out.new.writer) (string_bytes line)) }
+    ensures stops { IfErr result (λ fault. HasGivenUpAll words.now word.entry.now choice.now
+        (S.loaded source.old) (S.loaded source.new) (S.refused source.new) out.new.end fault
+        (W.contents out.old.writer) (W.contents out.new.writer)) }
+    ensures flushed { OnOk result (out.new.is_flushed ≡ true) }
+{
+    match source.plain_bytes(file_of(word)) {
+        Some(bytes) => encode_file(alloc, choice, words, word, bytes, source, out),
+        None => encode_loaded(alloc, choice, words, word, source, out),
+    }
+}
+
+/// Opens the file that the word names, or standard input. How much of a file was read may be shown.
+fn open_once<'a, S: Source>(source: &mut S, word: &'a str) -> Result<S::Text, Fault<'a>>
+    ensures reported { IfOk result (λ text. OpensOne (S.loaded source.old) (S.loaded source.new)
+        (file_named word.entry.now) (S.Text.remaining text)) }
+    ensures refusal { IfErr result (λ fault. (words : List (List ℕ))
+        → IsOneOf word.entry.now words → IsRefusal (S.refused source.new) words fault) }
+{
+    match source.plain_bytes(file_of(word)) {
+        Some(bytes) => {
+            let encoded = Shown {
+                bytes,
+                verb: "encoded",
+            };
+            open_text_shown(source, word, encoded)
+        }
+        None => open_text(source, word),
+    }
+}
+
+/// Encodes the rows of the file that the word names, and writes the refused rows to `refused`.
+/// Gives the line of the summary.
+fn encode_some<'a, S: Source, W: Write, X: Write>(
+    alloc: Global,
+    choice: &Choice<'_>,
+    words: &RowsWords<'a>,
+    word: &'a str,
+    source: &mut S,
+    out: &mut Output<W>,
+    refused: &mut Output<X>,
+) -> Result<String, Fault<'a>>
+    ensures done { IfOk result (λ line. (kept : List Loaded) → S.loaded source.old ≡ Some kept
+        → EncodesOnce word.entry.now choice.now (S.loaded source.old) (S.loaded source.new)
+        (W.contents out.old.writer) (W.contents out.new.writer) (X.contents refused.old.writer)
+        (X.contents refused.new.writer) (string_bytes line)) }
+    ensures stops { IfErr result (λ fault. (kept : List Loaded) (name : List ℕ)
+        → S.loaded source.old ≡ Some kept
+        → StopsOnce words.now name word.entry.now choice.now (S.loaded source.old)
+        (S.loaded source.new) (S.refused source.new) out.new.end refused.new.end fault
+        (W.contents out.old.writer) (W.contents out.new.writer)) }
+    ensures flushed { OnOk result (out.new.is_flushed ≡ true) }
+{
+    let mut text = open_once(source, word)?;
+    let done = encode_once(alloc, choice, words, word, &mut text, out, refused);
+    source.end_shown(&mut text);
+    done
+}
+
+/// Why the file of the word, in which the refused rows go, was not begun.
+pub(crate) fn fault_of_new<'a>(word: &'a str, fault: NewFault) -> Fault<'a>
+    ensures { IsNewFault word.entry.now fault result }
+{
+    match fault {
+        NewFault::Exists => Fault::Exists(word),
+        NewFault::Unmade => Fault::Unmade(word),
+        NewFault::NoMemory => Fault::NoMemory,
+    }
+}
+
+/// Why a new file was not made, of which all is written.
+pub(crate) fn fault_of_unfinished<'a>(fault: MakeFault) -> Fault<'a>
+    ensures { IsUnfinished fault result }
+{
+    match fault {
+        MakeFault::Unmade => Fault::Write,
+        MakeFault::NoMemory => Fault::NoMemory,
+    }
+}
+
+/// Encodes the rows of the file that the word names, and makes the file of the refused rows. After
+/// a fault there is no such file. Gives the line of the summary.
+fn encode_and_refuse<'a, S: Source, K: Sink, W: Write>(
+    alloc: Global,
+    choice: &Choice<'_>,
+    words: &RowsWords<'a>,
+    word: &'a str,
+    refused: &'a str,
+    source: &mut S,
+    sink: &mut K,
+    out: &mut Output<W>,
+) -> Result<String, Fault<'a>>
+    ensures done { IfOk result (λ line. HasEncoded (Some refused.entry.now) word.entry.now
+        choice.now (S.loaded source.old) (S.loaded source.new) (K.made sink.old)
+        (K.made sink.new) (W.contents out.old.writer) (W.contents out.new.writer)
+        (string_bytes line)) }
+    ensures kept { IfErr result (λ _. K.made sink.new ≡ K.made sink.old) }
+    ensures stops { IfErr result (λ fault. HasGivenUp words.now (Some refused.entry.now)
+        word.entry.now choice.now (S.loaded source.old) (S.loaded source.new)
+        (S.refused source.new) (K.unbegun sink.new) (K.failed sink.new) out.new.end fault
+        (W.contents out.old.writer) (W.contents out.new.writer)) }
+    ensures flushed { OnOk result (out.new.is_flushed ≡ true) }
+{
+    let mut file = match sink.begin_new(alloc, refused) {
+        Ok(file) => file,
+        Err(fault) => return Err(fault_of_new(refused, fault)),
+    };
+    match encode_some(alloc, choice, words, word, source, out, &mut file) {
+        Ok(line) => match sink.finish(refused, file) {
+            Ok(()) => Ok(line),
+            Err(fault) => Err(fault_of_unfinished(fault)),
+        },
+        Err(fault) => {
+            sink.fail(refused, file);
+            Err(fault)
+        }
+    }
+}
+
+/// Encodes the rows of the file that the word names, and makes the file of the refused rows, if it
+/// has a name. Gives the line of the summary.
+fn encode_text<'a, S: Source, K: Sink, W: Write>(
+    alloc: Global,
+    choice: &Choice<'_>,
+    words: &RowsWords<'a>,
+    word: &'a str,
+    source: &mut S,
+    sink: &mut K,
+    out: &mut Output<W>,
+) -> Result<String, Fault<'a>>
+    ensures done { IfOk result (λ line. HasEncoded (word_in words.now.refused) word.entry.now
+        choice.now (S.loaded source.old) (S.loaded source.new) (K.made sink.old)
+        (K.made sink.new) (W.contents out.old.writer) (W.contents out.new.writer)
+        (string_bytes line)) }
+    ensures kept { IfErr result (λ _. K.made sink.new ≡ K.made sink.old) }
+    ensures stops { IfErr result (λ fault. HasGivenUp words.now (word_in words.now.refused)
+        word.entry.now choice.now (S.loaded source.old) (S.loaded source.new)
+        (S.refused source.new) (K.unbegun sink.new) (K.failed sink.new) out.new.end fault
+        (W.contents out.old.writer) (W.contents out.new.writer)) }
+    ensures flushed { OnOk result (out.new.is_flushed ≡ true) }
+{
+    match words.refused {
+        Some(refused) => {
+            encode_and_refuse(alloc, choice, words, word, refused, source, sink, out)
+        }
+        None => encode_all(alloc, choice, words, word, source, out),
+    }
+}
+
+/// Loads the device table, if the words name one, and encodes the rows of the file that the word
+/// names. Gives the line of their summary.
+fn encode<'a, S: Source, K: Sink, W: Write>(
+    alloc: Global,
+    seed: RandomState,
+    words: &RowsWords<'a>,
+    word: &'a str,
+    source: &mut S,
+    sink: &mut K,
+    out: &mut Output<W>,
+) -> Result<String, Fault<'a>>
+    ensures done { IfOk result (λ line. (kept : List Loaded) → S.loaded source.old ≡ Some kept
+        → (summary : ASummary) × IsSummaryLine summary (string_bytes line)
+        × EncodesRows words.now word.entry.now (S.loaded source.old) (S.loaded source.new)
+        (K.made sink.old) (K.made sink.new) (W.contents out.old.writer)
+        (W.contents out.new.writer) summary) }
+    ensures stops { IfErr result (λ fault. (kept : List Loaded) → S.loaded source.old ≡ Some kept
+        → GivesUpRows words.now word.entry.now (S.loaded source.old) (S.loaded source.new)
+        (S.refused source.new) (K.made sink.old) (K.made sink.new) (K.unbegun sink.new)
+        (K.failed sink.new) out.new.end fault (W.contents out.old.writer)
+        (W.contents out.new.writer)) }
+    ensures flushed { OnOk result (out.new.is_flushed ≡ true) }
+{
+    let devices = devices_in(alloc, seed, words, source)?;
+    let choice = choice(words, devices.as_ref());
+    encode_text(alloc, &choice, words, word, source, sink, out)
+}
+
+/// Encodes the rows of the agency's CSV that the word names, `-` being standard input, as the words
+/// say: loads the device table, if they name one, writes the upload of the rows that are kept to
+/// `out`, makes the file of the refused rows, if they name one, and then says on `err` how many
+/// rows there are of each kind. A fault is said on `err`, too. `seed` is random, so that no file
+/// can choose names of devices that are found slowly. Gives the status: 0 if all is written, 1
+/// after a fault.
+pub fn encode_rows_over<S: Source, K: Sink, W: Write, E: Write>(
+    alloc: Global,
+    seed: RandomState,
+    words: &RowsWords<'_>,
+    word: &str,
+    source: &mut S,
+    sink: &mut K,
+    out: &mut Output<W>,
+    err: &mut Complaints<E>,
+) -> u8
+    // Of a source that keeps what it opened: with status 0 the whole upload was written, the file
+    // of the refused rows was made, if it has a name, and the line of the summary was reported.
+    ensures done { (kept : List Loaded) → S.loaded source.old ≡ Some kept → result ≡ 0
+        → (summary : ASummary) × EncodesRows words.now word.entry.now (S.loaded source.old)
+        (S.loaded source.new) (K.made sink.old) (K.made sink.new) (W.contents out.old.writer)
+        (W.contents out.new.writer) summary
+        × IsSummaryReported summary (E.contents err.old.writer) (E.contents err.new.writer)
+        err.new.failed }
+    // And all that was written was flushed.
+    ensures flushed { result ≡ 0 → out.new.is_flushed ≡ true }
+    // With status 1 the line of a fault was reported, which is the right one, and no file was made.
+    ensures faults { result ≡ 1 → (fault : AFault) × IsFaultReported fault
+        (E.contents err.old.writer) (E.contents err.new.writer) err.new.failed
+        × ((kept : List Loaded) → S.loaded source.old ≡ Some kept
+        → GivesUpRows words.now word.entry.now (S.loaded source.old) (S.loaded source.new)
+        (S.refused source.new) (K.made sink.old) (K.made sink.new) (K.unbegun sink.new)
+        (K.failed sink.new) out.new.end fault (W.contents out.old.writer)
+        (W.contents out.new.writer)) }
+    ensures status { result ≤ 1 }
+{
+    match encode(alloc, seed, words, word, source, sink, out) {
+        Ok(line) => {
+            err.report_line(line.as_str());
+            0
+        }
+        Err(fault) => {
+            say(err, &fault);
+            1
+        }
+    }
+}

@@ -1,0 +1,66 @@
+//! What a layout fault means, and what to do.
+ghost use Rattle.std.specs.Prelude.{Some};
+ghost use Rattle.tool_tasks.specs.Layout.{cause_text, remedy_text, tap_named};
+
+use std::fmt;
+use tap_views::LayoutFault;
+
+/// The name of a layout fault, from L1 to L6, with its cause.
+#[derive(Clone, Copy, Debug)]
+pub struct Cause(pub LayoutFault);
+
+impl fmt::Display for Cause {
+    ghost output = { λ cause. Some (cause_text cause.0) };
+
+    fn fmt<W: fmt::Write>(&self, f: &mut fmt::Formatter<W>) -> fmt::Result {
+        let name = self.0.name();
+        let cause = match self.0 {
+            LayoutFault::Short { .. } => "the file ends inside a batch's header",
+            LayoutFault::Magic => "a batch does not begin with TAP1 or TAP2",
+            LayoutFault::Flags => "the flags of a batch are not 0",
+            LayoutFault::TooMany { .. } => "a batch counts more than 4096 taps",
+            LayoutFault::Length { .. } => "the file ends inside a batch's taps",
+            LayoutFault::Moment { .. } => "a tap is dated 2100 or later",
+        };
+        write!(f, "{name}, {cause}")
+    }
+}
+
+/// What to do at a layout fault.
+#[derive(Clone, Copy, Debug)]
+pub struct Remedy(pub LayoutFault);
+
+impl fmt::Display for Remedy {
+    ghost output = { λ remedy. Some (remedy_text remedy.0) };
+
+    fn fmt<W: fmt::Write>(&self, f: &mut fmt::Formatter<W>) -> fmt::Result {
+        f.write_str(match self.0 {
+            LayoutFault::Short { .. } => "send the upload again, whole",
+            LayoutFault::Magic => {
+                "look at the file's first four bytes, then at the count of the batch before"
+            }
+            LayoutFault::Flags => "have the writer write 0 there",
+            LayoutFault::TooMany { .. } => "have the writer cut the batch",
+            LayoutFault::Length { .. } => "send the upload again, whole, or mend the count",
+            LayoutFault::Moment { .. } => {
+                "look at the validator's clock and at its unit, which is milliseconds"
+            }
+        })
+    }
+}
+
+/// The number of the tap that a layout fault names, counted from 0 in its batch, as ` tap N`;
+/// nothing if it names none.
+#[derive(Clone, Copy, Debug)]
+pub struct AtTap(pub LayoutFault);
+
+impl fmt::Display for AtTap {
+    ghost output = { λ tap. Some (tap_named tap.0) };
+
+    fn fmt<W: fmt::Write>(&self, f: &mut fmt::Formatter<W>) -> fmt::Result {
+        match self.0 {
+            LayoutFault::Moment { index } => write!(f, " tap {index}"),
+            _ => Ok(()),
+        }
+    }
+}

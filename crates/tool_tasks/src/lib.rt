@@ -1,0 +1,66 @@
+//! Subcommands of the tools over any source of bytes and any writers: each from the words that name
+//! its files to the status, with its text and its fault line. Those that merge what parts of a run
+//! wrote are in `tool_program`.
+//!
+//! | module | what it does |
+//! |---|---|
+//! | `names` | words that name files, as they are opened and shown |
+//! | `source` | where texts come from |
+//! | `sink` | where files are made |
+//! | `fault` | why a subcommand is given up, and the line that says so |
+//! | `layout`, `wrong_tables` | what is wrong with an upload, or with a table, in words |
+//! | `encode` | `encode` of a tap table |
+//! | `encode_rows` | `encode` of an agency's own CSV |
+//! | `decode` | `decode` |
+//! | `placed` | files that are read at any offset |
+//! | `sort` | `sort` of uploads that are loaded |
+//! | `merge_sorted` | `sort --merge` |
+//! | `split` | `split` |
+//! | `uploads` | `uploads`: what each upload has |
+//! | `upload_tokens` | `uploads --tokens` |
+//! | `good_part` | `uploads --good-part` |
+//! | `look` | `uploads --look`: what each upload has, and what is found in them |
+//! | `corrections` | `corrections` |
+//! | `table` | `table` |
+//! | `refused_text` | why a text is none of a fare table, in words |
+#![tactic(auto)]
+
+mod corrections;
+mod decode;
+mod encode;
+mod encode_rows;
+mod fault;
+mod good_part;
+mod layout;
+mod look;
+mod merge_sorted;
+mod names;
+mod placed;
+mod refused_text;
+mod sink;
+mod sort;
+mod source;
+mod split;
+mod table;
+mod upload_tokens;
+mod uploads;
+mod wrong_tables;
+
+pub use corrections::corrections_over;
+pub use decode::decode_over;
+pub use encode::encode_over;
+pub use encode_rows::encode_rows_over;
+pub use fault::{Fault, finish, say};
+pub use good_part::good_part_over;
+pub use layout::{AtTap, Cause, Remedy};
+pub use look::look_over;
+pub use merge_sorted::merge_sorted_over;
+pub use names::{Escaped, Name};
+pub use placed::PlacedFiles;
+pub use sink::{MakeFault, NewFault, Sink};
+pub use sort::{SortWords, sort_over};
+pub use source::{Both, Shown, Source, open_both};
+pub use split::{SplitWords, split_over};
+pub use table::table_over;
+pub use uploads::{push_moment, upload_text, uploads_over};
+pub use wrong_tables::{WrongDevices, WrongRows, WrongTapTable};

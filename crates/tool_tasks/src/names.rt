@@ -1,0 +1,116 @@
+//! Words of the command line that name files, as they are opened and as they are shown.
+ghost use Rattle.std.specs.Prelude.{◌≡◌, ◌<◌, Some, codes, false, map, option_map, slice_get};
+ghost use Rattle.std.specs.Fmt.{WritesOnOk, digit_glyph};
+ghost use Rattle.std.specs.Str.{bytes_eq};
+ghost use Rattle.tool_tasks.specs.Names.{called, escaped, file_named, shown_letter};
+
+use program_manners::STANDARD_INPUT;
+use std::fmt;
+
+/// The word that stands for standard input.
+const INPUT_WORD: &str = "-";
+
+/// The name of the file that a word names; none of standard input, for which `-` stands.
+pub fn file_of<'a>(word: &'a str) -> Option<&'a str>
+    ensures { option_map (λ n. n.now) result ≡ file_named word.entry.now }
+{
+    if word == INPUT_WORD { None } else { Some(word) }
+}
+
+/// The word of this number, from 0.
+pub(crate) fn word_at<'a>(words: &[&'a str], number: usize) -> Option<&'a str>
+    ensures { option_map (λ w. w.now) result ≡ slice_get (map (λ w. w.now) words.now) number }
+{
+    if number < words.len() {
+        return Some(words[number]);
+    }
+    None
+}
+
+/// A word that names a file. Its `Display` is what the file is called: its name with control
+/// characters escaped, so that it stays within its line, or `standard input`.
+#[derive(Clone, Copy, Debug)]
+pub struct Name<'a>(pub &'a str);
+
+impl<'a> Name<'a> {
+    /// Standard input.
+    pub fn input() -> Name<'a>
+        ensures { result.0.now ≡ codes "-" }
+    {
+        Name(INPUT_WORD)
+    }
+
+    /// Whether this is standard input.
+    pub fn is_input(&self) -> bool
+        ensures { result ≡ bytes_eq self.now.0.now (codes "-") }
+    {
+        self.0 == INPUT_WORD
+    }
+}
+
+impl fmt::Display for Name<'_> {
+    ghost output = { λ name. Some (called name.0.now) };
+
+    fn fmt<W: fmt::Write>(&self, f: &mut fmt::Formatter<W>) -> fmt::Result {
+        if self.is_input() {
+            return f.write_str(STANDARD_INPUT);
+        }
+        let shown = Escaped(self.0);
+        write!(f, "{shown}")
+    }
+}
+
+/// The hexadecimal digit of a number.
+fn hex_digit(number: u32) -> char
+    requires { number < 16 }
+    ensures { result ≡ digit_glyph false number }
+{
+    let digit = if number < 10 {
+        b'0' + number as u8
+    } else {
+        b'a' + (number as u8 - 10)
+    };
+    digit as char
+}
+
+/// A letter as it is shown: a control character as `\xHH`.
+#[derive(Clone, Copy)]
+struct Shown(char);
+
+impl fmt::Display for Shown {
+    ghost output = { λ letter. Some (shown_letter letter.0) };
+
+    fn fmt<W: fmt::Write>(&self, f: &mut fmt::Formatter<W>) -> fmt::Result {
+        let letter = self.0;
+        if letter.is_control() {
+            let code = letter as u32;
+            let (first, second) = (hex_digit(code / 16), hex_digit(code % 16));
+            write!(f, "\\x{first}{second}")
+        } else {
+            f.write_char(letter)
+        }
+    }
+}
+
+/// Writes the text with its control characters escaped.
+fn write_escaped<W: fmt::Write>(text: &str, f: &mut fmt::Formatter<W>) -> fmt::Result
+    ensures { WritesOnOk W.write_str_gives f.old result (escaped text.now) f.new }
+{
+    for letter in text.chars() {
+        let shown = Shown(letter);
+        write!(f, "{shown}")?;
+    }
+    Ok(())
+}
+
+/// A text with its control characters escaped, so that it stays within its line.
+#[derive(Clone, Copy, Debug)]
+pub struct Escaped<'a>(pub &'a str);
+
+impl fmt::Display for Escaped<'_> {
+    ghost output = { λ text. Some (escaped text.0.now) };
+
+    fn fmt<W: fmt::Write>(&self, f: &mut fmt::Formatter<W>) -> fmt::Result {
+        write_escaped(self.0, f)
+    }
+}

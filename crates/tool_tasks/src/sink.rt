@@ -1,0 +1,136 @@
+//! Where files are made.
+ghost use Rattle.std.specs.Prelude.{◌≡◌, ◌≢◌, IfErr, None, OnOk, Some};
+ghost use Rattle.tool_tasks.specs.Sink.{IsNotMade, MakesOne};
+ghost use Rattle.tool_tasks.specs.declared.sink.MakeFault.TheVariants.{Unmade};
+
+use fare_texts::write_bytes;
+use program_manners::{Output, WriteEnd};
+use sorted_taps::WriteFault;
+use std::alloc::{AllocError, Global};
+use std::io::Write;
+
+/// Why a file was not made.
+#[derive(Clone, Copy, Debug, PartialEq, Eq)]
+pub enum MakeFault {
+    /// The system refuses it, or a write to it failed.
+    Unmade,
+    /// A growth of memory was refused.
+    NoMemory,
+}
+
+impl MakeFault {
+    /// Why a file has not what was to be written to it, as its writer remembers it. If it remembers
+    /// no write that failed, memory was refused.
+    pub(crate) fn of_write(fault: WriteFault, end: Option<WriteEnd>) -> MakeFault
+        ensures { result ≡ MakeFault.Unmade → end ≢ None }
+    {
+        match (fault, end) {
+            (WriteFault::Write, Some(_)) => MakeFault::Unmade,
+            (WriteFault::Write, None) | (WriteFault::NoMemory, _) => MakeFault::NoMemory,
+        }
+    }
+}
+
+impl From<AllocError> for MakeFault {
+    ghost use Rattle.tool_tasks.specs.declared.sink.MakeFault.TheVariants.{NoMemory};
+
+    ghost from_gives = { λ _ fault. fault ≡ NoMemory };
+
+    fn from(_refused: AllocError) -> MakeFault {
+        MakeFault::NoMemory
+    }
+}
+
+/// Why a new file was not begun.
+#[derive(Clone, Copy, Debug, PartialEq, Eq)]
+pub enum NewFault {
+    /// There is a file of this name.
+    Exists,
+    /// The system refuses it.
+    Unmade,
+    /// A growth of memory was refused.
+    NoMemory,
+}
+
+/// Where files are made. A file is written under another name, and has its own name once it is
+/// whole. A new file has its own name from the beginning, so that no other run takes it.
+pub trait Sink {
+    ghost use Rattle.std.specs.Prelude.{◌≡◌, ◌≢◌, ℕ, List, IfErr, IfOk, OnOk, Option, None};
+    ghost use Rattle.tool_tasks.specs.Sink.{IsEmptyFile, IsNewName, IsNotMade, Made, MakesOne};
+    ghost use Rattle.tool_tasks.specs.Sink.{RefusesNew, StopsFile};
+    ghost use Rattle.tool_tasks.specs.declared.sink.MakeFault.TheVariants.{Unmade};
+    ghost use Rattle.tool_tasks.specs.declared.sink.NewFault.{NewFault as ANewFault};
+
+    /// A file that is being made.
+    type File: Write + Drop;
+
+    // The files that were made so far, in order, by a sink that keeps them.
+    ghost made: { Self → Option (List Made) } = { λ _. None };
+
+    // The name of the last file that could not be made, of a sink that keeps it.
+    ghost failed: { Self → Option (List ℕ) } = { λ _. None };
+
+    // The last new file that was not begun: its name, and why; of a sink that keeps it.
+    ghost unbegun: { Self → Option (List ℕ × ANewFault) } = { λ _. None };
+
+    /// An empty file, which is to have this name.
+    fn begin(&mut self, alloc: Global, name: &str) -> Result<Output<Self::File>, MakeFault>
+        ensures made { made self.new ≡ made self.old }
+        ensures empty { IfOk result
+            (λ file. IsEmptyFile (made self.old) (Self.File.contents file.writer)) }
+        ensures failed { IfErr result
+            (λ fault. fault ≡ Unmade → IsNotMade (failed self.new) name.now) };
+
+    /// An empty file of this name, which no file has.
+    fn begin_new(&mut self, alloc: Global, name: &str) -> Result<Output<Self::File>, NewFault>
+        ensures made { made self.new ≡ made self.old }
+        ensures empty { IfOk result
+            (λ file. IsEmptyFile (made self.old) (Self.File.contents file.writer)) }
+        ensures is_new { OnOk result (IsNewName (made self.old) name.now) }
+        ensures refused { IfErr result (λ fault. fault ≢ NewFault.NoMemory
+            → RefusesNew (unbegun self.new) name.now fault) };
+
+    /// Gives the file its name. A file of this name that was there is replaced. After a fault
+    /// nothing is left of what was written.
+    fn finish(&mut self, name: &str, file: Output<Self::File>) -> Result<(), MakeFault>
+        ensures made { OnOk result (MakesOne (made self.old) (made self.new) name.now
+            (Self.File.contents file.writer)) }
+        ensures kept { IfErr result (λ _. made self.new ≡ made self.old) }
+        ensures failed { IfErr result
+            (λ fault. fault ≡ Unmade → IsNotMade (failed self.new) name.now) };
+
+    /// Removes what was written of a file.
+    fn remove(&mut self, file: Output<Self::File>)
+        ensures made { made self.new ≡ made self.old }
+        ensures failed { failed self.new ≡ failed self.old };
+
+    /// Removes what was written of the file that was to have this name, and cannot be made if a
+    /// write to it failed.
+    fn fail(&mut self, name: &str, file: Output<Self::File>)
+        ensures made { made self.new ≡ made self.old }
+        ensures failed { StopsFile name.now file.end (failed self.old) (failed self.new) };
+}
+
+/// Makes a file of these bytes.
+pub(crate) fn make_file<K: Sink>(
+    alloc: Global,
+    name: &str,
+    bytes: &[u8],
+    sink: &mut K,
+) -> Result<(), MakeFault>
+    ensures made { OnOk result
+        (MakesOne (K.made sink.old) (K.made sink.new) name.now (Some bytes.now)) }
+    ensures kept { IfErr result (λ _. K.made sink.new ≡ K.made sink.old) }
+    ensures failed { IfErr result
+        (λ fault. fault ≡ Unmade → IsNotMade (K.failed sink.new) name.now) }
+{
+    let mut file = sink.begin(alloc, name)?;
+    match write_bytes(bytes, &mut file) {
+        Ok(()) => sink.finish(name, file),
+        Err(_) => {
+            let why = MakeFault::of_write(WriteFault::Write, file.end());
+            sink.fail(name, file);
+            Err(why)
+        }
+    }
+}

@@ -1,0 +1,225 @@
+//! Where texts come from.
+ghost use Rattle.std.specs.Prelude.{◌≡◌, ◌++◌, ℕ, List, IfErr, IfOk, Some, map};
+ghost use Rattle.part_texts.specs.Texts.{AreLeft};
+ghost use Rattle.program_manners.specs.Loads.{Loaded, LoadsOne, OpensOne};
+ghost use Rattle.program_manners.specs.Refusals.{IsOneOf};
+ghost use Rattle.tool_tasks.specs.Fault.{IsRefusal};
+ghost use Rattle.tool_tasks.specs.Names.{file_named};
+ghost use Rattle.tool_tasks.specs.Source.{HasOpened, OpensBoth};
+
+use crate::fault::Fault;
+use crate::names::file_of;
+use program_manners::LoadFault;
+use std::alloc::Global;
+use std::io::BufRead;
+
+/// What whoever watches a run is shown of a text while it is read.
+#[derive(Clone, Copy, Debug)]
+pub struct Shown {
+    /// How many bytes it has.
+    pub bytes: u64,
+    /// What is done with them, as `checked`.
+    pub verb: &'static str,
+}
+
+/// Where texts come from. A file has a name, and standard input has none.
+pub trait Source {
+    ghost use Rattle.std.specs.Prelude.{◌≡◌, ℕ, List, IfErr, IfOk, Option, None, option_map};
+    ghost use Rattle.program_manners.specs.Loads.{Loaded, LoadsOne, OpensOne};
+    ghost use Rattle.program_manners.specs.Refusals.{Refuses};
+    ghost use Rattle.program_manners.specs.declared.loading.LoadFault.{LoadFault as AFault};
+
+    /// A file or standard input that was opened, to be read in pieces.
+    type Text: BufRead + Drop;
+
+    // What was opened so far, in order, by a source that keeps it.
+    ghost loaded: { Self → Option (List Loaded) } = { λ _. None };
+
+    // The last opening that it refused: the name, and why; of a source that keeps it.
+    ghost refused: { Self → Option (Option (List ℕ) × AFault) } = { λ _. None };
+
+    /// The file of this name, or standard input if there is none, to be read from its beginning. No
+    /// clause says what a fault leaves opened.
+    fn open(&mut self, name: Option<&str>) -> Result<Self::Text, LoadFault>
+        ensures reported { IfOk result (λ text. OpensOne (loaded self.old) (loaded self.new)
+            (option_map (λ n. n.now) name.entry) (Self.Text.remaining text)) }
+        ensures fault { IfErr result (λ fault. Refuses (refused self.new)
+            (option_map (λ n. n.now) name.entry) fault) };
+
+    /// The same, and whoever watches the run may be shown how much of it was read.
+    fn open_shown(&mut self, name: Option<&str>, shown: Shown) -> Result<Self::Text, LoadFault>
+        ensures reported { IfOk result (λ text. OpensOne (loaded self.old) (loaded self.new)
+            (option_map (λ n. n.now) name.entry) (Self.Text.remaining text)) }
+        ensures fault { IfErr result (λ fault. Refuses (refused self.new)
+            (option_map (λ n. n.now) name.entry) fault) };
+
+    /// Takes away what is shown of a text.
+    fn end_shown(&mut self, text: &mut Self::Text)
+        ensures loaded { loaded self.new ≡ loaded self.old }
+        ensures refused { refused self.new ≡ refused self.old };
+
+    /// Shows to whoever watches the run how many of all these things, as `uploads`, are done.
+    fn show_count(&mut self, done: usize, all: usize, things: &'static str)
+        ensures loaded { loaded self.new ≡ loaded self.old }
+        ensures refused { refused self.new ≡ refused self.old };
+
+    /// Takes away what is shown of a count.
+    fn end_count(&mut self)
+        ensures loaded { loaded self.new ≡ loaded self.old }
+        ensures refused { refused self.new ≡ refused self.old };
+
+    /// All bytes of the file of this name, or of standard input if there is none, however many.
+    /// No clause says what a fault leaves loaded.
+    fn load_any(&mut self, alloc: Global, name: Option<&str>) -> Result<Vec<u8>, LoadFault>
+        ensures reported { IfOk result (λ bytes. LoadsOne (loaded self.old) (loaded self.new)
+            (option_map (λ n. n.now) name.entry) bytes.items) }
+        ensures fault { IfErr result (λ fault. Refuses (refused self.new)
+            (option_map (λ n. n.now) name.entry) fault) };
+
+    /// All bytes of the file of this name, or of standard input if there is none. One of more than
+    /// 64 MiB is refused. No clause says what a fault leaves loaded.
+    fn load(&mut self, alloc: Global, name: Option<&str>) -> Result<Vec<u8>, LoadFault>
+        ensures reported { IfOk result (λ bytes. LoadsOne (loaded self.old) (loaded self.new)
+            (option_map (λ n. n.now) name.entry) bytes.items) }
+        ensures fault { IfErr result (λ fault. Refuses (refused self.new)
+            (option_map (λ n. n.now) name.entry) fault) };
+
+    /// The number of bytes, if the same ones can be read twice: not of standard input, nor of a
+    /// pipe.
+    fn plain_bytes(&self, name: Option<&str>) -> Option<u64>;
+}
+
+/// Opens the file that the word names, or standard input.
+pub(crate) fn open_text<'a, S: Source>(source: &mut S, word: &'a str) -> Result<S::Text, Fault<'a>>
+    ensures reported { IfOk result (λ text. OpensOne (S.loaded source.old) (S.loaded source.new)
+        (file_named word.entry.now) (S.Text.remaining text)) }
+    ensures refusal { IfErr result (λ fault. (words : List (List ℕ))
+        → IsOneOf word.entry.now words → IsRefusal (S.refused source.new) words fault) }
+{
+    match source.open(file_of(word)) {
+        Ok(text) => Ok(text),
+        Err(fault) => Err(Fault::of_load(word, fault)),
+    }
+}
+
+/// Opens the file that the word names, or standard input. How much of it was read may be shown.
+pub(crate) fn open_text_shown<'a, S: Source>(
+    source: &mut S,
+    word: &'a str,
+    shown: Shown,
+) -> Result<S::Text, Fault<'a>>
+    ensures reported { IfOk result (λ text. OpensOne (S.loaded source.old) (S.loaded source.new)
+        (file_named word.entry.now) (S.Text.remaining text)) }
+    ensures refusal { IfErr result (λ fault. (words : List (List ℕ))
+        → IsOneOf word.entry.now words → IsRefusal (S.refused source.new) words fault) }
+{
+    match source.open_shown(file_of(word), shown) {
+        Ok(text) => Ok(text),
+        Err(fault) => Err(Fault::of_load(word, fault)),
+    }
+}
+
+/// Loads the file that the word names, or standard input, however long it is.
+pub(crate) fn load_text<'a, S: Source>(
+    alloc: Global,
+    source: &mut S,
+    word: &'a str,
+) -> Result<Vec<u8>, Fault<'a>>
+    ensures reported { IfOk result (λ bytes. LoadsOne (S.loaded source.old) (S.loaded source.new)
+        (file_named word.entry.now) bytes.items) }
+    ensures refusal { IfErr result (λ fault. (words : List (List ℕ))
+        → IsOneOf word.entry.now words → IsRefusal (S.refused source.new) words fault) }
+{
+    match source.load_any(alloc, file_of(word)) {
+        Ok(bytes) => Ok(bytes),
+        Err(fault) => Err(Fault::of_load(word, fault)),
+    }
+}
+
+/// Loads the upload that the word names, or standard input.
+pub(crate) fn load_upload<'a, S: Source>(
+    alloc: Global,
+    source: &mut S,
+    word: &'a str,
+) -> Result<Vec<u8>, Fault<'a>>
+    ensures reported { IfOk result (λ bytes. LoadsOne (S.loaded source.old) (S.loaded source.new)
+        (file_named word.entry.now) bytes.items) }
+    ensures refusal { IfErr result (λ fault. (words : List (List ℕ))
+        → IsOneOf word.entry.now words → IsRefusal (S.refused source.new) words fault) }
+{
+    match source.load(alloc, file_of(word)) {
+        Ok(bytes) => Ok(bytes),
+        Err(fault) => Err(Fault::of_load(word, fault)),
+    }
+}
+
+/// Loads the texts that the words name, in their order.
+pub(crate) fn load_all<'a, S: Source>(
+    alloc: Global,
+    source: &mut S,
+    words: &[&'a str],
+) -> Result<Vec<Vec<u8>>, Fault<'a>>
+    ensures loaded { IfOk result (λ texts. HasOpened (map (λ w. w.now) words.now)
+        (S.loaded source.old) (S.loaded source.new) (map (λ t. t.items) texts.items)) }
+    ensures refusal { IfErr result (λ fault. (all : List (List ℕ))
+        → ((word : List ℕ) → IsOneOf word (map (λ w. w.now) words.now) → IsOneOf word all)
+        → IsRefusal (S.refused source.new) all fault) }
+{
+    let mut texts = Vec::new(alloc);
+    for word in words {
+        let text = load_upload(alloc, source, word)?;
+        texts.push(text)?;
+    }
+    Ok(texts)
+}
+
+/// Opens what each word names, in their order.
+pub(crate) fn open_all<'a, S: Source>(
+    alloc: Global,
+    source: &mut S,
+    words: &[&'a str],
+) -> Result<Vec<S::Text>, Fault<'a>>
+    ensures opened { IfOk result (λ readers. (kept : List Loaded)
+        → S.loaded source.old ≡ Some kept → (texts : List (List ℕ))
+        × HasOpened (map (λ w. w.now) words.now) (S.loaded source.old) (S.loaded source.new) texts
+        × AreLeft S.Text.remaining readers.items texts) }
+    ensures refusal { IfErr result (λ fault. (all : List (List ℕ))
+        → ((word : List ℕ) → IsOneOf word (map (λ w. w.now) words.now) → IsOneOf word all)
+        → IsRefusal (S.refused source.new) all fault) }
+{
+    let mut texts = Vec::new(alloc);
+    for word in words {
+        let text = open_text(source, word)?;
+        texts.push(text)?;
+    }
+    Ok(texts)
+}
+
+/// Two lists of texts that were opened.
+pub struct Both<T> {
+    /// Those of the first words.
+    pub first: Vec<T>,
+    /// Those of the second ones.
+    pub second: Vec<T>,
+}
+
+/// Opens what each word of two lists names, in their order.
+pub fn open_both<'a, S: Source>(
+    alloc: Global,
+    source: &mut S,
+    first: &[&'a str],
+    second: &[&'a str],
+) -> Result<Both<S::Text>, Fault<'a>>
+    ensures opened { IfOk result (λ both. (kept : List Loaded)
+        → S.loaded source.old ≡ Some kept → (first_texts second_texts : List (List ℕ))
+        × OpensBoth (map (λ w. w.now) first.now) (map (λ w. w.now) second.now)
+        (S.loaded source.old) (S.loaded source.new) first_texts second_texts
+        × AreLeft S.Text.remaining both.first.items first_texts
+        × AreLeft S.Text.remaining both.second.items second_texts) }
+    ensures refusal { IfErr result (λ fault. IsRefusal (S.refused source.new)
+        (map (λ w. w.now) first.now ++ map (λ w. w.now) second.now) fault) }
+{
+    let first = open_all(alloc, source, first)?;
+    let second = open_all(alloc, source, second)?;
+    Ok(Both { first, second })
+}

@@ -1,0 +1,140 @@
+//! What is wrong with a tap table, with an agency's CSV, with a device table or with a fare table.
+ghost use Rattle.std.specs.Prelude.{◌≡◌, Some};
+ghost use Rattle.tool_tasks.specs.WrongTables.{column_text, device_text, reason_text};
+ghost use Rattle.tool_tasks.specs.WrongTables.{devices_text, fare_table_text, rows_text};
+ghost use Rattle.tool_tasks.specs.WrongTables.{tap_table_text};
+
+use crate::names::Escaped;
+use fare_table::TableFault;
+use std::fmt;
+use tap_rows::{Column, Reason, WrongDevice};
+
+/// What is wrong with a tap table. Its `Display` begins with the line.
+#[derive(Clone, Copy, Debug, PartialEq, Eq)]
+pub enum WrongTapTable {
+    Head,
+    /// The line of this number, from 1, by this column.
+    Row(u64, Column),
+}
+
+/// What is wrong with a row of a tap table, by its column.
+fn column_text(column: Column) -> &'static str
+    ensures { result.now ≡ column_text column }
+{
+    match column {
+        Column::Fields => "there are not three fields",
+        Column::Token => "the token is not 32 hexadecimal digits",
+        Column::Validator => "the validator is no number from 0 to 4294967295",
+        Column::Moment => "the moment is no number of milliseconds below 4102444800000",
+    }
+}
+
+impl fmt::Display for WrongTapTable {
+    ghost output = { λ wrong. Some (tap_table_text wrong) };
+
+    fn fmt<W: fmt::Write>(&self, f: &mut fmt::Formatter<W>) -> fmt::Result {
+        match self {
+            WrongTapTable::Head => f.write_str("line 1: it is not token,validator,moment"),
+            WrongTapTable::Row(number, column) => {
+                let why = column_text(*column);
+                write!(f, "line {number}: {why}")
+            }
+        }
+    }
+}
+
+/// What is wrong with an agency's CSV. Its `Display` begins with the row.
+#[derive(Clone, Copy, Debug, PartialEq, Eq)]
+pub enum WrongRows<'a> {
+    /// The head has not one column of this name.
+    Column(&'a str),
+    /// The row of this number is no tap, for this reason. The head is row 1.
+    Row(u64, Reason),
+}
+
+/// What is wrong with a row of an agency's CSV.
+fn reason_text(reason: Reason) -> &'static str
+    ensures { result.now ≡ reason_text reason }
+{
+    match reason {
+        Reason::Fields => "there are not as many fields as in the head",
+        Reason::Token => "the token is neither 32 hexadecimal digits nor a UUID",
+        Reason::Validator => "the validator is no number from 0 to 4294967295",
+        Reason::Device => "the device is none of --validators",
+        Reason::LocalTime => "the moment is a local time: it has neither Z nor an offset",
+        Reason::Moment => "the moment is no time before 2100 in whole milliseconds",
+    }
+}
+
+impl fmt::Display for WrongRows<'_> {
+    ghost output = { λ wrong. Some (rows_text wrong) };
+
+    fn fmt<W: fmt::Write>(&self, f: &mut fmt::Formatter<W>) -> fmt::Result {
+        match self {
+            WrongRows::Column(column) => {
+                let column = Escaped(column);
+                write!(f, "row 1: there is not one column {column}")
+            }
+            WrongRows::Row(number, reason) => {
+                let why = reason_text(*reason);
+                write!(f, "row {number}: {why}")
+            }
+        }
+    }
+}
+
+/// What is wrong with a device table. Its `Display` begins with the row.
+#[derive(Clone, Copy, Debug, PartialEq, Eq)]
+pub enum WrongDevices {
+    Head,
+    /// The row of this number. The head is row 1.
+    Row(u64, WrongDevice),
+}
+
+/// What is wrong with a row of a device table.
+fn device_text(wrong: WrongDevice) -> &'static str
+    ensures { result.now ≡ device_text wrong }
+{
+    match wrong {
+        WrongDevice::Fields => "there are not two fields",
+        WrongDevice::NoName => "the device is empty",
+        WrongDevice::Validator => "the validator is no number from 0 to 4294967295",
+        WrongDevice::Again => "the device is in an earlier row, too",
+    }
+}
+
+impl fmt::Display for WrongDevices {
+    ghost output = { λ wrong. Some (devices_text wrong) };
+
+    fn fmt<W: fmt::Write>(&self, f: &mut fmt::Formatter<W>) -> fmt::Result {
+        match self {
+            WrongDevices::Head => f.write_str("row 1: it is not device,validator"),
+            WrongDevices::Row(number, wrong) => {
+                let why = device_text(*wrong);
+                write!(f, "row {number}: {why}")
+            }
+        }
+    }
+}
+
+/// What is wrong with a fare table, in words.
+#[derive(Clone, Copy, Debug, PartialEq, Eq)]
+pub(crate) struct WrongFareTable(pub(crate) TableFault);
+
+impl fmt::Display for WrongFareTable {
+    ghost output = { λ wrong. Some (fare_table_text wrong.0) };
+
+    fn fmt<W: fmt::Write>(&self, f: &mut fmt::Formatter<W>) -> fmt::Result {
+        match self.0 {
+            TableFault::Text => f.write_str("the text is not TOML"),
+            TableFault::Missing { key } => write!(f, "{key} is missing"),
+            TableFault::Kind { key } => write!(f, "{key} is of another kind"),
+            TableFault::Range { key } => write!(f, "{key} is out of range"),
+            TableFault::Mode => f.write_str("a name is no mode of the table"),
+            TableFault::Overlap => f.write_str("two ranges share a validator"),
+            TableFault::Rider => f.write_str("a rider or a class is not one of the table"),
+            TableFault::NoMemory => f.write_str("out of memory"),
+            TableFault::Zone => f.write_str("the zone is no POSIX rule"),
+        }
+    }
+}
