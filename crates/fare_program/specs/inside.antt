@@ -1,5 +1,4 @@
 -- What only private functions cite. Who reads the contracts of public calls need not read it.
-pub mod FilesAhead
 pub mod Causes
 pub mod ChargedAhead
 pub mod ChargedSorted

@@ -6,8 +6,6 @@
 //! |---|---|
 //! | `command_line`, `options` | what a command line asks for; its words, as `clap` reads them |
 //! | `named_list`, `laws` | the list of files that the words name, and what it adds to them |
-//! | `source`, `files_ahead` | whole files from a source; those that are read before their turns |
-//! | `host`, `sampling` | the system's files and standard input; a sample of a file's tokens |
 //! | `named_files` | files that are read while their taps are settled |
 //! | `listing` | the liveness of each tap, from those before it |
 //! | `lines`, `uploads` | the text of a listing |
@@ -27,8 +25,6 @@
 mod bill;
 mod command_line;
 mod fault;
-mod files_ahead;
-mod host;
 pub mod laws;
 mod lines;
 mod listing;
@@ -41,17 +37,14 @@ mod output;
 mod posting;
 mod program;
 mod run;
-mod sampling;
 mod settle;
 mod settled_token;
 mod sorted;
 mod sorted_fault;
-mod source;
 mod traced;
 mod uploads;
 
-pub use files_ahead::{Amount, Disk, FileAhead, read_ahead};
-pub use host::Host;
+pub use file_sources::{Amount, Disk, FileAhead, Host, Source, read_ahead};
 pub use listing::{ListCounts, Listing, Word};
 pub use named_list::list_words;
 pub use note::Note;
@@ -60,4 +53,3 @@ pub use program_manners::{
     Complaints, FileSource, LOAD_LIMIT_BYTES, LoadFault, Output, WordsFault, load_from,
     unread_words, words_of,
 };
-pub use source::Source;

@@ -8,13 +8,13 @@ ghost use Rattle.fare_program.specs.inside.Options.{asked_of};
 ghost use Rattle.fare_program.specs.inside.ChargedAhead.{IsBegunAhead, IsChargedAhead};
 
 use crate::fault::Fault;
-use crate::files_ahead::{Amount, Disk};
 use crate::noting::NotingGatekeeper;
 use crate::options::Options;
 use crate::posting::charge_lent;
 use crate::settle::charge_settled;
 use fare_service::LentUploads;
 use fare_table::FareTable;
+use file_sources::{Amount, Disk};
 use settlement::Uploads;
 use std::alloc::{AllocError, Global};
 use std::io::Write;

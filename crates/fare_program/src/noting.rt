@@ -2,8 +2,8 @@
 
 ghost use Rattle.std.specs.Prelude.{◌≡◌, ◌<◌, Some, length, map, slice_get, IfOk};
 
-use crate::files_ahead::{Amount, Disk};
 use fare_service::Gatekeeper;
+use file_sources::{Amount, Disk};
 use settlement::{LoadedUploads, Uploads};
 use std::alloc::{AllocError, Global};
 use tap_views::NoMemory;

@@ -9,7 +9,6 @@ ghost use Rattle.fare_service.specs.Lending.{AreLentAs};
 ghost use Rattle.fare_program.specs.Program.{ShowsAsked, ShowsOf, ShowsStatement, ShowsWith};
 
 use crate::fault::Fault;
-use crate::files_ahead::Disk;
 use crate::noting::{NotedUploads, NotingGatekeeper, sizes_in};
 use crate::options::Options;
 use crate::run::{are_posted, post_live};
@@ -17,6 +16,7 @@ use crate::settle::charge_settled;
 use fare_service::{Gatekeeper, LentUploads, Outcome};
 use fare_table::FareTable;
 use fare_texts::{write_explained, write_ledger};
+use file_sources::Disk;
 use std::alloc::Global;
 use std::io::Write;
 use std::marker::Sync;

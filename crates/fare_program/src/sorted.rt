@@ -11,10 +11,10 @@ ghost use Rattle.fare_program.specs.inside.Options.{asked_of};
 
 use crate::bill::write_billed;
 use crate::fault::Fault;
-use crate::files_ahead::Disk;
 use crate::options::Options;
 use crate::settled_token::write_text;
 use fare_table::FareTable;
+use file_sources::Disk;
 use placed_files::Placed;
 use settlement::laws;
 use shard_book::HashSeed;

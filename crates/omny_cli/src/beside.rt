@@ -2,8 +2,8 @@
 ghost use Rattle.std.specs.Prelude.{◌≡◌, map, string_bytes};
 ghost use Rattle.fare_program.specs.Runs.{IsRun};
 
-use crate::ticker::Ticker;
 use fare_program::{Complaints, Disk, Output, Source, main_over};
+use run_progress::Ticker;
 use std::io::Write;
 use std::marker::Sync;
 use std::random::RandomSource;

@@ -4,33 +4,18 @@
 //!
 //! | module | what it does |
 //! |---|---|
-//! | `meter` | counts of work that is done by some threads while another reads them |
-//! | `progress` | how far a run is |
-//! | `pace` | how long its work takes still |
-//! | `watched` | reads that are noted in its steps |
-//! | `ticker` | the line on the terminal |
-//! | `hushing` | writers that take the line away first |
-//! | `beside` | a run with the line beside it |
+//! | `beside` | a run with the line of `run_progress` beside it |
 #![tactic(auto)]
 
 mod beside;
-mod hushing;
-mod meter;
-mod pace;
-mod progress;
-mod ticker;
-mod watched;
 
 use beside::run_beside_line;
 use fare_program::{Complaints, Host, Note, Output, list_words, unread_words, words_of};
-use hushing::Hushing;
 use program_manners::take_list;
-use progress::Steps;
+use run_progress::{Hushing, Steps, Ticker, Watched, WatchedDisk};
 use std::fs;
 use std::io::IsTerminal;
 use std::process::ExitCode;
-use ticker::Ticker;
-use watched::{Watched, WatchedDisk};
 
 /// The ticker of the run that the words ask for. If the standard error is a terminal, the note on
 /// them is printed there, if there is one.

@@ -2,42 +2,45 @@
 
 use crate::meter::Meter;
 use crate::ticker::Ticker;
-use fare_program::{Amount, Disk, FileAhead, FileSource, LoadFault, Source};
+use file_sources::{Amount, Disk, FileAhead, Source};
 use placed_files::{FileStamp, Placed, Unopened};
+use program_manners::{FileSource, LoadFault};
 use std::alloc::{AllocError, Global};
 use std::io;
 use std::sync::Wait;
 
 /// A disk or a source whose reads are noted. It gives what the one below gives.
 #[derive(Drop)]
-pub(crate) struct Watched<'a, R: Wait, S: Drop> {
+pub struct Watched<'a, R: Wait, S: Drop> {
     rt: &'a R,
     ticker: &'a Ticker,
     from: S,
 }
 
 impl<'a, R: Wait, S: Drop> Watched<'a, R, S> {
-    pub(crate) fn new(rt: &'a R, ticker: &'a Ticker, from: S) -> Watched<'a, R, S> {
+    /// The source `from`, whose reads the ticker shows.
+    pub fn new(rt: &'a R, ticker: &'a Ticker, from: S) -> Watched<'a, R, S> {
         Watched { rt, ticker, from }
     }
 }
 
 /// The disk of a runtime, whose reads are noted.
 #[derive(Clone, Copy)]
-pub(crate) struct WatchedDisk<'a, R: Wait> {
+pub struct WatchedDisk<'a, R: Wait> {
     rt: &'a R,
     ticker: &'a Ticker,
 }
 
 impl<'a, R: Wait> WatchedDisk<'a, R> {
-    pub(crate) fn new(rt: &'a R, ticker: &'a Ticker) -> WatchedDisk<'a, R> {
+    /// The runtime's disk, whose reads the ticker shows.
+    pub fn new(rt: &'a R, ticker: &'a Ticker) -> WatchedDisk<'a, R> {
         WatchedDisk { rt, ticker }
     }
 }
 
 /// A file whose reads are counted. It gives what the one below gives.
 #[derive(Drop)]
-pub(crate) struct WatchedFile<'a, F: Drop> {
+pub struct WatchedFile<'a, F: Drop> {
     /// Counts the bytes that are read.
     meter: &'a Meter,
     from: F,

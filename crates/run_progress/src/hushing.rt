@@ -8,7 +8,7 @@ use std::sync::Wait;
 /// A writer before whose first byte the line is taken away for good, unless it writes to a file. It
 /// counts what it writes. What it holds is what the writer below holds.
 #[derive(Drop)]
-pub(crate) struct Hushing<'a, R: Wait, W: Write + Drop> {
+pub struct Hushing<'a, R: Wait, W: Write + Drop> {
     rt: &'a R,
     ticker: &'a Ticker,
     to: W,
@@ -18,7 +18,7 @@ pub(crate) struct Hushing<'a, R: Wait, W: Write + Drop> {
 
 impl<'a, R: Wait, W: Write + Drop> Hushing<'a, R, W> {
     /// A writer to which nothing was written, and whether that is a file: beside it the line stays.
-    pub(crate) fn new(rt: &'a R, ticker: &'a Ticker, to: W, is_file: bool) -> Hushing<'a, R, W> {
+    pub fn new(rt: &'a R, ticker: &'a Ticker, to: W, is_file: bool) -> Hushing<'a, R, W> {
         Hushing {
             rt,
             ticker,

@@ -1,6 +1,6 @@
 -- FilesAhead: what private functions alone cite.
 use Rattle.std.specs.Prelude.{◌≡◌, ◌≢◌, ℕ, List, [], ◌∷◌, ◌++◌, string_bytes}
-use Rattle.fare_program.specs.declared.files_ahead.FileAhead.{FileAhead}
+use Rattle.file_sources.specs.declared.files_ahead.FileAhead.{FileAhead}
 
 -- the next file, which stands last in the list, has another name, or there is none
 abbrev pub IsNotNext : List ℕ → List FileAhead → Type 0

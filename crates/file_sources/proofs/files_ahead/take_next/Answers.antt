@@ -4,8 +4,8 @@ use Rattle.std.proofs.Common.{vec_len, length-append}
 use Rattle.std.proofs.lemmas.Bool.Decides.{Decides-eqb}
 use Rattle.std.proofs.lemmas.Slice.Eq.{slice_eq-Decides}
 use Rattle.std.proofs.Math.Seq.{get_or-append_seam}
-use Rattle.fare_program.specs.declared.files_ahead.FileAhead.{FileAhead}
-use Rattle.fare_program.proofs.files_ahead.take_next.Goals as goal
+use Rattle.file_sources.specs.declared.files_ahead.FileAhead.{FileAhead}
+use Rattle.file_sources.proofs.files_ahead.take_next.Goals as goal
 
 not_false : (b : Bool) → false ≡ not b → true ≡ b
 not_false true e = refl

@@ -31,8 +31,9 @@ const THOUSAND: u64 = 1_000;
 
 const MILLION: u64 = 1_000_000;
 
+/// What a run has done so far, as far as its reads tell.
 #[derive(Clone, Copy, Debug)]
-pub(crate) struct Steps {
+pub struct Steps {
     stage: Stage,
     /// Whether the words ask for a listing.
     asks_for_list: bool,
@@ -51,7 +52,7 @@ pub(crate) struct Steps {
 
 impl Steps {
     /// A run that begins, for which these words ask.
-    pub(crate) fn of(words: &[String]) -> Steps {
+    pub fn of(words: &[String]) -> Steps {
         Steps {
             stage: Stage::Starting,
             asks_for_list: asks_for(words, "--list"),

@@ -1,7 +1,7 @@
 //! Files that are read before they are due, several at once.
 ghost use Rattle.std.specs.Prelude.{◌≡◌, ◌<◌, ◌≤◌, ◌++◌, ◌∷◌, [], IfNone, IfSome, length};
 ghost use Rattle.std.specs.Prelude.{string_bytes};
-ghost use Rattle.fare_program.specs.inside.FilesAhead.{IsNotNext};
+ghost use Rattle.file_sources.specs.inside.FilesAhead.{IsNotNext};
 
 use placed_files::{Placed, Unopened};
 use program_manners::LoadFault;

@@ -1,6 +1,6 @@
 //! Counts of work that is done by some threads while another reads them.
 
-use fare_program::Amount;
+use file_sources::Amount;
 use std::sync::atomic::{AtomicU64, Ordering};
 
 /// How much work is done, and of how much.

@@ -43,7 +43,7 @@ pub struct Ticker {
 
 impl Ticker {
     /// A run that begins, of which no line is shown yet, nor ever if `err` is no terminal.
-    pub(crate) fn new(steps: Steps, err: io::Stderr, is_terminal: bool) -> Ticker {
+    pub fn new(steps: Steps, err: io::Stderr, is_terminal: bool) -> Ticker {
         Ticker {
             steps: Mutex::new(steps),
             meters: Meters::new(),
@@ -57,7 +57,7 @@ impl Ticker {
 
     /// Shows the line again and again, until it is taken away for good. If the clock cannot be
     /// read, no line is shown from then on.
-    pub(crate) fn tick<R: Wait + Clock>(&self, rt: &R) {
+    pub fn tick<R: Wait + Clock>(&self, rt: &R) {
         let Ok(begun) = Instant::now(rt) else {
             return;
         };
@@ -109,7 +109,7 @@ impl Ticker {
     }
 
     /// Takes the line away for good.
-    pub(crate) fn end<R: Wait>(&self, rt: &R) {
+    pub fn end<R: Wait>(&self, rt: &R) {
         self.line.lock(rt).end();
         self.ended.notify_all();
     }
