@@ -13,7 +13,7 @@ use Rattle.std.proofs.lemmas.List.Elements.{All-cons, All-from_recursion, All-ma
 use Rattle.std.proofs.lemmas.List.Elements.{All-weaker}
 use Rattle.fare_texts.specs.ReportLines.{token_line}
 use Rattle.report_texts.specs.Numbers.{IsTokenSum}
-use Rattle.report_texts.specs.declared.upload_end.UploadEnd.{UploadEnd}
+use Rattle.tap_views.specs.declared.upload_end.UploadEnd.{UploadEnd}
 use Rattle.shard_book.specs.Sums.{Sums, add_sums, sums}
 use Rattle.shard_book.proofs.SumsLemmas.{add_assoc, add_none}
 use Rattle.tap_views.proofs.Lists.{All-unmap}

@@ -1,5 +1,4 @@
 pub mod Numbers
 pub mod OverHistory
 pub mod Report
-pub mod UploadEnds
 pub mod inside

@@ -27,8 +27,8 @@ use Rattle.settlement.specs.inside.Apart.{AreBelow}
 use Rattle.settlement.specs.Posted.{HasName, posted, posted_after, token_of_tap, unposted}
 use Rattle.settlement.proofs.Concats.{posted_append}
 use Rattle.tap_parts.proofs.Total.{tap_cmp_total}
-use Rattle.fare_texts.proofs.Rising.{not_greater}
-use Rattle.fare_texts.specs.Lines.{IsUpTo}
+use Rattle.tap_views.proofs.TokensUp.{not_greater}
+use Rattle.tap_views.specs.TokenOrder.{IsUpTo}
 
 -- ---- what is posted
 -- the tokens of the entries are those of the taps

@@ -16,4 +16,5 @@ mod Spans
 pub mod Texts
 pub mod TokenBytes
 pub mod TokenLemmas
+pub mod TokensUp
 pub mod TapOrders

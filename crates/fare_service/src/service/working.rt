@@ -10,12 +10,11 @@ use crate::lending::{LentUploads, Unlent};
 use crate::service::Service;
 use crate::service::share::{Done, Posting, Share};
 use fare_table::Clock;
-use report_texts::UploadEnd;
 use shard_book::{Replies, RunEnd, Tally, Totals};
 use shared_books::{Drawer, Full};
 use std::alloc::Global;
 use std::sync::Wait;
-use tap_views::{Batch, LayoutFault, NoMemory, Runs, good_batches};
+use tap_views::{Batch, LayoutFault, NoMemory, Runs, UploadEnd, good_batches};
 
 /// What a worker calls before it posts an upload and after it. A test can make workers wait there.
 pub trait Gatekeeper {
