@@ -5,7 +5,7 @@ use Rattle.tariffs.specs.Fares.{Fares}
 use Rattle.tap_views.specs.declared.token.Token.{Token}
 use Rattle.fare_service.specs.Outcomes.{OutcomeView}
 use Rattle.fare_program.specs.Options.{Asked}
-use Rattle.report_texts.specs.UploadEnds.{are_posted}
+use Rattle.tap_views.specs.UploadEnds.{are_posted}
 use Rattle.fare_program.specs.Program.{ShowsAsked, ShowsLiveRun, ShowsOf}
 use Rattle.fare_program.specs.Settling.{ShowsSettled}
 use Rattle.fare_program.specs.inside.PostedFiles.{IsLiveRun}

@@ -6,7 +6,7 @@ use Rattle.hex.specs.Hex.{decode_sized}
 use Rattle.tariffs.specs.Fares.{Fares}
 use Rattle.tap_views.specs.Token.{bytes_of}
 use Rattle.tap_views.specs.declared.token.Token.{Token}
-use Rattle.report_texts.specs.declared.upload_end.UploadEnd.{UploadEnd}
+use Rattle.tap_views.specs.declared.upload_end.UploadEnd.{UploadEnd}
 use Rattle.shard_book.specs.declared.entry.Entry.{Entry}
 use Rattle.fare_service.specs.Headline.{HasRun}
 use Rattle.fare_service.specs.Outcomes.{OutcomeView}
@@ -14,7 +14,7 @@ use Rattle.fare_service.specs.Plain.{AreApart, IsPlain}
 use Rattle.fare_service.specs.Printed.{IsStatementOf, report_with}
 use Rattle.fare_program.specs.Fault.{fault_text}
 use Rattle.fare_program.specs.Options.{Asked, lists}
-use Rattle.report_texts.specs.UploadEnds.{are_posted}
+use Rattle.tap_views.specs.UploadEnds.{are_posted}
 use Rattle.fare_program.specs.Settling.{ShowsOver, ShowsSettled}
 use Rattle.fare_program.specs.declared.fault.Fault.{Fault}
 use Rattle.fare_texts.specs.Explained.{IsExplainedOf}

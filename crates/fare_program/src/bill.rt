@@ -6,7 +6,7 @@ ghost use Rattle.fare_program.specs.Fault.{status_of};
 ghost use Rattle.fare_program.specs.inside.Causes.{IsOfOutput};
 ghost use Rattle.fare_program.specs.inside.Settling.{ShowsBill};
 ghost use Rattle.report_texts.specs.OverHistory.{IsReportOver};
-ghost use Rattle.report_texts.specs.UploadEnds.{ArePlainEnds, are_posted};
+ghost use Rattle.tap_views.specs.UploadEnds.{ArePlainEnds, are_posted};
 ghost use Rattle.settlement.specs.Bills.{IsBillOf};
 ghost use Rattle.settlement.specs.Reading.{AreRead};
 ghost use Rattle.shard_book.specs.declared.entry.Entry.{Entry};

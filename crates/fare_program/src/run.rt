@@ -4,7 +4,7 @@ ghost use Rattle.tariffs.specs.Fares.{Fares};
 ghost use Rattle.tap_views.specs.declared.token.Token.{Token};
 ghost use Rattle.fare_program.specs.Fault.{status_of};
 ghost use Rattle.fare_program.specs.inside.Fault.{IsRunFailure};
-ghost use Rattle.report_texts.specs.UploadEnds.{are_posted, is_posted};
+ghost use Rattle.tap_views.specs.UploadEnds.{are_posted, is_posted};
 ghost use Rattle.fare_program.specs.Options.{Asked};
 ghost use Rattle.fare_program.specs.Program.{ShowsOf, ShowsPlain};
 ghost use Rattle.fare_service.specs.Headline.{HasRun, HasRunOver};
@@ -13,7 +13,7 @@ ghost use Rattle.fare_program.specs.inside.PostedFiles.{IsLiveRun};
 
 use crate::fault::Fault;
 use crate::options::Options;
-use fare_service::{Gatekeeper, LentUploads, Outcome, Service, UploadEnd, laws};
+use fare_service::{Gatekeeper, LentUploads, Outcome, Service, laws};
 use fare_table::FareTable;
 use shard_book::laws::one_rising_list;
 use std::alloc::Global;
@@ -21,6 +21,7 @@ use std::marker::Sync;
 use std::random::RandomSource;
 use std::sync::Wait;
 use std::thread::Threads;
+use tap_views::UploadEnd;
 
 /// What the service comes to over uploads that are lent to it, by this table.
 pub(crate) fn outcome_of<

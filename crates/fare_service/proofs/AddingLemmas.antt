@@ -20,10 +20,9 @@ use Rattle.shard_book.specs.Sums.{is_transfer, is_capped, is_stale, is_unknown, 
 use Rattle.shared_books.specs.Drawing.{NoneTwice}
 use Rattle.shared_books.specs.Marks.{history_of_visits}
 use Rattle.tariffs.specs.Fares.{Fares}
-use Rattle.report_texts.specs.declared.upload_end.UploadEnd.{UploadEnd}
-use Rattle.report_texts.specs.declared.upload_end.UploadEnd.TheVariants.{Posted, Refused, Cut}
-use Rattle.report_texts.specs.declared.upload_end.UploadEnd.TheVariants.{Undrawn}
-use Rattle.report_texts.specs.UploadEnds.{taps_of_end}
+use Rattle.tap_views.specs.declared.upload_end.UploadEnd.{UploadEnd}
+use Rattle.tap_views.specs.declared.upload_end.UploadEnd.TheVariants.{Posted, Refused, Cut, Undrawn}
+use Rattle.tap_views.specs.UploadEnds.{taps_of_end}
 use Rattle.fare_service.specs.Adding.{AddUp}
 use Rattle.shard_book.proofs.SumsLemmas.{same_seven, sums-append, add_none}
 use Rattle.fare_service.specs.Headline.{Signed, end_of}

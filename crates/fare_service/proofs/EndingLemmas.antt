@@ -19,10 +19,9 @@ use Rattle.shard_book.specs.Sums.{Sums, sums}
 use Rattle.shared_books.specs.Passes.{PassView, SharedBookView}
 use Rattle.tap_views.specs.Shards.{run_of}
 use Rattle.fare_service.specs.declared.service.share.Done.{Done}
-use Rattle.report_texts.specs.declared.upload_end.UploadEnd.{UploadEnd}
-use Rattle.report_texts.specs.declared.upload_end.UploadEnd.TheVariants.{Posted, Refused, Cut}
-use Rattle.report_texts.specs.declared.upload_end.UploadEnd.TheVariants.{Undrawn}
-use Rattle.report_texts.specs.UploadEnds.{taps_of_end}
+use Rattle.tap_views.specs.declared.upload_end.UploadEnd.{UploadEnd}
+use Rattle.tap_views.specs.declared.upload_end.UploadEnd.TheVariants.{Posted, Refused, Cut, Undrawn}
+use Rattle.tap_views.specs.UploadEnds.{taps_of_end}
 use Rattle.fare_service.specs.Claims.{left_share}
 use Rattle.fare_service.specs.Closing.{IsHistoryOf}
 use Rattle.fare_service.specs.Faults.{visits_held}

@@ -6,8 +6,8 @@ use Rattle.std.proofs.Common.{sym, ◌∙◌, inl, inr, subst}
 use Rattle.shard_book.specs.Book.{Book}
 use Rattle.shard_book.specs.Sums.{Sums}
 use Rattle.shared_books.specs.Drawing.{NoneTwice}
-use Rattle.report_texts.specs.declared.upload_end.UploadEnd.{UploadEnd}
-use Rattle.report_texts.specs.declared.upload_end.UploadEnd.TheVariants.{Undrawn}
+use Rattle.tap_views.specs.declared.upload_end.UploadEnd.{UploadEnd}
+use Rattle.tap_views.specs.declared.upload_end.UploadEnd.TheVariants.{Undrawn}
 use Rattle.fare_service.specs.Headline.{end_of, HasOutcome, HasRunOver}
 use Rattle.fare_service.specs.Lending.{AreLentAs}
 use Rattle.fare_service.specs.Outcomes.{OutcomeView}

@@ -14,7 +14,7 @@ use Rattle.shard_book.specs.SumsByKey.{all_entries}
 use Rattle.shard_book.specs.Sums.{sums}
 use Rattle.shard_book.specs.Windows.{WindowsKeepLimits}
 use Rattle.shared_books.specs.Marks.{history_of_visits}
-use Rattle.report_texts.specs.declared.upload_end.UploadEnd.TheVariants.{Undrawn}
+use Rattle.tap_views.specs.declared.upload_end.UploadEnd.TheVariants.{Undrawn}
 use Rattle.fare_service.specs.Headline.{Signed, by_worker, end_of, IsOneThread, Headline}
 use Rattle.fare_service.specs.Limits.{BookKeepsLimits}
 use Rattle.fare_service.specs.Outcomes.{OutcomeView}

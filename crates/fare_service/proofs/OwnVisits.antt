@@ -16,9 +16,8 @@ use Rattle.tap_views.specs.Shards.{shard_of_token, run_of}
 use Rattle.tap_views.proofs.Lists.{All-front, All-back, All-unmap}
 use Rattle.shard_book.specs.Entry.{IsEntryOf}
 use Rattle.shared_books.specs.Drawing.{NoneTwice}
-use Rattle.report_texts.specs.declared.upload_end.UploadEnd.{UploadEnd}
-use Rattle.report_texts.specs.declared.upload_end.UploadEnd.TheVariants.{Posted, Refused, Cut}
-use Rattle.report_texts.specs.declared.upload_end.UploadEnd.TheVariants.{Undrawn}
+use Rattle.tap_views.specs.declared.upload_end.UploadEnd.{UploadEnd}
+use Rattle.tap_views.specs.declared.upload_end.UploadEnd.TheVariants.{Posted, Refused, Cut, Undrawn}
 use Rattle.fare_service.specs.Headline.{end_of}
 use Rattle.fare_service.specs.Placing.{posted_of, in_posting_order, WerePostedOf}
 use Rattle.fare_service.specs.Runs.{PostedRun}

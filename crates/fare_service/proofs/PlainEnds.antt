@@ -5,13 +5,12 @@ use Rattle.std.proofs.Common.{refl, sym, ◌∙◌, ap, subst, arith, mod-lt}
 use Rattle.std.proofs.lemmas.List.Concat.{length-flat_map}
 use Rattle.std.proofs.lemmas.Option.{get_or_from_slice_get}
 use Rattle.tap_views.specs.Layout.{Tap}
-use Rattle.report_texts.specs.declared.upload_end.UploadEnd.{UploadEnd}
-use Rattle.report_texts.specs.declared.upload_end.UploadEnd.TheVariants.{Posted, Refused, Cut}
-use Rattle.report_texts.specs.declared.upload_end.UploadEnd.TheVariants.{Undrawn}
+use Rattle.tap_views.specs.declared.upload_end.UploadEnd.{UploadEnd}
+use Rattle.tap_views.specs.declared.upload_end.UploadEnd.TheVariants.{Posted, Refused, Cut, Undrawn}
 use Rattle.fare_service.specs.Headline.{end_of}
 use Rattle.fare_service.specs.Outcomes.{OutcomeView}
 use Rattle.fare_service.specs.Plain.{WasNotCut}
-use Rattle.report_texts.specs.UploadEnds.{IsPlainEnd, ArePlainEnds}
+use Rattle.tap_views.specs.UploadEnds.{IsPlainEnd, ArePlainEnds}
 use Rattle.fare_service.specs.Runs.{RunVisit, IsEntered, ArePostedWhole, runs_of, taps_posted}
 use Rattle.fare_service.specs.Shares.{Worked, IsWorkOf, IsEndOf, all_works, file_at}
 use Rattle.fare_service.proofs.PlainBooks.{drawn_by, end_reported, whole_posted}

@@ -8,8 +8,8 @@ use Rattle.tap_views.specs.declared.fault.LayoutFault.{LayoutFault}
 use Rattle.shard_book.specs.declared.entry.Entry.{Entry}
 use Rattle.shard_book.specs.SumsByKey.{sums_by_validator, sums_by_token}
 use Rattle.shard_book.specs.Sums.{sums}
-use Rattle.report_texts.specs.declared.upload_end.UploadEnd.{UploadEnd}
-use Rattle.report_texts.specs.UploadEnds.{end_by, IsPlainEnd, ArePlainEnds}
+use Rattle.tap_views.specs.declared.upload_end.UploadEnd.{UploadEnd}
+use Rattle.tap_views.specs.UploadEnds.{end_by, IsPlainEnd, ArePlainEnds}
 use Rattle.report_texts.specs.OverHistory.{IsReportOver}
 use Rattle.tap_views.specs.Files.{IsEndAfterBatches, HasOneReading}
 use Rattle.tap_views.proofs.Deciding.{same_fault}

@@ -23,7 +23,7 @@ use Rattle.report_texts.specs.OverHistory.{IsReportOver}
 use Rattle.tap_views.specs.Files.{HasOneReading}
 use Rattle.fare_service.specs.Printed.{report_of, report_with}
 use Rattle.report_texts.specs.Report.{report}
-use Rattle.report_texts.specs.declared.upload_end.UploadEnd.{UploadEnd}
+use Rattle.tap_views.specs.declared.upload_end.UploadEnd.{UploadEnd}
 use Rattle.fare_service.proofs.HeadlineLemmas.{gathered_of}
 use Rattle.fare_service.proofs.PlainEnds.{plain_ends}
 use Rattle.fare_service.proofs.PlainLists.{flat_alone, mapped_at}

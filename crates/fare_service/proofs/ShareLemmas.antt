@@ -13,7 +13,7 @@ use Rattle.shared_books.specs.Claims.{all_claims, claims_given, claims_left}
 use Rattle.shared_books.specs.Passes.{PassView, SharedBookView, new_pass, fresh_pass, left_pass}
 use Rattle.shared_books.specs.Passes.{seen_by}
 use Rattle.fare_service.specs.declared.service.share.Done.{Done}
-use Rattle.report_texts.specs.declared.upload_end.UploadEnd.{UploadEnd}
+use Rattle.tap_views.specs.declared.upload_end.UploadEnd.{UploadEnd}
 use Rattle.fare_service.specs.Claims.{claims_at, left_share}
 use Rattle.fare_service.specs.ServiceView.{ServiceView, shards_of}
 use Rattle.fare_service.specs.ShareView.{ShareView}

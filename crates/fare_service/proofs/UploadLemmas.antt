@@ -7,10 +7,10 @@ use Rattle.tap_views.specs.Files.{IsFile, IsEndAfterBatches}
 use Rattle.tap_views.specs.declared.fault.LayoutFault.{LayoutFault}
 use Rattle.shard_book.specs.Sums.{Sums}
 use Rattle.shared_books.specs.Passes.{PassView}
-use Rattle.report_texts.specs.declared.upload_end.UploadEnd.{UploadEnd}
-use Rattle.report_texts.specs.declared.upload_end.UploadEnd.TheVariants.{Cut}
+use Rattle.tap_views.specs.declared.upload_end.UploadEnd.{UploadEnd}
+use Rattle.tap_views.specs.declared.upload_end.UploadEnd.TheVariants.{Cut}
 use Rattle.fare_service.specs.declared.service.working.Stop.{Stop}
-use Rattle.report_texts.specs.UploadEnds.{end_by}
+use Rattle.tap_views.specs.UploadEnds.{end_by}
 use Rattle.fare_service.specs.ServiceView.{ServiceView, shards_of}
 use Rattle.fare_service.specs.Lending.{IsLentAs}
 use Rattle.fare_service.specs.Runs.{RunVisit, runs_of, ArePostedWhole, taps_posted}

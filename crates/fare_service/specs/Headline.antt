@@ -9,8 +9,8 @@ use Rattle.shard_book.specs.Book.{EachBook}
 use Rattle.shard_book.specs.History.{IsLegal}
 use Rattle.shard_book.specs.Windows.{WindowsKeepLimits}
 use Rattle.shared_books.specs.Drawing.{NoneTwice}
-use Rattle.report_texts.specs.declared.upload_end.UploadEnd.{UploadEnd}
-use Rattle.report_texts.specs.declared.upload_end.UploadEnd.TheVariants.{Undrawn}
+use Rattle.tap_views.specs.declared.upload_end.UploadEnd.{UploadEnd}
+use Rattle.tap_views.specs.declared.upload_end.UploadEnd.TheVariants.{Undrawn}
 use Rattle.fare_service.specs.Adding.{AddUp}
 use Rattle.fare_service.specs.Lending.{AreLentAs}
 use Rattle.fare_service.specs.ServiceView.{ServiceView, shards_of}

@@ -2,7 +2,7 @@
 use Rattle.std.specs.Prelude.{List}
 use Rattle.shard_book.specs.Book.{Book}
 use Rattle.shard_book.specs.Sums.{Sums}
-use Rattle.report_texts.specs.declared.upload_end.UploadEnd.{UploadEnd}
+use Rattle.tap_views.specs.declared.upload_end.UploadEnd.{UploadEnd}
 
 -- the book of each shard, the end of each upload, and the totals of each worker and of all
 pub record OutcomeView : Type 0 where

@@ -8,9 +8,8 @@ use Rattle.tap_views.specs.Files.{IsFile, IsFaultAt}
 use Rattle.tap_views.specs.Shards.{run_of, shard_of_token}
 use Rattle.shard_book.specs.declared.entry.Entry.{Entry}
 use Rattle.shard_book.specs.Entry.{IsEntryOf}
-use Rattle.report_texts.specs.declared.upload_end.UploadEnd.{UploadEnd}
-use Rattle.report_texts.specs.declared.upload_end.UploadEnd.TheVariants.{Posted, Refused, Cut}
-use Rattle.report_texts.specs.declared.upload_end.UploadEnd.TheVariants.{Undrawn}
+use Rattle.tap_views.specs.declared.upload_end.UploadEnd.{UploadEnd}
+use Rattle.tap_views.specs.declared.upload_end.UploadEnd.TheVariants.{Posted, Refused, Cut, Undrawn}
 use Rattle.fare_service.specs.Runs.{runs_of}
 use Rattle.fare_service.specs.Shares.{Worked, all_visits}
 

@@ -7,9 +7,8 @@ use Rattle.tap_views.specs.Layout.{Tap}
 use Rattle.tariffs.specs.Fares.{Fares}
 use Rattle.shard_book.specs.Plain.{plain}
 use Rattle.shard_book.specs.declared.entry.Entry.{Entry}
-use Rattle.report_texts.specs.declared.upload_end.UploadEnd.TheVariants.{Posted, Refused, Cut}
-use Rattle.report_texts.specs.declared.upload_end.UploadEnd.TheVariants.{Undrawn}
-use Rattle.report_texts.specs.declared.upload_end.UploadEnd.{UploadEnd}
+use Rattle.tap_views.specs.declared.upload_end.UploadEnd.TheVariants.{Posted, Refused, Cut, Undrawn}
+use Rattle.tap_views.specs.declared.upload_end.UploadEnd.{UploadEnd}
 use Rattle.fare_service.specs.Headline.{Headline}
 use Rattle.fare_service.specs.Outcomes.{OutcomeView}
 use Rattle.fare_service.specs.Shares.{Worked}

@@ -8,7 +8,7 @@ use Rattle.shard_book.specs.SumsByKey.{all_entries, sums_by_validator, sums_by_t
 use Rattle.shard_book.specs.Statement.{IsStatement}
 use Rattle.shard_book.specs.Sums.{sums}
 use Rattle.tap_views.specs.Token.{bytes_of}
-use Rattle.report_texts.specs.declared.upload_end.UploadEnd.{UploadEnd}
+use Rattle.tap_views.specs.declared.upload_end.UploadEnd.{UploadEnd}
 use Rattle.fare_service.specs.Outcomes.{OutcomeView}
 use Rattle.fare_texts.specs.StatementText.{IsStatementText}
 use Rattle.report_texts.specs.Report.{report}

@@ -9,9 +9,8 @@ use Rattle.shard_book.specs.declared.entry.Entry.{Entry}
 use Rattle.shard_book.specs.Sums.{Sums, sums, add_sums}
 use Rattle.shared_books.specs.declared.turns.rule.Mark.{Mark}
 use Rattle.shared_books.specs.Passes.{SharedBookView, PassView}
-use Rattle.report_texts.specs.declared.upload_end.UploadEnd.{UploadEnd}
-use Rattle.report_texts.specs.declared.upload_end.UploadEnd.TheVariants.{Posted, Refused, Cut}
-use Rattle.report_texts.specs.declared.upload_end.UploadEnd.TheVariants.{Undrawn}
+use Rattle.tap_views.specs.declared.upload_end.UploadEnd.{UploadEnd}
+use Rattle.tap_views.specs.declared.upload_end.UploadEnd.TheVariants.{Posted, Refused, Cut, Undrawn}
 use Rattle.fare_service.specs.declared.service.share.Done.{Done}
 use Rattle.fare_service.specs.Claims.{claims_of}
 use Rattle.fare_service.specs.Lending.{IsLentAs}

@@ -9,8 +9,8 @@ use Rattle.fare_service.specs.ServiceView.{ServiceView}
 use Rattle.fare_service.specs.ShareView.{ShareView}
 use Rattle.fare_service.specs.Plain.{WasNotCut}
 use Rattle.fare_service.specs.Shares.{Worked, HasWorked}
-use Rattle.report_texts.specs.declared.upload_end.UploadEnd.{UploadEnd}
-use Rattle.report_texts.specs.declared.upload_end.UploadEnd.TheVariants.{Cut, Undrawn}
+use Rattle.tap_views.specs.declared.upload_end.UploadEnd.{UploadEnd}
+use Rattle.tap_views.specs.declared.upload_end.UploadEnd.TheVariants.{Cut, Undrawn}
 
 -- the pass has seen as many visits as its shard takes
 abbrev pub KnowsFull : PassView → Type 0

@@ -13,7 +13,7 @@ pub use fare_texts::PrintFault;
 pub use faults::{GatherFault, OpenFault, RunFault};
 pub use lending::{LentUploads, Unlent};
 pub use outcome::Outcome;
-pub use report_texts::UploadEnd;
 pub use service::Service;
 pub use service::share::{Done, Share};
 pub use service::working::{Gatekeeper, OpenGatekeeper};
+pub use tap_views::UploadEnd;

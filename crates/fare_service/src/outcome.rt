@@ -1,8 +1,8 @@
 //! What was gathered: the books, the end of each upload and the totals of each worker.
 
-use report_texts::UploadEnd;
 use shard_book::{ShardBook, Totals};
 use std::marker::Model;
+use tap_views::UploadEnd;
 
 /// What the work of a service came to. Each shard has a book, whose history is one thread's.
 #[derive(Drop)]

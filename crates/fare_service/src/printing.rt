@@ -13,13 +13,13 @@ ghost use Rattle.fare_texts.specs.declared.print_fault.PrintFault.TheVariants.{W
 
 use crate::outcome::Outcome;
 use fare_texts::{PrintFault, statement_text, write_out};
-use report_texts::{UploadEnd, write_report};
+use report_texts::write_report;
 use shard_book::{TokenSums, ValidatorSum, sums_by_validator};
 use std::alloc::Global;
 use std::io::Write;
 use std::marker::Sync;
 use std::thread::Threads;
-use tap_views::{NoMemory, Token, shard_of};
+use tap_views::{NoMemory, Token, UploadEnd, shard_of};
 
 impl Outcome {
     fn sums<R: Threads + Sync>(

@@ -21,10 +21,12 @@ use Rattle.shard_book.proofs.OwnEntries.{own-append, own_none, own_other, own_sa
 use Rattle.fare_texts.specs.LedgerLines.{AreLedgerLinesAfter, AreLedgerLines, IsLedgerLine}
 use Rattle.fare_texts.specs.LedgerLines.{reason_after}
 use Rattle.fare_texts.specs.Ledger.{AreLinesOfEach}
-use Rattle.fare_texts.specs.Lines.{AreLinesAlong, AreUpTo, IsLineAfter, IsUpTo, NoFall, NoFallFrom}
+use Rattle.fare_texts.specs.Lines.{AreLinesAlong, AreUpTo, IsLineAfter, NoFall, NoFallFrom}
+use Rattle.tap_views.specs.TokenOrder.{IsUpTo}
 use Rattle.fare_texts.specs.inside.ByToken.{IsByToken}
 use Rattle.fare_texts.proofs.Rising.{none_above, none_below}
-use Rattle.fare_texts.proofs.Rising.{own_push, up_apart, up_itself, up_push, up_weaker}
+use Rattle.fare_texts.proofs.Rising.{own_push, up_push, up_weaker}
+use Rattle.tap_views.proofs.TokensUp.{up_apart, up_itself}
 
 abbrev ties : Token → Token → Bool
 ties key token = eq_by_cmp token_cmp key token

@@ -13,13 +13,15 @@ use Rattle.tap_views.specs.declared.token.Token.{Token}
 use Rattle.tap_views.proofs.TokenLemmas.{token_eq-refl}
 use Rattle.fare_texts.specs.Explainers.{HasExplained}
 use Rattle.fare_texts.specs.WrittenOut.{Begins, GoesOut}
-use Rattle.fare_texts.specs.Lines.{AreLinesAlong, AreUpTo, HasCome, IsLineAfter, IsUpTo, NoFall}
+use Rattle.fare_texts.specs.Lines.{AreLinesAlong, AreUpTo, HasCome, IsLineAfter, NoFall}
+use Rattle.tap_views.specs.TokenOrder.{IsUpTo}
 use Rattle.fare_texts.specs.Lines.{NoFallFrom}
 use Rattle.fare_texts.specs.inside.Spots.{entry_at_spot, entries_at_spots}
 use Rattle.fare_texts.specs.declared.spot.Spot.{Spot}
 use Rattle.shard_book.specs.Book.{Book}
 use Rattle.fare_texts.specs.declared.explainer.Explainer.{Explainer}
-use Rattle.fare_texts.proofs.Rising.{none_below, own_push, up_itself, up_push, up_weaker}
+use Rattle.fare_texts.proofs.Rising.{none_below, own_push, up_push, up_weaker}
+use Rattle.tap_views.proofs.TokensUp.{up_itself}
 use Rattle.fare_texts.proofs.Beginnings.{goes_then_on}
 use Rattle.fare_texts.proofs.TextsExist.{along_exist}
 

@@ -1,18 +1,13 @@
 -- The lines of entries in order of token, as they are written one after another.
-use Rattle.std.specs.Prelude.{◌≡◌, ℕ, false, List, [], ◌∷◌, ◌++◌}
-use Rattle.std.specs.Ordering.{is_lt}
+use Rattle.std.specs.Prelude.{◌≡◌, ℕ, List, [], ◌∷◌, ◌++◌}
 use Rattle.tariffs.specs.Fares.{Fares}
 use Rattle.shard_book.specs.Entry.{own}
-use Rattle.tap_views.specs.Token.{token_cmp}
+use Rattle.tap_views.specs.TokenOrder.{IsUpTo}
 use Rattle.shard_book.specs.declared.entry.Entry.{Entry}
 use Rattle.tap_views.specs.declared.token.Token.{Token}
 use Rattle.fare_texts.specs.LedgerLines.{IsLedgerLineAfter}
 use Rattle.fare_texts.specs.Explainers.{HasExplained}
 use Rattle.fare_texts.specs.declared.explainer.Explainer.{Explainer}
-
--- the first token is not above the second
-abbrev pub IsUpTo : Token → Token → Type 0
-IsUpTo token other = is_lt (token_cmp other token) ≡ false
 
 -- no entry's token is above this one
 abbrev pub AreUpTo : List Entry → Token → Type 0

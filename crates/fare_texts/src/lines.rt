@@ -4,7 +4,8 @@ ghost use Rattle.std.specs.Prelude.{◌≡◌, ◌≤◌, ℕ, List, [], ◌++�
 ghost use Rattle.std.specs.Prelude.{string_bytes};
 ghost use Rattle.std.specs.Io.KnownBytes.{Appends, Keeps, append_known};
 ghost use Rattle.fare_texts.specs.declared.print_fault.PrintFault.TheVariants.{Write as ForWrite};
-ghost use Rattle.fare_texts.specs.Lines.{AreLinesAlong, HasCome, IsUpTo, NoFall};
+ghost use Rattle.fare_texts.specs.Lines.{AreLinesAlong, HasCome, NoFall};
+ghost use Rattle.tap_views.specs.TokenOrder.{IsUpTo};
 ghost use Rattle.fare_texts.specs.Lines.{NoFallFrom};
 ghost use Rattle.fare_texts.specs.WrittenOut.{Begins, GoesOut};
 ghost use Rattle.fare_texts.specs.inside.Spots.{entries_at_spots};

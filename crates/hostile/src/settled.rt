@@ -3,7 +3,6 @@
 use crate::sample::{merged_file, sorted_files, table, uploads};
 use crate::stop::{Case, promise, twice};
 use placed_files::InMemory;
-use report_texts::UploadEnd;
 use sample_table::bytes_of;
 use settlement::{Billed, LoadedUploads, settled_bill};
 use shard_book::{HashSeed, Totals};
@@ -14,7 +13,7 @@ use std::alloc::Global;
 use std::marker::Sync;
 use std::random::RandomSource;
 use std::thread::Threads;
-use tap_views::Token;
+use tap_views::{Token, UploadEnd};
 
 /// How many threads a case may start: as `omny_tools sort` does.
 const WORKERS: u32 = 4;

@@ -22,6 +22,7 @@ mod Prefixes
 mod Renamed
 mod ReportTexts
 mod Rides
+mod SameReports
 mod Sets
 mod SplitFiles
 mod States

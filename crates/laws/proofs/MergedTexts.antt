@@ -17,10 +17,10 @@ use Rattle.shard_book.specs.declared.entry.Entry.{Entry}
 use Rattle.shard_book.specs.SumsByKey.{sums_by_token, sums_by_validator}
 use Rattle.shard_book.specs.Sums.{Sums, add_all, sums}
 use Rattle.shard_book.proofs.SameEntries.{RisingNumbers}
-use Rattle.report_texts.specs.UploadEnds.{ArePlainEnds, IsPlainEnd}
+use Rattle.tap_views.specs.UploadEnds.{ArePlainEnds, IsPlainEnd}
 use Rattle.report_texts.specs.OverHistory.{IsReportOver}
 use Rattle.report_texts.specs.Report.{report, upload_lines}
-use Rattle.report_texts.specs.declared.upload_end.UploadEnd.{UploadEnd}
+use Rattle.tap_views.specs.declared.upload_end.UploadEnd.{UploadEnd}
 use Rattle.report_texts.specs.Numbers.{IsUploadEnd}
 use Rattle.part_reports.specs.Reports.{HasTapNumbers, IsMerged, IsPartReport, Report, end_texts}
 use Rattle.part_reports.specs.Reports.{all_ends, report_text, tokens_of_reports}

@@ -12,14 +12,13 @@ use Rattle.tap_views.specs.declared.fault.LayoutFault.TheVariants.{Length, Momen
 use Rattle.tap_views.specs.declared.token.Token.{Token}
 use Rattle.shard_book.specs.Sums.{Sums}
 use Rattle.fare_texts.specs.Counts.{totals_line}
-use Rattle.report_texts.specs.UploadEnds.{end_by, ArePlainEnds, IsPlainEnd}
+use Rattle.tap_views.specs.UploadEnds.{end_by, ArePlainEnds, IsPlainEnd}
 use Rattle.tap_views.specs.Files.{IsEndAfterBatches}
 use Rattle.report_texts.specs.Report.{report, tokens_section, upload_line, upload_lines}
 use Rattle.report_texts.specs.Report.{validators_section}
 use Rattle.tap_views.specs.Names.{fault_name}
-use Rattle.report_texts.specs.declared.upload_end.UploadEnd.{UploadEnd}
-use Rattle.report_texts.specs.declared.upload_end.UploadEnd.TheVariants.{Posted, Refused, Cut}
-use Rattle.report_texts.specs.declared.upload_end.UploadEnd.TheVariants.{Undrawn}
+use Rattle.tap_views.specs.declared.upload_end.UploadEnd.{UploadEnd}
+use Rattle.tap_views.specs.declared.upload_end.UploadEnd.TheVariants.{Posted, Refused, Cut, Undrawn}
 use Rattle.fare_service.proofs.TapCounts.{file_room}
 use Rattle.fare_texts.specs.ReportLines.{number_line}
 use Rattle.report_texts.specs.Numbers.{IsNameAlone, IsUploadEnd}

@@ -25,11 +25,11 @@ use Rattle.shard_book.specs.SumsByKey.{entries_of_validator, sums_by_token, sums
 use Rattle.shard_book.specs.SumsByKey.{token_of, tokens, validator_of, validators}
 use Rattle.shard_book.specs.Rising.{rising}
 use Rattle.shard_book.specs.Sums.{Sums, add_all, sums, sums_of_replies}
-use Rattle.report_texts.specs.UploadEnds.{end_by, is_posted, taps_of_end, ArePlainEnds, IsPlainEnd}
+use Rattle.tap_views.specs.UploadEnds.{end_by, is_posted, taps_of_end, ArePlainEnds, IsPlainEnd}
 use Rattle.tap_views.specs.Files.{AreGoodTaps, AreGoodTapsOfEach, HasOneReading, IsEndAfterBatches}
 use Rattle.report_texts.specs.OverHistory.{IsReportOver}
 use Rattle.shard_book.specs.Plain.{unanswered}
-use Rattle.report_texts.specs.declared.upload_end.UploadEnd.{UploadEnd}
+use Rattle.tap_views.specs.declared.upload_end.UploadEnd.{UploadEnd}
 use Rattle.shard_book.proofs.PlainReplies.{bare, plain_bare}
 use Rattle.shard_book.proofs.SameEntries.{RisingNumbers, RisingTokens, same_entries}
 use Rattle.tap_parts.specs.Parts.{taps_of_uploads}

@@ -1,7 +1,19 @@
 -- What two settled runs print of the same taps.
-use Rattle.std.specs.Prelude.{◌≡◌, ℕ, Bool, true, false, List, Option, Some, None}
+use Rattle.std.specs.Prelude.{◌≡◌, ◌++◌, ℕ, Bool, true, false, List, Option, Some, None}
+use Rattle.tap_views.specs.UploadEnds.{ArePlainEnds}
 use Rattle.tap_views.specs.declared.token.Token.{Token}
-use Rattle.settlement.specs.Alike.{DifferInUploads}
+use Rattle.tap_views.specs.declared.upload_end.UploadEnd.{UploadEnd}
+use Rattle.report_texts.specs.Report.{uploads_section}
+
+-- both texts are the same after the lines of their uploads
+pub record DifferInUploads (uploads others : List (List ℕ)) (text other : List ℕ) : Type 0 where
+  pub ends : List UploadEnd
+  pub other_ends : List UploadEnd
+  pub of_uploads : ArePlainEnds uploads ends
+  pub of_others : ArePlainEnds others other_ends
+  pub rest : List ℕ
+  pub text_is : text ≡ uploads_section ends ++ rest
+  pub other_is : other ≡ uploads_section other_ends ++ rest
 
 -- The two texts are the same: ledgers, if they are asked for, else statements of this token.
 -- Without a token they are reports, and the same after the lines of their uploads.

@@ -1,14 +1,32 @@
-//! Laws of the texts that runs of the program print.
+//! Laws of the texts of settled histories, and of those that runs of the program print.
 
 ghost use Rattle.std.specs.Prelude.{◌≡◌, ℕ, Bool, List, Option, map};
 ghost use Rattle.tariffs.specs.Fares.{Fares};
+ghost use Rattle.shard_book.specs.declared.entry.Entry.{Entry};
 ghost use Rattle.tap_views.specs.declared.token.Token.{Token};
 ghost use Rattle.fare_program.specs.Options.{Asked};
 ghost use Rattle.fare_program.specs.Settling.{ShowsSettled};
+ghost use Rattle.report_texts.specs.OverHistory.{IsReportOver};
 ghost use Rattle.settlement.specs.Alike.{HaveSameTaps};
-ghost use Rattle.laws.specs.Agree.{TextsAgree};
+ghost use Rattle.settlement.specs.Settled.{IsSettledHistory};
+ghost use Rattle.laws.specs.Agree.{DifferInUploads, TextsAgree};
 
 use settlement::laws::same_history;
+
+/// Uploads that have the same good taps, whatever their order and however the taps are split into
+/// uploads, have reports that are the same after the lines of the uploads.
+pub fn same_reports(uploads: &[Vec<u8>], others: &[Vec<u8>])
+    ensures reports { (fares : Fares) (history again : List Entry) (text other : List ℕ)
+        → HaveSameTaps (map (λ u. u.items) uploads.now) (map (λ u. u.items) others.now)
+        → IsSettledHistory fares (map (λ u. u.items) uploads.now) history
+        → IsSettledHistory fares (map (λ u. u.items) others.now) again
+        → IsReportOver (map (λ u. u.items) uploads.now) history text
+        → IsReportOver (map (λ u. u.items) others.now) again other
+        → DifferInUploads (map (λ u. u.items) uploads.now) (map (λ u. u.items) others.now)
+        text other }
+{
+    same_history(uploads, others);
+}
 
 /// Two settled runs under one table over files with the same good taps, in whatever order and
 /// however split, by any numbers of workers and shards, print the same ledger, the same statement
@@ -24,4 +42,5 @@ pub fn settled_texts_agree(files: &[Vec<u8>], others: &[Vec<u8>])
         (map (λ f. f.items) others.now) text other }
 {
     same_history(files, others);
+    same_reports(files, others);
 }

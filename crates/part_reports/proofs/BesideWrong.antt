@@ -14,7 +14,7 @@ use Rattle.part_reports.specs.Ledgers.{IsWrongLedgerAt, NamesWrongLedger}
 use Rattle.part_reports.specs.LedgersWithReports.{AddsUpToNoReportAt}
 use Rattle.part_reports.specs.LedgersWithReports.{NamesWrongBeside}
 use Rattle.part_reports.specs.Reports.{IsNoReport}
-use Rattle.part_texts.specs.Texts.{AreLeft}
+use Rattle.report_texts.specs.Texts.{AreLeft}
 use Rattle.part_reports.specs.inside.BegunLedgers.{AreBegunLedgers}
 use Rattle.part_reports.specs.inside.Least.{IsLeast}
 use Rattle.part_reports.specs.inside.ReportsLeft.{AreBegunReports, AreUnused, IsLineOfSums}

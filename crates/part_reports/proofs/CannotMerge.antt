@@ -43,8 +43,8 @@ use Rattle.part_reports.proofs.Added.{lines_stand}
 use Rattle.part_reports.proofs.TokenSums.{Sum, line_of, lines_keys, lines_length}
 use Rattle.part_reports.specs.inside.SumsLeft.{left_of}
 use Rattle.part_reports.proofs.WholeReports.{fronts_totals, lines_filtered, parts_taps}
-use Rattle.report_texts.specs.UploadEnds.{taps_of_end}
-use Rattle.report_texts.specs.declared.upload_end.UploadEnd.{UploadEnd}
+use Rattle.tap_views.specs.UploadEnds.{taps_of_end}
+use Rattle.tap_views.specs.declared.upload_end.UploadEnd.{UploadEnd}
 
 -- texts of ends determine the ends
 ends_same : (first : ℕ) (some more : List (List UploadEnd)) → All IsUploadEnd (all_ends some)

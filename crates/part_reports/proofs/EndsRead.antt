@@ -19,8 +19,8 @@ use Rattle.part_reports.proofs.LinesRead.{through}
 use Rattle.part_reports.proofs.OneLine.{end_line_is_one, taken_one}
 use Rattle.report_texts.proofs.Unique.{end_line_unique}
 use Rattle.report_texts.specs.Report.{upload_line, upload_lines}
-use Rattle.report_texts.specs.UploadEnds.{is_posted, taps_of_end}
-use Rattle.report_texts.specs.declared.upload_end.UploadEnd.{UploadEnd}
+use Rattle.tap_views.specs.UploadEnds.{is_posted, taps_of_end}
+use Rattle.tap_views.specs.declared.upload_end.UploadEnd.{UploadEnd}
 use Rattle.report_texts.proofs.Parts.{upload_lines-push}
 use Rattle.tap_views.proofs.Lists.{All-front}
 use Rattle.tap_views.proofs.FirstLines.{taken_none}

@@ -9,7 +9,7 @@ use Rattle.report_texts.specs.Numbers.{IsUploadEnd}
 use Rattle.report_texts.specs.Report.{upload_line, upload_lines}
 use Rattle.part_reports.specs.Faults.{number_from}
 use Rattle.part_reports.specs.Reports.{all_ends, end_texts}
-use Rattle.part_texts.specs.Texts.{AreLeft}
+use Rattle.report_texts.specs.Texts.{AreLeft}
 use Rattle.part_reports.specs.inside.FirstWrong.{up_to_64}
 use Rattle.part_reports.specs.inside.ReadTo.{IsOfForm, NamesFirstWrongEnds}
 use Rattle.part_reports.specs.inside.Reported.{IsOfText, next_number}

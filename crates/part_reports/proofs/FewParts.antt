@@ -19,7 +19,7 @@ use Rattle.report_texts.specs.Numbers.{IsValidatorSum}
 use Rattle.part_reports.specs.Reports.{IsNoReport, IsPartReport, Report, report_text}
 use Rattle.part_reports.specs.Reports.{sums_of_validator}
 use Rattle.part_reports.specs.declared.sums.WholeSums.{WholeSums}
-use Rattle.part_texts.specs.Texts.{AreLeft}
+use Rattle.report_texts.specs.Texts.{AreLeft}
 use Rattle.part_reports.specs.inside.Fronts.{MayBePart, ReportedFront}
 use Rattle.part_reports.specs.inside.Parts.{BegunReport, IsNoPart, begun_text}
 use Rattle.part_reports.specs.inside.Standings.{Standing}

@@ -45,13 +45,13 @@ use Rattle.part_reports.specs.inside.Sums.{AreFrontsCounted}
 use Rattle.part_reports.specs.declared.fault.MergeFault.{MergeFault}
 use Rattle.part_reports.specs.declared.fault.MergeFault.TheVariants.{Line, Taps, Unread, Write}
 use Rattle.part_reports.specs.declared.fault.MergeFault.TheVariants.{NoMemory}
-use Rattle.part_texts.specs.declared.wrong.Wrong.{Wrong}
-use Rattle.part_texts.specs.declared.wrong.Wrong.TheVariants.{Form, LessThanReport, MissingToken}
-use Rattle.part_texts.specs.declared.wrong.Wrong.TheVariants.{MoreThanReport, NotPosted, Order}
-use Rattle.part_texts.specs.declared.wrong.Wrong.TheVariants.{OtherToken, OtherValidators}
-use Rattle.part_texts.specs.declared.wrong.Wrong.TheVariants.{Tokens as TooManyOfTokens}
-use Rattle.part_texts.specs.declared.wrong.Wrong.TheVariants.{Sums as TooManySums, Twice}
-use Rattle.part_texts.specs.declared.wrong.Wrong.TheVariants.{Validators}
+use Rattle.report_texts.specs.declared.wrong.Wrong.{Wrong}
+use Rattle.report_texts.specs.declared.wrong.Wrong.TheVariants.{Form, LessThanReport, MissingToken}
+use Rattle.report_texts.specs.declared.wrong.Wrong.TheVariants.{MoreThanReport, NotPosted, Order}
+use Rattle.report_texts.specs.declared.wrong.Wrong.TheVariants.{OtherToken, OtherValidators}
+use Rattle.report_texts.specs.declared.wrong.Wrong.TheVariants.{Tokens as TooManyOfTokens}
+use Rattle.report_texts.specs.declared.wrong.Wrong.TheVariants.{Sums as TooManySums, Twice}
+use Rattle.report_texts.specs.declared.wrong.Wrong.TheVariants.{Validators}
 use Rattle.part_reports.specs.declared.merging.LineKind.{LineKind}
 use Rattle.part_reports.specs.declared.merging.LineKind.TheVariants.{Tokens, Entries}
 use Rattle.part_reports.specs.declared.sums.WholeSums.{WholeSums}

@@ -23,7 +23,7 @@ use Rattle.part_reports.specs.inside.Reported.{NamesOnly}
 use Rattle.part_reports.specs.declared.fault.MergeFault.{MergeFault}
 use Rattle.part_reports.specs.declared.fault.MergeFault.TheVariants.{Line, Taps, Unread, Write}
 use Rattle.part_reports.specs.declared.fault.MergeFault.TheVariants.{NoMemory}
-use Rattle.part_texts.specs.declared.wrong.Wrong.TheVariants.{Twice}
+use Rattle.report_texts.specs.declared.wrong.Wrong.TheVariants.{Twice}
 use Rattle.part_reports.specs.declared.merging.LineKind.{LineKind}
 use Rattle.part_reports.specs.declared.merging.LineKind.TheVariants.{Entries}
 use Rattle.part_reports.proofs.FirstLines.{counted_at, feeds_append, feeds_one}

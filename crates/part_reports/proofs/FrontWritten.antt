@@ -16,7 +16,7 @@ use Rattle.part_reports.specs.declared.upload_ends.UploadEnds.{UploadEnds}
 use Rattle.part_reports.specs.inside.UploadEnds.{HaveReadEnds}
 use denote.Ref.{Bor}
 use Rattle.report_texts.specs.Report.{upload_lines}
-use Rattle.report_texts.specs.declared.upload_end.UploadEnd.{UploadEnd}
+use Rattle.tap_views.specs.declared.upload_end.UploadEnd.{UploadEnd}
 
 -- entries of the map, as validators with their sums
 abbrev pub shown : List (ℕ × Totals) → List (ℕ × Sums)

@@ -12,8 +12,8 @@ use Rattle.fare_texts.specs.Counts.{totals_line}
 use Rattle.fare_texts.specs.ReportLines.{number_line, validator_line}
 use Rattle.report_texts.specs.Numbers.{AreCounts, IsUploadEnd, IsValidatorSum}
 use Rattle.report_texts.specs.Report.{upload_line}
-use Rattle.report_texts.specs.UploadEnds.{is_posted}
-use Rattle.report_texts.specs.declared.upload_end.UploadEnd.{UploadEnd}
+use Rattle.tap_views.specs.UploadEnds.{is_posted}
+use Rattle.tap_views.specs.declared.upload_end.UploadEnd.{UploadEnd}
 use Rattle.shard_book.specs.Shown.{validator_sum}
 use Rattle.shard_book.specs.Sums.{Sums, sums_of}
 use Rattle.shard_book.specs.declared.sums.ValidatorSum.{ValidatorSum}
@@ -28,7 +28,7 @@ use Rattle.part_reports.specs.inside.ReadTo.{IsFirstWrong, IsOfForm, IsReadTo}
 use Rattle.part_reports.specs.inside.Reported.{next_number}
 use Rattle.part_reports.specs.declared.fault.MergeFault.{MergeFault}
 use Rattle.part_reports.specs.declared.fault.MergeFault.TheVariants.{Line}
-use Rattle.part_texts.specs.declared.wrong.Wrong.TheVariants.{NotPosted, Order, Validators}
+use Rattle.report_texts.specs.declared.wrong.Wrong.TheVariants.{NotPosted, Order, Validators}
 use Rattle.part_reports.specs.declared.front.Front.{Front}
 use Rattle.part_reports.proofs.EndsRead.{All-last}
 use Rattle.part_reports.proofs.LinesRight.{fails, first_wrong, no_form, of_line, read_one}

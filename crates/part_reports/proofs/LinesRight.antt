@@ -15,8 +15,8 @@ use Rattle.part_reports.specs.inside.Reported.{next_number}
 use Rattle.part_reports.specs.declared.fault.MergeFault.{MergeFault}
 use Rattle.part_reports.specs.declared.fault.MergeFault.TheVariants.{Line, Taps, Unread, Write}
 use Rattle.part_reports.specs.declared.fault.MergeFault.TheVariants.{NoMemory}
-use Rattle.part_texts.specs.declared.wrong.Wrong.{Wrong}
-use Rattle.part_texts.specs.declared.wrong.Wrong.TheVariants.{Form}
+use Rattle.report_texts.specs.declared.wrong.Wrong.{Wrong}
+use Rattle.report_texts.specs.declared.wrong.Wrong.TheVariants.{Form}
 use Rattle.part_reports.proofs.FirstLines.{feeds_append, feeds_one}
 use Rattle.part_reports.proofs.LinesRead.{through}
 use Rattle.part_reports.proofs.OneLine.{IsOneLine, taken_one}

@@ -5,7 +5,7 @@ use Rattle.std.specs.Prelude.{All, flat_map}
 use Rattle.std.proofs.lemmas.List.Elements.{All-head, All-tail}
 use Rattle.report_texts.specs.Report.{upload_line}
 use Rattle.report_texts.specs.Report.{upload_lines}
-use Rattle.report_texts.specs.declared.upload_end.UploadEnd.{UploadEnd}
+use Rattle.tap_views.specs.declared.upload_end.UploadEnd.{UploadEnd}
 
 -- the items' lines, the first of which has this number
 abbrev pub lines_from : {V : Type 0} → (ℕ → V → List ℕ) → ℕ → List V → List ℕ

@@ -20,8 +20,7 @@ use Rattle.tap_views.specs.declared.token.Token.{Token}
 use Rattle.report_texts.specs.Numbers.{AreCounts, IsUploadEnd, IsTokenSum, IsValidatorSum}
 use Rattle.fare_texts.specs.ReportLines.{number_line, token_line, validator_line}
 use Rattle.report_texts.specs.inside.EndWords.{end_words, fault_number}
-use Rattle.report_texts.specs.declared.upload_end.UploadEnd.TheVariants.{Posted, Refused, Cut}
-use Rattle.report_texts.specs.declared.upload_end.UploadEnd.TheVariants.{Undrawn}
+use Rattle.tap_views.specs.declared.upload_end.UploadEnd.TheVariants.{Posted, Refused, Cut, Undrawn}
 use Rattle.report_texts.proofs.EndTexts.{line_words, refused_spelt, small_number}
 use Rattle.part_reports.specs.Ledgers.{IsLedgerEntryLine}
 use Rattle.part_reports.specs.TokenLines.{TokenLine}
@@ -30,7 +29,7 @@ use Rattle.report_texts.proofs.Counts.{capped_counted, stale_counted, unknown_co
 use Rattle.report_texts.proofs.Counts.{cents_counted}
 use Rattle.report_texts.proofs.Digits.{decimal_digits}
 use Rattle.report_texts.specs.Report.{upload_line}
-use Rattle.report_texts.specs.declared.upload_end.UploadEnd.{UploadEnd}
+use Rattle.tap_views.specs.declared.upload_end.UploadEnd.{UploadEnd}
 
 -- bytes with no line feed, and a line feed behind them
 pub record IsOneLine (line : List ℕ) : Type 0 where

@@ -11,7 +11,7 @@ use Rattle.part_reports.specs.declared.merging.LineKind.{LineKind}
 use Rattle.part_reports.specs.declared.merging.LineKind.TheVariants.{Tokens}
 use Rattle.part_reports.specs.declared.sums.WholeSums.{WholeSums}
 use Rattle.part_reports.specs.Faults.{IsOfTexts}
-use Rattle.part_texts.specs.Texts.{AreLeft}
+use Rattle.report_texts.specs.Texts.{AreLeft}
 use Rattle.part_reports.specs.TokenLines.{TokenLine}
 use Rattle.shard_book.specs.Shown.{validator_sum}
 use Rattle.shard_book.specs.Sums.{sums_of}

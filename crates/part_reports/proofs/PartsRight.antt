@@ -18,7 +18,7 @@ use Rattle.part_reports.specs.Faults.{number_from}
 use Rattle.part_reports.specs.FirstWrongLines.{IsWhyBeside, OfNothing, OfTokens}
 use Rattle.part_reports.specs.FirstWrongLines.{OfValidators}
 use Rattle.part_reports.specs.Reports.{added}
-use Rattle.part_texts.specs.Texts.{AreLeft}
+use Rattle.report_texts.specs.Texts.{AreLeft}
 use Rattle.part_reports.specs.inside.FirstWrong.{IsCounted, IsCountedAt, IsLineReason}
 use Rattle.part_reports.specs.inside.FirstWrong.{IsOfNext, line_feeds}
 use Rattle.part_reports.specs.inside.Fronts.{IsFront, MayBePart, reported_text}
@@ -35,7 +35,7 @@ use Rattle.part_reports.specs.inside.SumsLeft.{left_of, sums_left}
 use Rattle.part_reports.specs.declared.fault.MergeFault.{MergeFault}
 use Rattle.part_reports.specs.declared.fault.MergeFault.TheVariants.{Line, Taps, Unread, Write}
 use Rattle.part_reports.specs.declared.fault.MergeFault.TheVariants.{NoMemory}
-use Rattle.part_texts.specs.declared.wrong.Wrong.TheVariants.{Sums as TooManySums}
+use Rattle.report_texts.specs.declared.wrong.Wrong.TheVariants.{Sums as TooManySums}
 use Rattle.part_reports.specs.declared.front.Front.{Front}
 use Rattle.part_reports.specs.declared.merging.LineKind.TheVariants.{Tokens}
 use Rattle.part_reports.specs.declared.sums.WholeSums.{WholeSums}

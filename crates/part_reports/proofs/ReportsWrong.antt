@@ -10,11 +10,11 @@ use Rattle.std.specs.Ordering.{nat_cmp}
 use Rattle.std.proofs.lemmas.List.Elements.{All-cons, All-map, All-nil, recursion_from_All}
 use Rattle.shard_book.specs.Sums.{sums_of}
 use Rattle.report_texts.specs.Report.{upload_lines}
-use Rattle.report_texts.specs.declared.upload_end.UploadEnd.{UploadEnd}
+use Rattle.tap_views.specs.declared.upload_end.UploadEnd.{UploadEnd}
 use Rattle.part_reports.specs.Faults.{IsOfTexts, number_from}
 use Rattle.part_reports.specs.Reports.{IsMerged, IsPartReport, IsWrongReportAt, NamesWrongText}
 use Rattle.part_reports.specs.Reports.{Report, all_ends, end_texts, report_text}
-use Rattle.part_texts.specs.Texts.{AreLeft}
+use Rattle.report_texts.specs.Texts.{AreLeft}
 use Rattle.part_reports.specs.TokenLines.{IsMergedByToken, TokenLine, text_of}
 use Rattle.part_reports.specs.declared.fault.MergeFault.{MergeFault}
 use Rattle.part_reports.specs.declared.fault.MergeFault.TheVariants.{Line, Taps, Unread, Write}

@@ -17,8 +17,8 @@ use Rattle.fare_texts.specs.Counts.{totals_line}
 use Rattle.fare_texts.specs.ReportLines.{number_line, token_line, validator_line}
 use Rattle.report_texts.specs.Numbers.{IsTokenSum, IsUploadEnd, IsValidatorSum}
 use Rattle.report_texts.specs.Report.{upload_line, upload_lines}
-use Rattle.report_texts.specs.UploadEnds.{is_posted}
-use Rattle.report_texts.specs.declared.upload_end.UploadEnd.{UploadEnd}
+use Rattle.tap_views.specs.UploadEnds.{is_posted}
+use Rattle.tap_views.specs.declared.upload_end.UploadEnd.{UploadEnd}
 use Rattle.shard_book.specs.Sums.{Sums, add_sums}
 use Rattle.shard_book.proofs.SumsLemmas.{add_assoc, none_add}
 use Rattle.part_reports.specs.FirstWrongLines.{IsNext, IsRight, OfNothing, OfTokens, OfTotals}

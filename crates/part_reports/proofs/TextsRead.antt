@@ -13,13 +13,13 @@ use Rattle.part_reports.specs.declared.upload_ends.UploadEnds.{UploadEnds}
 use Rattle.part_reports.specs.Faults.{IsOfTexts}
 use Rattle.report_texts.specs.Numbers.{IsUploadEnd}
 use Rattle.part_reports.specs.Reports.{end_texts, all_ends}
-use Rattle.part_texts.specs.Texts.{AreLeft}
+use Rattle.report_texts.specs.Texts.{AreLeft}
 use Rattle.part_reports.specs.inside.UploadEnds.{HaveReadEnds, AreEndsAdded, HaveMoreEnds}
 use Rattle.part_reports.proofs.EndsRead.{some_line}
 use Rattle.report_texts.proofs.Unique.{end_line_unique}
 use Rattle.report_texts.specs.Report.{upload_line, upload_lines}
-use Rattle.report_texts.specs.UploadEnds.{is_posted, taps_of_end}
-use Rattle.report_texts.specs.declared.upload_end.UploadEnd.{UploadEnd}
+use Rattle.tap_views.specs.UploadEnds.{is_posted, taps_of_end}
+use Rattle.tap_views.specs.declared.upload_end.UploadEnd.{UploadEnd}
 use Rattle.tap_views.proofs.Lists.{All-front, All-back}
 
 pub record Split {R : Type 0} (remaining : R → Option (List ℕ)) (front : List R) (x : R)

@@ -13,7 +13,7 @@ use Rattle.std.proofs.lemmas.List.Elements.{All-cons, All-from_recursion, All-ma
 use Rattle.std.proofs.lemmas.List.Elements.{All-weaker}
 use Rattle.fare_texts.specs.ReportLines.{token_line}
 use Rattle.report_texts.specs.Numbers.{IsTokenSum}
-use Rattle.report_texts.specs.declared.upload_end.UploadEnd.{UploadEnd}
+use Rattle.tap_views.specs.declared.upload_end.UploadEnd.{UploadEnd}
 use Rattle.shard_book.specs.Sums.{Sums, add_sums, sums}
 use Rattle.shard_book.proofs.SumsLemmas.{add_assoc, add_none}
 use Rattle.tap_views.proofs.Lists.{All-unmap}
@@ -36,8 +36,8 @@ use Rattle.part_reports.specs.inside.Parts.{BegunReport, begun_text, left_text}
 use Rattle.part_reports.specs.inside.ReadTo.{IsReadTo}
 use Rattle.part_reports.specs.inside.Standings.{IsBehindOne, IsLineOfKind}
 use Rattle.part_reports.specs.inside.SumsLeft.{left_of, sums_left}
-use Rattle.part_texts.specs.declared.wrong.Wrong.{Wrong}
-use Rattle.part_texts.specs.declared.wrong.Wrong.TheVariants.{Twice}
+use Rattle.report_texts.specs.declared.wrong.Wrong.{Wrong}
+use Rattle.report_texts.specs.declared.wrong.Wrong.TheVariants.{Twice}
 use Rattle.part_reports.specs.declared.merging.LineKind.{LineKind}
 use Rattle.part_reports.specs.declared.merging.LineKind.TheVariants.{Tokens, Entries}
 use Rattle.part_reports.specs.declared.sums_left.SumsLeft.{SumsLeft}

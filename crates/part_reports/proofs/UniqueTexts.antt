@@ -19,7 +19,7 @@ use Rattle.report_texts.proofs.Unique.{end_line_unique, number_line_unique}
 use Rattle.part_reports.proofs.Unique.{entry_line_unique}
 use Rattle.part_reports.proofs.Unique.{token_line_unique, totals_line_unique, validator_line_unique}
 use Rattle.report_texts.specs.Report.{upload_line, upload_lines}
-use Rattle.report_texts.specs.declared.upload_end.UploadEnd.{UploadEnd}
+use Rattle.tap_views.specs.declared.upload_end.UploadEnd.{UploadEnd}
 
 -- lines of one form, as many in both texts
 pub lines_unique : {V : Type 0} (printed : V → List ℕ) (Legal : V → Type 0)

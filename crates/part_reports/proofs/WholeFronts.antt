@@ -10,7 +10,7 @@ use Rattle.part_reports.specs.inside.Fronts.{front_text, AreEnds, AreValidators,
 use Rattle.part_reports.specs.inside.Fronts.{ReportedFront, ends_text, reported_text}
 use Rattle.part_reports.specs.inside.Fronts.{validators_text}
 use Rattle.report_texts.specs.Report.{report, upload_line, upload_lines}
-use Rattle.report_texts.specs.declared.upload_end.UploadEnd.{UploadEnd}
+use Rattle.tap_views.specs.declared.upload_end.UploadEnd.{UploadEnd}
 use Rattle.part_reports.specs.declared.fault.MergeFault.{MergeFault}
 use Rattle.part_reports.specs.Faults.{IsOfTexts}
 use Rattle.report_texts.specs.Numbers.{AreCounts, IsUploadEnd, IsValidatorSum}

@@ -44,8 +44,8 @@ use Rattle.part_reports.proofs.SumsAdded.{taps_nothing}
 use Rattle.part_reports.proofs.PermutedTokens.{of_token, permuted}
 use Rattle.part_reports.proofs.TokenSums.{Sum, line_of, lines_keys, lines_length, lines_text}
 use Rattle.part_reports.proofs.TokenSums.{sums_same, reported}
-use Rattle.report_texts.specs.UploadEnds.{is_posted}
-use Rattle.report_texts.specs.declared.upload_end.UploadEnd.{UploadEnd}
+use Rattle.tap_views.specs.UploadEnds.{is_posted}
+use Rattle.tap_views.specs.declared.upload_end.UploadEnd.{UploadEnd}
 
 -- ---- the reports of the parts
 -- the parts' reports, of what was read before their tokens and of their tokens' lines

@@ -20,11 +20,11 @@ use Rattle.part_reports.specs.TokenLines.{TokenLine}
 use Rattle.part_reports.specs.declared.fault.MergeFault.{MergeFault}
 use Rattle.part_reports.specs.declared.fault.MergeFault.TheVariants.{Line, Taps, Unread, Write}
 use Rattle.part_reports.specs.declared.fault.MergeFault.TheVariants.{NoMemory}
-use Rattle.part_texts.specs.declared.wrong.Wrong.{Wrong}
-use Rattle.part_texts.specs.declared.wrong.Wrong.TheVariants.{Form, LessThanReport, MissingToken}
-use Rattle.part_texts.specs.declared.wrong.Wrong.TheVariants.{MoreThanReport, OtherToken}
-use Rattle.part_texts.specs.declared.wrong.Wrong.TheVariants.{OtherValidators}
-use Rattle.part_texts.specs.declared.wrong.Wrong.TheVariants.{Sums as TooManySums}
+use Rattle.report_texts.specs.declared.wrong.Wrong.{Wrong}
+use Rattle.report_texts.specs.declared.wrong.Wrong.TheVariants.{Form, LessThanReport, MissingToken}
+use Rattle.report_texts.specs.declared.wrong.Wrong.TheVariants.{MoreThanReport, OtherToken}
+use Rattle.report_texts.specs.declared.wrong.Wrong.TheVariants.{OtherValidators}
+use Rattle.report_texts.specs.declared.wrong.Wrong.TheVariants.{Sums as TooManySums}
 
 -- the token of the last sums
 abbrev pub last_token : List (Token × Sums) → Option Token

@@ -9,8 +9,8 @@ use Rattle.fare_texts.specs.Counts.{totals_line}
 use Rattle.fare_texts.specs.ReportLines.{number_line, token_line, validator_line}
 use Rattle.report_texts.specs.Numbers.{AreCounts, IsTokenSum, IsUploadEnd, IsValidatorSum}
 use Rattle.report_texts.specs.Report.{upload_line, upload_lines}
-use Rattle.report_texts.specs.UploadEnds.{is_posted}
-use Rattle.report_texts.specs.declared.upload_end.UploadEnd.{UploadEnd}
+use Rattle.tap_views.specs.UploadEnds.{is_posted}
+use Rattle.tap_views.specs.declared.upload_end.UploadEnd.{UploadEnd}
 use Rattle.shard_book.specs.Sums.{Sums, add_sums}
 use Rattle.tap_views.specs.Token.{token_cmp}
 use Rattle.tap_views.specs.declared.token.Token.{Token}
@@ -20,10 +20,10 @@ use Rattle.part_reports.specs.Reports.{report_text}
 use Rattle.part_reports.specs.declared.fault.MergeFault.{MergeFault}
 use Rattle.part_reports.specs.declared.fault.MergeFault.TheVariants.{Line, Taps, Unread, Write}
 use Rattle.part_reports.specs.declared.fault.MergeFault.TheVariants.{NoMemory}
-use Rattle.part_texts.specs.declared.wrong.Wrong.{Wrong}
-use Rattle.part_texts.specs.declared.wrong.Wrong.TheVariants.{Form, NotPosted, Order, Twice}
-use Rattle.part_texts.specs.declared.wrong.Wrong.TheVariants.{Sums as TooManySums, Tokens}
-use Rattle.part_texts.specs.declared.wrong.Wrong.TheVariants.{Validators}
+use Rattle.report_texts.specs.declared.wrong.Wrong.{Wrong}
+use Rattle.report_texts.specs.declared.wrong.Wrong.TheVariants.{Form, NotPosted, Order, Twice}
+use Rattle.report_texts.specs.declared.wrong.Wrong.TheVariants.{Sums as TooManySums, Tokens}
+use Rattle.report_texts.specs.declared.wrong.Wrong.TheVariants.{Validators}
 
 -- What the first lines of a part's report say. Of the section that is being read: the number in its
 -- head, and its lines so far. `OfWhole` is the report at its end.

@@ -11,8 +11,8 @@ use Rattle.part_reports.specs.TokenLines.{text_of}
 use Rattle.part_reports.specs.declared.fault.MergeFault.{MergeFault}
 use Rattle.part_reports.specs.declared.fault.MergeFault.TheVariants.{Line, Taps, Unread, Write}
 use Rattle.part_reports.specs.declared.fault.MergeFault.TheVariants.{NoMemory}
-use Rattle.part_texts.specs.declared.wrong.Wrong.{Wrong}
-use Rattle.part_texts.specs.declared.wrong.Wrong.TheVariants.{Form, Order, Twice}
+use Rattle.report_texts.specs.declared.wrong.Wrong.{Wrong}
+use Rattle.report_texts.specs.declared.wrong.Wrong.TheVariants.{Form, Order, Twice}
 
 -- a ledger's line: the token's digits, a comma, and other fields up to the line feed
 pub record IsLedgerEntryLine (line : TokenLine) : Type 0 where

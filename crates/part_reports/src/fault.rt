@@ -1,6 +1,6 @@
 //! Why texts of parts are not merged.
 
-use part_texts::Wrong;
+use report_texts::Wrong;
 use std::alloc::{AllocError, AllocFailed};
 
 /// Why texts of parts are not merged.

@@ -10,7 +10,7 @@ ghost use Rattle.part_reports.specs.inside.ReadTo.{AreSectionsRead, AreUploadsRe
 ghost use Rattle.part_reports.specs.inside.ReadTo.{AreValidatorsRead, IsFirstWrong, IsFrontRead};
 ghost use Rattle.part_reports.specs.inside.ReadTo.{IsOfForm, IsReadTo};
 ghost use Rattle.part_reports.specs.inside.Reported.{IsOfReader, next_number};
-ghost use Rattle.report_texts.specs.declared.upload_end.UploadEnd.{UploadEnd as AnEnd};
+ghost use Rattle.tap_views.specs.declared.upload_end.UploadEnd.{UploadEnd as AnEnd};
 ghost use Rattle.report_texts.specs.Numbers.{AreCounts, IsUploadEnd, IsValidatorSum};
 ghost use Rattle.fare_texts.specs.ReportLines.{number_line, validator_line};
 ghost use Rattle.report_texts.specs.Report.{upload_line, upload_lines};
@@ -25,11 +25,12 @@ ghost use Rattle.part_reports.specs.inside.LinesRead.{IsRead};
 use crate::fault::MergeFault;
 use crate::line_reader::LineReader;
 use crate::sums_left::SumsLeft;
-use part_texts::Wrong;
-use report_texts::{UploadEnd, end_of, head_of, totals_of, validator_sum_of};
+use report_texts::Wrong;
+use report_texts::{end_of, head_of, totals_of, validator_sum_of};
 use shard_book::{Totals, ValidatorSum};
 use std::alloc::Global;
 use std::io::BufRead;
+use tap_views::UploadEnd;
 
 /// What a part's report has before the lines of its tokens.
 #[derive(Drop)]

@@ -7,7 +7,7 @@ ghost use Rattle.part_reports.specs.Faults.{IsOfTaps, IsOfTexts, text_named};
 ghost use Rattle.part_reports.specs.Ledgers.{IsMergedLedger, IsNoLedger, NamesFirstWrongLine};
 ghost use Rattle.part_reports.specs.Ledgers.{NamesWrongLedger};
 ghost use Rattle.fare_texts.specs.WrittenOut.{Begins};
-ghost use Rattle.part_texts.specs.Texts.{AreLeft};
+ghost use Rattle.report_texts.specs.Texts.{AreLeft};
 ghost use Rattle.part_reports.specs.inside.BegunLedgers.{AreBegunLedgers, IsBegunLedger};
 ghost use Rattle.part_reports.specs.inside.BegunLedgers.{IsOfFirstLines};
 ghost use Rattle.part_reports.specs.inside.Standings.{standing};
@@ -18,7 +18,7 @@ use crate::line_reader::LineReader;
 use crate::merging::{LineKind, OrderedText, write_merged};
 use crate::writing::write_text;
 use fare_texts::head_line;
-use part_texts::Wrong;
+use report_texts::Wrong;
 use std::alloc::Global;
 use std::io::{BufRead, Write};
 

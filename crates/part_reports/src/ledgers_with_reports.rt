@@ -9,7 +9,7 @@ ghost use Rattle.part_reports.specs.LedgersWithReports.{AddUpToText, IsMergedWit
 ghost use Rattle.part_reports.specs.FirstWrongBeside.{NamesFirstWrongBeside};
 ghost use Rattle.part_reports.specs.LedgersWithReports.{NamesWrongBeside};
 ghost use Rattle.fare_texts.specs.WrittenOut.{Begins};
-ghost use Rattle.part_texts.specs.Texts.{AreLeft};
+ghost use Rattle.report_texts.specs.Texts.{AreLeft};
 ghost use Rattle.part_reports.specs.TokenLines.{IsMergedByToken, TokenLine, text_of};
 ghost use Rattle.part_reports.specs.inside.Kinds.{AreTexts};
 ghost use Rattle.part_reports.specs.inside.ReportsLeft.{AreBegunReports, AreSummed, AreUnused};
@@ -31,7 +31,7 @@ use crate::merging::{OrderedText, fault_in, least, tokens_at, write_at};
 use crate::report_left::ReportLeft;
 use crate::writing::write_text;
 use fare_texts::head_line;
-use part_texts::Wrong;
+use report_texts::Wrong;
 use std::alloc::Global;
 use std::io::{BufRead, Write};
 

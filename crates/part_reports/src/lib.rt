@@ -25,5 +25,5 @@ mod writing;
 pub use fault::MergeFault;
 pub use ledgers::merge_ledgers;
 pub use ledgers_with_reports::merge_ledgers_with_reports;
-pub use part_texts::Wrong;
+pub use report_texts::Wrong;
 pub use reports::merge;

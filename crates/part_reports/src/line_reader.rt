@@ -6,10 +6,10 @@ ghost use Rattle.std.specs.Io.BufRead.{drop_through, take_through};
 ghost use Rattle.part_reports.specs.Faults.{IsOfTaps, IsOfTexts};
 ghost use Rattle.part_reports.specs.inside.Reported.{IsOfReader, next_number};
 ghost use Rattle.part_reports.specs.declared.fault.MergeFault.TheVariants.{Line, Unread};
-ghost use Rattle.part_texts.specs.declared.wrong.Wrong.TheVariants.{Form};
+ghost use Rattle.report_texts.specs.declared.wrong.Wrong.TheVariants.{Form};
 
 use crate::fault::MergeFault;
-use part_texts::Wrong;
+use report_texts::Wrong;
 use std::alloc::Global;
 use std::io::{BufRead, ErrorKind};
 

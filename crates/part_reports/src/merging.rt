@@ -27,7 +27,7 @@ use crate::ledger_line::ledger_token_of;
 use crate::line_reader::LineReader;
 use crate::sums_left::SumsLeft;
 use crate::writing::write_text;
-use part_texts::Wrong;
+use report_texts::Wrong;
 use report_texts::token_sum_of;
 use std::alloc::{AllocError, Global};
 use std::cmp::Ordering;

@@ -26,7 +26,7 @@ use crate::merging::OrderedText;
 use crate::reports::read_part;
 use crate::sums::{add_validator, no_sums};
 use crate::sums_left::SumsLeft;
-use part_texts::Wrong;
+use report_texts::Wrong;
 use report_texts::token_sum_of;
 use shard_book::Totals;
 use std::alloc::Global;

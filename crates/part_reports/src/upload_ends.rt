@@ -2,12 +2,12 @@
 
 ghost use Rattle.std.specs.Prelude.{◌≡◌, ◌+◌, ◌*◌, ◌<◌, ◌≤◌, ◌↔◌, [], ◌++◌, IsTrue, OnOk};
 ghost use Rattle.std.specs.Prelude.{length, vec_len};
-ghost use Rattle.report_texts.specs.UploadEnds.{is_posted, taps_of_end};
+ghost use Rattle.tap_views.specs.UploadEnds.{is_posted, taps_of_end};
 
 pub(crate) mod read;
 
-use report_texts::UploadEnd;
 use std::alloc::{AllocError, Global};
+use tap_views::UploadEnd;
 
 /// How the uploads of the whole ended.
 #[derive(Drop)]

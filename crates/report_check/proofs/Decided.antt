@@ -11,8 +11,8 @@ use Rattle.shard_book.specs.SumsByKey.{sums_by_token, sums_by_validator}
 use Rattle.shard_book.specs.declared.entry.Entry.{Entry}
 use Rattle.report_texts.specs.Report.{tokens_section, upload_line, upload_lines, uploads_section}
 use Rattle.report_texts.specs.Report.{validators_section}
-use Rattle.report_texts.specs.UploadEnds.{taps_of_end}
-use Rattle.report_texts.specs.declared.upload_end.UploadEnd.{UploadEnd}
+use Rattle.tap_views.specs.UploadEnds.{taps_of_end}
+use Rattle.tap_views.specs.declared.upload_end.UploadEnd.{UploadEnd}
 use Rattle.report_check.specs.Reports.{BeginsWithUploads, HasNoUploads, HasOtherTaps}
 use Rattle.report_check.specs.Reports.{HasReportBefore, HasWrongLine, HaveTapsOf, IsNoUploadLine}
 use Rattle.report_check.specs.Reports.{IsReportOfLedger, IsReportVerdict, IsWrongLine, is_of_ledger}

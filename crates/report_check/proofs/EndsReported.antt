@@ -15,9 +15,8 @@ use Rattle.report_texts.proofs.Unique.{end_line_unique, number_line_unique}
 use Rattle.report_check.specs.Reports.{IsReportEnd}
 use Rattle.report_texts.proofs.EndTexts.{line_words, refused_spelt, small_number}
 use Rattle.report_texts.specs.Report.{upload_line, upload_lines, uploads_section}
-use Rattle.report_texts.specs.declared.upload_end.UploadEnd.{UploadEnd}
-use Rattle.report_texts.specs.declared.upload_end.UploadEnd.TheVariants.{Posted, Refused, Cut}
-use Rattle.report_texts.specs.declared.upload_end.UploadEnd.TheVariants.{Undrawn}
+use Rattle.tap_views.specs.declared.upload_end.UploadEnd.{UploadEnd}
+use Rattle.tap_views.specs.declared.upload_end.UploadEnd.TheVariants.{Posted, Refused, Cut, Undrawn}
 use Rattle.report_texts.specs.inside.EndWords.{end_words, fault_number}
 
 -- ---- what stands behind the number of an upload

@@ -8,7 +8,7 @@ use Rattle.hex.specs.Hex.{encode_lower}
 use Rattle.fare_texts.specs.Counts.{counts_text, first_counts, last_counts, totals_line}
 use Rattle.fare_texts.specs.ReportLines.{number_line, token_line}
 use Rattle.report_texts.specs.Report.{report, tokens_section, uploads_section, validators_section}
-use Rattle.report_texts.specs.declared.upload_end.UploadEnd.{UploadEnd}
+use Rattle.tap_views.specs.declared.upload_end.UploadEnd.{UploadEnd}
 use Rattle.shard_book.specs.Sums.{Sums}
 use Rattle.tap_views.specs.Token.{bytes_of}
 use Rattle.tap_views.specs.declared.token.Token.{Token}

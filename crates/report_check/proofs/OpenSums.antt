@@ -7,7 +7,7 @@ use Rattle.std.proofs.lemmas.List.Elements.{All-append, All-cons, All-head, All-
 use Rattle.std.proofs.lemmas.List.Elements.{All-weaker}
 use Rattle.ledger_check.specs.Ledger.{token_number}
 use Rattle.ledger_check.proofs.TokenOrder.{greater_number}
-use Rattle.tap_views.specs.TokenLists.{AreBelow}
+use Rattle.tap_views.specs.TokenOrder.{AreBelow}
 use Rattle.shard_book.specs.Entry.{reply_of}
 use Rattle.shard_book.specs.Sums.{Sums, add_sums, sums_of_replies}
 use Rattle.shard_book.specs.SumsByKey.{sums_by_token, token_of, validator_of}

@@ -7,10 +7,9 @@ use Rattle.std.specs.Io.BufRead.{drop_through, take_through}
 use Rattle.fare_texts.specs.ReportLines.{number_line}
 use Rattle.report_texts.specs.Numbers.{IsUploadEnd}
 use Rattle.report_texts.specs.Report.{upload_line, upload_lines}
-use Rattle.report_texts.specs.UploadEnds.{taps_of_end}
-use Rattle.report_texts.specs.declared.upload_end.UploadEnd.{UploadEnd}
-use Rattle.report_texts.specs.declared.upload_end.UploadEnd.TheVariants.{Posted, Refused, Cut}
-use Rattle.report_texts.specs.declared.upload_end.UploadEnd.TheVariants.{Undrawn}
+use Rattle.tap_views.specs.UploadEnds.{taps_of_end}
+use Rattle.tap_views.specs.declared.upload_end.UploadEnd.{UploadEnd}
+use Rattle.tap_views.specs.declared.upload_end.UploadEnd.TheVariants.{Posted, Refused, Cut, Undrawn}
 use Rattle.report_check.specs.Reports.{BeginsWithUploads, IsNoUploadLine, IsReportEnd}
 use Rattle.report_check.specs.inside.UploadLines.{IsUnfinished}
 use Rattle.tap_views.proofs.FirstLines.{taken_and_left}

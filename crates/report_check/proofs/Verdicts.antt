@@ -1,8 +1,8 @@
 -- What is found of a report, by its parts.
 use Rattle.std.proofs.Common.{◌≡◌, ℕ, ◌+◌, List, length, sym, ap, ◌∙◌, inr}
 use Rattle.std.specs.Prelude.{sum_by}
-use Rattle.report_texts.specs.UploadEnds.{taps_of_end}
-use Rattle.report_texts.specs.declared.upload_end.UploadEnd.{UploadEnd}
+use Rattle.tap_views.specs.UploadEnds.{taps_of_end}
+use Rattle.tap_views.specs.declared.upload_end.UploadEnd.{UploadEnd}
 use Rattle.shard_book.specs.Sums.{Sums}
 use Rattle.shard_book.specs.declared.entry.Entry.{Entry}
 use Rattle.shard_book.proofs.SumsLemmas.{sums-taps}

@@ -5,15 +5,15 @@ ghost use Rattle.std.specs.Prelude.{MatchOption, string_bytes};
 ghost use Rattle.std.specs.Fmt.{decimal};
 ghost use Rattle.std.specs.Io.BufRead.{drop_through, take_through};
 ghost use Rattle.report_texts.specs.Report.{upload_line};
-ghost use Rattle.report_texts.specs.declared.upload_end.UploadEnd.{UploadEnd as AnEnd};
-ghost use Rattle.report_texts.specs.declared.upload_end.UploadEnd.TheVariants.{Undrawn};
+ghost use Rattle.tap_views.specs.declared.upload_end.UploadEnd.{UploadEnd as AnEnd};
+ghost use Rattle.tap_views.specs.declared.upload_end.UploadEnd.TheVariants.{Undrawn};
 ghost use Rattle.report_check.specs.Reports.{IsReportEnd};
 ghost use Rattle.report_check.specs.inside.UploadLines.{AreUploadLines, IsUnfinished};
 
 use ledger_check::{same_bytes, split_line};
-use report_texts::{UploadEnd, end_of, head_of, write_upload};
+use report_texts::{end_of, head_of, write_upload};
 use std::alloc::{AllocError, Global};
-use tap_views::NoMemory;
+use tap_views::{NoMemory, UploadEnd};
 
 #[derive(Drop)]
 pub(crate) enum UploadLines {

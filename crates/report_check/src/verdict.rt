@@ -9,9 +9,9 @@ ghost use Rattle.report_check.specs.inside.Differences.{EndsWithFeed, IsDifferen
 use crate::open_sums::EntrySums;
 use crate::upload_lines::{UploadLines, upload_lines};
 use ledger_check::split_line;
-use report_texts::{UploadEnd, after_word, write_report};
+use report_texts::{after_word, write_report};
 use std::alloc::Global;
-use tap_views::NoMemory;
+use tap_views::{NoMemory, UploadEnd};
 
 /// What a check finds of a report. Lines count from 1.
 #[derive(Drop)]

@@ -12,9 +12,8 @@ use Rattle.report_texts.specs.Numbers.{IsUploadEnd}
 use Rattle.report_texts.specs.Report.{upload_line}
 use Rattle.report_texts.specs.inside.Counted.{BeginsWithNoDigit}
 use Rattle.report_texts.specs.inside.EndWords.{end_words, fault_number, fault_words}
-use Rattle.report_texts.specs.declared.upload_end.UploadEnd.{UploadEnd}
-use Rattle.report_texts.specs.declared.upload_end.UploadEnd.TheVariants.{Posted, Refused, Cut}
-use Rattle.report_texts.specs.declared.upload_end.UploadEnd.TheVariants.{Undrawn}
+use Rattle.tap_views.specs.declared.upload_end.UploadEnd.{UploadEnd}
+use Rattle.tap_views.specs.declared.upload_end.UploadEnd.TheVariants.{Posted, Refused, Cut, Undrawn}
 
 pub end_begins : (end : UploadEnd) → BeginsWithNoDigit (end_words end)
 end_begins end = refl

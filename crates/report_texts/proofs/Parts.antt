@@ -15,8 +15,8 @@ use Rattle.fare_texts.proofs.Parts.{in_parts}
 use Rattle.fare_texts.specs.WrittenOut.{Begins, GoesOut}
 use Rattle.fare_texts.proofs.Beginnings.{goes_last, goes_on, goes_then_on}
 use Rattle.report_texts.specs.Report.{upload_line, upload_lines}
-use Rattle.report_texts.specs.declared.upload_end.UploadEnd.{UploadEnd}
-use Rattle.report_texts.specs.declared.upload_end.UploadEnd.TheVariants.{Posted}
+use Rattle.tap_views.specs.declared.upload_end.UploadEnd.{UploadEnd}
+use Rattle.tap_views.specs.declared.upload_end.UploadEnd.TheVariants.{Posted}
 
 -- a line of a word, a number and what follows, of which the rest was written after the two
 pub in_line : (start middle done word number rest : List ℕ)

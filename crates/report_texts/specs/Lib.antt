@@ -1,5 +1,5 @@
 pub mod Numbers
 pub mod OverHistory
 pub mod Report
-pub mod UploadEnds
+pub mod Texts
 pub mod inside

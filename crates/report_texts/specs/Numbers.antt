@@ -6,9 +6,8 @@ use Rattle.tap_views.specs.declared.fault.LayoutFault.TheVariants.{Length, Momen
 use Rattle.tap_views.specs.Token.{Fits}
 use Rattle.tap_views.specs.declared.token.Token.{Token}
 use Rattle.shard_book.specs.Sums.{Sums}
-use Rattle.report_texts.specs.declared.upload_end.UploadEnd.{UploadEnd}
-use Rattle.report_texts.specs.declared.upload_end.UploadEnd.TheVariants.{Posted, Refused, Cut}
-use Rattle.report_texts.specs.declared.upload_end.UploadEnd.TheVariants.{Undrawn}
+use Rattle.tap_views.specs.declared.upload_end.UploadEnd.{UploadEnd}
+use Rattle.tap_views.specs.declared.upload_end.UploadEnd.TheVariants.{Posted, Refused, Cut, Undrawn}
 
 -- a fault as a line has it, by its name: each of its own numbers, which no line has, is 0
 abbrev pub IsNameAlone : LayoutFault → Type 0

@@ -9,8 +9,8 @@ use Rattle.shard_book.specs.declared.entry.Entry.{Entry}
 use Rattle.shard_book.specs.declared.statement.Statement.{Statement}
 use Rattle.fare_texts.specs.StatementText.{IsStatementText}
 use Rattle.report_texts.specs.Report.{report}
-use Rattle.report_texts.specs.UploadEnds.{ArePlainEnds}
-use Rattle.report_texts.specs.declared.upload_end.UploadEnd.{UploadEnd}
+use Rattle.tap_views.specs.UploadEnds.{ArePlainEnds}
+use Rattle.tap_views.specs.declared.upload_end.UploadEnd.{UploadEnd}
 
 -- the text of a token's statement over a history
 pub record IsStatementOver (fares : Fares) (history : List Entry) (token : Token) (text : List ℕ)

@@ -3,23 +3,12 @@
 use Rattle.std.specs.Prelude.{ℕ, ◌+◌, List, [], ◌∷◌, ◌++◌, length, codes}
 use Rattle.std.specs.Fmt.{decimal}
 use Rattle.std.specs.List.{flat_map}
-use Rattle.tap_views.specs.Names.{fault_name}
 use Rattle.shard_book.specs.Sums.{Sums}
+use Rattle.tap_views.specs.UploadEnds.{end_text}
 use Rattle.tap_views.specs.declared.token.Token.{Token}
+use Rattle.tap_views.specs.declared.upload_end.UploadEnd.{UploadEnd}
 use Rattle.fare_texts.specs.ReportLines.{number_line, token_line, validator_line}
 use Rattle.fare_texts.specs.Counts.{totals_line}
-use Rattle.report_texts.specs.declared.upload_end.UploadEnd.{UploadEnd}
-use Rattle.report_texts.specs.declared.upload_end.UploadEnd.TheVariants.{Posted, Refused, Cut}
-use Rattle.report_texts.specs.declared.upload_end.UploadEnd.TheVariants.{Undrawn}
-
--- the end of an upload, as `refused 2 at 64 L5`
-abbrev pub end_text : UploadEnd → List ℕ
-end_text (Posted taps) = codes "posted " ++ decimal taps
-end_text (Refused taps offset fault) =
-    codes "refused " ++ (decimal taps
-    ++ (codes " at " ++ (decimal offset ++ (codes " " ++ fault_name fault))))
-end_text (Cut taps) = codes "cut " ++ decimal taps
-end_text Undrawn = codes "undrawn"
 
 -- `upload 0 posted 4`
 unfoldable pub upload_line : ℕ → UploadEnd → List ℕ

@@ -11,10 +11,10 @@ ghost use Rattle.report_texts.specs.Report.{report, uploads_section, validators_
 ghost use Rattle.report_texts.specs.Report.{upload_line, upload_lines};
 ghost use Rattle.fare_texts.specs.ReportLines.{number_line, token_line, validator_line};
 
-use crate::upload_end::UploadEnd;
 use fare_texts::{write_counts, write_totals};
 use shard_book::{TokenSums, Totals, ValidatorSum};
 use std::alloc::{AllocError, Global};
+use tap_views::UploadEnd;
 
 /// The report of an outcome up to the lines of the tokens.
 pub(crate) fn report_front(

@@ -14,12 +14,11 @@ ghost use Rattle.report_texts.specs.Report.{report};
 
 use crate::front::report_front;
 use crate::token_lines::write_lines;
-use crate::upload_end::UploadEnd;
 use fare_texts::PrintFault;
 use shard_book::{TokenSums, Totals, ValidatorSum};
 use std::alloc::Global;
 use std::io::Write;
-use tap_views::NoMemory;
+use tap_views::{NoMemory, UploadEnd};
 
 /// The least room for lines of a report that wait to be written: enough that a write costs little
 /// beside making them.

@@ -18,13 +18,12 @@ ghost use Rattle.report_texts.specs.Report.{upload_line};
 ghost use Rattle.fare_texts.specs.ReportLines.{number_line, token_line, validator_line};
 ghost use Rattle.report_texts.specs.inside.Counted.{IsCounted, sums_with};
 ghost use Rattle.report_texts.specs.inside.EndWords.{end_words, fault_number, fault_words};
-ghost use Rattle.report_texts.specs.declared.upload_end.UploadEnd.{UploadEnd as AnEnd};
-ghost use Rattle.report_texts.specs.declared.upload_end.UploadEnd.TheVariants.{Refused};
+ghost use Rattle.tap_views.specs.declared.upload_end.UploadEnd.{UploadEnd as AnEnd};
+ghost use Rattle.tap_views.specs.declared.upload_end.UploadEnd.TheVariants.{Refused};
 
-use crate::upload_end::UploadEnd;
 use itoa::Buffer;
 use shard_book::{TokenSum, Totals, ValidatorSum};
-use tap_views::{LayoutFault, Token};
+use tap_views::{LayoutFault, Token, UploadEnd};
 
 const END: &[u8] = b"\n";
 

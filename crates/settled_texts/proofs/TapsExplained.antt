@@ -14,10 +14,11 @@ use Rattle.fare_texts.specs.Explainers.{HasExplained, next_entry}
 use Rattle.fare_texts.specs.LedgerLines.{IsLedgerLineAfter}
 use Rattle.fare_texts.specs.declared.explainer.Explainer.{Explainer}
 use Rattle.shard_book.specs.Plain.{answered}
-use Rattle.fare_texts.specs.Lines.{AreLinesAlong, AreUpTo, HasCome, IsUpTo}
+use Rattle.fare_texts.specs.Lines.{AreLinesAlong, AreUpTo, HasCome}
+use Rattle.tap_views.specs.TokenOrder.{IsUpTo}
 use Rattle.fare_texts.specs.WrittenOut.{Begins, GoesOut}
 use Rattle.fare_texts.proofs.Beginnings.{goes_begins_on, goes_then_on}
-use Rattle.fare_texts.proofs.Rising.{up_itself}
+use Rattle.tap_views.proofs.TokensUp.{up_itself}
 use Rattle.fare_texts.proofs.PieceWriting.{along_append, come_next}
 use Rattle.fare_texts.proofs.TextsExist.{along_exist}
 use Rattle.settlement.specs.Posted.{posted_after, token_of_tap, unposted}

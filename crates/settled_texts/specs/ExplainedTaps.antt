@@ -5,7 +5,8 @@ use Rattle.tap_views.specs.declared.token.Token.{Token}
 use Rattle.tap_views.specs.declared.encoder.TapFields.{TapFields}
 use Rattle.shard_book.specs.declared.entry.Entry.{Entry}
 use Rattle.fare_texts.specs.declared.explainer.Explainer.{Explainer}
-use Rattle.fare_texts.specs.Lines.{AreLinesAlong, HasCome, IsUpTo}
+use Rattle.fare_texts.specs.Lines.{AreLinesAlong, HasCome}
+use Rattle.tap_views.specs.TokenOrder.{IsUpTo}
 use Rattle.settlement.specs.Posted.{posted_after, token_of_tap}
 
 -- the taps' tokens never fall, from this one on

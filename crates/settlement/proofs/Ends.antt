@@ -4,8 +4,8 @@ use Rattle.tap_views.specs.declared.encoder.TapFields.{TapFields}
 use Rattle.tap_views.specs.Files.{AreGoodTaps, taps_of_batches}
 use Rattle.tap_parts.specs.Uploads.{IsUploadAddedBy}
 use Rattle.tap_parts.specs.declared.upload.UploadTaps.{UploadTaps}
-use Rattle.report_texts.specs.UploadEnds.{end_by, IsPlainEnd}
-use Rattle.report_texts.specs.declared.upload_end.UploadEnd.{UploadEnd}
+use Rattle.tap_views.specs.UploadEnds.{end_by, IsPlainEnd}
+use Rattle.tap_views.specs.declared.upload_end.UploadEnd.{UploadEnd}
 
 -- the taps that were added are those of the upload
 pub taps_added : (part_of : List ℕ → ℕ) (upload : List ℕ) (old new : List (List TapFields))

@@ -9,8 +9,8 @@ use Rattle.tap_parts.specs.Parts.{taps_at, taps_of_uploads}
 use Rattle.tap_parts.proofs.Adding.{fields-append}
 use Rattle.tap_views.specs.Files.{AreGoodTaps}
 use Rattle.tap_views.proofs.Lists.{AllZip-append}
-use Rattle.report_texts.specs.UploadEnds.{IsPlainEnd}
-use Rattle.report_texts.specs.declared.upload_end.UploadEnd.{UploadEnd}
+use Rattle.tap_views.specs.UploadEnds.{IsPlainEnd}
+use Rattle.tap_views.specs.declared.upload_end.UploadEnd.{UploadEnd}
 use Rattle.settlement.specs.inside.SplitTaps.{AreInParts, in_part}
 
 -- the taps of a part in two runs of uploads

@@ -17,7 +17,7 @@ use Rattle.tap_views.proofs.Lists.{All-split, AllZip-append}
 use Rattle.tap_parts.specs.Canonical.{IsCanonical}
 use Rattle.shard_book.specs.SumsByKey.{token_of}
 use Rattle.shard_book.specs.declared.entry.Entry.{Entry}
-use Rattle.tap_views.specs.TokenLists.{AreBelow}
+use Rattle.tap_views.specs.TokenOrder.{AreBelow}
 use Rattle.settlement.specs.Bills.{IsBillOf}
 use Rattle.settlement.specs.Posted.{posted, token_of_tap}
 use Rattle.settlement.specs.declared.bill.Bill.{Bill}

@@ -31,7 +31,7 @@ use Rattle.tap_views.proofs.TokenLemmas.{token_eq-sym, less_apart}
 use Rattle.tap_views.proofs.Lists.{All-unmap}
 use Rattle.shard_book.specs.Plain.{token_of_bytes}
 use Rattle.shard_book.proofs.SumsByToken.{none_of}
-use Rattle.tap_views.specs.TokenLists.{AreBelow}
+use Rattle.tap_views.specs.TokenOrder.{AreBelow}
 use Rattle.settlement.specs.inside.Apart.{AreOthers}
 use Rattle.settlement.specs.Posted.{HasName, posted, posted_after, token_of_tap}
 use Rattle.settlement.specs.inside.Billing.{ArePartsInOrder}

@@ -15,8 +15,8 @@ use Rattle.tap_parts.specs.Parts.{taps_of_uploads}
 use Rattle.tap_parts.specs.Uploads.{IsUploadAddedBy}
 use Rattle.tap_parts.specs.declared.upload.UploadTaps.{UploadTaps}
 use Rattle.tap_parts.proofs.Adding.{none_added, batch_added}
-use Rattle.report_texts.specs.UploadEnds.{IsPlainEnd, end_by}
-use Rattle.report_texts.specs.declared.upload_end.UploadEnd.{UploadEnd}
+use Rattle.tap_views.specs.UploadEnds.{IsPlainEnd, end_by}
+use Rattle.tap_views.specs.declared.upload_end.UploadEnd.{UploadEnd}
 use Rattle.tap_views.specs.declared.token.Token.{Token}
 use Rattle.tap_views.proofs.Lists.{AllZip-append}
 use Rattle.settlement.specs.Reading.{AreRead}

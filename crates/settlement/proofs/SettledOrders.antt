@@ -16,7 +16,7 @@ use Rattle.tap_views.proofs.TokenLemmas.{same_token}
 use Rattle.tap_parts.specs.Canonical.{HasTokenBytes, IsCanonical, tap_cmp}
 use Rattle.tap_parts.specs.Parts.{taps_of_uploads}
 use Rattle.tap_parts.proofs.Total.{tap_cmp_exact, tap_cmp_total}
-use Rattle.report_texts.specs.declared.upload_end.UploadEnd.{UploadEnd}
+use Rattle.tap_views.specs.declared.upload_end.UploadEnd.{UploadEnd}
 use Rattle.settlement.specs.Posted.{HasName, only, posted, token_of_tap}
 use Rattle.settlement.specs.Settled.{IsSettledHistory}
 use Rattle.settlement.specs.SettledTaps.{AreSettledTaps, AreSettledTapsOf}

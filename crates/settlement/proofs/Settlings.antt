@@ -8,20 +8,15 @@ use Rattle.tap_views.specs.Encoding.{fields_of}
 use Rattle.tap_views.specs.Layout.{Tap}
 use Rattle.tap_views.specs.declared.encoder.TapFields.{TapFields}
 use Rattle.account_rule.specs.declared.reply.Answer.TheVariants.{Stale}
-use Rattle.shard_book.specs.SumsByKey.{sums_by_validator, sums_by_token}
 use Rattle.shard_book.specs.History.{IsLegal}
-use Rattle.shard_book.specs.Sums.{sums}
 use Rattle.tap_views.specs.Token.{bytes_of}
 use Rattle.shard_book.specs.Visits.{AreEntriesOf}
 use Rattle.shard_book.specs.declared.entry.Entry.{Entry}
 use Rattle.tap_views.specs.Files.{AreGoodTapsOfEach, HasOneReading}
 use Rattle.fare_service.specs.Plain.{IsPlain}
-use Rattle.report_texts.specs.OverHistory.{IsReportOver}
 use Rattle.shard_book.specs.Plain.{plain, plain_after, answered, unanswered}
-use Rattle.report_texts.specs.Report.{report, validators_section, tokens_section}
-use Rattle.fare_texts.specs.Counts.{totals_line}
 use Rattle.shard_book.proofs.PlainReplies.{bare, plain_bare, plain_legal}
-use Rattle.settlement.specs.Alike.{DifferInUploads, HaveSameTaps}
+use Rattle.settlement.specs.Alike.{HaveSameTaps}
 use Rattle.tap_parts.specs.Canonical.{tap_cmp}
 use Rattle.settlement.specs.Settled.{IsSettledHistory}
 use Rattle.tap_parts.specs.Parts.{taps_of_uploads}
@@ -62,26 +57,6 @@ same_history fares uploads others history again cuts other_cuts same one other =
     (map fields_of other.order)
     other.canonical.moved)) in
     one.entries ∙ same_after fares [] one.order other.order list ∙ sym other.entries
-
-rest_of : List Entry → List ℕ
-rest_of es = totals_line (sums es)
-    ++ (validators_section (sums_by_validator es) ++ tokens_section (sums_by_token es))
-
-pub same_reports : (uploads others : List (List ℕ)) (history again : List Entry)
-    (text other : List ℕ) → history ≡ again
-    → IsReportOver uploads history text → IsReportOver others again other
-    → DifferInUploads uploads others text other
-unfolding rest_of
-same_reports uploads others history again text other same one two = record {
-  ends = one.ends;
-  other_ends = two.ends;
-  of_uploads = one.of_uploads;
-  of_others = two.of_uploads;
-  rest = rest_of again;
-  text_is = one.shown ∙ ap (λ es.
-      report one.ends (sums es) (sums_by_validator es) (sums_by_token es)) same;
-  other_is = two.shown;
-}
 
 pub some_history : (fares : Fares) (uploads : List (List ℕ)) (taps : List (List Tap))
     → AreGoodTapsOfEach uploads taps

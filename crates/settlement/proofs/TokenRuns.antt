@@ -23,12 +23,12 @@ use Rattle.shard_book.specs.declared.entry.Entry.{Entry}
 use Rattle.tap_views.proofs.TokenLemmas.{high_back, low_back, token_cmp-total, token_cmp-ties}
 use Rattle.tap_views.proofs.Orderings.{first_not_less}
 use Rattle.shard_book.specs.Plain.{answered, token_of_bytes}
-use Rattle.tap_views.specs.TokenLists.{AreBelow}
+use Rattle.tap_views.specs.TokenOrder.{AreBelow}
 use Rattle.settlement.specs.Posted.{HasName, posted, posted_after, token_of_tap, unposted}
 use Rattle.settlement.proofs.Concats.{posted_append}
 use Rattle.tap_parts.proofs.Total.{tap_cmp_total}
-use Rattle.fare_texts.proofs.Rising.{not_greater}
-use Rattle.fare_texts.specs.Lines.{IsUpTo}
+use Rattle.tap_views.proofs.TokensUp.{not_greater}
+use Rattle.tap_views.specs.TokenOrder.{IsUpTo}
 
 -- ---- what is posted
 -- the tokens of the entries are those of the taps

@@ -9,7 +9,7 @@ ghost use Rattle.tap_views.specs.declared.encoder.TapFields.{TapFields};
 ghost use Rattle.tap_parts.specs.Canonical.{HasTokenBytes, tap_cmp};
 ghost use Rattle.shard_book.specs.SumsByKey.{sums_by_token, token_of};
 ghost use Rattle.shard_book.specs.declared.entry.Entry.{Entry};
-ghost use Rattle.tap_views.specs.TokenLists.{AreBelow};
+ghost use Rattle.tap_views.specs.TokenOrder.{AreBelow};
 ghost use Rattle.settlement.specs.Bills.{IsBillOf, IsCountOf};
 ghost use Rattle.settlement.specs.Posted.{posted, token_of_tap};
 ghost use Rattle.settlement.specs.inside.Billing.{HasBillRoom, HaveBillRoom, IsFirstToken};

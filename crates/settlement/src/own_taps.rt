@@ -9,12 +9,11 @@ ghost use Rattle.settlement.specs.inside.OwnTaps.{AreOwnAdded, AreOwnBetween};
 use crate::memory::release;
 use crate::split_taps::{good_tokens, middle_of};
 use crate::uploads::Uploads;
-use fare_service::UploadEnd;
 use std::alloc::{AllocError, Global};
 use std::marker::Sync;
 use std::thread;
 use std::thread::Threads;
-use tap_views::{Batch, TapFields, Token, good_batches};
+use tap_views::{Batch, TapFields, Token, UploadEnd, good_batches};
 
 #[derive(Drop)]
 pub(crate) struct OwnTaps {

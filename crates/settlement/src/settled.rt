@@ -1,7 +1,7 @@
 //! Uploads, settled.
 
 ghost use Rattle.std.specs.Prelude.{◌≡◌, ◌<◌, ◌≤◌, ◌^◌, All, IfOk, List, ℕ, flat_map, length};
-ghost use Rattle.report_texts.specs.UploadEnds.{ArePlainEnds};
+ghost use Rattle.tap_views.specs.UploadEnds.{ArePlainEnds};
 ghost use Rattle.tap_views.specs.Encoding.{AreEarly};
 ghost use Rattle.shard_book.specs.declared.entry.Entry.{Entry};
 ghost use Rattle.settlement.specs.Bills.{IsBillOf};
@@ -19,13 +19,12 @@ use crate::own_taps::{OwnTaps, own_by_threads};
 use crate::pieces::{Pieces, pieces_of};
 use crate::split_taps::{SplitTaps, bytes_of, split_by_threads};
 use crate::uploads::Uploads;
-use fare_service::UploadEnd;
 use shard_book::HashSeed;
 use std::alloc::{AllocError, Global};
 use std::marker::Sync;
 use std::thread::Threads;
 use tap_parts::{TokenRanges, sort};
-use tap_views::{NoMemory, TapFields, Token};
+use tap_views::{NoMemory, TapFields, Token, UploadEnd};
 use tariffs::FareTable;
 
 /// How many bytes of uploads go to one part: some 40,000 taps. More parts make the split slower,

@@ -8,15 +8,14 @@ ghost use Rattle.settlement.specs.inside.SplitTaps.{AreInPartsBetween};
 
 use crate::memory::release;
 use crate::uploads::Uploads;
-use fare_service::UploadEnd;
 use fare_service::laws::plain_history;
 use std::alloc::{AllocError, Global};
 use std::marker::Sync;
 use std::thread::Threads;
 use std::{slice, thread};
 use tap_parts::{Parts, TokenRanges};
-use tap_views::TAP2_TAP_BYTES;
 use tap_views::laws::one_reading_each;
+use tap_views::{TAP2_TAP_BYTES, UploadEnd};
 
 #[derive(Drop)]
 pub(crate) struct SplitTaps {

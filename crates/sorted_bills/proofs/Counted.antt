@@ -11,8 +11,8 @@ use Rattle.std.proofs.lemmas.List.Sums.{sum-map, sum_by_more}
 use Rattle.tap_views.specs.Encoding.{fields_of}
 use Rattle.tap_views.specs.Files.{taps_of_batches}
 use Rattle.tap_views.specs.declared.encoder.TapFields.{TapFields}
-use Rattle.report_texts.specs.UploadEnds.{ArePlainEnds, are_posted}
-use Rattle.report_texts.specs.declared.upload_end.UploadEnd.TheVariants.{Posted}
+use Rattle.tap_views.specs.UploadEnds.{ArePlainEnds, are_posted}
+use Rattle.tap_views.specs.declared.upload_end.UploadEnd.TheVariants.{Posted}
 use Rattle.sorted_taps.specs.Checked.{AreCountedFiles}
 use Rattle.sorted_taps.specs.Merges.{AreAtEnd, AreBegun, AreSortedFiles, AreTaken}
 use Rattle.sorted_taps.specs.declared.reader.TapReader.{TapReader}

@@ -13,11 +13,13 @@ use Rattle.tap_views.specs.declared.token.Token.{Token}
 use Rattle.tap_views.proofs.TokenLemmas.{same_token}
 use Rattle.shard_book.specs.declared.entry.Entry.{Entry}
 use Rattle.fare_texts.specs.declared.explainer.Explainer.{Explainer}
-use Rattle.fare_texts.specs.Lines.{AreLinesAlong, HasCome, IsUpTo}
+use Rattle.fare_texts.specs.Lines.{AreLinesAlong, HasCome}
+use Rattle.tap_views.specs.TokenOrder.{IsUpTo}
 use Rattle.fare_texts.specs.WrittenOut.{Begins, GoesOut}
 use Rattle.fare_texts.proofs.Beginnings.{goes_begins, goes_nothing, goes_on, goes_then}
 use Rattle.fare_texts.proofs.PieceWriting.{along_append}
-use Rattle.fare_texts.proofs.Rising.{none_below, up_chain, up_itself, up_weaker}
+use Rattle.fare_texts.proofs.Rising.{none_below, up_weaker}
+use Rattle.tap_views.proofs.TokensUp.{up_chain, up_itself}
 use Rattle.settlement.specs.Posted.{HasName, posted_after, token_of_tap}
 use Rattle.settlement.proofs.Concats.{posted_append}
 use Rattle.settled_texts.specs.ExplainedTaps.{NoTapFallsFrom, last_token}

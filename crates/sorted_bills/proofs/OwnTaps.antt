@@ -12,8 +12,8 @@ use Rattle.tap_views.specs.Token.{token_eq}
 use Rattle.tap_views.specs.declared.encoder.TapFields.{TapFields}
 use Rattle.tap_views.specs.declared.token.Token.{Token}
 use Rattle.tap_parts.specs.Canonical.{HasTokenBytes, IsCanonical}
-use Rattle.report_texts.specs.UploadEnds.{ArePlainEnds}
-use Rattle.report_texts.specs.declared.upload_end.UploadEnd.TheVariants.{Posted}
+use Rattle.tap_views.specs.UploadEnds.{ArePlainEnds}
+use Rattle.tap_views.specs.declared.upload_end.UploadEnd.TheVariants.{Posted}
 use Rattle.tap_views.proofs.TokenLemmas.{same_token}
 use Rattle.settlement.specs.Posted.{HasName, only, token_of_tap}
 use Rattle.settlement.specs.SettledTaps.{AreSettledTapsOf}

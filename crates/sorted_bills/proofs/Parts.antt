@@ -11,12 +11,12 @@ use Rattle.tap_views.specs.declared.token.Token.{Token}
 use Rattle.tap_views.proofs.TokenLemmas.{token_cmp-total}
 use Rattle.shard_book.specs.SumsByKey.{token_of}
 use Rattle.shard_book.specs.declared.entry.Entry.{Entry}
-use Rattle.fare_texts.specs.Lines.{IsUpTo}
-use Rattle.fare_texts.proofs.Rising.{up_chain, up_itself}
+use Rattle.tap_views.specs.TokenOrder.{IsUpTo}
+use Rattle.tap_views.proofs.TokensUp.{up_chain, up_itself}
 use Rattle.settlement.specs.Bills.{IsBillOf}
 use Rattle.settlement.specs.Posted.{posted, token_of_tap}
 use Rattle.settlement.specs.declared.bill.Bill.{Bill}
-use Rattle.tap_views.specs.TokenLists.{AreBelow}
+use Rattle.tap_views.specs.TokenOrder.{AreBelow}
 use Rattle.settlement.specs.inside.Billing.{HaveBillRoom}
 use Rattle.settlement.proofs.Ranges.{posted_below}
 use Rattle.settlement.proofs.TokenRuns.{less_up, posted_length, tokens_posted, up_less}

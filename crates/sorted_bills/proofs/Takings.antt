@@ -9,7 +9,7 @@ use Rattle.tap_views.specs.Layout.{moment_limit}
 use Rattle.tap_views.specs.Token.{Fits, bytes_of}
 use Rattle.tap_views.specs.declared.encoder.TapFields.{TapFields}
 use Rattle.tap_views.specs.declared.token.Token.{Token}
-use Rattle.fare_texts.specs.Lines.{IsUpTo}
+use Rattle.tap_views.specs.TokenOrder.{IsUpTo}
 use Rattle.settlement.specs.Posted.{HasName, token_of_tap}
 use Rattle.settlement.proofs.TokenRuns.{named_token}
 use Rattle.settled_texts.specs.ExplainedTaps.{NoTapFallsFrom, last_token}

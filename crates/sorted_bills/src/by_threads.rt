@@ -3,8 +3,8 @@
 ghost use Rattle.std.specs.Prelude.{◌≡◌, ◌^◌, ◌<◌, ◌≤◌, true, ℕ, List, Option, IfOk, IfSome, OnOk};
 ghost use Rattle.std.specs.Prelude.{length, map};
 ghost use Rattle.tariffs.specs.Fares.{Fares};
-ghost use Rattle.report_texts.specs.UploadEnds.{are_posted};
-ghost use Rattle.report_texts.specs.declared.upload_end.UploadEnd.TheVariants.{Posted};
+ghost use Rattle.tap_views.specs.UploadEnds.{are_posted};
+ghost use Rattle.tap_views.specs.declared.upload_end.UploadEnd.TheVariants.{Posted};
 ghost use Rattle.sorted_taps.specs.Merges.{AreAtEnd};
 ghost use Rattle.sorted_taps.specs.Reading.{window_bytes};
 ghost use Rattle.sorted_bills.specs.inside.Billed.{IsBilled};

@@ -2,8 +2,8 @@
 
 ghost use Rattle.std.specs.Prelude.{◌≡◌, true, ℕ, List, IfErr, IfOk, OnOk, Some, map};
 ghost use Rattle.std.specs.Io.KnownBytes.{Appends};
-ghost use Rattle.report_texts.specs.UploadEnds.{ArePlainEnds, are_posted};
-ghost use Rattle.report_texts.specs.declared.upload_end.UploadEnd.{UploadEnd as AnEnd};
+ghost use Rattle.tap_views.specs.UploadEnds.{ArePlainEnds, are_posted};
+ghost use Rattle.tap_views.specs.declared.upload_end.UploadEnd.{UploadEnd as AnEnd};
 ghost use Rattle.sorted_bills.specs.Faults.{IsBeforeText, IsBillFault};
 ghost use Rattle.sorted_bills.specs.Ledgers.{AreBytes, IsLedgerOfFiles};
 ghost use Rattle.sorted_bills.specs.declared.fault.BillFault.TheVariants.{Write as AFailedWrite};
@@ -16,13 +16,13 @@ use crate::taker::Taker;
 use crate::tap_numbers::{count, ends_of};
 use fare_texts::{Explainer, head_with_room, pass_on};
 use placed_files::Placed;
-use report_texts::UploadEnd;
 use settled_texts::{STRIDE_ROOM_BYTES, least_token};
 use sorted_taps::{WINDOW_BYTES, have_stamps, stamps_of};
 use std::alloc::Global;
 use std::io::Write;
 use std::marker::Sync;
 use std::thread::Threads;
+use tap_views::UploadEnd;
 use tariffs::FareTable;
 
 /// Writes the ledger of all tokens over the settled history of sorted files: the head line, and a

@@ -6,7 +6,7 @@ ghost use Rattle.std.specs.Prelude.{Some, length, map};
 ghost use Rattle.tap_views.specs.Encoding.{AreEarly};
 ghost use Rattle.tap_views.specs.declared.encoder.TapFields.{TapFields};
 ghost use Rattle.tap_parts.specs.Canonical.{IsCanonical};
-ghost use Rattle.report_texts.specs.UploadEnds.{ArePlainEnds, are_posted};
+ghost use Rattle.tap_views.specs.UploadEnds.{ArePlainEnds, are_posted};
 ghost use Rattle.settlement.specs.Posted.{token_of_tap};
 ghost use Rattle.settlement.specs.SettledTaps.{AreSettledTapsOf};
 ghost use Rattle.sorted_taps.specs.Checked.{IsFirstFault};

@@ -8,7 +8,7 @@ ghost use Rattle.tap_views.specs.Token.{token_cmp};
 ghost use Rattle.shard_book.specs.SumsByKey.{token_of};
 ghost use Rattle.shard_book.specs.declared.entry.Entry.{Entry};
 ghost use Rattle.settlement.specs.Bills.{IsBillOf};
-ghost use Rattle.tap_views.specs.TokenLists.{AreBelow};
+ghost use Rattle.tap_views.specs.TokenOrder.{AreBelow};
 ghost use Rattle.settlement.specs.inside.Billing.{HaveBillRoom};
 ghost use Rattle.sorted_bills.specs.inside.Charged.{IsPart};
 

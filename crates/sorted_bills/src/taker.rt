@@ -3,7 +3,7 @@
 ghost use Rattle.std.specs.Prelude.{◌≡◌, ◌≤◌, ◌<◌, [], true, ℕ, List, IfOk, IsTrue, OnOk, None};
 ghost use Rattle.std.specs.Prelude.{Some};
 ghost use Rattle.std.specs.Prelude.{length, map};
-ghost use Rattle.fare_texts.specs.Lines.{IsUpTo};
+ghost use Rattle.tap_views.specs.TokenOrder.{IsUpTo};
 ghost use Rattle.settlement.specs.Posted.{HasName, token_of_tap};
 ghost use Rattle.settled_texts.specs.ExplainedTaps.{NoTapFallsFrom};
 ghost use Rattle.sorted_taps.specs.Heads.{IsRanked};

@@ -1,13 +1,13 @@
 //! The numbers of the taps of files, and how the files end.
 
 ghost use Rattle.std.specs.Prelude.{◌≡◌, ◌^◌, ◌<◌, ◌≤◌, true, IfErr, IfOk, OnOk, map, sum};
-ghost use Rattle.report_texts.specs.UploadEnds.{are_posted};
-ghost use Rattle.report_texts.specs.declared.upload_end.UploadEnd.TheVariants.{Posted};
+ghost use Rattle.tap_views.specs.UploadEnds.{are_posted};
+ghost use Rattle.tap_views.specs.declared.upload_end.UploadEnd.TheVariants.{Posted};
 ghost use Rattle.sorted_bills.specs.declared.fault.BillFault.TheVariants.{TooManyTaps};
 
 use crate::fault::BillFault;
-use report_texts::UploadEnd;
 use std::alloc::{AllocError, Global};
+use tap_views::UploadEnd;
 
 /// The most taps of all files together: 2^46.
 const MAX_TAPS: u64 = 70_368_744_177_664;

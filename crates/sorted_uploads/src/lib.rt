@@ -2,7 +2,7 @@
 #![tactic(auto)]
 
 ghost use Rattle.std.specs.Prelude.{◌≡◌, IfErr, IfOk, flat_map, map};
-ghost use Rattle.report_texts.specs.UploadEnds.{ArePlainEnds};
+ghost use Rattle.tap_views.specs.UploadEnds.{ArePlainEnds};
 ghost use Rattle.settlement.specs.SettledTaps.{AreSettledTaps};
 ghost use Rattle.sorted_taps.specs.Written.{IsBegun};
 ghost use Rattle.sorted_uploads.specs.SortedUploads.{IsSortedFileOf};
@@ -10,7 +10,6 @@ ghost use Rattle.sorted_uploads.specs.SortedUploads.{IsSortedFileOf};
 mod places;
 mod split;
 
-use report_texts::UploadEnd;
 use settlement::{LoadedUploads, SettledTaps, settled_taps};
 use sorted_taps::{WriteFault, write_taps};
 pub use split::{PartFiles, Split};
@@ -18,7 +17,7 @@ use std::alloc::Global;
 use std::io::Write;
 use std::marker::Sync;
 use std::thread::Threads;
-use tap_views::NoMemory;
+use tap_views::{NoMemory, UploadEnd};
 
 /// Writes the good taps of the uploads as one file: in canonical order, in `TAP1` batches of 512,
 /// the last of fewer if need be. Returns how each upload ends. All taps are in memory. `workers`

@@ -17,4 +17,5 @@ mod Spans
 pub mod Texts
 pub mod TokenBytes
 pub mod TokenLemmas
+pub mod TokensUp
 pub mod TapOrders

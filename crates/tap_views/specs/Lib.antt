@@ -8,5 +8,6 @@ pub mod Runs
 pub mod Shards
 pub mod TapOrder
 pub mod Token
-pub mod TokenLists
+pub mod TokenOrder
+pub mod UploadEnds
 pub mod inside

@@ -1,5 +1,6 @@
 //! Batches of taps, read where they lie: lent views over the bytes of an upload, the taps of one
 //! shard, files of many batches and what they have, and the encoders. Tokens, which name accounts.
+//! How the uploads of a run ended.
 //!
 //! A batch begins with a header of 8 bytes (`TAP1`, count, flags) or of 12 (`TAP2`, count, flags,
 //! validator), then come its taps, of 28 or 24 bytes. All numbers are big-endian. The layouts are
@@ -23,6 +24,7 @@ mod span;
 mod taps;
 mod token;
 mod upload;
+mod upload_end;
 mod view;
 
 pub use batch::Batch;
@@ -41,4 +43,5 @@ pub use span::MomentSpan;
 pub use taps::Taps;
 pub use token::Token;
 pub use upload::{GoodBatches, good_batches};
+pub use upload_end::UploadEnd;
 pub use view::TapView;

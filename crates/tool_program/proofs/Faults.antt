@@ -10,7 +10,7 @@ use Rattle.part_reports.specs.FirstWrongLines.{NamesFirstWrong}
 use Rattle.part_reports.specs.Reports.{HaveTaps, NamesWrongText}
 use Rattle.part_reports.specs.declared.fault.MergeFault.{MergeFault}
 use Rattle.part_reports.specs.declared.fault.MergeFault.TheVariants as merge
-use Rattle.part_texts.specs.declared.wrong.Wrong.{Wrong}
+use Rattle.report_texts.specs.declared.wrong.Wrong.{Wrong}
 use Rattle.program_manners.specs.declared.output.WriteEnd.{WriteEnd}
 use Rattle.program_manners.specs.declared.output.WriteEnd.TheVariants as writes
 use Rattle.tool_program.specs.Merge.{IsRightMergeFault}

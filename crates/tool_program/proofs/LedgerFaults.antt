@@ -8,7 +8,7 @@ use Rattle.part_reports.specs.Ledgers.{NamesFirstWrongLine, NamesWrongLedger}
 use Rattle.part_reports.specs.LedgersWithReports.{NamesWrongBeside}
 use Rattle.part_reports.specs.declared.fault.MergeFault.{MergeFault}
 use Rattle.part_reports.specs.declared.fault.MergeFault.TheVariants as merge
-use Rattle.part_texts.specs.declared.wrong.Wrong.{Wrong}
+use Rattle.report_texts.specs.declared.wrong.Wrong.{Wrong}
 use Rattle.program_manners.specs.declared.output.WriteEnd.{WriteEnd}
 use Rattle.program_manners.specs.declared.output.WriteEnd.TheVariants as writes
 use Rattle.tool_program.specs.MergeLedgers.{IsRightLedgersFault, IsWholeLedger, NamesFirstWrong}

@@ -10,7 +10,7 @@ use Rattle.program_manners.specs.Loads.{Loaded}
 use Rattle.program_manners.specs.declared.loading.LoadFault.{LoadFault}
 use Rattle.program_manners.specs.declared.output.WriteEnd.{WriteEnd}
 use Rattle.program_manners.specs.declared.output.WriteEnd.TheVariants as writes
-use Rattle.report_texts.specs.UploadEnds.{is_posted}
+use Rattle.tap_views.specs.UploadEnds.{is_posted}
 use Rattle.tool_tasks.specs.Fault.{IsRefusal}
 use Rattle.tool_tasks.specs.Source.{OpensBoth}
 use Rattle.tool_tasks.specs.declared.fault.Fault.{Fault}

@@ -8,7 +8,7 @@ use Rattle.part_reports.specs.FirstWrongBeside.{IsFirstWrongOfPart, IsWrongBesid
 use Rattle.part_reports.specs.Ledgers.{IsFirstWrongOfLedger, IsMergedLedger, IsWrongLedgerAt}
 use Rattle.part_reports.specs.LedgersWithReports.{AddsUpToNoReportAt, IsMergedWithReports}
 use Rattle.part_reports.specs.LedgersWithReports.{IsNoReportAt}
-use Rattle.part_texts.specs.declared.wrong.Wrong.{Wrong}
+use Rattle.report_texts.specs.declared.wrong.Wrong.{Wrong}
 use Rattle.program_manners.specs.Loads.{Loaded}
 use Rattle.program_manners.specs.declared.loading.LoadFault.{LoadFault}
 use Rattle.program_manners.specs.declared.output.WriteEnd.{WriteEnd}

@@ -1,8 +1,8 @@
 -- The whole program: what is asked for was done, or why it was not.
 use Rattle.std.specs.Prelude.{◌≡◌, ◌⊎◌, ⊤, ◌++◌, ℕ, Bool, true, false, MatchBool, List, map}
 use Rattle.std.specs.Prelude.{Option, None, Some, codes, is_none}
-use Rattle.report_texts.specs.UploadEnds.{are_posted}
-use Rattle.report_texts.specs.declared.upload_end.UploadEnd.{UploadEnd}
+use Rattle.tap_views.specs.UploadEnds.{are_posted}
+use Rattle.tap_views.specs.declared.upload_end.UploadEnd.{UploadEnd}
 use Rattle.program_manners.specs.Loads.{Loaded}
 use Rattle.program_manners.specs.TableWords.{date_text}
 use Rattle.program_manners.specs.declared.loading.LoadFault.{LoadFault}

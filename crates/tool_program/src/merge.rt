@@ -1,7 +1,7 @@
 //! `merge`, and the texts of parts.
 ghost use Rattle.std.specs.Prelude.{◌≡◌, ◌≢◌, ◌⊎◌, ◌++◌, ℕ, List, IfErr, IfOk, Some, false, map};
 ghost use Rattle.std.specs.Prelude.{OnOk, option_map, slice_get, true};
-ghost use Rattle.part_texts.specs.Texts.{AreLeft};
+ghost use Rattle.report_texts.specs.Texts.{AreLeft};
 ghost use Rattle.program_manners.specs.Loads.{Loaded};
 ghost use Rattle.tool_program.specs.Merge.{GivesUpMerge, MergesReports, StopsMerge};
 ghost use Rattle.tool_program.specs.Merge.{WritesReport};

@@ -6,7 +6,7 @@ ghost use Rattle.part_reports.specs.Faults.{IsOfTaps, IsOfTexts};
 ghost use Rattle.part_reports.specs.FirstWrongBeside.{NamesFirstWrongBeside};
 ghost use Rattle.part_reports.specs.Ledgers.{NamesFirstWrongLine, NamesWrongLedger};
 ghost use Rattle.part_reports.specs.LedgersWithReports.{NamesWrongBeside};
-ghost use Rattle.part_texts.specs.Texts.{AreLeft};
+ghost use Rattle.report_texts.specs.Texts.{AreLeft};
 ghost use Rattle.program_manners.specs.Loads.{Loaded};
 ghost use Rattle.tool_program.specs.MergeLedgers.{GivesUpLedgers, IsWholeLedger, MergesLedgers};
 ghost use Rattle.tool_program.specs.MergeLedgers.{StopsLedgers, WritesLedger};

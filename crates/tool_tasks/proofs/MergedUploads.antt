@@ -3,8 +3,8 @@ use Rattle.std.proofs.Common.{◌≡◌, ◌∙◌, ℕ, List, [], ◌∷◌, Op
 use Rattle.std.proofs.Common.{length, map, refl, subst, suc, sym, zero}
 use Rattle.std.specs.Prelude.{slice_get}
 use Rattle.program_manners.specs.Refusals.{IsOneOf}
-use Rattle.report_texts.specs.declared.upload_end.UploadEnd.{UploadEnd}
-use Rattle.report_texts.specs.declared.upload_end.UploadEnd.TheVariants.{Posted}
+use Rattle.tap_views.specs.declared.upload_end.UploadEnd.{UploadEnd}
+use Rattle.tap_views.specs.declared.upload_end.UploadEnd.TheVariants.{Posted}
 use Rattle.sorted_taps.specs.Checked.{IsFirstFault}
 use Rattle.sorted_taps.specs.Written.{IsMergedFile}
 use Rattle.sorted_taps.specs.declared.fault.SortedFault.{SortedFault}

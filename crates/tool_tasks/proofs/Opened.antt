@@ -3,7 +3,7 @@ use Rattle.std.proofs.Common.{◌≡◌, ◌∙◌, ◌<◌, ◌+◌, ℕ, List,
 use Rattle.std.proofs.Common.{append-nil, append_assoc, ap, get_or, refl, subst, sym, take}
 use Rattle.std.proofs.Common.{Option, Some, None}
 use Rattle.std.proofs.lemmas.List.{map-append, take_more}
-use Rattle.part_texts.specs.Texts.{AreLeft}
+use Rattle.report_texts.specs.Texts.{AreLeft}
 use Rattle.program_manners.specs.Loads.{Loaded, LoadsAll, LoadsOne, OpensOne}
 use Rattle.tool_tasks.specs.Names.{file_named}
 use Rattle.tool_tasks.specs.Source.{HasOpened}

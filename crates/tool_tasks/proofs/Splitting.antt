@@ -6,8 +6,8 @@ use Rattle.std.proofs.Common.{map, refl, suc, subst, sym, take}
 use Rattle.std.proofs.lemmas.List.{length-map}
 use Rattle.program_manners.specs.Loads.{Loaded, LoadsOne}
 use Rattle.report_texts.specs.Report.{upload_line, upload_lines}
-use Rattle.report_texts.specs.UploadEnds.{ArePlainEnds, IsPlainEnd}
-use Rattle.report_texts.specs.declared.upload_end.UploadEnd.{UploadEnd}
+use Rattle.tap_views.specs.UploadEnds.{ArePlainEnds, IsPlainEnd}
+use Rattle.tap_views.specs.declared.upload_end.UploadEnd.{UploadEnd}
 use Rattle.report_texts.proofs.Parts.{upload_lines-push}
 use Rattle.sorted_uploads.specs.Split.{AreInPlaces, IsPartWritten, SplitView}
 use Rattle.tap_views.proofs.Lists.{AllZip-append}

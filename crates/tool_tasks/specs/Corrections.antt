@@ -8,7 +8,7 @@ use Rattle.ledger_changes.specs.Ledgers.{IsSettledLedger}
 use Rattle.ledger_fields.specs.Rows.{Row}
 use Rattle.ledger_changes.specs.Texts.{IsCorrectionsText}
 use Rattle.ledger_changes.specs.Tokens.{IsCorrectionsByTokenText}
-use Rattle.part_texts.specs.declared.wrong.Wrong.TheVariants as wrong
+use Rattle.report_texts.specs.declared.wrong.Wrong.TheVariants as wrong
 use Rattle.program_manners.specs.LineWritten.{LineWritten}
 use Rattle.program_manners.specs.Loads.{Loaded}
 use Rattle.program_manners.specs.Refusals.{IsOneOf}

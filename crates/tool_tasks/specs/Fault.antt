@@ -1,8 +1,8 @@
 -- Why a subcommand is given up, and the line that says so, without its line feed.
 use Rattle.std.specs.Prelude.{◌≡◌, ⊤, ℕ, Bool, true, false, List, [], ◌++◌, Option, None, Some}
 use Rattle.std.specs.Prelude.{MatchBool, codes, decimal, if◌then◌else◌}
-use Rattle.part_texts.specs.declared.wrong.Wrong.{Wrong}
-use Rattle.part_texts.specs.declared.wrong.Wrong.TheVariants as wrong
+use Rattle.report_texts.specs.declared.wrong.Wrong.{Wrong}
+use Rattle.report_texts.specs.declared.wrong.Wrong.TheVariants as wrong
 use Rattle.program_manners.specs.LineWritten.{LineWritten}
 use Rattle.program_manners.specs.Refusals.{IsOneOf, Refuses}
 use Rattle.program_manners.specs.declared.loading.LoadFault.{LoadFault}

@@ -1,8 +1,8 @@
 -- What `sort --merge` does: of the words of its files, and of what is known of the uploads' bytes.
 use Rattle.std.specs.Prelude.{◌≡◌, ◌⊎◌, ⊤, ℕ, List, Option, Some, flat_map, length, map}
 use Rattle.program_manners.specs.Refusals.{IsOneOf}
-use Rattle.report_texts.specs.declared.upload_end.UploadEnd.{UploadEnd}
-use Rattle.report_texts.specs.declared.upload_end.UploadEnd.TheVariants.{Posted}
+use Rattle.tap_views.specs.declared.upload_end.UploadEnd.{UploadEnd}
+use Rattle.tap_views.specs.declared.upload_end.UploadEnd.TheVariants.{Posted}
 use Rattle.sorted_taps.specs.Checked.{IsFirstUnsorted}
 use Rattle.sorted_taps.specs.Merges.{AreSortedFiles}
 use Rattle.sorted_taps.specs.Written.{IsInBatchesOf512}

@@ -4,9 +4,9 @@ use Rattle.std.specs.Prelude.{codes, option_map}
 use Rattle.program_manners.specs.Loads.{Loaded}
 use Rattle.program_manners.specs.declared.loading.LoadFault.{LoadFault}
 use Rattle.report_texts.specs.Report.{upload_lines}
-use Rattle.report_texts.specs.UploadEnds.{ArePlainEnds}
-use Rattle.report_texts.specs.declared.upload_end.UploadEnd.{UploadEnd}
-use Rattle.report_texts.specs.declared.upload_end.UploadEnd.TheVariants.{Refused}
+use Rattle.tap_views.specs.UploadEnds.{ArePlainEnds}
+use Rattle.tap_views.specs.declared.upload_end.UploadEnd.{UploadEnd}
+use Rattle.tap_views.specs.declared.upload_end.UploadEnd.TheVariants.{Refused}
 use Rattle.settlement.specs.SettledTaps.{AreSettledTaps}
 use Rattle.sorted_taps.specs.Written.{IsInBatchesOf512}
 use Rattle.tap_views.specs.declared.encoder.TapFields.{TapFields}

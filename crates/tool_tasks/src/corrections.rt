@@ -17,7 +17,7 @@ use crate::fault::{Fault, finish, say};
 use crate::names::Name;
 use crate::source::{Source, open_text};
 use ledger_changes::{Bill, CorrectionsFault};
-use part_texts::Wrong;
+use report_texts::Wrong;
 use program_manners::{Complaints, Output, WriteEnd};
 use std::alloc::Global;
 use std::io::{BufRead, Write};

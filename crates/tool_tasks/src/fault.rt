@@ -12,7 +12,7 @@ use crate::layout::{Cause, Remedy};
 use crate::names::Name;
 use crate::wrong_tables::{WrongDevices, WrongFareTable, WrongRows, WrongTapTable};
 use fare_table::TableFault;
-use part_texts::Wrong;
+use report_texts::Wrong;
 use program_manners::{Complaints, LoadFault, Output, WriteEnd};
 use std::alloc::{AllocError, AllocFailed};
 use std::fmt;

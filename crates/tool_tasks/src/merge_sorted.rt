@@ -1,6 +1,6 @@
 //! `sort --merge`, of files that are in canonical order already.
 ghost use Rattle.std.specs.Prelude.{◌≡◌, ◌≤◌, ◌⊎◌, ℕ, List, IfErr, IfOk, OnOk, Option, Some, map};
-ghost use Rattle.report_texts.specs.declared.upload_end.UploadEnd.TheVariants.{Posted as APosted};
+ghost use Rattle.tap_views.specs.declared.upload_end.UploadEnd.TheVariants.{Posted as APosted};
 ghost use Rattle.sorted_taps.specs.Checked.{IsMergeFault};
 ghost use Rattle.sorted_taps.specs.Written.{IsMergedFile};
 ghost use Rattle.tool_tasks.specs.Fault.{IsFaultReported};
@@ -15,10 +15,10 @@ use crate::sink::{MakeFault, Sink};
 use crate::sort::{SortWords, fault_of_make, make_both};
 use placed_files::Placed;
 use program_manners::{Complaints, Output, WriteEnd};
-use report_texts::UploadEnd;
 use sorted_taps::{MergeFault, SortedFault, WriteFault, merge_sorted};
 use std::alloc::{AllocError, Global};
 use std::io::Write;
+use tap_views::UploadEnd;
 
 /// Why the file that the word names is refused.
 fn fault_of_file<'a>(word: &'a str, fault: SortedFault) -> Fault<'a>

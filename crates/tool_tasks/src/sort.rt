@@ -2,8 +2,8 @@
 ghost use Rattle.std.specs.Prelude.{◌≡◌, ◌⊎◌, ◌++◌, ◌∷◌, [], ℕ, List, IfErr, IfOk};
 ghost use Rattle.std.specs.Prelude.{OnOk, Option, Some, false, map, option_map, string_bytes, true};
 ghost use Rattle.report_texts.specs.Report.{upload_lines};
-ghost use Rattle.report_texts.specs.UploadEnds.{ArePlainEnds, are_posted, is_posted};
-ghost use Rattle.report_texts.specs.declared.upload_end.UploadEnd.{UploadEnd as AnEnd};
+ghost use Rattle.tap_views.specs.UploadEnds.{ArePlainEnds, are_posted, is_posted};
+ghost use Rattle.tap_views.specs.declared.upload_end.UploadEnd.{UploadEnd as AnEnd};
 ghost use Rattle.program_manners.specs.Loads.{Loaded};
 ghost use Rattle.sorted_uploads.specs.SortedUploads.{IsSortedFileOf};
 ghost use Rattle.tool_tasks.specs.Decode.{AreReported};
@@ -20,12 +20,13 @@ use crate::names::word_at;
 use crate::sink::{MakeFault, Sink, make_file};
 use crate::source::{Source, load_upload};
 use program_manners::{Complaints, Output};
-use report_texts::{UploadEnd, write_upload};
+use report_texts::write_upload;
 use sorted_uploads::sort_uploads;
 use std::alloc::{AllocError, Global};
 use std::io::Write;
 use std::marker::Sync;
 use std::thread::Threads;
+use tap_views::UploadEnd;
 
 /// How many threads put taps into order.
 const WORKERS: u32 = 4;

@@ -1,6 +1,6 @@
 //! Where texts come from.
 ghost use Rattle.std.specs.Prelude.{◌≡◌, ◌++◌, ℕ, List, IfErr, IfOk, Some, map};
-ghost use Rattle.part_texts.specs.Texts.{AreLeft};
+ghost use Rattle.report_texts.specs.Texts.{AreLeft};
 ghost use Rattle.program_manners.specs.Loads.{Loaded, LoadsOne, OpensOne};
 ghost use Rattle.program_manners.specs.Refusals.{IsOneOf};
 ghost use Rattle.tool_tasks.specs.Fault.{IsRefusal};

@@ -4,8 +4,8 @@ ghost use Rattle.std.specs.Prelude.{OnOk, Some, map, string_bytes, true};
 ghost use Rattle.std.specs.Io.KnownBytes.{Appends};
 ghost use Rattle.fare_texts.specs.WrittenOut.{Begins};
 ghost use Rattle.report_texts.specs.Report.{upload_line};
-ghost use Rattle.report_texts.specs.UploadEnds.{IsPlainEnd};
-ghost use Rattle.report_texts.specs.declared.upload_end.UploadEnd.{UploadEnd as AnEnd};
+ghost use Rattle.tap_views.specs.UploadEnds.{IsPlainEnd};
+ghost use Rattle.tap_views.specs.declared.upload_end.UploadEnd.{UploadEnd as AnEnd};
 ghost use Rattle.program_manners.specs.Loads.{Loaded};
 ghost use Rattle.sorted_uploads.specs.Split.{AreInPlaces};
 ghost use Rattle.tool_tasks.specs.Fault.{IsFaultReported, IsRefusal, failed_as};
@@ -22,11 +22,11 @@ use crate::sink::{MakeFault, Sink};
 use crate::source::{Source, load_upload};
 use fare_texts::write_bytes;
 use program_manners::{Complaints, Output};
-use report_texts::{UploadEnd, write_upload};
+use report_texts::write_upload;
 use sorted_uploads::{PartFiles, Split};
 use std::alloc::{AllocError, Global};
 use std::io::Write;
-use tap_views::{TAP1_TAP_BYTES, push_sample};
+use tap_views::{TAP1_TAP_BYTES, UploadEnd, push_sample};
 
 /// What `split` is asked for, beside the uploads.
 #[derive(Clone, Copy, Debug)]

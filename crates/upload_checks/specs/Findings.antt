@@ -1,6 +1,6 @@
 -- What is found in uploads.
 use Rattle.std.specs.Prelude.{◌≡◌, ℕ, List, filter, flat_map}
-use Rattle.report_texts.specs.UploadEnds.{ArePlainEnds}
+use Rattle.tap_views.specs.UploadEnds.{ArePlainEnds}
 use Rattle.settlement.specs.SettledTaps.{AreSettledTaps}
 use Rattle.tap_views.specs.declared.encoder.TapFields.{TapFields}
 use Rattle.tap_views.specs.declared.span.MomentSpan.{MomentSpan}

@@ -9,12 +9,11 @@ ghost use Rattle.upload_checks.specs.inside.LastTaps.{TokensRise};
 use crate::near_doubles::{NearDouble, NearDoubles};
 use crate::outside::Outside;
 use crate::repeats::{Repeat, repeated_uploads};
-use report_texts::UploadEnd;
 use settlement::{LoadedUploads, SettledTaps, settled_taps};
 use std::alloc::{AllocError, Global};
 use std::marker::Sync;
 use std::thread::Threads;
-use tap_views::{MomentSpan, NoMemory, TapFields};
+use tap_views::{MomentSpan, NoMemory, TapFields, UploadEnd};
 
 /// What is found in uploads.
 #[derive(Drop)]

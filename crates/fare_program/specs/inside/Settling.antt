@@ -2,10 +2,10 @@
 use Rattle.std.specs.Prelude.{◌≡◌, ℕ, Bool, List}
 use Rattle.shard_book.specs.declared.entry.Entry.{Entry}
 use Rattle.tariffs.specs.Fares.{Fares}
-use Rattle.report_texts.specs.UploadEnds.{are_posted}
-use Rattle.report_texts.specs.UploadEnds.{ArePlainEnds}
+use Rattle.tap_views.specs.UploadEnds.{are_posted}
+use Rattle.tap_views.specs.UploadEnds.{ArePlainEnds}
 use Rattle.report_texts.specs.OverHistory.{IsReportOver}
-use Rattle.report_texts.specs.declared.upload_end.UploadEnd.{UploadEnd}
+use Rattle.tap_views.specs.declared.upload_end.UploadEnd.{UploadEnd}
 use Rattle.settlement.specs.Settled.{IsSettledHistory}
 
 -- The text is the report of the settled history of the files. It is well if each file ends posted

@@ -7,7 +7,7 @@ use Rattle.shared_books.specs.Drawing.{Drawing, DrawerView}
 use Rattle.shared_books.specs.Marks.{visits_of, joined_marks, Apart, Begins}
 use Rattle.shared_books.specs.Passes.{SharedBookView, PassView}
 use Rattle.fare_service.specs.declared.service.share.Done.{Done}
-use Rattle.report_texts.specs.declared.upload_end.UploadEnd.{UploadEnd}
+use Rattle.tap_views.specs.declared.upload_end.UploadEnd.{UploadEnd}
 use Rattle.fare_service.specs.Claims.{claims_at}
 use Rattle.fare_service.specs.Faults.{visits_held}
 use Rattle.fare_service.specs.Headline.{Signed, by_worker}

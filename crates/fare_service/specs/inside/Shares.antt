@@ -1,6 +1,6 @@
 -- Shares: what private functions alone cite.
 use Rattle.std.specs.Prelude.{ℕ, List}
-use Rattle.report_texts.specs.declared.upload_end.UploadEnd.{UploadEnd}
+use Rattle.tap_views.specs.declared.upload_end.UploadEnd.{UploadEnd}
 use Rattle.fare_service.specs.Runs.{RunVisit}
 use Rattle.fare_service.specs.Shares.{Worked}
 

@@ -3,7 +3,7 @@
 ghost use Rattle.std.specs.Prelude.{◌≡◌, ℕ, ◌<◌, List, Some, slice_get};
 ghost use Rattle.tap_views.specs.Layout.{Tap};
 ghost use Rattle.tariffs.specs.Fares.{Fares};
-ghost use Rattle.report_texts.specs.declared.upload_end.UploadEnd.{UploadEnd};
+ghost use Rattle.tap_views.specs.declared.upload_end.UploadEnd.{UploadEnd};
 ghost use Rattle.fare_service.specs.Headline.{Headline};
 ghost use Rattle.fare_service.specs.Outcomes.{OutcomeView};
 ghost use Rattle.fare_service.specs.Placing.{in_posting_order, in_file_order, posted_of};

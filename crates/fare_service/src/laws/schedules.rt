@@ -14,7 +14,7 @@ ghost use Rattle.tap_views.specs.Token.{bytes_of};
 ghost use Rattle.shard_book.specs.Visits.{AreEntriesOf};
 ghost use Rattle.fare_service.specs.Headline.{Headline};
 ghost use Rattle.tap_views.specs.Files.{AreGoodTaps};
-ghost use Rattle.report_texts.specs.UploadEnds.{ArePlainEnds};
+ghost use Rattle.tap_views.specs.UploadEnds.{ArePlainEnds};
 ghost use Rattle.shard_book.specs.Plain.{IsNamed};
 ghost use Rattle.fare_service.specs.Plain.{IsPlain};
 ghost use Rattle.report_texts.specs.OverHistory.{IsReportOver, IsStatementOver};
@@ -23,8 +23,8 @@ ghost use Rattle.fare_service.specs.Printed.{IsStatementOf, report_of};
 ghost use Rattle.fare_service.specs.Shares.{Worked};
 
 use crate::outcome::Outcome;
-use report_texts::UploadEnd;
 use shard_book::laws::one_rising_list;
+use tap_views::UploadEnd;
 use tap_views::laws::one_reading_each;
 
 /// The tokens of an outcome's books are those that their bytes name, and are of their book's shard.

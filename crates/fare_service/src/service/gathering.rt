@@ -22,11 +22,10 @@ use crate::outcome::Outcome;
 use crate::service::Service;
 use crate::service::share::{Done, Posting, Share};
 use crate::service::worker_totals::{added, entries_in};
-use report_texts::UploadEnd;
 use shard_book::{ShardBook, Totals, laws};
 use shared_books::{Draw, Drawer, Missing, Pass, SharedBook};
 use std::alloc::Global;
-use tap_views::NoMemory;
+use tap_views::{NoMemory, UploadEnd};
 
 fn set_ends(ends: &mut Vec<UploadEnd>, done: &[Done])
     requires { All (λ d. d.upload < length ends.old.items) done.now }

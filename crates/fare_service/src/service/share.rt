@@ -2,10 +2,10 @@
 
 ghost use Rattle.std.specs.Prelude.{◌≡◌};
 
-use report_texts::UploadEnd;
 use shard_book::Totals;
 use shared_books::{Drawer, Pass};
 use std::marker::Model;
+use tap_views::UploadEnd;
 
 /// An upload that a share drew, and how it ended.
 #[derive(Clone, Copy, Debug)]

@@ -9,12 +9,11 @@ ghost use Rattle.shard_book.specs.Sums.{sums_of, sums_of_replies, add_sums};
 use crate::lending::{LentUploads, Unlent};
 use crate::service::Service;
 use crate::service::share::{Done, Posting, Share};
-use report_texts::UploadEnd;
 use shard_book::{Replies, RunEnd, Tally, Totals};
 use shared_books::{Drawer, Full};
 use std::alloc::Global;
 use std::sync::Wait;
-use tap_views::{Batch, LayoutFault, NoMemory, Runs, good_batches};
+use tap_views::{Batch, LayoutFault, NoMemory, Runs, UploadEnd, good_batches};
 use tariffs::Clock;
 
 /// What a worker calls before it posts an upload and after it. A test can make workers wait there.

@@ -17,9 +17,9 @@ use Rattle.part_reports.specs.inside.SumsLeft.{sums_left}
 use Rattle.part_reports.specs.inside.Reported.{next_number}
 use Rattle.part_reports.specs.declared.fault.MergeFault.{MergeFault}
 use Rattle.part_reports.specs.declared.fault.MergeFault.TheVariants.{Line}
-use Rattle.part_texts.specs.declared.wrong.Wrong.{Wrong}
-use Rattle.part_texts.specs.declared.wrong.Wrong.TheVariants.{Form, Order, Twice}
-use Rattle.part_texts.specs.declared.wrong.Wrong.TheVariants.{Tokens as TooManyOfTokens}
+use Rattle.report_texts.specs.declared.wrong.Wrong.{Wrong}
+use Rattle.report_texts.specs.declared.wrong.Wrong.TheVariants.{Form, Order, Twice}
+use Rattle.report_texts.specs.declared.wrong.Wrong.TheVariants.{Tokens as TooManyOfTokens}
 use Rattle.part_reports.specs.declared.merging.LineKind.{LineKind}
 use Rattle.part_reports.specs.declared.merging.LineKind.TheVariants.{Tokens, Entries}
 use Rattle.part_reports.specs.declared.sums_left.SumsLeft.{SumsLeft}

@@ -18,11 +18,11 @@ use Rattle.part_reports.specs.inside.Standings.{Standing, line_with}
 use Rattle.part_reports.specs.inside.Sums.{AreSumsOf}
 use Rattle.part_reports.specs.declared.fault.MergeFault.{MergeFault}
 use Rattle.part_reports.specs.declared.fault.MergeFault.TheVariants.{Line}
-use Rattle.part_texts.specs.declared.wrong.Wrong.{Wrong}
-use Rattle.part_texts.specs.declared.wrong.Wrong.TheVariants.{Form, LessThanReport, MissingToken}
-use Rattle.part_texts.specs.declared.wrong.Wrong.TheVariants.{MoreThanReport, OtherToken}
-use Rattle.part_texts.specs.declared.wrong.Wrong.TheVariants.{OtherValidators}
-use Rattle.part_texts.specs.declared.wrong.Wrong.TheVariants.{Sums as TooManySums}
+use Rattle.report_texts.specs.declared.wrong.Wrong.{Wrong}
+use Rattle.report_texts.specs.declared.wrong.Wrong.TheVariants.{Form, LessThanReport, MissingToken}
+use Rattle.report_texts.specs.declared.wrong.Wrong.TheVariants.{MoreThanReport, OtherToken}
+use Rattle.report_texts.specs.declared.wrong.Wrong.TheVariants.{OtherValidators}
+use Rattle.report_texts.specs.declared.wrong.Wrong.TheVariants.{Sums as TooManySums}
 
 -- why a line of this token, which is not the last one, has no sums left
 abbrev pub IsTurnReason : Wrong → Token → ReportAt → Type 0

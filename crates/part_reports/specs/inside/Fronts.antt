@@ -11,8 +11,8 @@ use Rattle.report_texts.specs.Numbers.{IsUploadEnd, AreCounts, IsValidatorSum}
 use Rattle.fare_texts.specs.Counts.{totals_line}
 use Rattle.fare_texts.specs.ReportLines.{number_line}
 use Rattle.report_texts.specs.Report.{uploads_section, validators_section}
-use Rattle.report_texts.specs.UploadEnds.{is_posted}
-use Rattle.report_texts.specs.declared.upload_end.UploadEnd.{UploadEnd}
+use Rattle.tap_views.specs.UploadEnds.{is_posted}
+use Rattle.tap_views.specs.declared.upload_end.UploadEnd.{UploadEnd}
 use Rattle.part_reports.specs.Reports.{added}
 use Rattle.part_reports.specs.declared.front.Front.{Front}
 

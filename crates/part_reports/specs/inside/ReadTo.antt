@@ -2,7 +2,7 @@
 use Rattle.std.specs.Prelude.{◌≡◌, ◌<◌, ◌≤◌, ◌⊎◌, ◌^◌, ℕ, List, ◌++◌, All, Option, Some, codes}
 use Rattle.std.specs.Prelude.{flat_map, length, map}
 use Rattle.fare_texts.specs.ReportLines.{number_line}
-use Rattle.report_texts.specs.declared.upload_end.UploadEnd.{UploadEnd}
+use Rattle.tap_views.specs.declared.upload_end.UploadEnd.{UploadEnd}
 use Rattle.shard_book.specs.Shown.{validator_sum}
 use Rattle.shard_book.specs.Sums.{Sums, sums_of}
 use Rattle.shard_book.specs.declared.sums.ValidatorSum.{ValidatorSum}
@@ -19,7 +19,7 @@ use Rattle.part_reports.specs.inside.Reported.{next_number}
 use Rattle.part_reports.specs.inside.Fronts.{ReportedFront}
 use Rattle.part_reports.specs.declared.fault.MergeFault.{MergeFault}
 use Rattle.part_reports.specs.declared.fault.MergeFault.TheVariants.{Line}
-use Rattle.part_texts.specs.declared.wrong.Wrong.TheVariants.{Form, Sums as TooManySums}
+use Rattle.report_texts.specs.declared.wrong.Wrong.TheVariants.{Form, Sums as TooManySums}
 use Rattle.part_reports.specs.declared.front.Front.{Front}
 use Rattle.part_reports.specs.declared.sums.WholeSums.{WholeSums}
 

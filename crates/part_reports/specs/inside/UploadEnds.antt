@@ -4,14 +4,14 @@ use Rattle.std.specs.Prelude.{All, Err, IsTrue, Ok, length, sum_by, ⊤}
 use Rattle.std.specs.Io.BufRead.{take_through}
 use Rattle.part_reports.specs.declared.fault.MergeFault.{MergeFault}
 use Rattle.part_reports.specs.declared.fault.MergeFault.TheVariants.{Line}
-use Rattle.part_texts.specs.declared.wrong.Wrong.{Wrong}
-use Rattle.part_texts.specs.declared.wrong.Wrong.TheVariants.{Form}
+use Rattle.report_texts.specs.declared.wrong.Wrong.{Wrong}
+use Rattle.report_texts.specs.declared.wrong.Wrong.TheVariants.{Form}
 use Rattle.part_reports.specs.inside.FirstWrong.{up_to_64}
 use Rattle.part_reports.specs.declared.upload_ends.UploadEnds.{UploadEnds}
 use Rattle.part_reports.specs.Faults.{IsOfTexts}
 use Rattle.report_texts.specs.Report.{upload_line, upload_lines}
-use Rattle.report_texts.specs.UploadEnds.{is_posted, taps_of_end}
-use Rattle.report_texts.specs.declared.upload_end.UploadEnd.{UploadEnd}
+use Rattle.tap_views.specs.UploadEnds.{is_posted, taps_of_end}
+use Rattle.tap_views.specs.declared.upload_end.UploadEnd.{UploadEnd}
 use Rattle.report_texts.specs.Numbers.{IsUploadEnd}
 
 -- these uploads were read

@@ -6,18 +6,19 @@ ghost use Rattle.part_reports.specs.Faults.{IsOfTaps, IsOfTexts, NamesAmong};
 ghost use Rattle.part_reports.specs.inside.ReadTo.{IsOfForm, NamesFirstWrongEnds};
 ghost use Rattle.part_reports.specs.inside.Reported.{IsOfReader, next_number};
 ghost use Rattle.report_texts.specs.Numbers.{IsUploadEnd};
-ghost use Rattle.report_texts.specs.declared.upload_end.UploadEnd.{UploadEnd as AnEnd};
+ghost use Rattle.tap_views.specs.declared.upload_end.UploadEnd.{UploadEnd as AnEnd};
 ghost use Rattle.part_reports.specs.Reports.{NamesWrongText, end_texts, all_ends};
-ghost use Rattle.part_texts.specs.Texts.{AreLeft};
+ghost use Rattle.report_texts.specs.Texts.{AreLeft};
 ghost use Rattle.part_reports.specs.inside.UploadEnds.{HaveReadEnds, AreEndsAdded, IsNextEnd};
 ghost use Rattle.part_reports.specs.inside.UploadEnds.{IsFirstNoEnd};
 
 use crate::fault::MergeFault;
 use crate::line_reader::LineReader;
 use crate::upload_ends::UploadEnds;
-use report_texts::{UploadEnd, end_of};
+use report_texts::end_of;
 use std::alloc::Global;
 use std::io::BufRead;
+use tap_views::UploadEnd;
 
 /// Reads the end of the upload of this number; none if the text is over.
 fn next_end<R: BufRead + Drop>(

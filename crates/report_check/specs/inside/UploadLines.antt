@@ -1,9 +1,8 @@
 -- What the lines of uploads say, with which a text begins.
 use Rattle.std.specs.Prelude.{◌≡◌, ℕ, List, sum_by, ◌^◌, ◌<◌}
-use Rattle.report_texts.specs.UploadEnds.{taps_of_end}
-use Rattle.report_texts.specs.declared.upload_end.UploadEnd.{UploadEnd}
-use Rattle.report_texts.specs.declared.upload_end.UploadEnd.TheVariants.{Posted, Refused, Cut}
-use Rattle.report_texts.specs.declared.upload_end.UploadEnd.TheVariants.{Undrawn}
+use Rattle.tap_views.specs.UploadEnds.{taps_of_end}
+use Rattle.tap_views.specs.declared.upload_end.UploadEnd.{UploadEnd}
+use Rattle.tap_views.specs.declared.upload_end.UploadEnd.TheVariants.{Posted, Refused, Cut, Undrawn}
 use Rattle.report_check.specs.Reports.{BeginsWithUploads, IsNoReportLine}
 use Rattle.report_check.specs.declared.upload_lines.UploadLines.{UploadLines}
 use Rattle.report_check.specs.declared.upload_lines.UploadLines.TheVariants.{Reported, NoLine}

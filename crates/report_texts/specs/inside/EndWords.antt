@@ -5,8 +5,8 @@ use Rattle.tap_views.specs.declared.fault.LayoutFault.{LayoutFault}
 use Rattle.tap_views.specs.declared.fault.LayoutFault.TheVariants.{Short, Magic, Flags, TooMany}
 use Rattle.tap_views.specs.declared.fault.LayoutFault.TheVariants.{Length, Moment}
 use Rattle.fare_texts.specs.ReportLines.{number_line}
-use Rattle.report_texts.specs.Report.{end_text}
-use Rattle.report_texts.specs.declared.upload_end.UploadEnd.{UploadEnd}
+use Rattle.tap_views.specs.UploadEnds.{end_text}
+use Rattle.tap_views.specs.declared.upload_end.UploadEnd.{UploadEnd}
 
 -- ` posted 4`, with the end of the line
 abbrev pub end_words : UploadEnd → List ℕ

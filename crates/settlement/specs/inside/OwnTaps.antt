@@ -6,8 +6,8 @@ use Rattle.tap_views.specs.Layout.{Tap}
 use Rattle.tap_views.specs.declared.encoder.TapFields.{TapFields}
 use Rattle.tap_views.specs.declared.token.Token.{Token}
 use Rattle.tap_parts.specs.Parts.{taps_of_uploads}
-use Rattle.report_texts.specs.UploadEnds.{ArePlainEnds, IsPlainEnd}
-use Rattle.report_texts.specs.declared.upload_end.UploadEnd.{UploadEnd}
+use Rattle.tap_views.specs.UploadEnds.{ArePlainEnds, IsPlainEnd}
+use Rattle.tap_views.specs.declared.upload_end.UploadEnd.{UploadEnd}
 use Rattle.settlement.specs.Posted.{only}
 use Rattle.settlement.specs.Reading.{AreRead}
 use Rattle.settlement.specs.inside.SplitTaps.{HasGoodTokens}

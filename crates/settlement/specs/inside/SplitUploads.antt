@@ -7,8 +7,8 @@ use Rattle.tap_views.specs.declared.encoder.TapFields.{TapFields}
 use Rattle.tap_parts.specs.Canonical.{HasTokenBytes}
 use Rattle.tap_parts.specs.Parts.{taps_at, taps_of_uploads}
 use Rattle.tap_parts.specs.Ranges.{range_of_token}
-use Rattle.report_texts.specs.UploadEnds.{ArePlainEnds}
-use Rattle.report_texts.specs.declared.upload_end.UploadEnd.{UploadEnd}
+use Rattle.tap_views.specs.UploadEnds.{ArePlainEnds}
+use Rattle.tap_views.specs.declared.upload_end.UploadEnd.{UploadEnd}
 
 -- Each upload ends as its bytes call for. The parts are ranges of tokens, one behind the other, and
 -- each has exactly the uploads' good taps of its tokens, in the order of the uploads. A token has

@@ -1,7 +1,7 @@
 -- The bill of files whose bytes may be known: what private functions alone cite.
 use Rattle.std.specs.Prelude.{◌≡◌, ◌^◌, ◌≤◌, ℕ, List, Option, Some, length, map}
 use Rattle.tariffs.specs.Fares.{Fares}
-use Rattle.report_texts.specs.UploadEnds.{ArePlainEnds}
+use Rattle.tap_views.specs.UploadEnds.{ArePlainEnds}
 use Rattle.shard_book.specs.declared.entry.Entry.{Entry}
 use Rattle.settlement.specs.Bills.{IsBillOf}
 use Rattle.settlement.specs.Settled.{IsSettledHistory}

@@ -10,7 +10,7 @@ use Rattle.shard_book.specs.TalliesByKey.{AreByKey}
 use Rattle.shard_book.specs.Tally.{sums_of_tally}
 use Rattle.settlement.specs.Posted.{posted, token_of_tap}
 use Rattle.settlement.specs.Replays.{HasPosted}
-use Rattle.tap_views.specs.TokenLists.{AreBelow}
+use Rattle.tap_views.specs.TokenOrder.{AreBelow}
 use Rattle.sorted_bills.specs.declared.open_bill.OpenBill.{OpenBill}
 
 -- The taps are those of lower tokens, and then those of the last token. These were posted by its

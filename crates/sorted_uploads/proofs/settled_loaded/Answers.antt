@@ -2,7 +2,7 @@
 use Rattle.std.proofs.Common.{◌≡◌, ℕ, List, Some, flat_map, length, map, subst}
 use Rattle.std.specs.Prelude.{slice_get}
 use Rattle.std.proofs.lemmas.Result.{IfOk-weaker}
-use Rattle.report_texts.specs.UploadEnds.{ArePlainEnds}
+use Rattle.tap_views.specs.UploadEnds.{ArePlainEnds}
 use Rattle.settlement.specs.Reading.{AreRead}
 use Rattle.settlement.specs.SettledTaps.{AreSettledTaps}
 use Rattle.settlement.specs.declared.settled.SettledTaps.{SettledTaps}

@@ -2,8 +2,8 @@
 use Rattle.std.specs.Prelude.{◌≡◌, ⊤, ℕ, List, [], Option, None, Some}
 use Rattle.program_manners.specs.Loads.{Loaded}
 use Rattle.report_texts.specs.Report.{upload_lines}
-use Rattle.report_texts.specs.UploadEnds.{ArePlainEnds}
-use Rattle.report_texts.specs.declared.upload_end.UploadEnd.{UploadEnd}
+use Rattle.tap_views.specs.UploadEnds.{ArePlainEnds}
+use Rattle.tap_views.specs.declared.upload_end.UploadEnd.{UploadEnd}
 use Rattle.sorted_uploads.specs.Split.{AreInPlaces, SplitView}
 use Rattle.tool_tasks.specs.Source.{HasOpened}
 use Rattle.tool_tasks.specs.declared.fault.Fault.{Fault}

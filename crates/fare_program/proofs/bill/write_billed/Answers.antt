@@ -8,7 +8,7 @@ use Rattle.shard_book.specs.TalliesByKey.{HasRoom}
 use Rattle.shard_book.specs.declared.entry.Entry.{Entry}
 use Rattle.shard_book.proofs.SumsLemmas.{sums-taps}
 use Rattle.report_texts.specs.Report.{report}
-use Rattle.report_texts.specs.UploadEnds.{are_posted}
+use Rattle.tap_views.specs.UploadEnds.{are_posted}
 use Rattle.settlement.specs.Bills.{IsBillOf}
 use Rattle.fare_program.proofs.bill.write_billed.Goals as goal
 

@@ -2,7 +2,7 @@ use Rattle.std.proofs.Common.{◌∙◌, ap, length, refl, subst, sym}
 use Rattle.std.proofs.lemmas.Result.{err_from_is_err_and}
 use Rattle.fare_program.specs.inside.Fault.{IsRunFailure}
 use Rattle.fare_program.specs.inside.Options.{asked_of}
-use Rattle.report_texts.specs.UploadEnds.{are_posted}
+use Rattle.tap_views.specs.UploadEnds.{are_posted}
 use Rattle.fare_program.proofs.PostedTexts.{live_asked}
 use Rattle.fare_program.proofs.posting.charge_lent.Goals as goal
 

@@ -8,9 +8,8 @@ use Rattle.fare_service.specs.Outcomes.{OutcomeView}
 use Rattle.report_texts.specs.OverHistory.{IsReportOver, IsStatementOver}
 use Rattle.fare_service.specs.Plain.{IsUncutGathering, WasNotCut}
 use Rattle.fare_service.specs.Printed.{IsStatementOf, report_of}
-use Rattle.report_texts.specs.declared.upload_end.UploadEnd.{UploadEnd}
-use Rattle.report_texts.specs.declared.upload_end.UploadEnd.TheVariants.{Posted, Refused, Cut}
-use Rattle.report_texts.specs.declared.upload_end.UploadEnd.TheVariants.{Undrawn}
+use Rattle.tap_views.specs.declared.upload_end.UploadEnd.{UploadEnd}
+use Rattle.tap_views.specs.declared.upload_end.UploadEnd.TheVariants.{Posted, Refused, Cut, Undrawn}
 use Rattle.std.specs.Prelude.{MatchBool, slice_get}
 use Rattle.shard_book.specs.Book.{Book}
 use Rattle.fare_service.proofs.GatheredWork.{Given}
@@ -20,7 +19,7 @@ use Rattle.tap_views.specs.Files.{HasOneReading}
 use Rattle.tap_views.proofs.Reading.{one_list_of_batches}
 use Rattle.fare_texts.specs.Explained.{IsExplainedOf, IsExplainedOver}
 use Rattle.fare_program.proofs.Explains.{explained_same}
-use Rattle.report_texts.specs.UploadEnds.{are_posted}
+use Rattle.tap_views.specs.UploadEnds.{are_posted}
 use Rattle.fare_texts.specs.Ledger.{IsLedgerOfBooks, IsLedgerOver}
 use Rattle.fare_program.specs.Program.{ShowsWith}
 use Rattle.fare_program.proofs.Ledgers.{ledger_same}

@@ -9,7 +9,7 @@ use Rattle.tap_views.specs.declared.encoder.TapFields.{TapFields}
 use Rattle.tap_parts.specs.Canonical.{tap_cmp}
 use Rattle.fare_texts.specs.Ledger.{IsLedgerOver}
 use Rattle.settlement.specs.Posted.{HasName, posted}
-use Rattle.report_texts.specs.UploadEnds.{are_posted}
+use Rattle.tap_views.specs.UploadEnds.{are_posted}
 use Rattle.fare_program.specs.Settling.{IsTextOver}
 use Rattle.fare_program.proofs.settle.write_ledger.Goals as goal
 

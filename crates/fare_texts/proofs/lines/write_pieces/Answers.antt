@@ -5,7 +5,8 @@ use Rattle.shard_book.specs.Entry.{own}
 use Rattle.shard_book.specs.declared.entry.Entry.{Entry}
 use Rattle.tap_views.specs.declared.token.Token.{Token}
 use Rattle.fare_texts.specs.LedgerLines.{IsLedgerLineAfter}
-use Rattle.fare_texts.specs.Lines.{AreLinesAlong, HasCome, IsLineAfter, IsUpTo, NoFallFrom}
+use Rattle.fare_texts.specs.Lines.{AreLinesAlong, HasCome, IsLineAfter, NoFallFrom}
+use Rattle.tap_views.specs.TokenOrder.{IsUpTo}
 use Rattle.fare_texts.specs.inside.Spots.{entries_at_spots}
 use Rattle.fare_texts.proofs.Beginnings.{begins_nothing, goes_grown, goes_nothing, goes_passed}
 use Rattle.fare_texts.proofs.PieceWriting.{along_push, come_first, come_next, lines_begun}

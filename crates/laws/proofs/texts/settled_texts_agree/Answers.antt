@@ -9,9 +9,8 @@ use Rattle.fare_texts.specs.Explained.{IsExplainedOver}
 use Rattle.fare_texts.specs.Ledger.{IsLedgerOver}
 use Rattle.report_texts.specs.OverHistory.{IsStatementOver}
 use Rattle.fare_program.specs.Settling.{IsTextOver}
-use Rattle.settlement.specs.Alike.{DifferInUploads}
 use Rattle.settlement.specs.Settled.{IsSettledHistory}
-use Rattle.laws.specs.Agree.{TextsAgree}
+use Rattle.laws.specs.Agree.{TextsAgree, DifferInUploads}
 use Rattle.laws.proofs.OneText.{one_explained, one_ledger, one_statement}
 use Rattle.laws.proofs.texts.settled_texts_agree.Goals as goal
 
@@ -64,5 +63,5 @@ returns c = λ asked again fares token text other well ill same ledger explain o
     one.shows in
     let one_too = subst (λ h. IsSettledHistory fares files h) histories one.is_settled in
     by_asked asked.ledger asked.explain token fares files others two.history text other
-    (λ none report again. c.same_history.ensures.reports fares two.history two.history text other
+    (λ none report again. c.same_reports.ensures.reports fares two.history two.history text other
     same one_too two.is_settled report again) moved shown

@@ -1,6 +1,6 @@
 use Rattle.std.proofs.Common.{◌<◌, ◌^◌, arith}
 use Rattle.report_texts.specs.Numbers.{IsUploadEnd}
-use Rattle.report_texts.specs.declared.upload_end.UploadEnd.{UploadEnd}
+use Rattle.tap_views.specs.declared.upload_end.UploadEnd.{UploadEnd}
 use Rattle.part_reports.proofs.LinesRead.{read_line}
 use Rattle.part_reports.proofs.OneLine.{end_line_is_one}
 use Rattle.part_reports.proofs.front.next_end.Goals as goal

@@ -6,7 +6,7 @@ use Rattle.part_reports.proofs.front.read_uploads.Goals as goal
 use Rattle.report_texts.specs.Report.{upload_lines}
 use Rattle.std.proofs.lemmas.Result.{MatchResult-weaker}
 use Rattle.part_reports.proofs.FrontsRight.{no_uploads_head, uploads_head}
-use Rattle.report_texts.specs.declared.upload_end.UploadEnd.{UploadEnd}
+use Rattle.tap_views.specs.declared.upload_end.UploadEnd.{UploadEnd}
 
 counting : Counting AreSoManyPosted AreEnds (λ (ends : List UploadEnd). length ends)
 counting = record {

@@ -2,7 +2,7 @@ use Rattle.std.proofs.Common.{inl, refl, subst, sym}
 use Rattle.std.specs.Prelude.{None}
 use Rattle.part_reports.specs.inside.FirstWrong.{IsLineReason}
 use Rattle.part_reports.specs.inside.Standings.{line_with}
-use Rattle.part_texts.specs.declared.wrong.Wrong.TheVariants.{Form}
+use Rattle.report_texts.specs.declared.wrong.Wrong.TheVariants.{Form}
 use Rattle.part_reports.proofs.merging.behind_line.Goals as goal
 
 pub returns-in-None-clause-why : goal.returns-in-None-clause-why

@@ -5,8 +5,8 @@ use Rattle.std.proofs.lemmas.List.Elements.{All-nil, All-push}
 use Rattle.std.proofs.lemmas.List.Sums.{sum_by_push}
 use Rattle.fare_texts.specs.ReportLines.{number_line}
 use Rattle.report_texts.specs.Report.{upload_lines}
-use Rattle.report_texts.specs.UploadEnds.{taps_of_end}
-use Rattle.report_texts.specs.declared.upload_end.UploadEnd.{UploadEnd}
+use Rattle.tap_views.specs.UploadEnds.{taps_of_end}
+use Rattle.tap_views.specs.declared.upload_end.UploadEnd.{UploadEnd}
 use Rattle.report_check.specs.Reports.{IsReportEnd}
 use Rattle.report_check.proofs.UploadLines.{all_lines, head_then, line_then, small_taps, wrong_end}
 use Rattle.report_check.proofs.upload_lines.upload_lines.Goals as goal

@@ -2,7 +2,7 @@ use Rattle.std.proofs.Common.{◌≡◌, ◌++◌, ◌*◌, ◌^◌, ◌≤◌, 
 use Rattle.std.specs.Prelude.{sum_by}
 use Rattle.fare_texts.specs.ReportLines.{number_line}
 use Rattle.report_texts.specs.Report.{upload_lines}
-use Rattle.report_texts.specs.UploadEnds.{taps_of_end}
+use Rattle.tap_views.specs.UploadEnds.{taps_of_end}
 use Rattle.report_check.specs.Reports.{IsReportEnd}
 use Rattle.report_check.proofs.upload_lines.upload_lines.Given as goal
 

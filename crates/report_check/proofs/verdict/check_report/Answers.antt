@@ -1,6 +1,6 @@
 use Rattle.std.proofs.Common.{◌∙◌, ap, arith, List}
 use Rattle.std.proofs.lemmas.Result.{IfOk-weaker}
-use Rattle.report_texts.specs.declared.upload_end.UploadEnd.{UploadEnd}
+use Rattle.tap_views.specs.declared.upload_end.UploadEnd.{UploadEnd}
 use Rattle.report_check.specs.Reports.{report_of}
 use Rattle.report_check.proofs.Verdicts.{by_difference, other_taps}
 use Rattle.report_check.proofs.verdict.check_report.Goals as goal

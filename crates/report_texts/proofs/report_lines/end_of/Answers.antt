@@ -1,7 +1,7 @@
 use Rattle.std.proofs.Common.{◌∙◌, codes, ap, arith, List, ℕ, ◌++◌, sym}
 use Rattle.std.specs.Fmt.{decimal}
 use Rattle.report_texts.specs.inside.EndWords.{end_words}
-use Rattle.report_texts.specs.declared.upload_end.UploadEnd.TheVariants.{Posted}
+use Rattle.tap_views.specs.declared.upload_end.UploadEnd.TheVariants.{Posted}
 use Rattle.report_texts.proofs.Digits.{counted_unique}
 use Rattle.report_texts.proofs.EndTexts.{end_begins, line_words, no_end}
 use Rattle.report_texts.proofs.Nones.{turned}

@@ -2,7 +2,7 @@
 use Rattle.std.proofs.Common.{sym, subst, ◌∙◌}
 use Rattle.tap_views.specs.declared.token.Token.{Token}
 use Rattle.shard_book.specs.Entry.{own}
-use Rattle.fare_texts.specs.Lines.{IsUpTo}
+use Rattle.tap_views.specs.TokenOrder.{IsUpTo}
 use Rattle.settled_texts.proofs.TapsExplained.{one_reported}
 use Rattle.settled_texts.proofs.lines.explain_tap.Goals as goal
 

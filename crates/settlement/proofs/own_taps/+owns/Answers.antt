@@ -1,6 +1,6 @@
 use Rattle.std.proofs.Common.{List, ◌++◌, IfOk, sym, subst}
 use Rattle.tap_views.specs.declared.encoder.TapFields.{TapFields}
-use Rattle.report_texts.specs.declared.upload_end.UploadEnd.{UploadEnd}
+use Rattle.tap_views.specs.declared.upload_end.UploadEnd.{UploadEnd}
 use Rattle.settlement.specs.inside.OwnTaps.{AreOwnBetween}
 use Rattle.settlement.proofs.ReadUploads.{both_runs_own}
 use Rattle.settlement.proofs.own_taps.+owns.Goals as goal

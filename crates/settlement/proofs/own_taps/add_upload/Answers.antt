@@ -1,7 +1,7 @@
 use Rattle.std.proofs.Common.{length, ap, ◌∙◌, sym, refl, append-nil, arith, length-append}
 use Rattle.tap_views.specs.Files.{taps_of_batches}
 use Rattle.tap_views.proofs.ReadingLemmas.{good_taps, read_end, read_on, room_on, taps_more}
-use Rattle.report_texts.specs.UploadEnds.{end_by}
+use Rattle.tap_views.specs.UploadEnds.{end_by}
 use Rattle.settlement.proofs.OnlyTaps.{only_batch}
 use Rattle.settlement.proofs.own_taps.add_upload.Goals as goal
 

@@ -1,6 +1,6 @@
 use Rattle.std.proofs.Common.{◌+◌, List, sym, subst, arith, []}
 use Rattle.tap_views.specs.declared.encoder.TapFields.{TapFields}
-use Rattle.report_texts.specs.declared.upload_end.UploadEnd.{UploadEnd}
+use Rattle.tap_views.specs.declared.upload_end.UploadEnd.{UploadEnd}
 use Rattle.settlement.specs.inside.OwnTaps.{AreOwnAdded, AreOwnBetween}
 use Rattle.settlement.proofs.ReadUploads.{no_run_own, run_own_more}
 use Rattle.settlement.proofs.own_taps.own_taps.Goals as goal

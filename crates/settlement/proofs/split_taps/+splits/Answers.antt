@@ -1,6 +1,6 @@
 use Rattle.std.proofs.Common.{List, ◌+◌, ◌++◌, IfOk, length, sym, subst}
 use Rattle.tap_views.specs.declared.encoder.TapFields.{TapFields}
-use Rattle.report_texts.specs.declared.upload_end.UploadEnd.{UploadEnd}
+use Rattle.tap_views.specs.declared.upload_end.UploadEnd.{UploadEnd}
 use Rattle.tap_parts.specs.Ranges.{range_of_token}
 use Rattle.settlement.specs.inside.SplitTaps.{AreInPartsBetween}
 use Rattle.settlement.proofs.ReadUploads.{both_runs}

@@ -1,5 +1,5 @@
 use Rattle.std.proofs.Common.{◌+◌, List, sym, subst, arith}
-use Rattle.report_texts.specs.declared.upload_end.UploadEnd.{UploadEnd}
+use Rattle.tap_views.specs.declared.upload_end.UploadEnd.{UploadEnd}
 use Rattle.tap_parts.proofs.RangeLemmas.{range_below}
 use Rattle.tap_parts.specs.Ranges.{range_of_token}
 use Rattle.tap_parts.specs.Uploads.{IsUploadAddedBy}

@@ -5,8 +5,9 @@ use Rattle.std.proofs.lemmas.List.{nil_from_length}
 use Rattle.std.proofs.lemmas.Result.{err_from_is_err_and}
 use Rattle.tap_views.specs.declared.encoder.TapFields.{TapFields}
 use Rattle.tap_views.specs.declared.token.Token.{Token}
-use Rattle.fare_texts.specs.Lines.{AreLinesAlong, IsUpTo}
-use Rattle.fare_texts.proofs.Rising.{up_itself}
+use Rattle.fare_texts.specs.Lines.{AreLinesAlong}
+use Rattle.tap_views.specs.TokenOrder.{IsUpTo}
+use Rattle.tap_views.proofs.TokensUp.{up_itself}
 use Rattle.settlement.specs.Posted.{posted_after}
 use Rattle.settled_texts.specs.ExplainedTaps.{AreExplained, NoTapFallsFrom, last_token}
 use Rattle.sorted_taps.proofs.Spans.{come_further}

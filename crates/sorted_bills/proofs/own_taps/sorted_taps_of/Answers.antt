@@ -1,8 +1,8 @@
 use Rattle.std.proofs.Common.{◌∙◌, List, map, sym, ap, subst}
 use Rattle.std.proofs.lemmas.Result.{err_from_is_err_and}
-use Rattle.report_texts.specs.UploadEnds.{ArePlainEnds}
-use Rattle.report_texts.specs.declared.upload_end.UploadEnd.{UploadEnd}
-use Rattle.report_texts.specs.declared.upload_end.UploadEnd.TheVariants.{Posted}
+use Rattle.tap_views.specs.UploadEnds.{ArePlainEnds}
+use Rattle.tap_views.specs.declared.upload_end.UploadEnd.{UploadEnd}
+use Rattle.tap_views.specs.declared.upload_end.UploadEnd.TheVariants.{Posted}
 use Rattle.sorted_bills.proofs.Counted.{late_no_write, late_says_nothing}
 use Rattle.sorted_bills.proofs.OwnTaps.{own_ends, own_in_order, sound_list}
 use Rattle.sorted_bills.proofs.own_taps.sorted_taps_of.Goals as goal

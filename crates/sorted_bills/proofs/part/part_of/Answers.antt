@@ -1,6 +1,6 @@
 use Rattle.std.proofs.Common.{List, All, sym, subst, arith, ◌∙◌, Vec, Global}
 use Rattle.tap_views.specs.declared.token.Token.{Token}
-use Rattle.fare_texts.specs.Lines.{IsUpTo}
+use Rattle.tap_views.specs.TokenOrder.{IsUpTo}
 use Rattle.sorted_taps.specs.Stands.{StandAs}
 use Rattle.sorted_taps.specs.declared.reader.TapReader.{TapReader}
 use Rattle.sorted_taps.proofs.Spans.{stand_alone}

@@ -1,5 +1,5 @@
 use Rattle.std.proofs.Common.{ap, ◌∙◌, take}
-use Rattle.report_texts.specs.UploadEnds.{are_posted}
+use Rattle.tap_views.specs.UploadEnds.{are_posted}
 use Rattle.sorted_bills.proofs.Counted.{all_posted}
 use Rattle.sorted_bills.proofs.tap_numbers.ends_of.Goals as goal
 

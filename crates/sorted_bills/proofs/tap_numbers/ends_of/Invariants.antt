@@ -1,5 +1,5 @@
 use Rattle.std.proofs.Common.{◌≡◌, map, take}
-use Rattle.report_texts.specs.declared.upload_end.UploadEnd.TheVariants.{Posted}
+use Rattle.tap_views.specs.declared.upload_end.UploadEnd.TheVariants.{Posted}
 use Rattle.sorted_bills.proofs.tap_numbers.ends_of.Given as goal
 
 abbrev pub invariant-loop-taps : goal.invariant-loop-taps

@@ -1,6 +1,6 @@
 use Rattle.std.proofs.Common.{◌≡◌, Bor, List, false, map, refl, subst, ℕ}
-use Rattle.report_texts.specs.UploadEnds.{are_posted}
-use Rattle.report_texts.specs.declared.upload_end.UploadEnd.{UploadEnd}
+use Rattle.tap_views.specs.UploadEnds.{are_posted}
+use Rattle.tap_views.specs.declared.upload_end.UploadEnd.{UploadEnd}
 use Rattle.tool_tasks.specs.Decode.{AreReported}
 use Rattle.tool_tasks.specs.MergeSorted.{GivesUpMergeSorted}
 use Rattle.tool_tasks.specs.Sort.{GivesUpSort, Sorts, refused_lines}

@@ -1,5 +1,5 @@
 use Rattle.std.proofs.Common.{◌∙◌, List, ℕ, Option, get_or, map, subst, sym}
-use Rattle.report_texts.specs.declared.upload_end.UploadEnd.TheVariants.{Posted}
+use Rattle.tap_views.specs.declared.upload_end.UploadEnd.TheVariants.{Posted}
 use Rattle.tool_tasks.proofs.Sorting.{lines_next, posted_next, reported_more}
 use Rattle.tool_tasks.specs.Decode.{AreReported}
 use Rattle.tool_tasks.specs.inside.Sort.{line_at}

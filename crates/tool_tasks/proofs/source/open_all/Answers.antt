@@ -1,7 +1,7 @@
 use Rattle.std.proofs.Common.{◌≡◌, ◌++◌, ◌∷◌, [], ℕ, List, Bor, get_or}
 use Rattle.std.proofs.Common.{refl, subst, sym, take, take_all}
 use Rattle.std.proofs.lemmas.Result.{err_from_is_err_and}
-use Rattle.part_texts.specs.Texts.{AreLeft}
+use Rattle.report_texts.specs.Texts.{AreLeft}
 use Rattle.program_manners.proofs.Refusals.{is_one_at}
 use Rattle.tool_tasks.proofs.Opened.{left_push, opened_none, opened_word}
 use Rattle.tool_tasks.proofs.source.open_all.Goals as goal

@@ -1,5 +1,5 @@
 use Rattle.std.proofs.Common.{◌≡◌, ℕ, List, Some, map, take}
-use Rattle.part_texts.specs.Texts.{AreLeft}
+use Rattle.report_texts.specs.Texts.{AreLeft}
 use Rattle.program_manners.specs.Loads.{Loaded}
 use Rattle.tool_tasks.specs.Source.{HasOpened}
 use Rattle.tool_tasks.proofs.source.open_all.Given as goal

@@ -2,7 +2,7 @@ use Rattle.std.proofs.Common.{◌≡◌, ◌∙◌, ℕ, List, Some, ap, flat_ma
 use Rattle.std.specs.List.{filter}
 use Rattle.std.specs.Prelude.{slice_get}
 use Rattle.std.proofs.lemmas.List.{length-map}
-use Rattle.report_texts.specs.UploadEnds.{ArePlainEnds}
+use Rattle.tap_views.specs.UploadEnds.{ArePlainEnds}
 use Rattle.settlement.specs.Reading.{AreRead}
 use Rattle.settlement.specs.SettledTaps.{AreSettledTaps}
 use Rattle.settlement.proofs.LoadedFiles.{loaded_files}

@@ -1,7 +1,7 @@
 use Rattle.std.proofs.Common.{All, List, refl, arith, sym, subst, take_all}
 use Rattle.std.proofs.lemmas.List.Elements.{All-more}
 use Rattle.std.proofs.lemmas.Option.{slice_get_within, get_or_from_slice_get}
-use Rattle.report_texts.specs.declared.upload_end.UploadEnd.{UploadEnd}
+use Rattle.tap_views.specs.declared.upload_end.UploadEnd.{UploadEnd}
 use Rattle.fare_service.specs.Plain.{WasNotCut}
 use Rattle.fare_service.proofs.laws.schedules.none_was_cut.Goals as goal
 

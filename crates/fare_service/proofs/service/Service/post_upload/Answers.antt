@@ -1,8 +1,8 @@
 use Rattle.std.proofs.Common.{ℕ, Option, None, Some, sym, refl, subst, inl}
-use Rattle.report_texts.specs.declared.upload_end.UploadEnd.{UploadEnd}
+use Rattle.tap_views.specs.declared.upload_end.UploadEnd.{UploadEnd}
 use Rattle.shard_book.specs.Sums.{sums_of}
 use Rattle.tap_views.specs.declared.fault.LayoutFault.{LayoutFault}
-use Rattle.report_texts.specs.UploadEnds.{end_by}
+use Rattle.tap_views.specs.UploadEnds.{end_by}
 use Rattle.fare_service.specs.Plain.{WasNotCut}
 use Rattle.fare_service.proofs.UploadLemmas.{Worked_as, upload_whole, upload_cut}
 use Rattle.fare_service.proofs.service.Service.post_upload.Goals as goal

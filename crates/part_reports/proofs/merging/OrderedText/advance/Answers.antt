@@ -4,7 +4,7 @@ use Rattle.std.proofs.lemmas.Bool.{false≢true}
 use Rattle.std.proofs.lemmas.Option.{IfSome_then}
 use Rattle.std.proofs.lemmas.Result.{err_from_is_err_and}
 use Rattle.part_reports.specs.declared.fault.MergeFault.TheVariants.{Line}
-use Rattle.part_texts.specs.declared.wrong.Wrong.TheVariants.{Order}
+use Rattle.report_texts.specs.declared.wrong.Wrong.TheVariants.{Order}
 use Rattle.part_reports.specs.inside.FirstWrong.{IsLineReason}
 use Rattle.part_reports.specs.inside.Standings.{MayFollowToken, standing}
 use Rattle.part_reports.proofs.FirstLines.{next_behind, next_of, order_reason, order_wrong}

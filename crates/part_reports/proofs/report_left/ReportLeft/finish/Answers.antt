@@ -2,8 +2,8 @@ use Rattle.std.proofs.Common.{◌≡◌, ◌∙◌, [], None, refl, rules, sym}
 use Rattle.shard_book.specs.Sums.{sums}
 use Rattle.part_reports.specs.inside.ReportsLeft.{AreSame, report_at}
 use Rattle.part_reports.specs.inside.SumsLeft.{sums_left}
-use Rattle.part_texts.specs.declared.wrong.Wrong.TheVariants.{LessThanReport, MissingToken}
-use Rattle.part_texts.specs.declared.wrong.Wrong.TheVariants.{OtherValidators}
+use Rattle.report_texts.specs.declared.wrong.Wrong.TheVariants.{LessThanReport, MissingToken}
+use Rattle.report_texts.specs.declared.wrong.Wrong.TheVariants.{OtherValidators}
 use Rattle.part_reports.proofs.PlaceFaults.{this_line}
 use Rattle.part_reports.proofs.ReportsLeft.{none_there, rest_left, some_left, some_there, used_up}
 use Rattle.part_reports.proofs.ReportsLeft.{validators_left}

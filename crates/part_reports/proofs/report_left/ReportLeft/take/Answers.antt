@@ -7,8 +7,8 @@ use Rattle.part_reports.specs.inside.ReportsLeft.{IsNoRest, charge_with, report_
 use Rattle.part_reports.specs.inside.Standings.{line_with}
 use Rattle.part_reports.specs.inside.Sums.{AreSumsOf, WithOne}
 use Rattle.part_reports.specs.inside.SumsLeft.{left_of, sums_left}
-use Rattle.part_texts.specs.declared.wrong.Wrong.TheVariants.{Form, MoreThanReport}
-use Rattle.part_texts.specs.declared.wrong.Wrong.TheVariants.{Sums as TooManySums}
+use Rattle.report_texts.specs.declared.wrong.Wrong.TheVariants.{Form, MoreThanReport}
+use Rattle.report_texts.specs.declared.wrong.Wrong.TheVariants.{Sums as TooManySums}
 use Rattle.part_reports.proofs.ChargeLines.{one_charge}
 use Rattle.part_reports.proofs.PlaceFaults.{before_of, first_line, line_weaker, turn_take}
 use Rattle.part_reports.proofs.ReportsLeft.{no_charge, too_many, too_much, used_next, used_same}

@@ -8,7 +8,7 @@ use Rattle.part_reports.specs.inside.Standings.{MayFollowToken}
 use Rattle.part_reports.specs.inside.SumsLeft.{sums_left}
 use Rattle.part_reports.specs.inside.ReportsLeft.{IsNoRest, report_at}
 use Rattle.part_reports.specs.inside.WrongBeside.{HasNoReport, IsOfEither, left_number}
-use Rattle.part_texts.specs.declared.wrong.Wrong.TheVariants.{Form, LessThanReport, OtherToken}
+use Rattle.report_texts.specs.declared.wrong.Wrong.TheVariants.{Form, LessThanReport, OtherToken}
 use Rattle.part_reports.proofs.BesideWrong.{none_by_turn, of_first, of_second}
 use Rattle.part_reports.proofs.PlaceFaults.{first_line, next_line, second_line}
 use Rattle.part_reports.proofs.report_left.ReportLeft.turn.Goals as goal

@@ -2,7 +2,8 @@
 use Rattle.std.proofs.Common.{◌≡◌, ℕ, List, [], ◌++◌, sym, ap, subst, ◌∙◌, arith}
 use Rattle.shard_book.specs.Entry.{own}
 use Rattle.tap_views.specs.declared.token.Token.{Token}
-use Rattle.fare_texts.specs.Lines.{AreUpTo, IsUpTo}
+use Rattle.fare_texts.specs.Lines.{AreUpTo}
+use Rattle.tap_views.specs.TokenOrder.{IsUpTo}
 use Rattle.fare_texts.proofs.PieceWriting.{come_first}
 use Rattle.settled_texts.specs.ExplainedTaps.{AreExplained, NoTapFallsFrom}
 use Rattle.settled_texts.proofs.TapsExplained.{come_fresh, fall_first, last_first}

@@ -4,7 +4,7 @@ use Rattle.tap_views.specs.Token.{token_eq}
 use Rattle.tap_views.specs.declared.token.Token.{Token}
 use Rattle.shard_book.specs.Entry.{own}
 use Rattle.tap_views.proofs.TokenLemmas.{same_token, token_eq-refl}
-use Rattle.fare_texts.specs.Lines.{IsUpTo}
+use Rattle.tap_views.specs.TokenOrder.{IsUpTo}
 use Rattle.sorted_bills.proofs.OpenBills.{gone_on}
 use Rattle.sorted_bills.proofs.open_bill.OpenBill.go_on_to.Goals as goal
 

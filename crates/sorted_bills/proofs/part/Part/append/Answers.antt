@@ -1,6 +1,6 @@
 use Rattle.std.proofs.Common.{List, ◌++◌, arith, length-append, refl, subst, sym}
 use Rattle.std.proofs.lemmas.List.Elements.{All-append}
-use Rattle.fare_texts.proofs.Rising.{up_chain}
+use Rattle.tap_views.proofs.TokensUp.{up_chain}
 use Rattle.settlement.specs.Posted.{HasName}
 use Rattle.sorted_taps.specs.Spans.{HaveCome}
 use Rattle.sorted_taps.specs.declared.reader.TapReader.{TapReader}

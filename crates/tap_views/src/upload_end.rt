@@ -1,10 +1,10 @@
-//! How an upload ended, and how a report prints it.
+//! How an upload ended, and how it is printed.
 
 ghost use Rattle.std.specs.Prelude.{◌≡◌, Some};
-ghost use Rattle.report_texts.specs.UploadEnds.{end_by, is_posted, taps_of_end};
+ghost use Rattle.tap_views.specs.UploadEnds.{end_by, end_text, is_posted, taps_of_end};
 
+use crate::fault::LayoutFault;
 use std::fmt;
-use tap_views::LayoutFault;
 
 /// How an upload ended. `taps` counts what was posted of it.
 #[derive(Clone, Copy, Debug, PartialEq, Eq)]
@@ -69,8 +69,6 @@ impl UploadEnd {
 }
 
 impl fmt::Display for UploadEnd {
-    ghost use Rattle.report_texts.specs.Report.{end_text};
-
     ghost output = { λ end. Some (end_text end) };
 
     fn fmt<W: fmt::Write>(&self, f: &mut fmt::Formatter<W>) -> fmt::Result {

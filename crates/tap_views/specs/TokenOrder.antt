@@ -1,8 +1,13 @@
--- Lists of tokens, one below the other.
-use Rattle.std.specs.Prelude.{◌≡◌, List, All}
+-- The order of tokens.
+use Rattle.std.specs.Prelude.{◌≡◌, false, List, All}
+use Rattle.std.specs.Ordering.{is_lt}
 use Rattle.std.specs.declared.cmp.Ordering.TheVariants.{Less}
 use Rattle.tap_views.specs.Token.{token_cmp}
 use Rattle.tap_views.specs.declared.token.Token.{Token}
+
+-- the first token is not above the second
+abbrev pub IsUpTo : Token → Token → Type 0
+IsUpTo token other = is_lt (token_cmp other token) ≡ false
 
 -- each of the tokens is below each of the others
 abbrev pub AreBelow : List Token → List Token → Type 0

@@ -1,13 +1,15 @@
--- How uploads ended, and how those end whose batches before their first faults were all posted
--- whole.
-use Rattle.std.specs.Prelude.{◌≡◌, ℕ, Bool, true, false, List, length, Option, Some, None}
+-- How uploads ended, the text of an end, and how those end whose batches before their first faults
+-- were all posted whole.
+use Rattle.std.specs.Prelude.{◌≡◌, ℕ, ◌++◌, Bool, true, false, List, length, Option, Some, None}
+use Rattle.std.specs.Prelude.{codes}
+use Rattle.std.specs.Fmt.{decimal}
 use Rattle.std.specs.List.{flat_map, list_all, AllZip}
 use Rattle.tap_views.specs.Files.{IsFile, IsEndAfterBatches}
 use Rattle.tap_views.specs.Layout.{Tap}
+use Rattle.tap_views.specs.Names.{fault_name}
 use Rattle.tap_views.specs.declared.fault.LayoutFault.{LayoutFault}
-use Rattle.report_texts.specs.declared.upload_end.UploadEnd.{UploadEnd}
-use Rattle.report_texts.specs.declared.upload_end.UploadEnd.TheVariants.{Posted, Refused, Cut}
-use Rattle.report_texts.specs.declared.upload_end.UploadEnd.TheVariants.{Undrawn}
+use Rattle.tap_views.specs.declared.upload_end.UploadEnd.{UploadEnd}
+use Rattle.tap_views.specs.declared.upload_end.UploadEnd.TheVariants.{Posted, Refused, Cut, Undrawn}
 
 -- how many taps of an upload were posted, by its end
 abbrev pub taps_of_end : UploadEnd → ℕ
@@ -24,6 +26,15 @@ is_posted _ = false
 -- each upload was posted whole
 abbrev pub are_posted : List UploadEnd → Bool
 are_posted = list_all is_posted
+
+-- the end of an upload, as `refused 2 at 64 L5`
+abbrev pub end_text : UploadEnd → List ℕ
+end_text (Posted taps) = codes "posted " ++ decimal taps
+end_text (Refused taps offset fault) =
+    codes "refused " ++ (decimal taps
+    ++ (codes " at " ++ (decimal offset ++ (codes " " ++ fault_name fault))))
+end_text (Cut taps) = codes "cut " ++ decimal taps
+end_text Undrawn = codes "undrawn"
 
 -- how an upload ends: after `taps` taps, by this layout fault, if there is one
 abbrev pub end_by : ℕ → Option (ℕ × LayoutFault) → UploadEnd
