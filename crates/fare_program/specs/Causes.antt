@@ -90,7 +90,8 @@ pub record RefusesNames (asked : Asked) (loaded loaded' : Option (List Loaded)) 
 -- one that the source refused so. A table fault is the first one of the text that was loaded under
 -- the table's name, behind those of the tables before it. A class's name is refused only for a
 -- traced ledger, and if a text has one that no ledger can have. There are too many uploads only
--- above 65,535. Only a write and want of memory may fail at any time.
+-- above 65,535. A write and want of memory may fail at any time. So may the gathering of a live run,
+-- and with sorted files a file may have changed or be read no more.
 abbrev pub IsRightFault : Asked → (List ℕ → Option (List ℕ)) → Option (List Loaded)
     → Option (List Loaded) → Option (Option (List ℕ) × LoadFault) → Fault → Type 0
 IsRightFault asked under loaded loaded' refused (File file) =

@@ -265,8 +265,8 @@ impl FareTable {
         self.first.window_span()
     }
 
-    /// What the rider of a token pays, in cents, on a mode of which the rider's class, else the
-    /// default class, names no fare.
+    /// What the rider of a token pays under the first table, in cents, on a mode of which the
+    /// rider's class, else the default class, names no fare. A later one is asked by `later`.
     pub fn terms_of(&self, token: &[u8]) -> Terms
         requires { length token.now ≡ 16 }
         ensures terms { result ≡ terms_at self.now.meaning token.now }
