@@ -18,7 +18,7 @@ use crate::seen::SeenValidators;
 use crate::sql::{ReportFault, write_sql};
 use crate::warnings::{ReadText, warnings_of};
 use crate::wrong_values::wrong_lines;
-use fare_table::{FareTable, TableFault};
+use fare_table::{FareTable, ReadFareTable, TableFault};
 use jiff::Timestamp;
 use std::alloc::{AllocError, Global};
 use std::io::Write;
