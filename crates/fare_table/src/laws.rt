@@ -24,7 +24,7 @@ ghost use Rattle.fare_table.specs.declared.fault.TableFault.{TableFault};
 ghost use Rattle.tariffs.specs.declared.terms.Terms.{Terms};
 
 use crate::fault::TableFault;
-use crate::read_table::ReadTable;
+use crate::read_table::ReadFareTable;
 use std::alloc::Global;
 use tariffs::FareTable;
 

@@ -16,7 +16,7 @@ pub use bounds::{
     MAX_TRANSFER_MINUTES,
 };
 pub use fault::{Key, TableFault};
-pub use read_table::ReadTable;
+pub use read_table::ReadFareTable;
 pub use tariffs::{
     Class, Clock, FareTable, FollowFault, MAX_MODES, Mode, RangeRest, Tariff, Terms, TransferTerms,
     WindowSpan,

@@ -13,7 +13,7 @@ use toml::Table;
 
 /// How a fare table comes of a text. `FareTable` alone has it: bring it, and call
 /// `FareTable::read`.
-pub trait ReadTable {
+pub trait ReadFareTable {
     ghost use Rattle.std.specs.Prelude.{◌≡◌, ◌≢◌, ◌⊎◌, [], IfErr, IfOk, IsErrOf, IsUtf8, Err, Ok};
     ghost use Rattle.std.specs.Prelude.{None};
     ghost use Rattle.toml.specs.Parse.{parse_document};
@@ -53,7 +53,7 @@ pub trait ReadTable {
             → meaning_of_tree (table_view tree.now) ≡ Err e) };
 }
 
-impl ReadTable for FareTable {
+impl ReadFareTable for FareTable {
     fn read(alloc: Global, text: &[u8]) -> Result<FareTable, TableFault> {
         match toml::table_from_slice(alloc, text) {
             Ok(table) => table_of(alloc, &table),

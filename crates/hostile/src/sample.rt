@@ -1,7 +1,7 @@
 //! The sample table, the uploads of the example, and where a window ends.
 
 use crate::stop::Stop;
-use fare_table::{FareTable, ReadFareTable, ReadTable};
+use fare_table::{FareTable, ReadFareTable};
 use sample_table::{NEW_YORK, rides, strays};
 use std::alloc::Global;
 use tap_views::encode;

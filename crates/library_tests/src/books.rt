@@ -2,7 +2,7 @@
 
 use crate::sample::{BUS, SAMPLE, START, SUBWAY, rides, tap, token};
 use account_rule::{Answer, Reply};
-use fare_table::{FareTable, ReadFareTable, ReadTable};
+use fare_table::{FareTable, ReadFareTable};
 use shard_book::*;
 use std::alloc::Global;
 use std::hash::BuildHasher;

@@ -10,7 +10,7 @@ use fare_service::{
     Gatekeeper, GatherFault, OpenFault, OpenGatekeeper, Outcome, RunFault, Service, Share, Unlent,
     UploadEnd,
 };
-use fare_table::{FareTable, ReadFareTable, ReadTable};
+use fare_table::{FareTable, ReadFareTable};
 use shard_book::Totals;
 use std::alloc::Global;
 use std::marker::Sync;

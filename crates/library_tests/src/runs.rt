@@ -4,7 +4,7 @@ ghost use Rattle.std.specs.Prelude.{◌≡◌, IfOk, Some, map};
 ghost use Rattle.fare_service.specs.Shares.{IsShareOf};
 
 use fare_service::{Gatekeeper, Outcome, Service, Share, UploadEnd};
-use fare_table::{FareTable, ReadFareTable, ReadTable};
+use fare_table::{FareTable, ReadFareTable};
 pub use sample_table::{BUS, REPORT, SAMPLE, START, STATEMENT, SUBWAY, bytes_of, tap_after};
 use sample_table::{rides, strays};
 use std::alloc::Global;

@@ -3,7 +3,7 @@
 ghost use Rattle.std.specs.Prelude.{◌≡◌, ◌^◌, ◌≤◌, IfOk, IfSome};
 
 use crate::sample::{BUS, SAMPLE, START, SUBWAY, tap, token};
-use fare_table::{Clock, FareTable, ReadFareTable, ReadTable};
+use fare_table::{Clock, FareTable, ReadFareTable};
 use shard_book::{HashSeed, Lines, Replies, RunEnd, ShardBook};
 use shared_books::{Missing, Pass, ReadFault, SharedBook};
 use std::alloc::Global;

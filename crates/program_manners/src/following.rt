@@ -7,7 +7,7 @@ ghost use Rattle.program_manners.specs.TableLoads.{FollowsFrom};
 ghost use Rattle.program_manners.specs.TableWords.{has_year, is_day};
 
 use crate::table_words::{WrittenDate, day_of};
-use fare_table::{FareTable, FollowFault, ReadFareTable, ReadTable, TableFault};
+use fare_table::{FareTable, FollowFault, ReadFareTable, TableFault};
 use std::alloc::Global;
 use std::fmt;
 

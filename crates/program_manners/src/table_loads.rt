@@ -13,7 +13,7 @@ use crate::file_source::FileSource;
 use crate::following::{FollowLine, NamedTableLine, NextFault, table_behind};
 use crate::loading::FileFault;
 use crate::table_words::{TableWord, TableWords};
-use fare_table::{FareTable, ReadFareTable, ReadTable, TableFault};
+use fare_table::{FareTable, ReadFareTable, TableFault};
 use std::alloc::{AllocError, Global};
 
 /// Why fare tables were not loaded.

@@ -30,7 +30,7 @@ use crate::look::rows::write_table;
 use crate::source::{Source, load_upload};
 use crate::uploads::upload_text;
 use fare_table::laws::ranges_and_riders_rise;
-use fare_table::{FareTable, ReadFareTable, ReadTable, TableFault};
+use fare_table::{FareTable, ReadFareTable, TableFault};
 use fare_texts::{PrintFault, write_bytes, write_out};
 use program_manners::{Complaints, Output, WriteEnd};
 use std::alloc::{AllocError, Global};

@@ -2,7 +2,7 @@ use Rattle.std.proofs.Common.{◌≢◌}
 use Rattle.toml.specs.View.{table_view}
 use Rattle.fare_table.proofs.TextFaultLemmas.{rules_of-text}
 use Rattle.fare_table.specs.declared.fault.TableFault.TheVariants as the_fault
-use Rattle.fare_table.proofs.read_table.FareTableReadTable.read.Goals as goal
+use Rattle.fare_table.proofs.read_table.FareTableReadFareTable.read.Goals as goal
 
 pub returns-in-Ok-clause-text : goal.returns-in-Ok-clause-text
 returns-in-Ok-clause-text c = λ is utf8.
