@@ -24,11 +24,11 @@ ghost use Rattle.omny_audit.specs.inside.Traced.{HasReadAs, HasTraced, HaveNamed
 ghost use Rattle.omny_audit.specs.inside.Traced.{uploads_in, wanted_by, wanted_of, wrong_place_in};
 
 use crate::report::are_both;
+use class_names::ClassNames;
 use fare_texts::head_line;
 use ledger_check::{
     CutLine, PlaceFinding, Places, cut_line, same_bytes, split_line, tap_of_line, traced_head_line,
 };
-use class_names::ClassNames;
 use std::alloc::{AllocError, Global};
 use tap_views::TapFields;
 

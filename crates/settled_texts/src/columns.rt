@@ -7,8 +7,8 @@ ghost use Rattle.settled_texts.specs.Columns.{columns_by, columns_of, with_colum
 ghost use Rattle.settled_texts.specs.inside.Feeds.{feeds};
 ghost use Rattle.class_names.specs.Names.{class_by};
 
-use class_names::ClassNames;
 use crate::trace::TracedTap;
+use class_names::ClassNames;
 use itoa::Buffer;
 use std::alloc::AllocError;
 

@@ -22,10 +22,10 @@ ghost use Rattle.settled_texts.specs.Ledgers.{IsTracedLedger};
 ghost use Rattle.class_names.specs.Names.{class_by};
 ghost use Rattle.settled_texts.specs.Traces.{taps_of_trace};
 
-use class_names::ClassNames;
 use crate::columns::put_lines;
 use crate::trace::{TracedTap, trace_of};
 use crate::{STRIDE_ROOM_BYTES, least_token, write_taps};
+use class_names::ClassNames;
 use fare_service::laws::plain_history;
 use fare_table::{Clock, FareTable};
 use fare_texts::{Explainer, PrintFault, pass_on, write_out};
