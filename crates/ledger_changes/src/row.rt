@@ -34,7 +34,7 @@ fn owned(alloc: Global, bytes: &[u8]) -> Result<Vec<u8>, AllocError>
 impl LedgerRow {
     /// The row that the fields make, in memory of its own.
     pub(crate) fn of_fields(alloc: Global, fields: RowFields<'_>) -> Result<LedgerRow, AllocError>
-        ensures { IfOk result (λ row. row_of row ≡ row_of_fields fields) }
+        ensures { IfOk result (λ row. row_of row ≡ row_of_fields fields.entry) }
     {
         let token = owned(alloc, fields.token)?;
         let moment = owned(alloc, fields.moment)?;
