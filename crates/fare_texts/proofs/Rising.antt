@@ -8,10 +8,10 @@ use Rattle.std.specs.declared.cmp.Ordering.TheVariants.{Less, Equal, Greater}
 use Rattle.std.proofs.lemmas.Bool.{false≢true}
 use Rattle.std.proofs.lemmas.Cmp.{tied_itself}
 use Rattle.std.proofs.lemmas.List.Sorted.{ranks_by}
-use Rattle.shard_book.specs.Entry.{own}
+use Rattle.histories.specs.Entry.{own}
 use Rattle.tap_views.specs.Token.{token_cmp, token_eq}
-use Rattle.shard_book.specs.declared.entry.Entry.{Entry}
-use Rattle.shard_book.proofs.OwnEntries.{own-append, own_none, own_other, own_same}
+use Rattle.histories.specs.declared.entry.Entry.{Entry}
+use Rattle.histories.proofs.OwnEntries.{own-append, own_none, own_other, own_same}
 use Rattle.tap_views.specs.declared.token.Token.{Token}
 use Rattle.tap_views.proofs.TokenLemmas.{same_token, token_eq-refl, token_cmp-total, token_cmp-ties}
 use Rattle.fare_texts.specs.Lines.{AreUpTo, IsUpTo, NoFallFrom}

@@ -2,9 +2,9 @@
 use Rattle.std.specs.Prelude.{◌≡◌, ℕ, false, List, [], ◌∷◌, ◌++◌}
 use Rattle.std.specs.Ordering.{is_lt}
 use Rattle.fare_table.specs.Fares.{Fares}
-use Rattle.shard_book.specs.Entry.{own}
+use Rattle.histories.specs.Entry.{own}
 use Rattle.tap_views.specs.Token.{token_cmp}
-use Rattle.shard_book.specs.declared.entry.Entry.{Entry}
+use Rattle.histories.specs.declared.entry.Entry.{Entry}
 use Rattle.tap_views.specs.declared.token.Token.{Token}
 use Rattle.fare_texts.specs.LedgerLines.{IsLedgerLineAfter}
 use Rattle.fare_texts.specs.Explainers.{HasExplained}

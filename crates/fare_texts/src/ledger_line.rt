@@ -8,7 +8,7 @@ use crate::reason_fields::write_reason_fields;
 use crate::{Digits, answer_name, write_moment};
 use account_rule::Reason;
 use fare_table::FareTable;
-use shard_book::Entry;
+use histories::Entry;
 use std::alloc::AllocError;
 use tap_views::Token;
 

@@ -5,7 +5,7 @@ ghost use Rattle.fare_texts.specs.LedgerLines.{AreLedgerLines, head_text};
 
 use crate::explainer::Explainer;
 use fare_table::{Clock, FareTable};
-use shard_book::Entry;
+use histories::Entry;
 use tap_views::{NoMemory, Token};
 
 /// The first line of a ledger, which names the fields.

@@ -1,14 +1,14 @@
 //! The line that the next tap of a token should have.
 
 ghost use Rattle.std.specs.Prelude.{◌≡◌, ◌+◌, ◌<◌, ◌^◌, List, OnOk, string_bytes};
-ghost use Rattle.shard_book.specs.declared.entry.Entry.{Entry};
+ghost use Rattle.histories.specs.declared.entry.Entry.{Entry};
 ghost use Rattle.ledger_check.specs.Replays.{StandsForOwn};
 ghost use Rattle.ledger_check.specs.inside.Replays.{GoesOn};
 
 use account_rule::Answer;
 use fare_table::{Clock, FareTable};
 use fare_texts::{Explainer, write_line};
-use shard_book::Entry;
+use histories::Entry;
 use tap_views::NoMemory;
 
 /// Takes one more tap of the explainer's token, and writes the line that it should have in place of

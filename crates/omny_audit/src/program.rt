@@ -42,13 +42,13 @@ use crate::source::Source;
 use crate::traced::TracedPieces;
 use clap::Error;
 use clap::error::ErrorKind;
+use histories::HashSeed;
 use ledger_check::{Balance, Places, has_traced_head};
 use program_manners::{
     Complaints, NamedClassLine, Output, TableWord, TableWords, Tables, WrongWord, load_tables,
     show_answer,
 };
 use settled_texts::{ClassFault, ClassNames, WrongNames};
-use shard_book::HashSeed;
 use std::alloc::Global;
 use std::io::Write;
 use std::random::RandomSource;

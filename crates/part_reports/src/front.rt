@@ -3,8 +3,8 @@
 ghost use Rattle.std.specs.Prelude.{◌≡◌, ◌<◌, ◌^◌, ◌↔◌, ℕ, List, [], All, IfErr, IsTrue};
 ghost use Rattle.std.specs.Prelude.{MatchResult, OnOk, flat_map, length, map};
 ghost use Rattle.fare_texts.specs.Counts.{totals_line};
-ghost use Rattle.shard_book.specs.Shown.{validator_sum};
-ghost use Rattle.shard_book.specs.Sums.{Sums, sums_of};
+ghost use Rattle.histories.specs.Shown.{validator_sum};
+ghost use Rattle.histories.specs.Sums.{Sums, sums_of};
 ghost use Rattle.part_reports.specs.FirstWrongLines.{OfNothing, OfTotals, OfUploads, OfValidators};
 ghost use Rattle.part_reports.specs.inside.ReadTo.{AreSectionsRead, AreUploadsRead};
 ghost use Rattle.part_reports.specs.inside.ReadTo.{AreValidatorsRead, IsFirstWrong, IsFrontRead};
@@ -25,8 +25,8 @@ ghost use Rattle.part_reports.specs.inside.LinesRead.{IsRead};
 use crate::fault::{MergeFault, Wrong};
 use crate::line_reader::LineReader;
 use crate::sums_left::SumsLeft;
+use histories::{Totals, ValidatorSum};
 use report_texts::{UploadEnd, end_of, head_of, totals_of, validator_sum_of};
-use shard_book::{Totals, ValidatorSum};
 use std::alloc::Global;
 use std::io::BufRead;
 

@@ -8,19 +8,19 @@ use Rattle.tap_views.specs.Encoding.{fields_of}
 use Rattle.tap_views.specs.Layout.{Tap}
 use Rattle.tap_views.specs.declared.encoder.TapFields.{TapFields}
 use Rattle.account_rule.specs.declared.reply.Answer.TheVariants.{Stale}
-use Rattle.shard_book.specs.SumsByKey.{sums_by_validator, sums_by_token}
-use Rattle.shard_book.specs.History.{IsLegal}
-use Rattle.shard_book.specs.Sums.{sums}
+use Rattle.histories.specs.SumsByKey.{sums_by_validator, sums_by_token}
+use Rattle.histories.specs.History.{IsLegal}
+use Rattle.histories.specs.Sums.{sums}
 use Rattle.tap_views.specs.Token.{bytes_of}
-use Rattle.shard_book.specs.Visits.{AreEntriesOf}
-use Rattle.shard_book.specs.declared.entry.Entry.{Entry}
+use Rattle.histories.specs.Entry.{AreEntriesOf}
+use Rattle.histories.specs.declared.entry.Entry.{Entry}
 use Rattle.tap_views.specs.Files.{AreGoodTapsOfEach, HasOneReading}
-use Rattle.fare_service.specs.Plain.{IsPlain}
+use Rattle.histories.specs.Plain.{IsPlain}
 use Rattle.report_texts.specs.OverHistory.{IsReportOver}
-use Rattle.shard_book.specs.Plain.{plain, plain_after, answered, unanswered}
+use Rattle.histories.specs.Plain.{plain, plain_after, answered, unanswered}
 use Rattle.report_texts.specs.Report.{report, validators_section, tokens_section}
 use Rattle.fare_texts.specs.Counts.{totals_line}
-use Rattle.shard_book.proofs.PlainReplies.{bare, plain_bare, plain_legal}
+use Rattle.histories.proofs.PlainReplies.{bare, plain_bare, plain_legal}
 use Rattle.settlement.specs.Alike.{DifferInUploads, HaveSameTaps}
 use Rattle.tap_parts.specs.Canonical.{tap_cmp}
 use Rattle.settlement.specs.Settled.{IsSettledHistory}

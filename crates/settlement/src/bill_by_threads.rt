@@ -8,7 +8,7 @@ use crate::bill::Bill;
 use crate::pieces::Pieces;
 use crate::uploads::Uploads;
 use fare_table::{Clock, FareTable};
-use shard_book::HashSeed;
+use histories::HashSeed;
 use std::alloc::Global;
 use std::marker::Sync;
 use std::thread;

@@ -9,7 +9,7 @@ ghost use Rattle.settlement.specs.inside.OwnTaps.{AreOwnAdded, AreOwnBetween};
 use crate::memory::release;
 use crate::split_taps::{good_tokens, middle_of};
 use crate::uploads::Uploads;
-use fare_service::UploadEnd;
+use report_texts::UploadEnd;
 use std::alloc::{AllocError, Global};
 use std::marker::Sync;
 use std::thread;

@@ -8,8 +8,8 @@ ghost use Rattle.settlement.specs.inside.SplitTaps.{AreInPartsBetween};
 
 use crate::memory::release;
 use crate::uploads::Uploads;
-use fare_service::UploadEnd;
-use fare_service::laws::plain_history;
+use histories::laws::plain_history;
+use report_texts::UploadEnd;
 use std::alloc::{AllocError, Global};
 use std::marker::Sync;
 use std::thread::Threads;

@@ -11,7 +11,7 @@ use crate::{
 };
 use account_rule::{NoTransfer, Reason};
 use fare_table::{Clock, FareTable};
-use shard_book::Entry;
+use histories::Entry;
 use std::alloc::AllocError;
 use tap_views::{NoMemory, Token};
 
