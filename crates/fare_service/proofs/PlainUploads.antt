@@ -1,34 +1,28 @@
 -- The plain history of uploads is there, and there is one; and what laws on it stand on.
 use Rattle.std.specs.Prelude.{ℕ, ◌≡◌, ◌↔◌, ◌<◌, List, [], length, map, All, Some, slice_get}
-use Rattle.std.specs.List.{flat_map}
-use Rattle.std.proofs.Common.{refl, sym, ◌∙◌, ap, subst, arith, get_or, mod-lt}
+use Rattle.std.proofs.Common.{sym, ◌∙◌, ap, subst, arith, get_or, mod-lt}
 use Rattle.std.proofs.lemmas.Option.{slice_get-get_or}
 use Rattle.account_rule.specs.TokenRules.{rules_of}
 use Rattle.account_rule.specs.Windows.{last_window}
 use Rattle.fare_table.specs.Fares.{Fares}
-use Rattle.tap_views.specs.Layout.{Tap}
 use Rattle.tap_views.specs.Shards.{shard_of_token}
 use Rattle.shard_book.specs.Book.{Book}
 use Rattle.histories.specs.declared.entry.Entry.{Entry}
 use Rattle.histories.specs.declared.statement.Statement.{Statement}
 use Rattle.tap_views.specs.declared.token.Token.{Token}
 use Rattle.histories.specs.Entry.{own, tap_of, taps_of}
-use Rattle.histories.specs.History.{IsLegal}
 use Rattle.histories.specs.Statement.{IsStatement}
 use Rattle.histories.specs.Sums.{sums}
 use Rattle.tap_views.specs.Token.{bytes_of}
 use Rattle.fare_service.specs.Outcomes.{OutcomeView}
-use Rattle.tap_views.proofs.ReadingLemmas.{one_list}
-use Rattle.tap_views.specs.Files.{AreGoodTapsOfEach, HasOneReading}
-use Rattle.histories.specs.Plain.{IsNamed, plain}
-use Rattle.histories.specs.Plain.{IsPlain}
+use Rattle.tap_views.specs.Files.{HasOneReading}
+use Rattle.histories.specs.Plain.{IsNamed}
 use Rattle.fare_service.specs.Plain.{IsUncutGathering}
 use Rattle.report_texts.specs.OverHistory.{IsStatementOver}
 use Rattle.fare_service.specs.Printed.{IsStatementOf}
 use Rattle.fare_texts.specs.StatementText.{IsStatementText}
 use Rattle.fare_service.proofs.HeadlineLemmas.{gathered_of}
 use Rattle.fare_service.proofs.PlainBooks.{Stands, own_plain}
-use Rattle.histories.proofs.PlainReplies.{plain_legal}
 use Rattle.fare_service.proofs.GatheredWork.{Given}
 
 -- ---- statements

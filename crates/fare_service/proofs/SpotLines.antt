@@ -1,27 +1,17 @@
 -- What stands at spots, from a place on.
-use Rattle.std.proofs.Common.{◌≡◌, ℕ, ◌+◌, ◌<◌, true, false, List, [], ◌∷◌, ◌++◌, Option, Some}
-use Rattle.std.proofs.Common.{length, take, drop, get_or, refl, sym, ap, subst, ◌∙◌}
-use Rattle.std.proofs.Common.{append_assoc, append-nil, add-one, drop-cons, arith}
+use Rattle.std.proofs.Common.{◌≡◌, ℕ, ◌+◌, ◌<◌, List, [], ◌∷◌, ◌++◌, Some}
+use Rattle.std.proofs.Common.{length, take, drop, get_or, ap, subst, ◌∙◌}
+use Rattle.std.proofs.Common.{add-one, drop-cons, arith}
 use Rattle.std.specs.Prelude.{slice_get}
-use Rattle.std.proofs.lemmas.List.{get_or-map, length-map, take-append-drop}
+use Rattle.std.proofs.lemmas.List.{get_or-map, length-map}
 use Rattle.std.proofs.Math.Seq.{take-suc}
-use Rattle.fare_table.specs.Fares.{Fares}
-use Rattle.histories.specs.Entry.{own}
-use Rattle.tap_views.specs.Token.{token_eq}
 use Rattle.histories.specs.declared.entry.Entry.{Entry}
 use Rattle.tap_views.specs.declared.token.Token.{Token}
-use Rattle.tap_views.proofs.TokenLemmas.{token_eq-refl}
-use Rattle.fare_texts.specs.Explainers.{HasExplained}
-use Rattle.fare_texts.specs.WrittenOut.{Begins, GoesOut}
-use Rattle.fare_texts.specs.Lines.{AreLinesAlong, AreUpTo, HasCome, IsLineAfter, IsUpTo, NoFall}
-use Rattle.fare_texts.specs.Lines.{NoFallFrom}
+use Rattle.fare_texts.specs.Lines.{IsUpTo, NoFall, NoFallFrom}
 use Rattle.fare_service.specs.inside.Spots.{entry_at_spot, entries_at_spots}
 use Rattle.fare_service.specs.declared.spot.Spot.{Spot}
 use Rattle.shard_book.specs.Book.{Book}
-use Rattle.fare_texts.specs.declared.explainer.Explainer.{Explainer}
-use Rattle.fare_texts.proofs.Rising.{none_below, own_push, up_itself, up_push, up_weaker}
-use Rattle.fare_texts.proofs.Beginnings.{goes_then_on}
-use Rattle.fare_texts.proofs.TextsExist.{along_exist}
+use Rattle.fare_texts.proofs.Rising.{up_itself}
 
 -- what stands before, at and from a place of what stands at spots
 pub seen_taken : (books : List Book) (list : List Spot) (place : ℕ) (other : Spot)

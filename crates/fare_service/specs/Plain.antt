@@ -1,10 +1,8 @@
 -- What was gathered from uploads of which none was cut.
-use Rattle.std.specs.List.{flat_map}
 use Rattle.std.specs.Prelude.{◌≡◌, ℕ, List, slice_get, Some, All, Contains}
-use Rattle.tap_views.specs.Files.{AreGoodTapsOfEach}
 use Rattle.tap_views.specs.Layout.{Tap}
 use Rattle.fare_table.specs.Fares.{Fares}
-use Rattle.histories.specs.Plain.{plain}
+use Rattle.histories.specs.Plain.{IsPlain}
 use Rattle.histories.specs.declared.entry.Entry.{Entry}
 use Rattle.report_texts.specs.declared.upload_end.UploadEnd.TheVariants.{Posted, Refused, Cut}
 use Rattle.report_texts.specs.declared.upload_end.UploadEnd.TheVariants.{Undrawn}

@@ -3,7 +3,7 @@
 use crate::sample::{BUS, SAMPLE, START, SUBWAY, rides, tap, token};
 use account_rule::{Answer, Reply};
 use fare_table::FareTable;
-use shard_book::*;
+use shard_book::{Entry, HashSeed, ShardBook, Totals, first_difference, token_sums_of_books};
 use std::alloc::Global;
 use std::hash::BuildHasher;
 use std::random::RandomSource;
