@@ -3,12 +3,13 @@ use Rattle.std.proofs.Common.{◌≡◌, ℕ, List, Some, subst}
 use Rattle.std.specs.Prelude.{slice_get}
 use Rattle.tariffs.specs.Fares.{Fares}
 use Rattle.shard_book.specs.Book.{Book}
-use Rattle.shard_book.specs.Entry.{own}
-use Rattle.shard_book.specs.SumsByKey.{all_entries}
-use Rattle.shard_book.specs.declared.entry.Entry.{Entry}
+use Rattle.histories.specs.Entry.{own}
+use Rattle.shard_book.specs.Book.{all_entries}
+use Rattle.histories.specs.declared.entry.Entry.{Entry}
 use Rattle.tap_views.specs.declared.token.Token.{Token}
 use Rattle.fare_service.specs.Outcomes.{OutcomeView}
-use Rattle.fare_texts.specs.Explained.{IsExplained, IsExplainedOf, IsExplainedOver}
+use Rattle.fare_texts.specs.Explained.{IsExplained, IsExplainedOver}
+use Rattle.fare_service.specs.Explained.{IsExplainedOf}
 
 pub explained_same : (fares : Fares) (outcome : OutcomeView) (history : List Entry) (token : Token)
     (text : List ℕ)

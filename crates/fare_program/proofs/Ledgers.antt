@@ -5,17 +5,19 @@ use Rattle.std.specs.Ordering.{eq_by_cmp}
 use Rattle.std.proofs.lemmas.List.Sorted.{IsPermutation-map, list_any-IsPermutation}
 use Rattle.tariffs.specs.Fares.{Fares}
 use Rattle.shard_book.specs.Book.{Book}
-use Rattle.shard_book.specs.Entry.{own}
-use Rattle.shard_book.specs.SumsByKey.{all_entries, token_of, tokens}
-use Rattle.shard_book.specs.Rising.{rising}
+use Rattle.histories.specs.Entry.{own}
+use Rattle.shard_book.specs.Book.{all_entries}
+use Rattle.histories.specs.SumsByKey.{token_of, tokens}
+use Rattle.histories.specs.Rising.{rising}
 use Rattle.tap_views.specs.Token.{token_cmp}
-use Rattle.shard_book.specs.declared.entry.Entry.{Entry}
+use Rattle.histories.specs.declared.entry.Entry.{Entry}
 use Rattle.tap_views.specs.declared.token.Token.{Token}
-use Rattle.shard_book.proofs.RisingLemmas.{rising-is, rising-only}
-use Rattle.shard_book.proofs.SameEntries.{same_entries}
+use Rattle.histories.proofs.RisingLemmas.{rising-is, rising-only}
+use Rattle.histories.proofs.SameEntries.{same_entries}
 use Rattle.tap_views.proofs.TokenLemmas.{token_cmp-total, token_cmp-ties}
 use Rattle.fare_service.specs.Outcomes.{OutcomeView}
-use Rattle.fare_texts.specs.Ledger.{AreLinesOfEach, IsLedgerOfBooks, IsLedgerOver, ledger_tokens}
+use Rattle.fare_texts.specs.Ledger.{AreLinesOfEach, IsLedgerOver, ledger_tokens}
+use Rattle.fare_service.specs.Ledger.{IsLedgerOfBooks}
 use Rattle.fare_texts.proofs.ByToken.{each_same}
 
 same_tokens : (entries others : List Entry)

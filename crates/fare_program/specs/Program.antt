@@ -7,18 +7,19 @@ use Rattle.tariffs.specs.Fares.{Fares}
 use Rattle.tap_views.specs.Token.{bytes_of}
 use Rattle.tap_views.specs.declared.token.Token.{Token}
 use Rattle.tap_views.specs.declared.upload_end.UploadEnd.{UploadEnd}
-use Rattle.shard_book.specs.declared.entry.Entry.{Entry}
+use Rattle.histories.specs.declared.entry.Entry.{Entry}
 use Rattle.fare_service.specs.Headline.{HasRun}
 use Rattle.fare_service.specs.Outcomes.{OutcomeView}
-use Rattle.fare_service.specs.Plain.{AreApart, IsPlain}
+use Rattle.fare_service.specs.Plain.{AreApart}
+use Rattle.histories.specs.Plain.{IsPlain}
 use Rattle.fare_service.specs.Printed.{IsStatementOf, report_with}
 use Rattle.fare_program.specs.Fault.{fault_text}
 use Rattle.fare_program.specs.Options.{Asked, lists}
 use Rattle.tap_views.specs.UploadEnds.{are_posted}
 use Rattle.fare_program.specs.Settling.{ShowsOver, ShowsSettled}
 use Rattle.fare_program.specs.declared.fault.Fault.{Fault}
-use Rattle.fare_texts.specs.Explained.{IsExplainedOf}
-use Rattle.fare_texts.specs.Ledger.{IsLedgerOfBooks}
+use Rattle.fare_service.specs.Explained.{IsExplainedOf}
+use Rattle.fare_service.specs.Ledger.{IsLedgerOfBooks}
 use Rattle.program_manners.specs.Loads.{Loaded, LoadsAll}
 use Rattle.program_manners.specs.TableLoads.{LoadsTables}
 use Rattle.program_manners.specs.TableWords.{TableNames}

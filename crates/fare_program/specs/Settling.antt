@@ -1,7 +1,7 @@
 -- What a settled run prints.
 use Rattle.std.specs.Prelude.{◌≡◌, ℕ, Bool, List, Option, None, Some, MatchBool}
 use Rattle.tariffs.specs.Fares.{Fares}
-use Rattle.shard_book.specs.declared.entry.Entry.{Entry}
+use Rattle.histories.specs.declared.entry.Entry.{Entry}
 use Rattle.tap_views.specs.declared.token.Token.{Token}
 use Rattle.tap_views.specs.UploadEnds.{ArePlainEnds}
 use Rattle.report_texts.specs.OverHistory.{IsReportOver, IsStatementOver}

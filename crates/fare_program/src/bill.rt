@@ -9,14 +9,14 @@ ghost use Rattle.report_texts.specs.OverHistory.{IsReportOver};
 ghost use Rattle.tap_views.specs.UploadEnds.{ArePlainEnds, are_posted};
 ghost use Rattle.settlement.specs.Bills.{IsBillOf};
 ghost use Rattle.settlement.specs.Reading.{AreRead};
-ghost use Rattle.shard_book.specs.declared.entry.Entry.{Entry};
+ghost use Rattle.histories.specs.declared.entry.Entry.{Entry};
 
 use crate::fault::Fault;
 use crate::run::are_posted;
 use fare_table::FareTable;
+use histories::HashSeed;
 use report_texts::write_report;
 use settlement::{Billed, Uploads, settled_bill};
-use shard_book::HashSeed;
 use std::alloc::Global;
 use std::io::Write;
 use std::marker::Sync;

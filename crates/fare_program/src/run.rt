@@ -15,7 +15,7 @@ use crate::fault::Fault;
 use crate::options::Options;
 use fare_service::{Gatekeeper, LentUploads, Outcome, Service, laws};
 use fare_table::FareTable;
-use shard_book::laws::one_rising_list;
+use histories::laws::one_rising_list;
 use std::alloc::Global;
 use std::marker::Sync;
 use std::random::RandomSource;

@@ -10,13 +10,13 @@ use Rattle.std.proofs.lemmas.Grind.{flat_map-append}
 use Rattle.std.proofs.lemmas.List.Sums.{sum_by-cons, sum_by-append}
 use Rattle.std.proofs.lemmas.List.Elements.{All-nil, All-head, All-tail, All-append, All-weaker}
 use Rattle.account_rule.specs.declared.reply.Reply.{Reply}
-use Rattle.shard_book.specs.declared.entry.Entry.{Entry}
+use Rattle.histories.specs.declared.entry.Entry.{Entry}
 use Rattle.shard_book.specs.Book.{Book}
-use Rattle.shard_book.specs.Entry.{reply_of}
-use Rattle.shard_book.specs.SumsByKey.{all_entries}
-use Rattle.shard_book.specs.declared.sums.totals.Totals.{Totals}
-use Rattle.shard_book.specs.Sums.{Sums, sums, sums_of, sums_of_replies, add_sums, is_paid}
-use Rattle.shard_book.specs.Sums.{is_transfer, is_capped, is_stale, is_unknown, add_all}
+use Rattle.histories.specs.Entry.{reply_of}
+use Rattle.shard_book.specs.Book.{all_entries}
+use Rattle.histories.specs.declared.sums.totals.Totals.{Totals}
+use Rattle.histories.specs.Sums.{Sums, sums, sums_of, sums_of_replies, add_sums, is_paid}
+use Rattle.histories.specs.Sums.{is_transfer, is_capped, is_stale, is_unknown, add_all}
 use Rattle.shared_books.specs.Drawing.{NoneTwice}
 use Rattle.shared_books.specs.Marks.{history_of_visits}
 use Rattle.tariffs.specs.Fares.{Fares}
@@ -24,7 +24,7 @@ use Rattle.tap_views.specs.declared.upload_end.UploadEnd.{UploadEnd}
 use Rattle.tap_views.specs.declared.upload_end.UploadEnd.TheVariants.{Posted, Refused, Cut, Undrawn}
 use Rattle.tap_views.specs.UploadEnds.{taps_of_end}
 use Rattle.fare_service.specs.Adding.{AddUp}
-use Rattle.shard_book.proofs.SumsLemmas.{same_seven, sums-append, add_none}
+use Rattle.histories.proofs.SumsLemmas.{same_seven, sums-append, add_none}
 use Rattle.fare_service.specs.Headline.{Signed, end_of}
 use Rattle.fare_service.specs.inside.Closing.{IsClosedWork}
 use Rattle.fare_service.specs.ServiceView.{ServiceView}

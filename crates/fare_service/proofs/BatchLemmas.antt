@@ -1,7 +1,7 @@
 -- A batch, posted run by run.
 use Rattle.std.specs.Prelude.{ℕ, ◌≡◌, ◌+◌, ◌-◌, ◌<◌, List, ◌++◌, Result, Ok, Err, is_ok, IsErr}
 use Rattle.std.proofs.Common.{sym, subst, arith}
-use Rattle.shard_book.specs.Sums.{Sums}
+use Rattle.histories.specs.Sums.{Sums}
 use Rattle.shared_books.specs.Passes.{PassView}
 use Rattle.tap_views.specs.Shards.{run_of}
 use Rattle.fare_service.specs.declared.service.working.Stop.{Stop}

@@ -14,8 +14,8 @@ use Rattle.std.proofs.lemmas.Option.{slice_get-get_or, slice_get-map, slice_get_
 use Rattle.std.proofs.lemmas.Slice.Zip.{AllZip-long}
 use Rattle.tap_views.specs.Layout.{Tap}
 use Rattle.shard_book.specs.Book.{Book}
-use Rattle.shard_book.specs.Entry.{IsEntryOf}
-use Rattle.shard_book.specs.Sums.{Sums, sums}
+use Rattle.histories.specs.Entry.{IsEntryOf}
+use Rattle.histories.specs.Sums.{Sums, sums}
 use Rattle.shared_books.specs.Passes.{PassView, SharedBookView}
 use Rattle.tap_views.specs.Shards.{run_of}
 use Rattle.fare_service.specs.declared.service.share.Done.{Done}

@@ -11,10 +11,10 @@ use Rattle.std.proofs.lemmas.List.Sums.{sum_by-cons}
 use Rattle.std.proofs.lemmas.List.Elements.{All-nil, All-cons, All-head, All-tail, All-append}
 use Rattle.std.proofs.lemmas.List.Elements.{All-map, All-weaker}
 use Rattle.shard_book.specs.Book.{Book}
-use Rattle.shard_book.specs.SumsByKey.{all_entries}
-use Rattle.shard_book.specs.History.{IsLegal}
+use Rattle.shard_book.specs.Book.{all_entries}
+use Rattle.histories.specs.History.{IsLegal}
 use Rattle.tariffs.specs.Fares.{Fares}
-use Rattle.shard_book.specs.Sums.{Sums, sums}
+use Rattle.histories.specs.Sums.{Sums, sums}
 use Rattle.shared_books.specs.Drawing.{AllBelow, NoneTwice, times}
 use Rattle.fare_service.specs.Closing.{IsHistoryOf}
 use Rattle.fare_service.specs.inside.Closing.{IsClosedWork}

@@ -2,8 +2,8 @@
 use Rattle.std.specs.Prelude.{ℕ, ◌≡◌, ◌<◌, List, length, map, All, slice_get, Some}
 use Rattle.tariffs.specs.Fares.{Fares}
 use Rattle.shard_book.specs.Book.{Book}
-use Rattle.shard_book.specs.History.{IsLegal}
-use Rattle.shard_book.specs.Sums.{sums}
+use Rattle.histories.specs.History.{IsLegal}
+use Rattle.histories.specs.Sums.{sums}
 use Rattle.shared_books.specs.Drawing.{NoneTwice}
 use Rattle.shared_books.specs.Marks.{history_of_visits}
 use Rattle.tap_views.specs.declared.upload_end.UploadEnd.{UploadEnd}

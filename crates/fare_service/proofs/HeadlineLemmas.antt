@@ -10,8 +10,8 @@ use Rattle.std.proofs.lemmas.List.Elements.{All-nil, All-cons, All-weaker}
 use Rattle.std.proofs.lemmas.Option.{slice_get-get_or, get_or_from_slice_get}
 use Rattle.tariffs.specs.Fares.{Fares}
 use Rattle.shard_book.specs.Book.{Book}
-use Rattle.shard_book.specs.SumsByKey.{all_entries}
-use Rattle.shard_book.specs.Sums.{sums}
+use Rattle.shard_book.specs.Book.{all_entries}
+use Rattle.histories.specs.Sums.{sums}
 use Rattle.shard_book.specs.Windows.{WindowsKeepLimits}
 use Rattle.shared_books.specs.Marks.{history_of_visits}
 use Rattle.tap_views.specs.declared.upload_end.UploadEnd.TheVariants.{Undrawn}

@@ -1,3 +1,7 @@
+pub mod Whole
+pub mod SpotLines
+pub mod Sorting
+pub mod Collecting
 pub mod AddingLemmas
 pub mod AnswerLemmas
 pub mod BatchLemmas
@@ -26,7 +30,6 @@ pub mod UploadLemmas
 pub mod VisitLemmas
 pub mod PlainBooks
 pub mod PlainEnds
-pub mod PlainFields
 pub mod PlainLists
 pub mod PlainRuns
 pub mod PlainSame

@@ -12,9 +12,9 @@ use Rattle.std.proofs.lemmas.List.Elements.{All-filter, All-weaker, All-map, fil
 use Rattle.std.proofs.lemmas.List.Sums.{sum_by-append, sum_by-cons}
 use Rattle.std.proofs.lemmas.Option.{slice_get-get_or}
 use Rattle.std.proofs.lemmas.List.Folds.{flat_map-map}
-use Rattle.shard_book.specs.declared.entry.Entry.{Entry}
+use Rattle.histories.specs.declared.entry.Entry.{Entry}
 use Rattle.shard_book.specs.Book.{Book}
-use Rattle.shard_book.specs.Entry.{IsEntryOf}
+use Rattle.histories.specs.Entry.{IsEntryOf}
 use Rattle.shared_books.specs.Drawing.{NoneTwice, times}
 use Rattle.shared_books.specs.Marks.{history_of_visits}
 use Rattle.tap_views.specs.declared.upload_end.UploadEnd.{UploadEnd}

@@ -13,10 +13,10 @@ use Rattle.std.proofs.lemmas.List.Folds.{flat_map-map}
 use Rattle.tap_views.specs.Layout.{Tap}
 use Rattle.tap_views.specs.Shards.{shard_of_token, run_of}
 use Rattle.shard_book.specs.Book.{Book}
-use Rattle.shard_book.specs.declared.entry.Entry.{Entry}
+use Rattle.histories.specs.declared.entry.Entry.{Entry}
 use Rattle.tap_views.specs.declared.token.Token.{Token}
-use Rattle.shard_book.specs.Entry.{is_of, own, IsEntryOf}
-use Rattle.shard_book.specs.Keys.{same_token}
+use Rattle.histories.specs.Entry.{is_of, own, IsEntryOf}
+use Rattle.histories.specs.Keys.{same_token}
 use Rattle.tap_views.specs.Token.{bytes_of}
 use Rattle.shared_books.specs.Drawing.{NoneTwice}
 use Rattle.shared_books.specs.Marks.{history_of_visits}
@@ -28,15 +28,16 @@ use Rattle.fare_service.specs.Outcomes.{OutcomeView}
 use Rattle.tap_views.specs.Files.{AreGoodTaps, AreGoodTapsOfEach, HasOneReading}
 use Rattle.tap_views.proofs.Lists.{All-split}
 use Rattle.fare_service.specs.Plain.{AreApart, WasNotCut}
-use Rattle.shard_book.specs.Plain.{IsNamed, unanswered, token_of_bytes, plain}
+use Rattle.histories.specs.Plain.{IsNamed, unanswered, token_of_bytes, plain}
 use Rattle.fare_service.specs.Runs.{RunVisit, ArePostedWhole, runs_of, entries_to}
 use Rattle.fare_service.specs.Shares.{Worked, all_visits, IsWorkOf, IsEndOf, all_works, file_at}
 use Rattle.fare_service.proofs.PlainLists.{All-flat, flat-All, All-at, mapped_at, count, count_same}
 use Rattle.fare_service.proofs.PlainLists.{count_other, DoTheirs, done_alone, done_none, flat_alone}
 use Rattle.fare_service.proofs.PlainLists.{flat_none, HasOne, none_or_one}
-use Rattle.shard_book.proofs.PlainReplies.{bare, own_bare, plain_bare, plain_legal, same_replies}
-use Rattle.shard_book.proofs.OwnEntries.{own-append, own_none}
-use Rattle.fare_service.proofs.PlainRuns.{IsName, shard_entries, named_entries, all_shards, own_run}
+use Rattle.histories.proofs.PlainReplies.{bare, own_bare, plain_bare, plain_legal, same_replies}
+use Rattle.histories.proofs.OwnEntries.{own-append, own_none}
+use Rattle.histories.proofs.PlainFields.{IsName}
+use Rattle.fare_service.proofs.PlainRuns.{shard_entries, named_entries, all_shards, own_run}
 use Rattle.fare_service.proofs.VisitLemmas.{entries_to-append}
 use Rattle.fare_service.proofs.GatheredWork.{Given, IsBookOfWork, IsGathered}
 use Rattle.fare_service.proofs.GatherLemmas.{end_other, end_same, fewer_after}

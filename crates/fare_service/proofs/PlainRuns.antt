@@ -9,18 +9,19 @@ use Rattle.std.proofs.lemmas.List.Elements.{All-nil, All-cons, All-head, All-tai
 use Rattle.std.proofs.lemmas.List.Concat.{flat_map-append}
 use Rattle.tap_views.specs.Layout.{Tap, num}
 use Rattle.tap_views.specs.Shards.{shard_of_token, run_of}
-use Rattle.shard_book.specs.declared.entry.Entry.{Entry}
+use Rattle.histories.specs.declared.entry.Entry.{Entry}
 use Rattle.tap_views.specs.declared.token.Token.{Token}
-use Rattle.shard_book.specs.Entry.{IsEntryOf, is_of, own}
-use Rattle.shard_book.specs.Keys.{same_token}
+use Rattle.histories.specs.Entry.{IsEntryOf, is_of, own}
+use Rattle.histories.specs.Keys.{same_token}
 use Rattle.tap_views.specs.Token.{bytes_of}
 use Rattle.tap_views.proofs.Lists.{AllZip-append}
 use Rattle.shared_books.specs.Marks.{history_of_visits}
-use Rattle.shard_book.specs.Plain.{unanswered, token_of_bytes, IsNamed}
+use Rattle.histories.specs.Plain.{unanswered, token_of_bytes, IsNamed}
 use Rattle.fare_service.specs.Runs.{PostedRun}
 use Rattle.fare_service.specs.Runs.{posted_run, if_any, runs_below, runs_of, RunVisit, IsEntered}
 use Rattle.fare_service.specs.Runs.{run_of_visit, ArePostedWhole, entries_to}
-use Rattle.shard_book.proofs.PlainReplies.{bare}
+use Rattle.histories.proofs.PlainFields.{IsName}
+use Rattle.histories.proofs.PlainReplies.{bare}
 
 -- the taps of some runs to a shard
 abbrev taps_at : ℕ → List PostedRun → List Tap
@@ -130,10 +131,6 @@ shard_entries shards shard batches visits within posted all =
     λ taps. AllZip IsEntryOf taps (history_of_visits (entries_to shard visits)) in
     subst P (ap (taps_at shard) posted ∙ runs_taps_at shards shard batches within)
     (visits_entries shards shard visits all)
-
--- the tap's token is the name of its bytes
-abbrev pub IsName : Tap → Type 0
-IsName tap = bytes_of (token_of_bytes tap.token) ≡ tap.token
 
 abbrev fields : Token → ℕ → ℕ → Entry
 fields token validator moment =

@@ -7,15 +7,16 @@ use Rattle.std.proofs.lemmas.List.Elements.{All-head, All-tail}
 use Rattle.std.proofs.lemmas.Option.{slice_get-get_or}
 use Rattle.tap_views.specs.Shards.{shard_of_token}
 use Rattle.shard_book.specs.Book.{Book, AreOfShard}
-use Rattle.shard_book.specs.declared.entry.Entry.{Entry}
+use Rattle.histories.specs.declared.entry.Entry.{Entry}
 use Rattle.tap_views.specs.declared.token.Token.{Token}
-use Rattle.shard_book.specs.Entry.{is_of, own}
-use Rattle.shard_book.specs.SumsByKey.{all_entries, sums_by_validator, sums_by_token}
-use Rattle.shard_book.specs.Keys.{same_token}
-use Rattle.shard_book.specs.Sums.{sums}
-use Rattle.shard_book.proofs.OwnEntries.{own-append}
-use Rattle.shard_book.proofs.SameEntries.{RisingNumbers, RisingTokens, same_by_token}
-use Rattle.shard_book.proofs.SameEntries.{same_by_validator, same_entries, same_sums}
+use Rattle.histories.specs.Entry.{is_of, own}
+use Rattle.shard_book.specs.Book.{all_entries}
+use Rattle.histories.specs.SumsByKey.{sums_by_validator, sums_by_token}
+use Rattle.histories.specs.Keys.{same_token}
+use Rattle.histories.specs.Sums.{sums}
+use Rattle.histories.proofs.OwnEntries.{own-append}
+use Rattle.histories.proofs.SameEntries.{RisingNumbers, RisingTokens, same_by_token}
+use Rattle.histories.proofs.SameEntries.{same_by_validator, same_entries, same_sums}
 use Rattle.tap_views.specs.Token.{bytes_of}
 use Rattle.fare_service.specs.Outcomes.{OutcomeView}
 use Rattle.fare_service.specs.Plain.{IsUncutGathering}

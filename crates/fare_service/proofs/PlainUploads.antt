@@ -1,52 +1,29 @@
 -- The plain history of uploads is there, and there is one; and what laws on it stand on.
 use Rattle.std.specs.Prelude.{ℕ, ◌≡◌, ◌↔◌, ◌<◌, List, [], length, map, All, Some, slice_get}
-use Rattle.std.specs.List.{flat_map}
-use Rattle.std.proofs.Common.{refl, sym, ◌∙◌, ap, subst, arith, get_or, mod-lt}
+use Rattle.std.proofs.Common.{sym, ◌∙◌, ap, subst, arith, get_or, mod-lt}
 use Rattle.std.proofs.lemmas.Option.{slice_get-get_or}
 use Rattle.account_rule.specs.TokenRules.{rules_of}
 use Rattle.account_rule.specs.Windows.{last_window}
 use Rattle.tariffs.specs.Fares.{Fares}
-use Rattle.tap_views.specs.Layout.{Tap}
 use Rattle.tap_views.specs.Shards.{shard_of_token}
 use Rattle.shard_book.specs.Book.{Book}
-use Rattle.shard_book.specs.declared.entry.Entry.{Entry}
-use Rattle.shard_book.specs.declared.statement.Statement.{Statement}
+use Rattle.histories.specs.declared.entry.Entry.{Entry}
+use Rattle.histories.specs.declared.statement.Statement.{Statement}
 use Rattle.tap_views.specs.declared.token.Token.{Token}
-use Rattle.shard_book.specs.Entry.{own, tap_of, taps_of}
-use Rattle.shard_book.specs.History.{IsLegal}
-use Rattle.shard_book.specs.Statement.{IsStatement}
-use Rattle.shard_book.specs.Sums.{sums}
+use Rattle.histories.specs.Entry.{own, tap_of, taps_of}
+use Rattle.histories.specs.Statement.{IsStatement}
+use Rattle.histories.specs.Sums.{sums}
 use Rattle.tap_views.specs.Token.{bytes_of}
 use Rattle.fare_service.specs.Outcomes.{OutcomeView}
-use Rattle.tap_views.proofs.ReadingLemmas.{one_list}
-use Rattle.tap_views.specs.Files.{AreGoodTapsOfEach, HasOneReading}
-use Rattle.shard_book.specs.Plain.{IsNamed, plain}
-use Rattle.fare_service.specs.Plain.{IsPlain, IsUncutGathering}
+use Rattle.tap_views.specs.Files.{HasOneReading}
+use Rattle.histories.specs.Plain.{IsNamed}
+use Rattle.fare_service.specs.Plain.{IsUncutGathering}
 use Rattle.report_texts.specs.OverHistory.{IsStatementOver}
 use Rattle.fare_service.specs.Printed.{IsStatementOf}
 use Rattle.fare_texts.specs.StatementText.{IsStatementText}
 use Rattle.fare_service.proofs.HeadlineLemmas.{gathered_of}
 use Rattle.fare_service.proofs.PlainBooks.{Stands, own_plain}
-use Rattle.shard_book.proofs.PlainReplies.{plain_legal}
 use Rattle.fare_service.proofs.GatheredWork.{Given}
-
-pub one_plain : (fares : Fares) (files : List (List ℕ)) (history other : List Entry)
-    → All HasOneReading files → IsPlain fares files history → IsPlain fares files other
-    → history ≡ other
-one_plain fares files history other cuts a b =
-    a.entries ∙ ap (λ taps. plain fares (flat_map (λ ts. ts) taps))
-    (one_list files a.taps b.taps cuts a.each b.each) ∙ sym b.entries
-
-pub some_plain : (fares : Fares) (files : List (List ℕ)) (taps : List (List Tap))
-    → AreGoodTapsOfEach files taps → (history : List Entry) × IsPlain fares files history
-some_plain fares files taps each =
-    (plain fares (flat_map (λ ts. ts) taps), record { taps = taps; each = each; entries = refl })
-
-pub legal_plain : (fares : Fares) (files : List (List ℕ)) (history : List Entry)
-    → IsPlain fares files history → IsLegal fares history
-legal_plain fares files history is =
-    let L : List Entry → Type 0 = λ es. IsLegal fares es in
-    subst L (sym is.entries) (plain_legal fares (flat_map (λ ts. ts) is.taps))
 
 -- ---- statements
 abbrev pub AllNamed : OutcomeView → Type 0

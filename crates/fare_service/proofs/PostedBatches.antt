@@ -8,8 +8,8 @@ use Rattle.std.proofs.lemmas.List.Sums.{sum_by-append}
 use Rattle.tap_views.specs.Layout.{Tap}
 use Rattle.tap_views.specs.Files.{IsFile, IsEndAfterBatches}
 use Rattle.tap_views.specs.declared.fault.LayoutFault.{LayoutFault}
-use Rattle.shard_book.specs.Entry.{reply_of}
-use Rattle.shard_book.specs.Sums.{Sums}
+use Rattle.histories.specs.Entry.{reply_of}
+use Rattle.histories.specs.Sums.{Sums}
 use Rattle.shared_books.specs.Passes.{PassView}
 use Rattle.fare_service.specs.declared.service.working.Stop.{Stop}
 use Rattle.fare_service.specs.Runs.{PostedRun, RunVisit, runs_below, runs_of, AreCut}

@@ -10,13 +10,13 @@ use Rattle.std.proofs.lemmas.List.{get_or-map}
 use Rattle.std.proofs.lemmas.Slice.Zip.{AllZip-long}
 use Rattle.tap_views.specs.Layout.{Tap}
 use Rattle.tap_views.specs.Shards.{run_of, run_taps, ShardRun}
-use Rattle.shard_book.specs.declared.entry.Entry.{Entry}
+use Rattle.histories.specs.declared.entry.Entry.{Entry}
 use Rattle.shard_book.specs.declared.run_end.RunEnd.{RunEnd}
 use Rattle.shard_book.specs.declared.run_end.RunEnd.TheVariants.{Whole, Cut}
-use Rattle.shard_book.specs.Entry.{IsEntryOf}
-use Rattle.shard_book.specs.Sums.{Sums, sums, add_sums}
+use Rattle.histories.specs.Entry.{IsEntryOf}
+use Rattle.histories.specs.Sums.{Sums, sums, add_sums}
 use Rattle.shard_book.specs.Visits.{IsVisit}
-use Rattle.shard_book.proofs.SumsLemmas.{add_none}
+use Rattle.histories.proofs.SumsLemmas.{add_none}
 use Rattle.shared_books.specs.Passes.{PassView, SharedBookView, HasSeenMore, Visits}
 use Rattle.fare_service.specs.declared.service.working.Stop.{Stop}
 use Rattle.fare_service.specs.ServiceView.{ServiceView, shards_of}

@@ -6,8 +6,8 @@ use Rattle.std.proofs.Common.{length-append}
 use Rattle.std.proofs.lemmas.List.{map-append}
 use Rattle.std.proofs.lemmas.List.Elements.{All-nil, All-cons, All-append}
 use Rattle.std.proofs.lemmas.Grind.{flat_map-append}
-use Rattle.shard_book.specs.Sums.{Sums, sums, add_sums}
-use Rattle.shard_book.proofs.SumsLemmas.{sums-append}
+use Rattle.histories.specs.Sums.{Sums, sums, add_sums}
+use Rattle.histories.proofs.SumsLemmas.{sums-append}
 use Rattle.shared_books.specs.Drawing.{DrawerView}
 use Rattle.shared_books.specs.Claims.{all_claims, claims_given, claims_left}
 use Rattle.shared_books.specs.Passes.{PassView, SharedBookView, new_pass, fresh_pass, left_pass}

@@ -13,7 +13,7 @@ use Rattle.tap_views.specs.Layout.{Tap}
 use Rattle.tap_views.specs.Files.{IsFile}
 use Rattle.tap_views.specs.Shards.{shard_of_token, run_of}
 use Rattle.tap_views.proofs.ReadingLemmas.{batch_room}
-use Rattle.shard_book.specs.Entry.{IsEntryOf}
+use Rattle.histories.specs.Entry.{IsEntryOf}
 use Rattle.fare_service.specs.Runs.{PostedRun, posted_run, if_any, runs_below, runs_of, RunVisit}
 use Rattle.fare_service.specs.Runs.{IsEntered, run_of_visit, ArePostedWhole, AreCut, entries_of}
 use Rattle.fare_service.specs.Runs.{taps_posted}

@@ -11,9 +11,9 @@ use Rattle.std.proofs.lemmas.Option.{slice_get_within, get_or_from_slice_get}
 use Rattle.std.proofs.lemmas.Bool.Decides.{eqb_tells}
 use Rattle.std.proofs.Math.Seq.{map-set_same}
 use Rattle.account_rule.specs.declared.reply.Reply.{Reply}
-use Rattle.shard_book.specs.declared.entry.Entry.{Entry}
-use Rattle.shard_book.specs.Sums.{Sums, sums, sums_of_replies, add_sums}
-use Rattle.shard_book.proofs.SumsLemmas.{replies-append, sums-append, add_none, add_assoc}
+use Rattle.histories.specs.declared.entry.Entry.{Entry}
+use Rattle.histories.specs.Sums.{Sums, sums, sums_of_replies, add_sums}
+use Rattle.histories.proofs.SumsLemmas.{replies-append, sums-append, add_none, add_assoc}
 use Rattle.shared_books.specs.declared.turns.rule.Mark.{Mark}
 use Rattle.shared_books.specs.Marks.{mark, others}
 use Rattle.shared_books.specs.Passes.{PassView, HasSeenMore, Visits}

@@ -1,6 +1,6 @@
 -- Totals that add up: over the books, over the workers and, of taps, over the uploads.
 use Rattle.std.specs.Prelude.{◌≡◌, List, map, sum_by}
-use Rattle.shard_book.specs.Sums.{sums, add_all}
+use Rattle.histories.specs.Sums.{sums, add_all}
 use Rattle.tap_views.specs.UploadEnds.{taps_of_end}
 use Rattle.fare_service.specs.Outcomes.{OutcomeView}
 use Rattle.fare_service.specs.Runs.{entries_of}

@@ -1,7 +1,7 @@
 -- Books that are closed.
 use Rattle.std.specs.Prelude.{◌≡◌, ℕ, ◌<◌, ◌≤◌, List, length, map, All, slice_get, Some}
 use Rattle.shard_book.specs.Book.{Book}
-use Rattle.shard_book.specs.History.{IsLegal}
+use Rattle.histories.specs.History.{IsLegal}
 use Rattle.shared_books.specs.Passes.{SharedBookView}
 use Rattle.fare_service.specs.declared.faults.GatherFault.{GatherFault}
 use Rattle.fare_service.specs.declared.faults.GatherFault.TheVariants.{NoMemory, Missing, Drawn}

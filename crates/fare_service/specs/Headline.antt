@@ -3,10 +3,10 @@ use Rattle.std.specs.Prelude.{◌≡◌, ℕ, ◌<◌, ◌≤◌, ◌==◌, if�
 use Rattle.std.specs.Prelude.{filter, All, Option, slice_get, slice_index_or, Some}
 use Rattle.std.specs.List.{flat_map, AllZip}
 use Rattle.tariffs.specs.Fares.{Fares}
-use Rattle.shard_book.specs.declared.entry.Entry.{Entry}
+use Rattle.histories.specs.declared.entry.Entry.{Entry}
 use Rattle.tap_views.specs.declared.token.Token.{Token}
 use Rattle.shard_book.specs.Book.{EachBook}
-use Rattle.shard_book.specs.History.{IsLegal}
+use Rattle.histories.specs.History.{IsLegal}
 use Rattle.shard_book.specs.Windows.{WindowsKeepLimits}
 use Rattle.shared_books.specs.Drawing.{NoneTwice}
 use Rattle.tap_views.specs.declared.upload_end.UploadEnd.{UploadEnd}

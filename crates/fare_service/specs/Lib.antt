@@ -1,3 +1,5 @@
+pub mod Ledger
+pub mod Explained
 pub mod Adding
 pub mod Claims
 pub mod Closing

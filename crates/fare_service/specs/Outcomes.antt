@@ -1,7 +1,7 @@
 -- What contracts see of an outcome.
 use Rattle.std.specs.Prelude.{List}
 use Rattle.shard_book.specs.Book.{Book}
-use Rattle.shard_book.specs.Sums.{Sums}
+use Rattle.histories.specs.Sums.{Sums}
 use Rattle.tap_views.specs.declared.upload_end.UploadEnd.{UploadEnd}
 
 -- the book of each shard, the end of each upload, and the totals of each worker and of all

@@ -2,11 +2,12 @@
 use Rattle.std.specs.Prelude.{◌≡◌, ℕ, List, length, slice_get, Some}
 use Rattle.tap_views.specs.Shards.{shard_of_token}
 use Rattle.shard_book.specs.Book.{Book}
-use Rattle.shard_book.specs.declared.statement.Statement.{Statement}
+use Rattle.histories.specs.declared.statement.Statement.{Statement}
 use Rattle.tap_views.specs.declared.token.Token.{Token}
-use Rattle.shard_book.specs.SumsByKey.{all_entries, sums_by_validator, sums_by_token}
-use Rattle.shard_book.specs.Statement.{IsStatement}
-use Rattle.shard_book.specs.Sums.{sums}
+use Rattle.shard_book.specs.Book.{all_entries}
+use Rattle.histories.specs.SumsByKey.{sums_by_validator, sums_by_token}
+use Rattle.histories.specs.Statement.{IsStatement}
+use Rattle.histories.specs.Sums.{sums}
 use Rattle.tap_views.specs.Token.{bytes_of}
 use Rattle.tap_views.specs.declared.upload_end.UploadEnd.{UploadEnd}
 use Rattle.fare_service.specs.Outcomes.{OutcomeView}

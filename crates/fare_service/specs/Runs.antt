@@ -5,8 +5,8 @@ use Rattle.std.specs.Prelude.{map, filter, take}
 use Rattle.std.specs.List.{flat_map, AllZip}
 use Rattle.tap_views.specs.Layout.{Tap}
 use Rattle.tap_views.specs.Shards.{run_of}
-use Rattle.shard_book.specs.declared.entry.Entry.{Entry}
-use Rattle.shard_book.specs.Entry.{IsEntryOf}
+use Rattle.histories.specs.declared.entry.Entry.{Entry}
+use Rattle.histories.specs.Entry.{IsEntryOf}
 
 -- taps of one shard that one turn posts
 pub record PostedRun : Type 0 where

@@ -1,6 +1,6 @@
 -- What contracts see of a share.
 use Rattle.std.specs.Prelude.{List}
-use Rattle.shard_book.specs.Sums.{Sums}
+use Rattle.histories.specs.Sums.{Sums}
 use Rattle.shared_books.specs.Drawing.{DrawerView}
 use Rattle.shared_books.specs.Passes.{PassView}
 use Rattle.fare_service.specs.declared.service.share.Done.{Done}

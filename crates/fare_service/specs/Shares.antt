@@ -5,8 +5,8 @@ use Rattle.std.specs.Prelude.{All, slice_index_or}
 use Rattle.std.specs.List.{flat_map}
 use Rattle.tap_views.specs.Layout.{Tap}
 use Rattle.tap_views.specs.Files.{IsFile, IsFaultAt}
-use Rattle.shard_book.specs.declared.entry.Entry.{Entry}
-use Rattle.shard_book.specs.Sums.{Sums, sums, add_sums}
+use Rattle.histories.specs.declared.entry.Entry.{Entry}
+use Rattle.histories.specs.Sums.{Sums, sums, add_sums}
 use Rattle.shared_books.specs.declared.turns.rule.Mark.{Mark}
 use Rattle.shared_books.specs.Passes.{SharedBookView, PassView}
 use Rattle.tap_views.specs.declared.upload_end.UploadEnd.{UploadEnd}

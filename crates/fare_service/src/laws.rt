@@ -3,8 +3,9 @@
 mod places;
 mod schedules;
 
+pub use histories::laws::plain_history;
 pub use places::{posted_taps, posting_order};
 pub use schedules::{
-    none_was_cut, plain_history, report_is_plain, same_texts, statements_are_plain,
-    tokens_are_named, uncut_ends_are_plain,
+    none_was_cut, report_is_plain, same_texts, statements_are_plain, tokens_are_named,
+    uncut_ends_are_plain,
 };

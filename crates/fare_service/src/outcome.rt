@@ -16,7 +16,7 @@ pub struct Outcome {
 
 impl Model for Outcome {
     ghost use Rattle.std.specs.Prelude.{map};
-    ghost use Rattle.shard_book.specs.Sums.{sums_of};
+    ghost use Rattle.histories.specs.Sums.{sums_of};
     ghost use Rattle.fare_service.specs.Outcomes.{OutcomeView};
     ghost use Rattle.fare_service.specs.inside.Outcomes.{IsOutcome};
 
@@ -39,8 +39,8 @@ impl Model for Outcome {
 
 impl Outcome {
     ghost use Rattle.std.specs.Prelude.{◌≡◌, ◌<◌, ◌≤◌, length, slice_get, Some};
-    ghost use Rattle.shard_book.specs.SumsByKey.{all_entries};
-    ghost use Rattle.shard_book.specs.Sums.{sums, sums_of};
+    ghost use Rattle.shard_book.specs.Book.{all_entries};
+    ghost use Rattle.histories.specs.Sums.{sums, sums_of};
 
     /// How many shards there are, 1 to 64.
     pub fn shards(&self) -> u32

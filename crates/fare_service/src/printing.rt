@@ -4,8 +4,9 @@
 ghost use Rattle.std.specs.Prelude.{◌≡◌, ℕ, List, OnOk, IfOk, IfErr, string_bytes};
 ghost use Rattle.std.specs.Prelude.{map};
 ghost use Rattle.std.specs.Io.KnownBytes.{Appends};
-ghost use Rattle.shard_book.specs.Shown.{validator_sum};
-ghost use Rattle.shard_book.specs.SumsByKey.{all_entries, sums_by_token, sums_by_validator};
+ghost use Rattle.histories.specs.Shown.{validator_sum};
+ghost use Rattle.shard_book.specs.Book.{all_entries};
+ghost use Rattle.histories.specs.SumsByKey.{sums_by_token, sums_by_validator};
 ghost use Rattle.fare_service.specs.Printed.{report_of, report_with, IsStatementOf};
 ghost use Rattle.fare_texts.specs.PrintFaults.{KeepsUnlessWrite};
 ghost use Rattle.fare_texts.specs.WrittenOut.{Begins};
@@ -14,7 +15,7 @@ ghost use Rattle.fare_texts.specs.declared.print_fault.PrintFault.TheVariants.{W
 use crate::outcome::Outcome;
 use fare_texts::{PrintFault, statement_text, write_out};
 use report_texts::write_report;
-use shard_book::{TokenSums, ValidatorSum, sums_by_validator};
+use shard_book::{TokenSums, ValidatorSum, sums_by_validator, token_sums_of_books};
 use std::alloc::Global;
 use std::io::Write;
 use std::marker::Sync;
@@ -33,7 +34,7 @@ impl Outcome {
             (λ sums. sums.1 ≡ sums_by_token (all_entries self.now.books)) }
     {
         let validators = sums_by_validator(rt, alloc, self.books.as_slice())?;
-        let tokens = TokenSums::of(alloc, self.books.as_slice())?;
+        let tokens = token_sums_of_books(alloc, self.books.as_slice())?;
         Ok((validators, tokens))
     }
 

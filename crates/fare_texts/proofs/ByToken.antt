@@ -7,23 +7,23 @@ use Rattle.std.proofs.lemmas.Bool.{cases_Bool}
 use Rattle.std.proofs.lemmas.List.Sorted.{IsPermutation-map, list_any-IsPermutation}
 use Rattle.std.proofs.Math.Bool.{or_self_left}
 use Rattle.tariffs.specs.Fares.{Fares}
-use Rattle.shard_book.specs.Entry.{own}
-use Rattle.shard_book.specs.SumsByKey.{token_of, tokens}
-use Rattle.shard_book.specs.Rising.{IsRising, rising}
+use Rattle.histories.specs.Entry.{own}
+use Rattle.histories.specs.SumsByKey.{token_of, tokens}
+use Rattle.histories.specs.Rising.{IsRising, rising}
 use Rattle.tap_views.specs.Token.{token_cmp, token_eq}
-use Rattle.shard_book.specs.declared.entry.Entry.{Entry}
+use Rattle.histories.specs.declared.entry.Entry.{Entry}
 use Rattle.tap_views.specs.declared.token.Token.{Token}
 use Rattle.tap_views.proofs.TokenLemmas.{same_token, token_eq-refl, token_eq-sym, token_cmp-total}
 use Rattle.tap_views.proofs.TokenLemmas.{token_cmp-ties}
 use Rattle.tap_views.proofs.TokenLemmas.{among}
-use Rattle.shard_book.proofs.RisingLemmas.{rising-only, below_all}
-use Rattle.shard_book.proofs.OwnEntries.{own-append, own_none, own_other, own_same}
+use Rattle.histories.proofs.RisingLemmas.{rising-only, below_all}
+use Rattle.histories.proofs.OwnEntries.{own-append, own_none, own_other, own_same}
 use Rattle.fare_texts.specs.LedgerLines.{AreLedgerLinesAfter, AreLedgerLines, IsLedgerLine}
 use Rattle.fare_texts.specs.LedgerLines.{reason_after}
 use Rattle.fare_texts.specs.Ledger.{AreLinesOfEach}
 use Rattle.fare_texts.specs.Lines.{AreLinesAlong, AreUpTo, IsLineAfter, NoFall, NoFallFrom}
 use Rattle.tap_views.specs.TokenOrder.{IsUpTo}
-use Rattle.fare_texts.specs.inside.ByToken.{IsByToken}
+use Rattle.fare_texts.specs.ByToken.{IsByToken}
 use Rattle.fare_texts.proofs.Rising.{none_above, none_below}
 use Rattle.fare_texts.proofs.Rising.{own_push, up_push, up_weaker}
 use Rattle.tap_views.proofs.TokensUp.{up_apart, up_itself}

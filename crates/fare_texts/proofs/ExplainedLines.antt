@@ -7,7 +7,7 @@ use Rattle.account_rule.specs.declared.reason.Reason.{Reason}
 use Rattle.account_rule.specs.declared.window.WindowView.{WindowView}
 use Rattle.tariffs.specs.ClockView.{ClockView}
 use Rattle.tariffs.specs.Fares.{Fares}
-use Rattle.shard_book.specs.declared.entry.Entry.{Entry}
+use Rattle.histories.specs.declared.entry.Entry.{Entry}
 use Rattle.tap_views.specs.declared.token.Token.{Token}
 use Rattle.fare_texts.specs.LedgerLines.{reason_after}
 use Rattle.fare_texts.specs.NoTransferWords.{no_transfer_after}

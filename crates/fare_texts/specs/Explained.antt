@@ -1,7 +1,6 @@
 -- A token's explained statement: the lines of its statement with the reason behind each, the
 -- token's terms by each table before the lines, and all its windows.
 use Rattle.std.specs.Prelude.{◌≡◌, ℕ, List, [], ◌∷◌, ◌++◌, Option, Some, None, codes, flat_map, map}
-use Rattle.std.specs.Prelude.{slice_get}
 use Rattle.std.specs.Fmt.{decimal}
 use Rattle.std.specs.Option.{option_to_list}
 use Rattle.tariffs.specs.ClockView.{ClockView}
@@ -14,12 +13,10 @@ use Rattle.account_rule.specs.declared.no_transfer.NoTransfer.{NoTransfer}
 use Rattle.account_rule.specs.declared.reason.Reason.{Reason}
 use Rattle.account_rule.specs.declared.tap.TapIn.{TapIn}
 use Rattle.account_rule.specs.declared.window.WindowView.{WindowView}
-use Rattle.shard_book.specs.Book.{Book}
-use Rattle.shard_book.specs.Entry.{own, tap_of}
-use Rattle.shard_book.specs.SumsByKey.{all_entries}
-use Rattle.shard_book.specs.Sums.{sums}
+use Rattle.histories.specs.Entry.{own, tap_of}
+use Rattle.histories.specs.Sums.{sums}
 use Rattle.tap_views.specs.Token.{bytes_of}
-use Rattle.shard_book.specs.declared.entry.Entry.{Entry}
+use Rattle.histories.specs.declared.entry.Entry.{Entry}
 use Rattle.tap_views.specs.declared.token.Token.{Token}
 use Rattle.fare_texts.specs.Counts.{totals_line}
 use Rattle.fare_texts.specs.Local.{IsLocal}
@@ -151,10 +148,3 @@ pub record IsExplained (fares : Fares) (token : Token) (entries : List Entry) (t
 -- the explained statement of a token over a history
 abbrev pub IsExplainedOver : Fares → List Entry → Token → List ℕ → Type 0
 IsExplainedOver fares history token text = IsExplained fares token (own token history) text
-
--- the explained statement of a token over books: that over the entries of all of them, under the
--- table of the first
-pub record IsExplainedOf (books : List Book) (token : Token) (text : List ℕ) : Type 0 where
-  pub first : Book
-  pub stands_first : slice_get books 0 ≡ Some first
-  pub over : IsExplainedOver first.table (all_entries books) token text

@@ -5,9 +5,9 @@ use Rattle.account_rule.specs.Replies.{reply}
 use Rattle.account_rule.specs.declared.reply.Answer.TheVariants.{Unknown}
 use Rattle.account_rule.specs.TokenRules.{rules_of}
 use Rattle.account_rule.specs.Stands.{Stands}
-use Rattle.shard_book.specs.Entry.{tap_of}
+use Rattle.histories.specs.Entry.{tap_of}
 use Rattle.tap_views.specs.Token.{bytes_of}
-use Rattle.shard_book.specs.declared.entry.Entry.{Entry}
+use Rattle.histories.specs.declared.entry.Entry.{Entry}
 use Rattle.tap_views.specs.declared.token.Token.{Token}
 use Rattle.fare_texts.specs.declared.explainer.Explainer.{Explainer}
 

@@ -1,10 +1,9 @@
 -- The ledger of a history: a head line, and the lines of each token, by rising tokens.
-use Rattle.std.specs.Prelude.{◌≡◌, ℕ, List, [], ◌∷◌, ◌++◌, Option, Some, None, slice_get}
+use Rattle.std.specs.Prelude.{◌≡◌, ℕ, List, [], ◌∷◌, ◌++◌, Option, Some, None}
 use Rattle.tariffs.specs.Fares.{Fares}
-use Rattle.shard_book.specs.Book.{Book}
-use Rattle.shard_book.specs.Entry.{own}
-use Rattle.shard_book.specs.SumsByKey.{all_entries, tokens}
-use Rattle.shard_book.specs.declared.entry.Entry.{Entry}
+use Rattle.histories.specs.Entry.{own}
+use Rattle.histories.specs.SumsByKey.{tokens}
+use Rattle.histories.specs.declared.entry.Entry.{Entry}
 use Rattle.tap_views.specs.declared.token.Token.{Token}
 use Rattle.fare_texts.specs.LedgerLines.{AreLedgerLines, head_text}
 
@@ -27,10 +26,3 @@ pub record IsLedgerOver (fares : Fares) (history : List Entry) (only : Option To
   pub lines : List ℕ
   pub of_each : AreLinesOfEach fares history (ledger_tokens only history) lines
   pub whole : text ≡ head_text ++ lines
-
--- the ledger of books: that of the entries of all of them, book by book, under the table of the
--- first
-pub record IsLedgerOfBooks (books : List Book) (only : Option Token) (text : List ℕ) : Type 0 where
-  pub first : Book
-  pub stands_first : slice_get books 0 ≡ Some first
-  pub over : IsLedgerOver first.table (all_entries books) only text

@@ -11,9 +11,9 @@ use Rattle.account_rule.specs.declared.reason.Charge.TheVariants.{Full, CeilingC
 use Rattle.account_rule.specs.declared.reason.Charge.TheVariants.{RideLimitReached}
 use Rattle.account_rule.specs.declared.reason.Reason.{Reason}
 use Rattle.account_rule.specs.declared.reason.Reason.TheVariants.{Unknown, Stale, Transfer, Ride}
-use Rattle.shard_book.specs.Entry.{tap_of}
+use Rattle.histories.specs.Entry.{tap_of}
 use Rattle.tap_views.specs.Token.{bytes_of}
-use Rattle.shard_book.specs.declared.entry.Entry.{Entry}
+use Rattle.histories.specs.declared.entry.Entry.{Entry}
 use Rattle.tap_views.specs.declared.token.Token.{Token}
 use Rattle.fare_texts.specs.Moments.{IsMomentText}
 use Rattle.fare_texts.specs.StatementText.{answer_text}

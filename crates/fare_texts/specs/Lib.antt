@@ -1,3 +1,4 @@
+pub mod ByToken
 pub mod Counts
 pub mod Explained
 pub mod Ledger

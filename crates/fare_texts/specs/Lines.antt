@@ -1,9 +1,9 @@
 -- The lines of entries in order of token, as they are written one after another.
 use Rattle.std.specs.Prelude.{◌≡◌, ℕ, List, [], ◌∷◌, ◌++◌}
 use Rattle.tariffs.specs.Fares.{Fares}
-use Rattle.shard_book.specs.Entry.{own}
+use Rattle.histories.specs.Entry.{own}
 use Rattle.tap_views.specs.TokenOrder.{IsUpTo}
-use Rattle.shard_book.specs.declared.entry.Entry.{Entry}
+use Rattle.histories.specs.declared.entry.Entry.{Entry}
 use Rattle.tap_views.specs.declared.token.Token.{Token}
 use Rattle.fare_texts.specs.LedgerLines.{IsLedgerLineAfter}
 use Rattle.fare_texts.specs.Explainers.{HasExplained}

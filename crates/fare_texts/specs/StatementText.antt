@@ -9,10 +9,10 @@ use Rattle.account_rule.specs.declared.reply.Answer.TheVariants.{Paid, Transfer,
 use Rattle.account_rule.specs.declared.reply.Answer.TheVariants.{Unknown}
 use Rattle.account_rule.specs.declared.window.WindowView.{WindowView}
 use Rattle.tap_views.specs.Token.{bytes_of}
-use Rattle.shard_book.specs.Sums.{sums_of}
+use Rattle.histories.specs.Sums.{sums_of}
 use Rattle.tap_views.specs.declared.token.Token.{Token}
-use Rattle.shard_book.specs.declared.entry.Entry.{Entry}
-use Rattle.shard_book.specs.declared.statement.Statement.{Statement}
+use Rattle.histories.specs.declared.entry.Entry.{Entry}
+use Rattle.histories.specs.declared.statement.Statement.{Statement}
 use Rattle.fare_texts.specs.Moments.{IsMomentText}
 use Rattle.fare_texts.specs.Counts.{totals_line}
 

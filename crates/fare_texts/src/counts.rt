@@ -1,10 +1,10 @@
 //! The counts that end a line, and the line of totals.
 
 ghost use Rattle.std.specs.Prelude.{◌≡◌, ◌++◌, OnOk, string_bytes};
-ghost use Rattle.shard_book.specs.Sums.{sums_of};
+ghost use Rattle.histories.specs.Sums.{sums_of};
 ghost use Rattle.fare_texts.specs.Counts.{counts_text, first_counts, last_counts, totals_line};
 
-use shard_book::Totals;
+use histories::Totals;
 use std::alloc::AllocError;
 
 /// The totals over all books, or those of a statement.

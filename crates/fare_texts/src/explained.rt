@@ -1,11 +1,10 @@
 //! The explained statement of a token: why each line costs what it costs.
 
-ghost use Rattle.std.specs.Prelude.{◌≡◌, ◌<◌, ℕ, List, ◌++◌, IfErr, IfOk, OnOk};
-ghost use Rattle.std.specs.Prelude.{length};
+ghost use Rattle.std.specs.Prelude.{◌≡◌, ℕ, List, ◌++◌, IfErr, IfOk, OnOk};
 ghost use Rattle.std.specs.Prelude.{string_bytes};
 ghost use Rattle.std.specs.Io.KnownBytes.{Appends};
-ghost use Rattle.shard_book.specs.Sums.{sums, sums_of};
-ghost use Rattle.fare_texts.specs.Explained.{IsExplained, IsExplainedOf};
+ghost use Rattle.histories.specs.Sums.{sums, sums_of};
+ghost use Rattle.fare_texts.specs.Explained.{IsExplained};
 ghost use Rattle.fare_texts.specs.PrintFaults.{KeepsUnlessWrite};
 ghost use Rattle.fare_texts.specs.WrittenOut.{Begins};
 ghost use Rattle.fare_texts.specs.declared.print_fault.PrintFault.TheVariants.{Write as ForWrite};
@@ -15,12 +14,10 @@ mod terms;
 mod window_lines;
 mod windows;
 
-use crate::entries::own_of;
-use crate::ledger::table_of;
 use crate::lines::pass_on;
 use crate::{PrintFault, write_statement_head, write_totals};
+use histories::{Entry, totals_of_entries};
 use lines::write_lines;
-use shard_book::{Entry, ShardBook, totals_of_entries};
 use std::alloc::Global;
 use std::io::Write;
 use tap_views::{NoMemory, Token};
@@ -29,7 +26,7 @@ use terms::write_terms;
 use window_lines::write_windows;
 
 /// The explained statement of a token that has these entries.
-fn text_of(
+pub fn explained_text_of(
     alloc: Global,
     table: &FareTable,
     token: Token,
@@ -48,8 +45,7 @@ fn text_of(
     Ok(text)
 }
 
-/// Writes the explained statement of a token that has these entries under the table, as
-/// `write_explained` does of books.
+/// Writes the explained statement of a token that has these entries under the table.
 pub fn write_explained_of<W: Write>(
     alloc: Global,
     table: &FareTable,
@@ -64,42 +60,7 @@ pub fn write_explained_of<W: Write>(
         × Begins (W.contents out.old) (W.contents out.new) text) }
     ensures fault { IfErr result (λ fault. KeepsUnlessWrite fault (out.new ≡ out.old)) }
 {
-    let mut text = text_of(alloc, table, token, entries)?;
-    pass_on(&mut text, out)?;
-    Ok(())
-}
-
-/// The explained statement of a token.
-fn explained_text(alloc: Global, books: &[ShardBook], token: Token) -> Result<String, NoMemory>
-    requires { 0 < length books.now }
-    ensures { IfOk result (λ text. IsExplainedOf books.now token (string_bytes text)) }
-{
-    let table = table_of(books);
-    let entries = own_of(alloc, books, token)?;
-    let text = text_of(alloc, table, token, entries.as_slice())?;
-    Ok(text)
-}
-
-/// Writes the explained statement of a token: the head line, the token's terms by each
-/// table, its entries, each
-/// with the account rule's reason for it after its earlier entries, their totals, and all its
-/// windows, the last one last. Under a zone each entry and each window has its local times too. All
-/// memory is taken before the first byte is written: on a fault of memory nothing was.
-pub fn write_explained<W: Write>(
-    alloc: Global,
-    books: &[ShardBook],
-    token: Token,
-    out: &mut W,
-) -> Result<(), PrintFault>
-    requires { 0 < length books.now }
-    ensures ok { OnOk result ((text : List ℕ) × IsExplainedOf books.now token text
-        × Appends (W.contents out.old) (W.contents out.new) text) }
-    ensures begun { IfErr result (λ fault. fault ≡ ForWrite
-        → (text : List ℕ) × IsExplainedOf books.now token text
-        × Begins (W.contents out.old) (W.contents out.new) text) }
-    ensures fault { IfErr result (λ fault. KeepsUnlessWrite fault (out.new ≡ out.old)) }
-{
-    let mut text = explained_text(alloc, books, token)?;
+    let mut text = explained_text_of(alloc, table, token, entries)?;
     pass_on(&mut text, out)?;
     Ok(())
 }

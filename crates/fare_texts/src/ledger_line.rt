@@ -7,7 +7,7 @@ ghost use Rattle.fare_texts.specs.LedgerLines.{IsLedgerLine, entry_fields, line_
 use crate::reason_fields::write_reason_fields;
 use crate::{Digits, answer_name, write_moment};
 use account_rule::Reason;
-use shard_book::Entry;
+use histories::Entry;
 use std::alloc::AllocError;
 use tap_views::Token;
 use tariffs::FareTable;

@@ -4,7 +4,7 @@ ghost use Rattle.std.specs.Prelude.{◌≡◌, ◌++◌, OnOk, List, ℕ, codes,
 ghost use Rattle.fare_texts.specs.LedgerLines.{AreLedgerLines, head_text};
 
 use crate::explainer::Explainer;
-use shard_book::Entry;
+use histories::Entry;
 use tap_views::{NoMemory, Token};
 use tariffs::{Clock, FareTable};
 

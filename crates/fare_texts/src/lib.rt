@@ -4,7 +4,6 @@
 
 mod counts;
 mod digits;
-mod entries;
 mod explained;
 mod explainer;
 mod ledger;
@@ -18,15 +17,14 @@ mod no_transfer_words;
 mod print_fault;
 mod reason_fields;
 mod reason_words;
-mod spot;
 mod statement;
 mod writing;
 
 pub use counts::{write_counts, write_totals};
 pub use digits::Digits;
-pub use explained::{write_explained, write_explained_of};
+pub use explained::{explained_text_of, write_explained_of};
 pub use explainer::Explainer;
-pub use ledger::{LINE_ROOM_BYTES, head_with_room, write_ledger, write_ledger_of};
+pub use ledger::{LINE_ROOM_BYTES, head_with_room, ledger_text_of, write_ledger_of};
 pub use ledger_line::write_line;
 pub use ledger_lines::{head_line, write_token_lines};
 pub use lines::{PIECE_BYTES, go_on_to, pass_on, pass_piece};

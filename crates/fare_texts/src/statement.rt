@@ -12,7 +12,7 @@ use crate::digits::Digits;
 use crate::moment::write_moment;
 use crate::names::{answer_name, mode_name};
 use account_rule::WindowView;
-use shard_book::{Entry, Lines, Statement};
+use histories::{Entry, Lines, Statement};
 use std::alloc::{AllocError, Global};
 use tap_views::Token;
 use tariffs::FareTable;

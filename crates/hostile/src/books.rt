@@ -6,7 +6,7 @@ use crate::sample::{UNTIL, table};
 use crate::stop::{Case, Stop, again, ended, promise, twice};
 use account_rule::Answer;
 use sample_table::{START, SUBWAY, bytes_of, tap_after};
-use shard_book::{Entry, HashSeed, Replies, RunEnd, ShardBook, TokenSums};
+use shard_book::{Entry, HashSeed, Replies, RunEnd, ShardBook, token_sums_of_books};
 use std::alloc::Global;
 use std::random::RandomSource;
 use tap_views::{Batch, TapFields, Token, encode};
@@ -216,7 +216,7 @@ fn adds_up(alloc: Global, book: &ShardBook) -> Case {
             "other sums of a validator",
         )?;
     }
-    let sums = TokenSums::of(alloc, std::slice::from_ref(book))?;
+    let sums = token_sums_of_books(alloc, std::slice::from_ref(book))?;
     promise(sums.len() == 40, "another number of sums")?;
     for place in 0..sums.len() {
         let sum = sums.get(place);
@@ -228,7 +228,7 @@ fn adds_up(alloc: Global, book: &ShardBook) -> Case {
     Ok(())
 }
 
-/// `by_validator` and `TokenSums::of`. Would catch one that always gives up, or does so for good
+/// `by_validator` and `token_sums_of_books`. Would catch one that always gives up, or does so for good
 /// after a refusal.
 pub(crate) fn sums<R: RandomSource>(rt: &R, alloc: Global) -> Case {
     let book = full_book(rt, alloc)?;

@@ -25,11 +25,11 @@ use Rattle.account_rule.specs.declared.reply.Answer.TheVariants.{Paid, Transfer,
 use Rattle.account_rule.specs.declared.reply.Answer.TheVariants.{Unknown}
 use Rattle.account_rule.specs.declared.reply.Reply.{Reply}
 use Rattle.account_rule.specs.declared.tap.TapIn.{TapIn}
-use Rattle.shard_book.specs.Entry.{is_at, is_of, own, reply_of, tap_of, taps_of}
-use Rattle.shard_book.specs.Sums.{is_capped, is_paid, is_transfer, sums, sums_of_replies}
-use Rattle.shard_book.specs.SumsByKey.{entries_of_validator}
-use Rattle.shard_book.specs.declared.entry.Entry.{Entry}
-use Rattle.shard_book.specs.Plain.{answered}
+use Rattle.histories.specs.Entry.{is_at, is_of, own, reply_of, tap_of, taps_of}
+use Rattle.histories.specs.Sums.{is_capped, is_paid, is_transfer, sums, sums_of_replies}
+use Rattle.histories.specs.SumsByKey.{entries_of_validator}
+use Rattle.histories.specs.declared.entry.Entry.{Entry}
+use Rattle.histories.specs.Plain.{answered}
 use Rattle.tap_parts.specs.Parts.{taps_of_uploads}
 use Rattle.settlement.specs.Settled.{IsSettledHistory}
 use Rattle.settlement.proofs.Histories.{entry_of}

@@ -8,16 +8,17 @@ use Rattle.std.proofs.lemmas.Bool.{cases_Bool}
 use Rattle.tap_views.specs.Shards.{shard_of_token}
 use Rattle.tariffs.specs.Fares.{Fares}
 use Rattle.shard_book.specs.Book.{AreOfShard, Book}
-use Rattle.shard_book.specs.Entry.{is_of, own}
-use Rattle.shard_book.specs.SumsByKey.{all_entries}
-use Rattle.shard_book.specs.History.{IsLegal}
+use Rattle.histories.specs.Entry.{is_of, own}
+use Rattle.shard_book.specs.Book.{all_entries}
+use Rattle.histories.specs.History.{IsLegal}
 use Rattle.tap_views.specs.Token.{bytes_of}
-use Rattle.shard_book.specs.declared.entry.Entry.{Entry}
-use Rattle.shard_book.proofs.OwnEntries.{own_other, own_none, own-append}
+use Rattle.histories.specs.declared.entry.Entry.{Entry}
+use Rattle.histories.proofs.OwnEntries.{own_other, own_none, own-append}
 use Rattle.tap_views.specs.declared.token.Token.{Token}
 use Rattle.tap_views.proofs.TokenLemmas.{same_token}
 use Rattle.ledger_check.specs.Ledger.{IsLedgerOf, IsPostable}
-use Rattle.fare_texts.specs.Ledger.{IsLedgerOfBooks as IsWrittenOf, IsLedgerOver}
+use Rattle.fare_service.specs.Ledger.{IsLedgerOfBooks as IsWrittenOf}
+use Rattle.fare_texts.specs.Ledger.{IsLedgerOver}
 use Rattle.laws.specs.Written.{AreBooksOf, AreLetters, AreShort, CanBePrinted, reported_entries}
 use Rattle.laws.proofs.Owned.{own_is_legal}
 use Rattle.laws.proofs.LedgerTokens.{written_is_read}

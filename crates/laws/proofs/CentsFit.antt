@@ -9,9 +9,9 @@ use Rattle.tap_views.specs.Token.{bytes_of}
 use Rattle.account_rule.specs.TokenRules.{rules_of, token_class}
 use Rattle.account_rule.specs.Taps.{live_at}
 use Rattle.account_rule.proofs.CentsLemmas.{reply_most}
-use Rattle.shard_book.specs.declared.entry.Entry.{Entry}
-use Rattle.shard_book.specs.Entry.{tap_of, taps_of}
-use Rattle.shard_book.specs.Plain.{answered, plain_after, unanswered}
+use Rattle.histories.specs.declared.entry.Entry.{Entry}
+use Rattle.histories.specs.Entry.{tap_of, taps_of}
+use Rattle.histories.specs.Plain.{answered, plain_after, unanswered}
 use Rattle.laws.specs.Sizes.{HaveBoundedTerms}
 use Rattle.laws.specs.Split.{IsSplit, Part}
 use Rattle.laws.proofs.SumsFit.{CostsFew}

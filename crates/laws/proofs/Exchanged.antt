@@ -14,7 +14,7 @@ use Rattle.std.proofs.lemmas.List.Sorted.{IsPermutation-map, IsPermutation-refl,
 use Rattle.std.proofs.lemmas.List.Sorted.{IsPermutation-trans, list_any-IsPermutation}
 use Rattle.std.proofs.lemmas.List.Sorted.{sum_by-IsPermutation}
 use Rattle.std.proofs.lemmas.List.Sums.{sum_by-cons}
-use Rattle.shard_book.specs.Sums.{Sums, add_all, sums, sums_of_replies}
+use Rattle.histories.specs.Sums.{Sums, add_all, sums, sums_of_replies}
 use Rattle.part_reports.specs.Reports.{IsMerged, IsPartReport, Report, report_text}
 use Rattle.part_reports.specs.Reports.{sums_of_validator, tokens_of_reports, validators_of_reports}
 

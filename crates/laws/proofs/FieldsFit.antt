@@ -16,10 +16,10 @@ use Rattle.tariffs.specs.Fares.{Fares}
 use Rattle.tap_views.specs.Token.{Fits}
 use Rattle.tap_views.proofs.Lists.{All-split, All-unmap}
 use Rattle.tap_views.proofs.TokenBytes.{eight_bytes}
-use Rattle.shard_book.specs.declared.entry.Entry.{Entry}
-use Rattle.shard_book.specs.Plain.{token_of_bytes, unanswered}
-use Rattle.fare_service.proofs.PlainFields.{AreBytes, byte_at}
-use Rattle.shard_book.proofs.PlainReplies.{bare}
+use Rattle.histories.specs.declared.entry.Entry.{Entry}
+use Rattle.histories.specs.Plain.{token_of_bytes, unanswered}
+use Rattle.histories.proofs.PlainFields.{AreBytes, byte_at}
+use Rattle.histories.proofs.PlainReplies.{bare}
 use Rattle.tap_parts.specs.Parts.{taps_of_uploads, of_part, part_of_token}
 use Rattle.laws.specs.Split.{IsSplit, Part}
 use Rattle.laws.proofs.Merging.{part_bare_all}

@@ -15,14 +15,14 @@ use Rattle.std.specs.Cmp.{Equal-is}
 use Rattle.tap_views.specs.Token.{token_cmp, token_eq}
 use Rattle.tap_views.specs.declared.token.Token.{Token}
 use Rattle.tap_views.proofs.TokenLemmas.{token_eq-refl, same_token, token_cmp-ties, token_cmp-total}
-use Rattle.shard_book.specs.declared.entry.Entry.{Entry}
-use Rattle.shard_book.specs.Entry.{is_at, is_of, own}
-use Rattle.shard_book.specs.Rising.{rising}
-use Rattle.shard_book.specs.Sums.{Sums, add_all, add_sums, sums}
-use Rattle.shard_book.specs.SumsByKey.{entries_of_validator, sums_by_token, sums_by_validator}
-use Rattle.shard_book.specs.SumsByKey.{token_of, tokens, validator_of, validators}
-use Rattle.shard_book.proofs.SameEntries.{RisingNumbers, RisingTokens}
-use Rattle.shard_book.proofs.SumsLemmas.{add_assoc, none_add}
+use Rattle.histories.specs.declared.entry.Entry.{Entry}
+use Rattle.histories.specs.Entry.{is_at, is_of, own}
+use Rattle.histories.specs.Rising.{rising}
+use Rattle.histories.specs.Sums.{Sums, add_all, add_sums, sums}
+use Rattle.histories.specs.SumsByKey.{entries_of_validator, sums_by_token, sums_by_validator}
+use Rattle.histories.specs.SumsByKey.{token_of, tokens, validator_of, validators}
+use Rattle.histories.proofs.SameEntries.{RisingNumbers, RisingTokens}
+use Rattle.histories.proofs.SumsLemmas.{add_assoc, none_add}
 use Rattle.part_reports.specs.Reports.{added}
 use Rattle.part_reports.proofs.SumsAdded.{same_key}
 use Rattle.laws.proofs.Validators.{SumsAdd}

@@ -20,7 +20,7 @@ use Rattle.account_rule.specs.declared.reason.Reason.TheVariants.{Unknown, Stale
 use Rattle.account_rule.specs.declared.reply.Answer.{Answer}
 use Rattle.account_rule.specs.declared.reply.Answer.TheVariants as answer
 use Rattle.tap_views.specs.Token.{bytes_of}
-use Rattle.shard_book.specs.declared.entry.Entry.{Entry}
+use Rattle.histories.specs.declared.entry.Entry.{Entry}
 use Rattle.tap_views.specs.declared.token.Token.{Token}
 use Rattle.fare_texts.specs.Moments.{IsCivilText, IsMomentText, clock_text, pad3}
 use Rattle.fare_texts.specs.StatementText.{answer_text}

@@ -22,10 +22,10 @@ use Rattle.tap_views.proofs.TokenLemmas.{same_token, token_eq-refl, token_eq-sym
 use Rattle.tap_views.proofs.TokenLemmas.{token_cmp-total, token_cmp-ties, among}
 use Rattle.tap_views.proofs.Lists.{each-append}
 use Rattle.account_rule.specs.declared.reason.Reason.{Reason}
-use Rattle.shard_book.specs.Entry.{is_of, own}
-use Rattle.shard_book.specs.declared.entry.Entry.{Entry}
-use Rattle.shard_book.specs.SumsByKey.{token_of, tokens}
-use Rattle.shard_book.proofs.SameEntries.{RisingTokens}
+use Rattle.histories.specs.Entry.{is_of, own}
+use Rattle.histories.specs.declared.entry.Entry.{Entry}
+use Rattle.histories.specs.SumsByKey.{token_of, tokens}
+use Rattle.histories.proofs.SameEntries.{RisingTokens}
 use Rattle.fare_texts.specs.LedgerLines.{AreLedgerLines, AreLedgerLinesAfter, IsLedgerLine}
 use Rattle.fare_texts.specs.LedgerLines.{entry_fields, head_text, line_head, reason_after}
 use Rattle.fare_texts.specs.Ledger.{AreLinesOfEach, IsLedgerOver}

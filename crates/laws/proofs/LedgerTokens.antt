@@ -7,14 +7,14 @@ use Rattle.std.specs.List.{AllByRecursion}
 use Rattle.std.specs.List.Sorted.{IsStrictlySortedBy}
 use Rattle.std.specs.declared.cmp.Ordering.TheVariants.{Less}
 use Rattle.tariffs.specs.Fares.{Fares}
-use Rattle.shard_book.specs.Entry.{own}
-use Rattle.shard_book.specs.SumsByKey.{token_of, tokens}
-use Rattle.shard_book.specs.History.{IsLegal}
+use Rattle.histories.specs.Entry.{own}
+use Rattle.histories.specs.SumsByKey.{token_of, tokens}
+use Rattle.histories.specs.History.{IsLegal}
 use Rattle.tap_views.specs.Token.{token_cmp}
-use Rattle.shard_book.specs.declared.entry.Entry.{Entry}
+use Rattle.histories.specs.declared.entry.Entry.{Entry}
 use Rattle.tap_views.specs.declared.token.Token.{Token}
-use Rattle.shard_book.proofs.RisingLemmas.{rising-is}
-use Rattle.shard_book.proofs.OwnEntries.{own-append}
+use Rattle.histories.proofs.RisingLemmas.{rising-is}
+use Rattle.histories.proofs.OwnEntries.{own-append}
 use Rattle.tap_views.proofs.TokenLemmas.{token_cmp-total, token_cmp-ties}
 use Rattle.tap_views.proofs.Lists.{each-append, each-weaker}
 use Rattle.fare_texts.specs.LedgerLines.{AreLedgerLinesAfter, IsLedgerLine, head_text, reason_after}

@@ -15,10 +15,10 @@ use Rattle.tap_views.specs.declared.encoder.TapFields.{TapFields}
 use Rattle.tap_views.specs.Token.{bytes_of, token_eq}
 use Rattle.tap_views.proofs.ReadingLemmas.{one_list}
 use Rattle.tariffs.specs.Fares.{Fares}
-use Rattle.shard_book.specs.Entry.{taps_of}
-use Rattle.shard_book.specs.Keys.{same_token}
-use Rattle.shard_book.specs.Plain.{answered, token_of_bytes}
-use Rattle.shard_book.specs.declared.entry.Entry.{Entry}
+use Rattle.histories.specs.Entry.{taps_of}
+use Rattle.histories.specs.Keys.{same_token}
+use Rattle.histories.specs.Plain.{answered, token_of_bytes}
+use Rattle.histories.specs.declared.entry.Entry.{Entry}
 use Rattle.tap_parts.specs.Canonical.{tap_cmp}
 use Rattle.tap_parts.proofs.Total.{tap_cmp_exact, tap_cmp_total}
 use Rattle.settlement.specs.Settled.{IsSettledHistory}

@@ -18,10 +18,10 @@ use Rattle.tap_views.specs.declared.token.Token.{Token}
 use Rattle.tap_views.proofs.TokenLemmas.{same_token, token_eq-refl, token_eq-sym}
 use Rattle.tap_views.proofs.TokenLemmas.{token_cmp-total, token_cmp-ties, less_apart, among}
 use Rattle.tap_views.proofs.Lists.{each-weaker, each-back}
-use Rattle.shard_book.specs.Entry.{own}
-use Rattle.shard_book.specs.SumsByKey.{tokens}
-use Rattle.shard_book.specs.declared.entry.Entry.{Entry}
-use Rattle.shard_book.proofs.SameEntries.{RisingTokens}
+use Rattle.histories.specs.Entry.{own}
+use Rattle.histories.specs.SumsByKey.{tokens}
+use Rattle.histories.specs.declared.entry.Entry.{Entry}
+use Rattle.histories.proofs.SameEntries.{RisingTokens}
 use Rattle.fare_texts.specs.LedgerLines.{AreLedgerLines}
 use Rattle.fare_texts.specs.Ledger.{AreLinesOfEach, IsLedgerOver}
 use Rattle.laws.specs.Written.{AreLetters}

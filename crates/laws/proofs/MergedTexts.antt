@@ -13,10 +13,10 @@ use Rattle.std.proofs.lemmas.List.Elements.{All-from_recursion, All-weaker, recu
 use Rattle.std.proofs.lemmas.Slice.Zip.{AllZip-long}
 use Rattle.tariffs.specs.Fares.{Fares}
 use Rattle.tap_views.specs.declared.token.Token.{Token}
-use Rattle.shard_book.specs.declared.entry.Entry.{Entry}
-use Rattle.shard_book.specs.SumsByKey.{sums_by_token, sums_by_validator}
-use Rattle.shard_book.specs.Sums.{Sums, add_all, sums}
-use Rattle.shard_book.proofs.SameEntries.{RisingNumbers}
+use Rattle.histories.specs.declared.entry.Entry.{Entry}
+use Rattle.histories.specs.SumsByKey.{sums_by_token, sums_by_validator}
+use Rattle.histories.specs.Sums.{Sums, add_all, sums}
+use Rattle.histories.proofs.SameEntries.{RisingNumbers}
 use Rattle.tap_views.specs.UploadEnds.{ArePlainEnds, IsPlainEnd}
 use Rattle.report_texts.specs.OverHistory.{IsReportOver}
 use Rattle.report_texts.specs.Report.{report, upload_lines}

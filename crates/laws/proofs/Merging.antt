@@ -8,12 +8,12 @@ use Rattle.std.proofs.lemmas.List.Sorted.{sum_by-IsPermutation, All-permutation,
 use Rattle.std.proofs.lemmas.Option.{slice_get-get_or}
 use Rattle.tap_views.specs.Layout.{Tap}
 use Rattle.tariffs.specs.Fares.{Fares}
-use Rattle.shard_book.specs.declared.entry.Entry.{Entry}
+use Rattle.histories.specs.declared.entry.Entry.{Entry}
 use Rattle.tap_views.specs.declared.token.Token.{Token}
-use Rattle.shard_book.specs.Entry.{is_of, own}
-use Rattle.shard_book.specs.SumsByKey.{sums_by_validator, sums_by_token}
-use Rattle.shard_book.specs.Keys.{same_token}
-use Rattle.shard_book.specs.Sums.{sums}
+use Rattle.histories.specs.Entry.{is_of, own}
+use Rattle.histories.specs.SumsByKey.{sums_by_validator, sums_by_token}
+use Rattle.histories.specs.Keys.{same_token}
+use Rattle.histories.specs.Sums.{sums}
 use Rattle.tap_views.specs.Token.{bytes_of}
 use Rattle.std.specs.List.{sum_by}
 use Rattle.std.specs.List.Sorted.{IsSorted}
@@ -21,8 +21,8 @@ use Rattle.std.specs.Ordering.{is_lt}
 use Rattle.std.proofs.lemmas.List.Kept.{IsSortedBy-filter}
 use Rattle.tap_views.specs.Encoding.{fields_of}
 use Rattle.tap_views.specs.declared.encoder.TapFields.{TapFields}
-use Rattle.fare_service.specs.Plain.{IsPlain}
-use Rattle.shard_book.specs.Plain.{unanswered, plain}
+use Rattle.histories.specs.Plain.{IsPlain}
+use Rattle.histories.specs.Plain.{unanswered, plain}
 use Rattle.tap_parts.specs.Canonical.{tap_cmp}
 use Rattle.tap_parts.specs.Parts.{taps_of_uploads, part_of_token, of_part}
 use Rattle.settlement.proofs.Histories.{same_after}
@@ -31,11 +31,11 @@ use Rattle.settlement.proofs.Same.{part_fields, sum_filter}
 use Rattle.settlement.proofs.OwnEntries.{fields_named, same_plain}
 use Rattle.tap_parts.proofs.Total.{tap_cmp_total, tap_cmp_exact}
 use Rattle.settlement.proofs.Unique.{same_sorted}
-use Rattle.fare_service.proofs.PlainFields.{plain_fields}
+use Rattle.histories.proofs.PlainFields.{plain_fields}
 use Rattle.fare_service.proofs.PlainLists.{flat_alone, mapped_at}
-use Rattle.shard_book.proofs.PlainReplies.{bare, own_bare, plain_bare}
-use Rattle.shard_book.proofs.SameEntries.{same_sums, same_entries, RisingNumbers, RisingTokens}
-use Rattle.shard_book.proofs.SameEntries.{same_by_validator, same_by_token}
+use Rattle.histories.proofs.PlainReplies.{bare, own_bare, plain_bare}
+use Rattle.histories.proofs.SameEntries.{same_sums, same_entries, RisingNumbers, RisingTokens}
+use Rattle.histories.proofs.SameEntries.{same_by_validator, same_by_token}
 use Rattle.laws.specs.Split.{Part, IsSplit, entries_of_parts}
 
 -- ---- the taps of a token fall to its part

@@ -25,8 +25,8 @@ use Rattle.account_rule.specs.Laws.{is_ride}
 use Rattle.account_rule.specs.Replies.{replies}
 use Rattle.account_rule.specs.TokenRules.{rules_of, token_class, transfers_of}
 use Rattle.account_rule.specs.declared.tap.TapIn.{TapIn}
-use Rattle.shard_book.specs.Entry.{mode_of_place, tap_of, taps_of}
-use Rattle.shard_book.specs.declared.entry.Entry.{Entry}
+use Rattle.histories.specs.Entry.{mode_of_place, tap_of, taps_of}
+use Rattle.histories.specs.declared.entry.Entry.{Entry}
 use Rattle.shard_book.proofs.WindowsLemmas.{replies-own}
 use Rattle.tap_parts.specs.Canonical.{tap_cmp}
 use Rattle.tap_parts.proofs.Total.{tap_cmp_exact, tap_cmp_total}

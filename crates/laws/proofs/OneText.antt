@@ -25,10 +25,10 @@ use Rattle.account_rule.specs.declared.reason.Reason.{Reason}
 use Rattle.account_rule.specs.declared.reason.Reason.TheVariants.{Unknown, Stale, Transfer, Ride}
 use Rattle.account_rule.specs.declared.tap.TapIn.{TapIn}
 use Rattle.account_rule.specs.declared.window.WindowView.{WindowView}
-use Rattle.shard_book.specs.Entry.{own, tap_of}
-use Rattle.shard_book.specs.Sums.{Sums, sums, sums_of}
-use Rattle.shard_book.specs.declared.entry.Entry.{Entry}
-use Rattle.shard_book.specs.declared.statement.Statement.{Statement}
+use Rattle.histories.specs.Entry.{own, tap_of}
+use Rattle.histories.specs.Sums.{Sums, sums, sums_of}
+use Rattle.histories.specs.declared.entry.Entry.{Entry}
+use Rattle.histories.specs.declared.statement.Statement.{Statement}
 use Rattle.fare_texts.specs.Counts.{totals_line}
 use Rattle.fare_texts.specs.Local.{IsClockText, IsLocal, IsLocalBy}
 use Rattle.fare_texts.specs.StatementText.{AreEntryLines, IsEntryLine, IsLineOf, IsStatementText}

@@ -8,11 +8,11 @@ use Rattle.tariffs.specs.Fares.{Fares}
 use Rattle.account_rule.specs.Replies.{reply}
 use Rattle.account_rule.specs.TokenRules.{rules_of}
 use Rattle.account_rule.specs.declared.tap.TapIn.{TapIn}
-use Rattle.shard_book.specs.Entry.{is_of, own, tap_of, taps_of}
-use Rattle.shard_book.specs.Keys.{same_token}
-use Rattle.shard_book.specs.declared.entry.Entry.{Entry}
-use Rattle.shard_book.specs.Plain.{answered, token_of_bytes, with_reply}
-use Rattle.shard_book.proofs.Histories.{taps-push}
+use Rattle.histories.specs.Entry.{is_of, own, tap_of, taps_of}
+use Rattle.histories.specs.Keys.{same_token}
+use Rattle.histories.specs.declared.entry.Entry.{Entry}
+use Rattle.histories.specs.Plain.{answered, token_of_bytes, with_reply}
+use Rattle.histories.proofs.Histories.{taps-push}
 use Rattle.settlement.proofs.Histories.{entry_of}
 use Rattle.laws.specs.TapSets.{is_tap_of}
 use Rattle.laws.proofs.Posts.{after}

@@ -13,13 +13,13 @@ use Rattle.std.proofs.lemmas.Bool.Decides.{nat_tests}
 use Rattle.std.proofs.lemmas.List.{map-append}
 use Rattle.std.proofs.lemmas.List.Elements.{filter-append}
 use Rattle.std.proofs.Math.Bool.{or_assoc}
-use Rattle.shard_book.specs.declared.entry.Entry.{Entry}
-use Rattle.shard_book.specs.SumsByKey.{entries_of_validator, sums_by_validator, validators}
-use Rattle.shard_book.specs.SumsByKey.{validator_of}
-use Rattle.shard_book.specs.Rising.{rising}
-use Rattle.shard_book.specs.Sums.{Sums, add_all, add_sums, sums}
-use Rattle.shard_book.proofs.SameEntries.{RisingNumbers}
-use Rattle.shard_book.proofs.SumsLemmas.{add_assoc, add_none, none_add}
+use Rattle.histories.specs.declared.entry.Entry.{Entry}
+use Rattle.histories.specs.SumsByKey.{entries_of_validator, sums_by_validator, validators}
+use Rattle.histories.specs.SumsByKey.{validator_of}
+use Rattle.histories.specs.Rising.{rising}
+use Rattle.histories.specs.Sums.{Sums, add_all, add_sums, sums}
+use Rattle.histories.proofs.SameEntries.{RisingNumbers}
+use Rattle.histories.proofs.SumsLemmas.{add_assoc, add_none, none_add}
 use Rattle.part_reports.specs.Reports.{sums_of_validator as listed_at}
 use Rattle.laws.specs.Split.{Part, entries_of_parts, sums_at}
 

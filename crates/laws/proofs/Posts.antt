@@ -10,10 +10,10 @@ use Rattle.tap_views.specs.declared.encoder.TapFields.{TapFields}
 use Rattle.account_rule.specs.Replies.{reply}
 use Rattle.account_rule.specs.TokenRules.{rules_of}
 use Rattle.account_rule.specs.declared.tap.TapIn.{TapIn}
-use Rattle.shard_book.specs.Entry.{is_of, tap_of, taps_of}
-use Rattle.shard_book.specs.declared.entry.Entry.{Entry}
-use Rattle.shard_book.specs.Plain.{answered, plain_after, unanswered, with_reply}
-use Rattle.shard_book.proofs.Histories.{taps-push}
+use Rattle.histories.specs.Entry.{is_of, tap_of, taps_of}
+use Rattle.histories.specs.declared.entry.Entry.{Entry}
+use Rattle.histories.specs.Plain.{answered, plain_after, unanswered, with_reply}
+use Rattle.histories.proofs.Histories.{taps-push}
 use Rattle.settlement.proofs.Histories.{entry_of}
 use Rattle.settlement.proofs.Own.{own_entry}
 use Rattle.laws.specs.Bills.{is_live, live_entries}

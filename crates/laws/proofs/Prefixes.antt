@@ -15,10 +15,10 @@ use Rattle.tap_views.specs.declared.encoder.TapFields.{TapFields}
 use Rattle.tariffs.specs.Fares.{Fares}
 use Rattle.tap_views.specs.Token.{token_eq}
 use Rattle.tap_views.specs.declared.token.Token.{Token}
-use Rattle.shard_book.specs.Entry.{is_of, own, taps_of}
-use Rattle.shard_book.specs.Keys.{same_token}
-use Rattle.shard_book.specs.declared.entry.Entry.{Entry}
-use Rattle.shard_book.specs.Plain.{answered, token_of_bytes}
+use Rattle.histories.specs.Entry.{is_of, own, taps_of}
+use Rattle.histories.specs.Keys.{same_token}
+use Rattle.histories.specs.declared.entry.Entry.{Entry}
+use Rattle.histories.specs.Plain.{answered, token_of_bytes}
 use Rattle.tap_views.specs.Files.{HasOneReading}
 use Rattle.fare_service.proofs.OwnVisits.{filter_none}
 use Rattle.tap_parts.specs.Canonical.{tap_cmp}

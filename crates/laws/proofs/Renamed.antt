@@ -32,11 +32,11 @@ use Rattle.account_rule.specs.declared.reason.Reason.{Reason}
 use Rattle.account_rule.specs.declared.reason.Reason.TheVariants.{Stale, Unknown}
 use Rattle.account_rule.specs.declared.tap.TapIn.{TapIn}
 use Rattle.account_rule.specs.declared.reply.Reply.{Reply}
-use Rattle.shard_book.specs.Entry.{is_of, own, tap_of, taps_of}
-use Rattle.shard_book.specs.Keys.{same_token}
-use Rattle.shard_book.specs.Plain.{answered, token_of_bytes}
-use Rattle.shard_book.specs.declared.entry.Entry.{Entry}
-use Rattle.shard_book.proofs.Histories.{taps-push}
+use Rattle.histories.specs.Entry.{is_of, own, tap_of, taps_of}
+use Rattle.histories.specs.Keys.{same_token}
+use Rattle.histories.specs.Plain.{answered, token_of_bytes}
+use Rattle.histories.specs.declared.entry.Entry.{Entry}
+use Rattle.histories.proofs.Histories.{taps-push}
 use Rattle.tap_parts.specs.Canonical.{tap_cmp}
 use Rattle.tap_parts.proofs.Total.{tap_cmp_exact, tap_cmp_total}
 use Rattle.settlement.specs.Settled.{IsSettledHistory}

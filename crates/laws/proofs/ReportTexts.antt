@@ -10,7 +10,7 @@ use Rattle.tap_views.specs.declared.fault.LayoutFault.{LayoutFault}
 use Rattle.tap_views.specs.declared.fault.LayoutFault.TheVariants.{Short, Magic, Flags, TooMany}
 use Rattle.tap_views.specs.declared.fault.LayoutFault.TheVariants.{Length, Moment}
 use Rattle.tap_views.specs.declared.token.Token.{Token}
-use Rattle.shard_book.specs.Sums.{Sums}
+use Rattle.histories.specs.Sums.{Sums}
 use Rattle.fare_texts.specs.Counts.{totals_line}
 use Rattle.tap_views.specs.UploadEnds.{end_by, ArePlainEnds, IsPlainEnd}
 use Rattle.tap_views.specs.Files.{IsEndAfterBatches}

@@ -16,13 +16,13 @@ use Rattle.account_rule.specs.declared.reply.Answer.TheVariants.{Unknown}
 use Rattle.account_rule.specs.declared.reply.Reply.{Reply}
 use Rattle.tap_views.specs.Token.{Fits, token_cmp}
 use Rattle.tap_views.specs.declared.token.Token.{Token}
-use Rattle.shard_book.specs.declared.entry.Entry.{Entry}
-use Rattle.shard_book.specs.Entry.{is_at, is_of, own, reply_of}
-use Rattle.shard_book.specs.SumsByKey.{entries_of_validator, sums_by_token, sums_by_validator}
-use Rattle.shard_book.specs.SumsByKey.{token_of, tokens, validator_of, validators}
-use Rattle.shard_book.specs.Rising.{rising}
-use Rattle.shard_book.specs.Sums.{is_capped, is_paid, is_stale, is_transfer, is_unknown, sums}
-use Rattle.shard_book.specs.Sums.{Sums, sums_of_replies}
+use Rattle.histories.specs.declared.entry.Entry.{Entry}
+use Rattle.histories.specs.Entry.{is_at, is_of, own, reply_of}
+use Rattle.histories.specs.SumsByKey.{entries_of_validator, sums_by_token, sums_by_validator}
+use Rattle.histories.specs.SumsByKey.{token_of, tokens, validator_of, validators}
+use Rattle.histories.specs.Rising.{rising}
+use Rattle.histories.specs.Sums.{is_capped, is_paid, is_stale, is_transfer, is_unknown, sums}
+use Rattle.histories.specs.Sums.{Sums, sums_of_replies}
 use Rattle.report_texts.specs.Numbers.{AreCounts, IsTokenSum, IsValidatorSum}
 use Rattle.laws.proofs.Tokens.{all_rising}
 

@@ -13,14 +13,14 @@ use Rattle.tariffs.specs.Fares.{Fares}
 use Rattle.tap_views.specs.Token.{bytes_of, token_cmp, token_eq}
 use Rattle.tap_views.specs.declared.token.Token.{Token}
 use Rattle.tap_views.proofs.TokenLemmas.{token_eq-refl, among, less_apart}
-use Rattle.shard_book.specs.declared.entry.Entry.{Entry}
-use Rattle.shard_book.specs.Entry.{is_of, own}
-use Rattle.shard_book.specs.SumsByKey.{sums_by_token, token_of, tokens}
-use Rattle.shard_book.specs.Keys.{same_token}
-use Rattle.shard_book.specs.Rising.{rising}
-use Rattle.shard_book.specs.Sums.{Sums, sums}
-use Rattle.shard_book.proofs.SameUnderKeys.{same_elements}
-use Rattle.shard_book.proofs.SameEntries.{RisingTokens}
+use Rattle.histories.specs.declared.entry.Entry.{Entry}
+use Rattle.histories.specs.Entry.{is_of, own}
+use Rattle.histories.specs.SumsByKey.{sums_by_token, token_of, tokens}
+use Rattle.histories.specs.Keys.{same_token}
+use Rattle.histories.specs.Rising.{rising}
+use Rattle.histories.specs.Sums.{Sums, sums}
+use Rattle.histories.proofs.SameUnderKeys.{same_elements}
+use Rattle.histories.proofs.SameEntries.{RisingTokens}
 use Rattle.fare_service.proofs.PlainLists.{flat_alone, mapped_at}
 use Rattle.tap_parts.specs.Parts.{part_of_token}
 use Rattle.laws.specs.Split.{IsSplit, Part, pairs_of_parts}

@@ -15,17 +15,17 @@ use Rattle.std.proofs.lemmas.List.Sorted.{All-permutation}
 use Rattle.std.proofs.lemmas.Map.Views.{All-insert_key}
 use Rattle.tap_views.specs.Layout.{Tap}
 use Rattle.tariffs.specs.Fares.{Fares}
-use Rattle.shard_book.specs.declared.entry.Entry.{Entry}
+use Rattle.histories.specs.declared.entry.Entry.{Entry}
 use Rattle.tap_views.specs.declared.token.Token.{Token}
-use Rattle.shard_book.specs.Entry.{own}
-use Rattle.shard_book.specs.SumsByKey.{tokens, sums_by_token, token_of}
-use Rattle.shard_book.specs.Rising.{rising}
-use Rattle.shard_book.specs.Sums.{Sums, sums}
+use Rattle.histories.specs.Entry.{own}
+use Rattle.histories.specs.SumsByKey.{tokens, sums_by_token, token_of}
+use Rattle.histories.specs.Rising.{rising}
+use Rattle.histories.specs.Sums.{Sums, sums}
 use Rattle.tap_views.specs.Token.{bytes_of, token_cmp}
 use Rattle.tap_views.proofs.TokenLemmas.{among, among-append}
-use Rattle.shard_book.specs.Plain.{unanswered}
-use Rattle.shard_book.proofs.PlainReplies.{bare}
-use Rattle.shard_book.proofs.SameEntries.{RisingTokens, same_entries}
+use Rattle.histories.specs.Plain.{unanswered}
+use Rattle.histories.proofs.PlainReplies.{bare}
+use Rattle.histories.proofs.SameEntries.{RisingTokens, same_entries}
 use Rattle.tap_parts.specs.Parts.{part_of_token, of_part}
 use Rattle.laws.specs.Split.{Part, IsSplit, entries_of_parts, pairs_of_parts}
 use Rattle.laws.proofs.Merging.{IsName, own_all, own_there, names, part_bare_all}

@@ -8,13 +8,13 @@ use Rattle.std.proofs.Common.{refl, sym, ◌∙◌, ap}
 use Rattle.std.proofs.lemmas.List.Elements.{All-head, All-tail, filter-append}
 use Rattle.std.proofs.lemmas.List.Sorted.{IsPermutation-map, list_any-IsPermutation}
 use Rattle.tariffs.specs.Fares.{Fares}
-use Rattle.shard_book.specs.declared.entry.Entry.{Entry}
-use Rattle.shard_book.specs.Entry.{is_at}
-use Rattle.shard_book.specs.SumsByKey.{entries_of_validator, validators, sums_by_validator}
-use Rattle.shard_book.specs.SumsByKey.{validator_of}
-use Rattle.shard_book.specs.Rising.{rising}
-use Rattle.shard_book.specs.Sums.{Sums, sums, add_sums, add_all}
-use Rattle.shard_book.proofs.SameEntries.{RisingNumbers, same_sums, same_at, same_entries}
+use Rattle.histories.specs.declared.entry.Entry.{Entry}
+use Rattle.histories.specs.Entry.{is_at}
+use Rattle.histories.specs.SumsByKey.{entries_of_validator, validators, sums_by_validator}
+use Rattle.histories.specs.SumsByKey.{validator_of}
+use Rattle.histories.specs.Rising.{rising}
+use Rattle.histories.specs.Sums.{Sums, sums, add_sums, add_all}
+use Rattle.histories.proofs.SameEntries.{RisingNumbers, same_sums, same_at, same_entries}
 use Rattle.laws.specs.Split.{Part, IsSplit, entries_of_parts, sums_at}
 use Rattle.laws.proofs.Merging.{own_all}
 

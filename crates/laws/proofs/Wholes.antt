@@ -19,19 +19,19 @@ use Rattle.tap_views.specs.declared.fault.LayoutFault.{LayoutFault}
 use Rattle.tariffs.specs.Fares.{Fares}
 use Rattle.tap_views.specs.Token.{token_cmp}
 use Rattle.tap_views.specs.declared.token.Token.{Token}
-use Rattle.shard_book.specs.declared.entry.Entry.{Entry}
-use Rattle.shard_book.specs.Entry.{own, reply_of}
-use Rattle.shard_book.specs.SumsByKey.{entries_of_validator, sums_by_token, sums_by_validator}
-use Rattle.shard_book.specs.SumsByKey.{token_of, tokens, validator_of, validators}
-use Rattle.shard_book.specs.Rising.{rising}
-use Rattle.shard_book.specs.Sums.{Sums, add_all, sums, sums_of_replies}
+use Rattle.histories.specs.declared.entry.Entry.{Entry}
+use Rattle.histories.specs.Entry.{own, reply_of}
+use Rattle.histories.specs.SumsByKey.{entries_of_validator, sums_by_token, sums_by_validator}
+use Rattle.histories.specs.SumsByKey.{token_of, tokens, validator_of, validators}
+use Rattle.histories.specs.Rising.{rising}
+use Rattle.histories.specs.Sums.{Sums, add_all, sums, sums_of_replies}
 use Rattle.tap_views.specs.UploadEnds.{end_by, is_posted, taps_of_end, ArePlainEnds, IsPlainEnd}
 use Rattle.tap_views.specs.Files.{AreGoodTaps, AreGoodTapsOfEach, HasOneReading, IsEndAfterBatches}
 use Rattle.report_texts.specs.OverHistory.{IsReportOver}
-use Rattle.shard_book.specs.Plain.{unanswered}
+use Rattle.histories.specs.Plain.{unanswered}
 use Rattle.tap_views.specs.declared.upload_end.UploadEnd.{UploadEnd}
-use Rattle.shard_book.proofs.PlainReplies.{bare, plain_bare}
-use Rattle.shard_book.proofs.SameEntries.{RisingNumbers, RisingTokens, same_entries}
+use Rattle.histories.proofs.PlainReplies.{bare, plain_bare}
+use Rattle.histories.proofs.SameEntries.{RisingNumbers, RisingTokens, same_entries}
 use Rattle.tap_parts.specs.Parts.{taps_of_uploads}
 use Rattle.report_texts.specs.Numbers.{IsUploadEnd}
 use Rattle.part_reports.specs.Reports.{IsMerged, IsPartReport, IsWholeReport, Report, end_texts}

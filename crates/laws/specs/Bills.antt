@@ -9,10 +9,10 @@ use Rattle.account_rule.specs.TokenRules.{rules_of}
 use Rattle.account_rule.specs.Windows.{windows}
 use Rattle.account_rule.specs.declared.reply.Answer.{Answer}
 use Rattle.account_rule.specs.declared.tap.TapIn.{TapIn}
-use Rattle.shard_book.specs.Entry.{own, reply_of, taps_of}
-use Rattle.shard_book.specs.Sums.{Sums, is_stale, is_unknown, sums}
-use Rattle.shard_book.specs.SumsByKey.{entries_of_validator}
-use Rattle.shard_book.specs.declared.entry.Entry.{Entry}
+use Rattle.histories.specs.Entry.{own, reply_of, taps_of}
+use Rattle.histories.specs.Sums.{Sums, is_stale, is_unknown, sums}
+use Rattle.histories.specs.SumsByKey.{entries_of_validator}
+use Rattle.histories.specs.declared.entry.Entry.{Entry}
 
 -- whether the answer is to a live tap: a ride or a transfer
 abbrev pub is_live_answer : Answer → Bool

@@ -7,10 +7,10 @@ use Rattle.std.specs.Set.{is_member}
 use Rattle.tap_views.specs.Encoding.{fields_of}
 use Rattle.tap_views.specs.Layout.{Tap}
 use Rattle.tariffs.specs.Fares.{Fares}
-use Rattle.shard_book.specs.declared.entry.Entry.{Entry}
+use Rattle.histories.specs.declared.entry.Entry.{Entry}
 use Rattle.tap_views.specs.declared.token.Token.{Token}
-use Rattle.shard_book.specs.SumsByKey.{entries_of_validator, sums_by_token, validator_of}
-use Rattle.shard_book.specs.Sums.{Sums, add_all, sums}
+use Rattle.histories.specs.SumsByKey.{entries_of_validator, sums_by_token, validator_of}
+use Rattle.histories.specs.Sums.{Sums, add_all, sums}
 use Rattle.tap_views.specs.Token.{token_cmp}
 use Rattle.tap_parts.specs.Parts.{of_part}
 use Rattle.settlement.specs.Settled.{IsSettledHistory}

@@ -9,7 +9,7 @@ use Rattle.tap_views.specs.Layout.{Tap}
 use Rattle.tap_views.specs.declared.encoder.TapFields.{TapFields}
 use Rattle.tap_views.specs.Token.{bytes_of, token_eq}
 use Rattle.tap_views.specs.declared.token.Token.{Token}
-use Rattle.shard_book.specs.Plain.{token_of_bytes}
+use Rattle.histories.specs.Plain.{token_of_bytes}
 use Rattle.tap_parts.specs.Parts.{taps_of_uploads}
 
 -- the token, the validator and the moment of each tap, upload after upload

@@ -4,9 +4,9 @@ use Rattle.std.specs.Char.{is_ascii_lowercase}
 use Rattle.std.specs.List.{AllByRecursion, list_all}
 use Rattle.tariffs.specs.Fares.{Fares}
 use Rattle.shard_book.specs.Book.{AreOfShard, Book, EachBook}
-use Rattle.shard_book.specs.Entry.{own}
-use Rattle.shard_book.specs.History.{IsLegal}
-use Rattle.shard_book.specs.declared.entry.Entry.{Entry}
+use Rattle.histories.specs.Entry.{own}
+use Rattle.histories.specs.History.{IsLegal}
+use Rattle.histories.specs.declared.entry.Entry.{Entry}
 use Rattle.tap_views.specs.declared.token.Token.{Token}
 use Rattle.ledger_check.specs.Ledger.{IsPostable}
 use Rattle.ledger_check.specs.Lines.{lines_of}

@@ -3,7 +3,7 @@
 ghost use Rattle.std.specs.Prelude.{◌≡◌, ◌≤◌, ◌++◌, ℕ, List, map};
 ghost use Rattle.tariffs.specs.Fares.{Fares};
 ghost use Rattle.tap_views.specs.declared.token.Token.{Token};
-ghost use Rattle.shard_book.specs.declared.entry.Entry.{Entry};
+ghost use Rattle.histories.specs.declared.entry.Entry.{Entry};
 ghost use Rattle.settlement.specs.Settled.{IsSettledHistory};
 ghost use Rattle.laws.specs.Bills.{BillAlike, ChargedAlike, HaveSameTerms, bill_before};
 ghost use Rattle.laws.specs.Bills.{GivesOneAtMost, lines_before, rides_of};

@@ -3,16 +3,17 @@
 ghost use Rattle.std.specs.Prelude.{◌^◌, ◌≤◌, ℕ, List, Option, length, IsTrue};
 ghost use Rattle.std.specs.List.{AllByRecursion};
 ghost use Rattle.tariffs.specs.Fares.{Fares};
-ghost use Rattle.shard_book.specs.declared.entry.Entry.{Entry};
+ghost use Rattle.histories.specs.declared.entry.Entry.{Entry};
 ghost use Rattle.tap_views.specs.declared.token.Token.{Token};
 ghost use Rattle.shard_book.specs.Book.{Book};
-ghost use Rattle.shard_book.specs.Entry.{own};
-ghost use Rattle.shard_book.specs.SumsByKey.{all_entries};
-ghost use Rattle.shard_book.specs.History.{IsLegal};
+ghost use Rattle.histories.specs.Entry.{own};
+ghost use Rattle.shard_book.specs.Book.{all_entries};
+ghost use Rattle.histories.specs.History.{IsLegal};
 ghost use Rattle.ledger_check.specs.Ledger.{IsLedgerOf, IsPostable};
 ghost use Rattle.ledger_check.specs.Verdicts.{IsVerdict, is_legal};
 ghost use Rattle.ledger_check.specs.declared.checker.Verdict.{Verdict};
-ghost use Rattle.fare_texts.specs.Ledger.{IsLedgerOfBooks as IsWrittenOf, IsLedgerOver};
+ghost use Rattle.fare_service.specs.Ledger.{IsLedgerOfBooks as IsWrittenOf};
+ghost use Rattle.fare_texts.specs.Ledger.{IsLedgerOver};
 ghost use Rattle.laws.specs.Written.{AreBooksOf, AreLetters, AreShort, CanBePrinted};
 ghost use Rattle.laws.specs.Written.{reported_entries};
 

@@ -11,10 +11,10 @@ use Rattle.account_rule.specs.Stands.{Stands}
 use Rattle.account_rule.specs.declared.reason.Reason.{Reason}
 use Rattle.account_rule.specs.declared.tap.TapIn.{TapIn}
 use Rattle.account_rule.proofs.ReasonLemmas.{reply-follows}
-use Rattle.shard_book.specs.Entry.{own, reply_of, tap_of, taps_of}
-use Rattle.shard_book.specs.History.{IsReplied}
+use Rattle.histories.specs.Entry.{own, reply_of, tap_of, taps_of}
+use Rattle.histories.specs.History.{IsReplied}
 use Rattle.tap_views.specs.Token.{Fits, bytes_of}
-use Rattle.shard_book.specs.declared.entry.Entry.{Entry}
+use Rattle.histories.specs.declared.entry.Entry.{Entry}
 use Rattle.tap_views.specs.declared.token.Token.{Token}
 use Rattle.fare_texts.specs.LedgerLines.{IsLedgerLine, IsLedgerLineAfter, reason_after}
 use Rattle.fare_texts.specs.Explainers.{HasExplained}

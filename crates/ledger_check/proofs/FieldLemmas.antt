@@ -17,7 +17,7 @@ use Rattle.tap_views.specs.declared.token.Token.{Token}
 use Rattle.tariffs.specs.Fares.{Fares}
 use Rattle.account_rule.specs.declared.reason.Reason.{Reason}
 use Rattle.fare_texts.specs.StatementText.{answer_text}
-use Rattle.shard_book.specs.declared.entry.Entry.{Entry}
+use Rattle.histories.specs.declared.entry.Entry.{Entry}
 use Rattle.fare_texts.specs.LedgerLines.{IsLedgerLine, entry_fields, line_head, mode_field}
 use Rattle.fare_texts.proofs.Years.{year_of}
 use Rattle.ledger_check.specs.Lines.{Lacks}

@@ -7,10 +7,10 @@ use Rattle.std.proofs.lemmas.Bool.{cases_lt}
 use Rattle.std.proofs.lemmas.Bool.Decides.{nat_tests}
 use Rattle.std.proofs.lemmas.List.Elements.{All-filter, All-push}
 use Rattle.tariffs.specs.Fares.{Fares}
-use Rattle.shard_book.specs.Entry.{is_of, own, reply_of, tap_of, taps_of}
-use Rattle.shard_book.specs.History.{IsReplied}
-use Rattle.shard_book.specs.declared.entry.Entry.{Entry}
-use Rattle.shard_book.proofs.OwnEntries.{own_all}
+use Rattle.histories.specs.Entry.{is_of, own, reply_of, tap_of, taps_of}
+use Rattle.histories.specs.History.{IsReplied}
+use Rattle.histories.specs.declared.entry.Entry.{Entry}
+use Rattle.histories.proofs.OwnEntries.{own_all}
 use Rattle.tap_views.proofs.TokenLemmas.{same_token}
 use Rattle.tap_views.specs.Token.{Fits}
 use Rattle.tap_views.specs.declared.token.Token.{Token}

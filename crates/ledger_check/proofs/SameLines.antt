@@ -14,10 +14,10 @@ use Rattle.account_rule.specs.declared.reason.Reason.TheVariants.{Unknown, Stale
 use Rattle.account_rule.specs.declared.reply.Answer.{Answer}
 use Rattle.account_rule.specs.declared.reply.Reply.{Reply}
 use Rattle.account_rule.specs.declared.tap.TapIn.{TapIn}
-use Rattle.shard_book.specs.Entry.{own, reply_of, tap_of, taps_of}
-use Rattle.shard_book.specs.History.{IsReplied}
+use Rattle.histories.specs.Entry.{own, reply_of, tap_of, taps_of}
+use Rattle.histories.specs.History.{IsReplied}
 use Rattle.tap_views.specs.Token.{bytes_of}
-use Rattle.shard_book.specs.declared.entry.Entry.{Entry}
+use Rattle.histories.specs.declared.entry.Entry.{Entry}
 use Rattle.tap_views.specs.declared.token.Token.{Token}
 use Rattle.fare_texts.specs.Moments.{IsCivilText, IsMomentText, clock_text}
 use Rattle.fare_texts.specs.LedgerLines.{IsReasonFields, IsLedgerLine, IsPointing, IsRideFields}

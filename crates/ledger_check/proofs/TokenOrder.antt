@@ -4,9 +4,9 @@ use Rattle.std.proofs.Common.{length, filter, All, Less, Greater, refl, ap, â—Œâ
 use Rattle.std.proofs.lemmas.Bool.{cases_Bool}
 use Rattle.std.proofs.lemmas.Bool.Decides.{nat_tests}
 use Rattle.std.proofs.lemmas.List.Elements.{filter-append, All-tail}
-use Rattle.shard_book.specs.Entry.{is_of, own}
+use Rattle.histories.specs.Entry.{is_of, own}
 use Rattle.tap_views.specs.Token.{Fits, token_cmp, token_eq}
-use Rattle.shard_book.specs.declared.entry.Entry.{Entry}
+use Rattle.histories.specs.declared.entry.Entry.{Entry}
 use Rattle.tap_views.specs.declared.token.Token.{Token}
 use Rattle.tap_views.proofs.TokenLemmas.{same_token, token_eq-refl}
 use Rattle.ledger_check.specs.Ledger.{token_number}

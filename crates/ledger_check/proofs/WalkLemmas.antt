@@ -6,9 +6,9 @@ use Rattle.std.proofs.lemmas.Bool.{lt-ltb}
 use Rattle.std.proofs.lemmas.Bool.Decides.{nat_tests}
 use Rattle.std.proofs.lemmas.List.Elements.{All-push, All-tail}
 use Rattle.tariffs.specs.Fares.{Fares}
-use Rattle.shard_book.specs.Entry.{is_of, own}
-use Rattle.shard_book.specs.declared.entry.Entry.{Entry}
-use Rattle.shard_book.proofs.OwnEntries.{own_all}
+use Rattle.histories.specs.Entry.{is_of, own}
+use Rattle.histories.specs.declared.entry.Entry.{Entry}
+use Rattle.histories.proofs.OwnEntries.{own_all}
 use Rattle.tap_views.proofs.TokenLemmas.{same_token}
 use Rattle.tap_views.specs.Token.{Fits, token_eq}
 use Rattle.tap_views.specs.declared.token.Token.{Token}

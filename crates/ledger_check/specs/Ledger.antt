@@ -1,10 +1,10 @@
 -- What a whole ledger is.
 use Rattle.std.specs.Prelude.{◌≡◌, ℕ, ◌+◌, ◌*◌, ◌^◌, ◌<◌, ◌≤◌, List, [], ◌∷◌, ◌++◌, length, All}
 use Rattle.tariffs.specs.Fares.{Fares}
-use Rattle.shard_book.specs.Entry.{own}
-use Rattle.shard_book.specs.History.{IsReplied}
+use Rattle.histories.specs.Entry.{own}
+use Rattle.histories.specs.History.{IsReplied}
 use Rattle.tap_views.specs.Token.{Fits}
-use Rattle.shard_book.specs.declared.entry.Entry.{Entry}
+use Rattle.histories.specs.declared.entry.Entry.{Entry}
 use Rattle.tap_views.specs.declared.token.Token.{Token}
 use Rattle.fare_texts.specs.LedgerLines.{IsLedgerLineAfter, head_text}
 use Rattle.ledger_check.specs.Lines.{lines_of}

@@ -5,7 +5,7 @@ use Rattle.ledger_check.specs.declared.balance.Balance.{Balance}
 use Rattle.tap_views.specs.declared.encoder.TapFields.{TapFields}
 use Rattle.tariffs.specs.Fares.{Fares}
 use Rattle.tap_views.specs.Token.{bytes_of}
-use Rattle.shard_book.specs.declared.entry.Entry.{Entry}
+use Rattle.histories.specs.declared.entry.Entry.{Entry}
 use Rattle.ledger_check.specs.Ledger.{AreNext}
 use Rattle.ledger_check.specs.Verdicts.{HasFed, is_legal}
 use Rattle.ledger_check.specs.declared.checker.Checker.{Checker}

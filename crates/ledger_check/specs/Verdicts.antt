@@ -2,7 +2,7 @@
 use Rattle.std.specs.Prelude.{◌≡◌, ◌↔◌, ℕ, ◌+◌, ◌≤◌, Bool, true, false, List, [], ◌∷◌, ◌++◌, length}
 use Rattle.std.specs.Prelude.{Option, Some, None, IsTrue, string_bytes, ◌⊎◌}
 use Rattle.tariffs.specs.Fares.{Fares}
-use Rattle.shard_book.specs.declared.entry.Entry.{Entry}
+use Rattle.histories.specs.declared.entry.Entry.{Entry}
 use Rattle.fare_texts.specs.LedgerLines.{head_text}
 use Rattle.ledger_check.specs.Ledger.{AreNext, IsLedger}
 use Rattle.ledger_check.specs.Lines.{Lacks, lines_of}

@@ -3,7 +3,7 @@
 ghost use Rattle.std.specs.Prelude.{◌≡◌, ◌++◌, ◌∷◌, [], ℕ, List, IfOk, IsTrue};
 ghost use Rattle.std.specs.Prelude.{map};
 ghost use Rattle.tariffs.specs.Fares.{Fares};
-ghost use Rattle.shard_book.specs.declared.entry.Entry.{Entry};
+ghost use Rattle.histories.specs.declared.entry.Entry.{Entry};
 ghost use Rattle.ledger_check.specs.Balances.{IsBalance};
 ghost use Rattle.ledger_check.specs.declared.balance.Balance.{Balance};
 ghost use Rattle.tap_views.specs.declared.encoder.TapFields.{TapFields};

@@ -5,7 +5,7 @@ ghost use Rattle.std.specs.Prelude.{◌++◌, [], ℕ, List, All, IfNone};
 ghost use Rattle.std.specs.Prelude.{IfOk, IfSome, IsTrue, ◌↔◌, string_bytes};
 ghost use Rattle.tariffs.specs.Fares.{Fares};
 ghost use Rattle.tap_views.specs.Token.{Fits};
-ghost use Rattle.shard_book.specs.declared.entry.Entry.{Entry};
+ghost use Rattle.histories.specs.declared.entry.Entry.{Entry};
 ghost use Rattle.ledger_check.specs.Ledger.{token_number};
 ghost use Rattle.ledger_check.specs.Replays.{HasRead, HasExplainer, StandsForOwn};
 ghost use Rattle.ledger_check.specs.inside.Replays.{IsStep};

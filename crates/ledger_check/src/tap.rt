@@ -7,7 +7,7 @@ ghost use Rattle.hex.specs.Hex.{encode_lower};
 ghost use Rattle.account_rule.specs.declared.reason.Reason.{Reason};
 ghost use Rattle.tariffs.specs.Fares.{Fares};
 ghost use Rattle.tap_views.specs.Token.{Fits, bytes_of};
-ghost use Rattle.shard_book.specs.declared.entry.Entry.{Entry};
+ghost use Rattle.histories.specs.declared.entry.Entry.{Entry};
 ghost use Rattle.tap_views.specs.declared.token.Token.{Token};
 ghost use Rattle.fare_texts.specs.LedgerLines.{IsLedgerLine};
 ghost use Rattle.ledger_check.specs.Ledger.{IsPostable};

@@ -1,13 +1,13 @@
 //! The line that the next tap of a token should have.
 
 ghost use Rattle.std.specs.Prelude.{◌≡◌, ◌+◌, ◌<◌, ◌^◌, List, OnOk, string_bytes};
-ghost use Rattle.shard_book.specs.declared.entry.Entry.{Entry};
+ghost use Rattle.histories.specs.declared.entry.Entry.{Entry};
 ghost use Rattle.ledger_check.specs.Replays.{StandsForOwn};
 ghost use Rattle.ledger_check.specs.inside.Replays.{GoesOn};
 
 use account_rule::Answer;
 use fare_texts::{Explainer, write_line};
-use shard_book::Entry;
+use histories::Entry;
 use tap_views::NoMemory;
 use tariffs::{Clock, FareTable};
 

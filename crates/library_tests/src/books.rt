@@ -3,7 +3,7 @@
 use crate::sample::{BUS, SAMPLE, START, SUBWAY, rides, tap, token};
 use account_rule::{Answer, Reply};
 use fare_table::{FareTable, ReadFareTable};
-use shard_book::*;
+use shard_book::{Entry, HashSeed, ShardBook, Totals, first_difference, token_sums_of_books};
 use std::alloc::Global;
 use std::hash::BuildHasher;
 use std::random::RandomSource;
@@ -86,7 +86,7 @@ fn differences_from_a_list(rt: HostRuntime) -> Result<(), Fail> {
 /// The tokens of a book, with what each comes to.
 fn by_token(alloc: Global, book: &ShardBook) -> Result<Vec<(Token, [u128; 7])>, Fail> {
     let mut list = Vec::new(alloc);
-    let sums = TokenSums::of(alloc, std::slice::from_ref(book))?;
+    let sums = token_sums_of_books(alloc, std::slice::from_ref(book))?;
     for place in 0..sums.len() {
         let sum = sums.get(place);
         list.push((sum.token, shown(&sum.totals)))?;
@@ -135,7 +135,7 @@ fn sharing_books<R: RandomSource>(alloc: Global, rt: &R) -> Result<[ShardBook; 2
 fn sums_of_a_shared_token(rt: HostRuntime) -> Result<(), Fail> {
     let alloc = rt.alloc();
     let books = sharing_books(alloc, &rt)?;
-    let sums = TokenSums::of(alloc, &books)?;
+    let sums = token_sums_of_books(alloc, &books)?;
     assert_eq!(rt; sums.len(), 1);
     let sum = sums.get(0);
     let wanted = (token(0xa1), [5, 2, 2, 0, 0, 1, 600]);

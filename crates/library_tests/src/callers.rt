@@ -1,8 +1,9 @@
 //! How a caller of `run` uses the laws.
 
 ghost use Rattle.std.specs.Prelude.{◌≡◌, All, IfOk, List, Some, map};
-ghost use Rattle.shard_book.specs.declared.entry.Entry.{Entry};
-ghost use Rattle.fare_service.specs.Plain.{AreApart, IsPlain, WasNotCut};
+ghost use Rattle.histories.specs.declared.entry.Entry.{Entry};
+ghost use Rattle.fare_service.specs.Plain.{AreApart, WasNotCut};
+ghost use Rattle.histories.specs.Plain.{IsPlain};
 ghost use Rattle.report_texts.specs.OverHistory.{IsReportOver};
 ghost use Rattle.fare_service.specs.Printed.{report_of};
 ghost use Rattle.fare_service.specs.Shares.{IsShareOf};

@@ -3,7 +3,7 @@ use Rattle.std.specs.Prelude.{◌≡◌, ◌↔◌, ℕ, Bool, true, false, List
 use Rattle.std.specs.Prelude.{Some, ◌&&◌, nat_eq}
 use Rattle.std.specs.List.Sorted.{IsPermutation}
 use Rattle.tariffs.specs.Fares.{Fares}
-use Rattle.shard_book.specs.declared.entry.Entry.{Entry}
+use Rattle.histories.specs.declared.entry.Entry.{Entry}
 use Rattle.ledger_check.specs.Ledger.{IsLedgerOf}
 use Rattle.ledger_check.specs.Recounts.{IsRecount, TakenLine, recount_text, taps_from, wrong_count}
 use Rattle.ledger_check.specs.Struck.{tap_of_entry}

@@ -12,7 +12,7 @@ use Rattle.report_check.specs.Reports.{IsReportOfLedger, IsReportVerdict, is_of_
 use Rattle.report_check.specs.declared.verdict.ReportVerdict.{ReportVerdict}
 use Rattle.report_check.specs.declared.verdict.ReportVerdict.TheVariants.{OfLedger, Wants, NoLine}
 use Rattle.report_check.specs.declared.verdict.ReportVerdict.TheVariants.{Taps}
-use Rattle.shard_book.specs.declared.entry.Entry.{Entry}
+use Rattle.histories.specs.declared.entry.Entry.{Entry}
 use Rattle.tap_views.specs.declared.encoder.TapFields.{TapFields}
 
 -- `report of the ledger`, `wrong report line 4: wants LINE`, `wrong report line 4: no report has

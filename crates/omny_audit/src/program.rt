@@ -43,12 +43,12 @@ use crate::traced::TracedPieces;
 use clap::Error;
 use clap::error::ErrorKind;
 use class_names::{ClassFault, ClassNames, WrongNames};
+use histories::HashSeed;
 use ledger_check::{Balance, Places, has_traced_head};
 use program_manners::{
     Complaints, NamedClassLine, Output, TableWord, TableWords, Tables, WrongWord, load_tables,
     show_answer,
 };
-use shard_book::HashSeed;
 use std::alloc::Global;
 use std::io::Write;
 use std::random::RandomSource;

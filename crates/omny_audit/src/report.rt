@@ -11,8 +11,8 @@ ghost use Rattle.report_check.specs.LedgerSums.{HasSummed};
 ghost use Rattle.report_check.specs.Reports.{is_of_ledger};
 
 use fare_table::FareTable;
+use histories::HashSeed;
 use report_check::{LedgerSums, ReportVerdict, check_report};
-use shard_book::HashSeed;
 use std::alloc::{AllocError, Global};
 use tap_views::NoMemory;
 

@@ -4,7 +4,7 @@ use Rattle.std.specs.Prelude.{All, flat_map, length, map}
 use Rattle.std.specs.List.Sorted.{IsStrictlySortedBy}
 use Rattle.std.specs.Map.{keys_of}
 use Rattle.std.proofs.lemmas.List.Elements.{All-head, All-tail}
-use Rattle.shard_book.specs.Sums.{Sums, add_sums, sums}
+use Rattle.histories.specs.Sums.{Sums, add_sums, sums}
 use Rattle.tap_views.specs.Token.{token_cmp}
 use Rattle.fare_texts.specs.ReportLines.{token_line}
 use Rattle.report_texts.specs.Numbers.{IsTokenSum}

@@ -3,9 +3,9 @@ use Rattle.std.proofs.Common.{◌≡◌, ◌∙◌, ℕ, ◌+◌, ◌<◌, ◌�
 use Rattle.std.proofs.Common.{length, drop, get_or, refl, sym, ap, arith}
 use Rattle.std.proofs.Math.Seq.{drop-cons}
 use Rattle.std.specs.Prelude.{◌↔◌, map}
-use Rattle.shard_book.specs.Shown.{validator_sum}
-use Rattle.shard_book.specs.Sums.{Sums, add_sums, sums, sums_of}
-use Rattle.shard_book.specs.declared.sums.ValidatorSum.{ValidatorSum}
+use Rattle.histories.specs.Shown.{validator_sum}
+use Rattle.histories.specs.Sums.{Sums, add_sums, sums, sums_of}
+use Rattle.histories.specs.declared.sums.ValidatorSum.{ValidatorSum}
 use Rattle.part_reports.specs.Reports.{added}
 use Rattle.part_reports.specs.declared.sums_left.SumsLeft.{SumsLeft}
 use Rattle.part_reports.specs.inside.SumsLeft.{left_of, sums_left}

@@ -6,7 +6,7 @@ use Rattle.std.specs.List.{AllZip}
 use Rattle.std.specs.Slice.{IsItemAt}
 use Rattle.std.proofs.lemmas.Option.{slice_get-get_or}
 use Rattle.fare_texts.specs.LedgerLines.{head_text}
-use Rattle.shard_book.specs.Sums.{Sums}
+use Rattle.histories.specs.Sums.{Sums}
 use Rattle.tap_views.specs.declared.token.Token.{Token}
 use Rattle.part_reports.specs.Charges.{LineCharge}
 use Rattle.part_reports.specs.Faults.{IsOfTexts, NamesAmong, number_from, text_named}

@@ -14,7 +14,7 @@ use Rattle.tap_views.specs.Token.{token_cmp, token_eq}
 use Rattle.tap_views.specs.declared.token.Token.{Token}
 use Rattle.tap_views.proofs.TokenLemmas.{token_eq-refl}
 use Rattle.tap_views.proofs.Lists.{All-front, All-back}
-use Rattle.shard_book.specs.Sums.{Sums, add_all}
+use Rattle.histories.specs.Sums.{Sums, add_all}
 use Rattle.fare_texts.specs.ReportLines.{token_line}
 use Rattle.report_texts.specs.Numbers.{IsUploadEnd}
 use Rattle.part_reports.specs.Reports.{IsMerged, IsPartReport, Report, end_texts, all_ends}

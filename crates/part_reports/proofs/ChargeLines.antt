@@ -9,7 +9,7 @@ use Rattle.ledger_fields.specs.Rows.{Row}
 use Rattle.ledger_fields.proofs.OneRow.{one_row}
 use Rattle.part_reports.specs.Charges.{IsChargeOf, LineCharge}
 use Rattle.part_reports.specs.TokenLines.{TokenLine}
-use Rattle.shard_book.specs.Sums.{sums_of_replies}
+use Rattle.histories.specs.Sums.{sums_of_replies}
 
 -- the first byte of an answer's word
 first : List ℕ → ℕ

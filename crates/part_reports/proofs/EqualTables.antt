@@ -11,8 +11,8 @@ use Rattle.std.specs.List.Sorted.{IsStrictlySortedBy}
 use Rattle.std.specs.Map.{keys_of, lookup}
 use Rattle.std.specs.Option.{option_map}
 use Rattle.std.specs.Ordering.{nat_cmp}
-use Rattle.shard_book.specs.Sums.{Sums, sums_of}
-use Rattle.shard_book.specs.declared.sums.totals.Totals.{Totals}
+use Rattle.histories.specs.Sums.{Sums, sums_of}
+use Rattle.histories.specs.declared.sums.totals.Totals.{Totals}
 use Rattle.tap_views.proofs.Orderings.{less}
 use Rattle.tap_views.proofs.Lists.{each-weaker}
 use Rattle.part_reports.proofs.FewParts.{same_test}

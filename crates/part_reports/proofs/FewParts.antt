@@ -13,7 +13,7 @@ use Rattle.std.proofs.lemmas.Bool.Decides.{nat_tests}
 use Rattle.std.proofs.lemmas.List.Elements.{All-head, All-map, All-push, All-tail}
 use Rattle.std.proofs.lemmas.List.Elements.{recursion_from_All}
 use Rattle.std.proofs.lemmas.List.Sums.{sum_by-append}
-use Rattle.shard_book.specs.Sums.{Sums, add_all, sums}
+use Rattle.histories.specs.Sums.{Sums, add_all, sums}
 use Rattle.fare_texts.specs.ReportLines.{token_line}
 use Rattle.report_texts.specs.Numbers.{IsValidatorSum}
 use Rattle.part_reports.specs.Reports.{IsNoReport, IsPartReport, Report, report_text}

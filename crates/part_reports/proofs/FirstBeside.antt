@@ -11,7 +11,7 @@ use Rattle.std.proofs.lemmas.Option.{MatchOption-at_some}
 use Rattle.fare_texts.specs.LedgerLines.{head_text}
 use Rattle.fare_texts.specs.ReportLines.{token_line}
 use Rattle.report_texts.specs.Numbers.{IsTokenSum}
-use Rattle.shard_book.specs.Sums.{Sums, sums}
+use Rattle.histories.specs.Sums.{Sums, sums}
 use Rattle.tap_views.specs.declared.token.Token.{Token}
 use Rattle.part_reports.specs.Charges.{IsChargeOf, LineCharge}
 use Rattle.part_reports.specs.Faults.{IsOfTaps, number_from}

@@ -7,8 +7,8 @@ use Rattle.std.specs.Fmt.{decimal}
 use Rattle.std.specs.Map.Iter.{deref_pair}
 use Rattle.std.proofs.lemmas.List.Concat.{flat_map-append}
 use Rattle.fare_texts.specs.Counts.{counts_text, totals_line}
-use Rattle.shard_book.specs.Sums.{Sums, sums_of}
-use Rattle.shard_book.specs.declared.sums.totals.Totals.{Totals}
+use Rattle.histories.specs.Sums.{Sums, sums_of}
+use Rattle.histories.specs.declared.sums.totals.Totals.{Totals}
 use Rattle.fare_texts.specs.ReportLines.{number_line, validator_line}
 use Rattle.part_reports.specs.inside.Fronts.{front_text}
 use Rattle.part_reports.specs.declared.sums.WholeSums.{WholeSums}

@@ -14,10 +14,10 @@ use Rattle.report_texts.specs.Numbers.{AreCounts, IsUploadEnd, IsValidatorSum}
 use Rattle.report_texts.specs.Report.{upload_line}
 use Rattle.tap_views.specs.UploadEnds.{is_posted}
 use Rattle.tap_views.specs.declared.upload_end.UploadEnd.{UploadEnd}
-use Rattle.shard_book.specs.Shown.{validator_sum}
-use Rattle.shard_book.specs.Sums.{Sums, sums_of}
-use Rattle.shard_book.specs.declared.sums.ValidatorSum.{ValidatorSum}
-use Rattle.shard_book.specs.declared.sums.totals.Totals.{Totals}
+use Rattle.histories.specs.Shown.{validator_sum}
+use Rattle.histories.specs.Sums.{Sums, sums_of}
+use Rattle.histories.specs.declared.sums.ValidatorSum.{ValidatorSum}
+use Rattle.histories.specs.declared.sums.totals.Totals.{Totals}
 use Rattle.part_reports.specs.FirstWrongLines.{IsNext, OfNothing, OfTokens, OfTotals}
 use Rattle.part_reports.specs.FirstWrongLines.{OfUploads, OfValidators}
 use Rattle.part_reports.specs.Reports.{added}

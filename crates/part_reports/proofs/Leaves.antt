@@ -4,8 +4,8 @@ use Rattle.std.proofs.Common.{subst}
 use Rattle.std.proofs.Common.{map, sym}
 use Rattle.std.proofs.lemmas.List.{length_push}
 use Rattle.std.proofs.lemmas.List.Elements.{All-cons, All-nil, All-push}
-use Rattle.shard_book.specs.Sums.{Sums, add_all, add_sums, sums}
-use Rattle.shard_book.proofs.SumsLemmas.{add_assoc, add_none, none_add}
+use Rattle.histories.specs.Sums.{Sums, add_all, add_sums, sums}
+use Rattle.histories.proofs.SumsLemmas.{add_assoc, add_none, none_add}
 use Rattle.tap_views.specs.declared.token.Token.{Token}
 use Rattle.part_reports.specs.Charges.{LineCharge}
 use Rattle.part_reports.specs.FirstWrongBeside.{LeaveOfTokens, last_token}

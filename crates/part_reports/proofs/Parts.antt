@@ -8,7 +8,7 @@ use Rattle.std.proofs.lemmas.List.Concat.{flat_map-append}
 use Rattle.tap_views.specs.declared.token.Token.{Token}
 use Rattle.tap_views.proofs.Lists.{each-weaker, each-back}
 use Rattle.part_reports.specs.TokenLines.{TokenLine, text_of}
-use Rattle.shard_book.specs.Sums.{sums}
+use Rattle.histories.specs.Sums.{sums}
 use Rattle.part_reports.specs.inside.Going.{IsBehindSo, IsGoing, Part, Rise}
 use Rattle.part_reports.specs.inside.Kinds.{AreLines, HasTokenSums, IsTextOf}
 use Rattle.part_reports.specs.inside.SumsLeft.{sums_left}

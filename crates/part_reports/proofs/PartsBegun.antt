@@ -13,8 +13,8 @@ use Rattle.part_reports.specs.declared.sums.WholeSums.{WholeSums}
 use Rattle.part_reports.specs.Faults.{IsOfTexts}
 use Rattle.report_texts.specs.Texts.{AreLeft}
 use Rattle.part_reports.specs.TokenLines.{TokenLine}
-use Rattle.shard_book.specs.Shown.{validator_sum}
-use Rattle.shard_book.specs.Sums.{sums_of}
+use Rattle.histories.specs.Shown.{validator_sum}
+use Rattle.histories.specs.Sums.{sums_of}
 use Rattle.part_reports.specs.Reports.{added}
 use Rattle.part_reports.specs.inside.SumsLeft.{left_of}
 use Rattle.part_reports.specs.inside.Fronts.{IsFront, MayBePart, MayBeSections, ReportedFront}

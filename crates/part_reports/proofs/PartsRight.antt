@@ -11,9 +11,9 @@ use Rattle.std.proofs.lemmas.List.Elements.{All-map, All-push}
 use Rattle.std.proofs.lemmas.Option.{MatchOption-at_some}
 use Rattle.tap_views.specs.declared.token.Token.{Token}
 use Rattle.fare_texts.specs.ReportLines.{number_line}
-use Rattle.shard_book.specs.Shown.{validator_sum}
-use Rattle.shard_book.specs.Sums.{add_sums, sums_of}
-use Rattle.shard_book.proofs.SumsLemmas.{none_add}
+use Rattle.histories.specs.Shown.{validator_sum}
+use Rattle.histories.specs.Sums.{add_sums, sums_of}
+use Rattle.histories.proofs.SumsLemmas.{none_add}
 use Rattle.part_reports.specs.Faults.{number_from}
 use Rattle.part_reports.specs.FirstWrongLines.{IsWhyBeside, OfNothing, OfTokens}
 use Rattle.part_reports.specs.FirstWrongLines.{OfValidators}

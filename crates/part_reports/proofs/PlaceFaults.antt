@@ -1,7 +1,7 @@
 -- Which of two texts a fault at a place names, and why.
 use Rattle.std.proofs.Common.{◌≡◌, ◌∙◌, ℕ, List, Some, ap, inl, inr, refl, subst, sym}
 use Rattle.std.specs.Prelude.{slice_get}
-use Rattle.shard_book.specs.Sums.{Sums}
+use Rattle.histories.specs.Sums.{Sums}
 use Rattle.tap_views.specs.declared.token.Token.{Token}
 use Rattle.part_reports.specs.Charges.{IsChargeOf, LineCharge}
 use Rattle.part_reports.specs.TokenLines.{TokenLine}

@@ -17,7 +17,7 @@ use Rattle.part_reports.specs.inside.Going.{Rise}
 use Rattle.part_reports.specs.inside.Standings.{IsLineOfKind, MayFollow, MayFollowAll}
 use Rattle.part_reports.specs.declared.merging.LineKind.{LineKind}
 use Rattle.part_reports.specs.declared.sums_left.SumsLeft.{SumsLeft}
-use Rattle.shard_book.specs.Sums.{sums}
+use Rattle.histories.specs.Sums.{sums}
 use Rattle.part_reports.specs.declared.merging.LineKind.TheVariants.{Tokens, Entries}
 use Rattle.part_reports.proofs.Firsts.{line_is_some, line_unique}
 use Rattle.part_reports.proofs.Orders.{NotBelow, not_below_trans}

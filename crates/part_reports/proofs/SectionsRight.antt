@@ -19,8 +19,8 @@ use Rattle.report_texts.specs.Numbers.{IsTokenSum, IsUploadEnd, IsValidatorSum}
 use Rattle.report_texts.specs.Report.{upload_line, upload_lines}
 use Rattle.tap_views.specs.UploadEnds.{is_posted}
 use Rattle.tap_views.specs.declared.upload_end.UploadEnd.{UploadEnd}
-use Rattle.shard_book.specs.Sums.{Sums, add_sums}
-use Rattle.shard_book.proofs.SumsLemmas.{add_assoc, none_add}
+use Rattle.histories.specs.Sums.{Sums, add_sums}
+use Rattle.histories.proofs.SumsLemmas.{add_assoc, none_add}
 use Rattle.part_reports.specs.FirstWrongLines.{IsNext, IsRight, OfNothing, OfTokens, OfTotals}
 use Rattle.part_reports.specs.FirstWrongLines.{OfUploads, OfValidators, SoFar}
 use Rattle.part_reports.specs.Reports.{added}

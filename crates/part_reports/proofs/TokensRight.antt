@@ -14,8 +14,8 @@ use Rattle.std.proofs.lemmas.List.Elements.{All-weaker}
 use Rattle.fare_texts.specs.ReportLines.{token_line}
 use Rattle.report_texts.specs.Numbers.{IsTokenSum}
 use Rattle.tap_views.specs.declared.upload_end.UploadEnd.{UploadEnd}
-use Rattle.shard_book.specs.Sums.{Sums, add_sums, sums}
-use Rattle.shard_book.proofs.SumsLemmas.{add_assoc, add_none}
+use Rattle.histories.specs.Sums.{Sums, add_sums, sums}
+use Rattle.histories.proofs.SumsLemmas.{add_assoc, add_none}
 use Rattle.tap_views.proofs.Lists.{All-unmap}
 use Rattle.tap_views.specs.Token.{token_cmp}
 use Rattle.tap_views.specs.declared.token.Token.{Token}

@@ -8,7 +8,7 @@ use Rattle.std.proofs.lemmas.List.{append_cancel_left}
 use Rattle.hex.specs.Hex.{encode_lower}
 use Rattle.tap_views.specs.Token.{bytes_of}
 use Rattle.fare_texts.specs.Counts.{counts_text, totals_line}
-use Rattle.shard_book.specs.Sums.{Sums}
+use Rattle.histories.specs.Sums.{Sums}
 use Rattle.tap_views.specs.declared.token.Token.{Token}
 use Rattle.report_texts.specs.Numbers.{AreCounts, IsTokenSum, IsValidatorSum}
 use Rattle.fare_texts.specs.ReportLines.{token_line, validator_line}

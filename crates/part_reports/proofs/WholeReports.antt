@@ -19,8 +19,8 @@ use Rattle.std.proofs.lemmas.List.Sums.{sum_by-append}
 use Rattle.std.proofs.KnownBytes.{Appends-trans}
 use Rattle.tap_views.specs.Token.{token_cmp, token_eq}
 use Rattle.tap_views.specs.declared.token.Token.{Token}
-use Rattle.shard_book.specs.Sums.{Sums, add_all, sums, sums_of}
-use Rattle.shard_book.specs.declared.sums.totals.Totals.{Totals}
+use Rattle.histories.specs.Sums.{Sums, add_all, sums, sums_of}
+use Rattle.histories.specs.declared.sums.totals.Totals.{Totals}
 use Rattle.fare_texts.specs.ReportLines.{token_line}
 use Rattle.report_texts.specs.Numbers.{IsTokenSum}
 use Rattle.part_reports.specs.Reports.{IsMerged, IsPartReport, Report, added, end_texts}

@@ -5,7 +5,7 @@ use Rattle.fare_texts.specs.StatementText.{answer_text}
 use Rattle.ledger_fields.specs.RowLines.{IsRowLine}
 use Rattle.ledger_fields.specs.Rows.{Row}
 use Rattle.part_reports.specs.TokenLines.{TokenLine}
-use Rattle.shard_book.specs.Sums.{Sums, sums_of_replies}
+use Rattle.histories.specs.Sums.{Sums, sums_of_replies}
 use Rattle.tap_views.specs.declared.token.Token.{Token}
 
 -- what a ledger's line charges: the token, the validator, and the sums of its one tap

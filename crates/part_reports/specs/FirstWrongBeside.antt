@@ -4,7 +4,7 @@ use Rattle.std.specs.Prelude.{Some}
 use Rattle.std.specs.Prelude.{None, flat_map, length, map, min, slice_get}
 use Rattle.std.specs.Io.BufRead.{take_through}
 use Rattle.std.specs.List.{AllZip}
-use Rattle.shard_book.specs.Sums.{Sums, add_sums, sums}
+use Rattle.histories.specs.Sums.{Sums, add_sums, sums}
 use Rattle.tap_views.specs.declared.token.Token.{Token}
 use Rattle.part_reports.specs.Charges.{IsChargeOf, LineCharge}
 use Rattle.part_reports.specs.Faults.{number_from}

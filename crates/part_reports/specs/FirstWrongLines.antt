@@ -11,7 +11,7 @@ use Rattle.report_texts.specs.Numbers.{AreCounts, IsTokenSum, IsUploadEnd, IsVal
 use Rattle.report_texts.specs.Report.{upload_line, upload_lines}
 use Rattle.tap_views.specs.UploadEnds.{is_posted}
 use Rattle.tap_views.specs.declared.upload_end.UploadEnd.{UploadEnd}
-use Rattle.shard_book.specs.Sums.{Sums, add_sums}
+use Rattle.histories.specs.Sums.{Sums, add_sums}
 use Rattle.tap_views.specs.Token.{token_cmp}
 use Rattle.tap_views.specs.declared.token.Token.{Token}
 use Rattle.part_reports.specs.Faults.{number_from}

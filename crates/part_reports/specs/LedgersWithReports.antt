@@ -9,7 +9,7 @@ use Rattle.part_reports.specs.TokenLines.{TokenLine}
 use Rattle.part_reports.specs.declared.fault.MergeFault.{MergeFault}
 use Rattle.part_reports.specs.declared.fault.MergeFault.TheVariants.{Line, Taps, Unread, Write}
 use Rattle.part_reports.specs.declared.fault.MergeFault.TheVariants.{NoMemory}
-use Rattle.shard_book.specs.Sums.{Sums, add_all}
+use Rattle.histories.specs.Sums.{Sums, add_all}
 use Rattle.tap_views.specs.declared.token.Token.{Token}
 
 -- there are charges, all of them of this token, and they add up to its sums

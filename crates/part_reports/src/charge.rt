@@ -6,12 +6,12 @@ ghost use Rattle.fare_texts.specs.StatementText.{answer_text};
 ghost use Rattle.part_reports.specs.Charges.{IsChargeOf, LineCharge};
 ghost use Rattle.part_reports.specs.inside.ReportsLeft.{charge_with};
 ghost use Rattle.part_reports.specs.inside.Standings.{line_with};
-ghost use Rattle.shard_book.specs.Sums.{sums_of, sums_of_replies};
+ghost use Rattle.histories.specs.Sums.{sums_of, sums_of_replies};
 ghost use Rattle.tap_views.specs.declared.token.Token.{Token as AToken};
 
 use account_rule::Answer;
+use histories::{Totals, ValidatorSum};
 use ledger_fields::row_fields;
-use shard_book::{Totals, ValidatorSum};
 
 /// Whether this is the word.
 fn is_word(text: &[u8], word: &[u8]) -> bool
@@ -41,7 +41,7 @@ fn answer_of(word: &[u8]) -> Option<Answer>
 }
 
 /// The totals of one tap with this answer and these cents.
-#[tactic(auto, unfolding(shard_book::specs::Sums::sums_of_replies))]
+#[tactic(auto, unfolding(histories::specs::Sums::sums_of_replies))]
 fn totals_of_one(answer: Answer, cents: u32) -> Totals
     ensures { sums_of result
         ≡ sums_of_replies (record { answer = answer; cents = cents } ∷ []) }

@@ -28,7 +28,7 @@ ghost use Rattle.part_reports.specs.inside.Parts.{AreParts, IsNoPart, IsPart};
 ghost use Rattle.part_reports.specs.inside.Standings.{standing};
 ghost use Rattle.part_reports.specs.inside.Whole.{validators_in};
 ghost use Rattle.part_reports.specs.inside.Fronts.{front_text as text_before_tokens};
-ghost use Rattle.shard_book.specs.Sums.{sums_of};
+ghost use Rattle.histories.specs.Sums.{sums_of};
 
 use crate::fault::MergeFault;
 use crate::front::read_front;
@@ -40,8 +40,8 @@ use crate::upload_ends::UploadEnds;
 use crate::upload_ends::read::read_ends;
 use crate::writing::write_text;
 use fare_texts::write_totals;
+use histories::{Totals, ValidatorSum};
 use report_texts::{Wrong, write_section_head, write_validator};
-use shard_book::{Totals, ValidatorSum};
 use std::alloc::{AllocError, Global};
 use std::collections::BTreeMap;
 use std::io::{BufRead, Write};

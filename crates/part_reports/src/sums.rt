@@ -1,7 +1,7 @@
 //! Sums that add up.
 
 ghost use Rattle.std.specs.Prelude.{◌≡◌, ◌+◌, ◌<◌, ◌^◌, [], true, false, IfOk};
-ghost use Rattle.shard_book.specs.Sums.{add_sums, sums_of};
+ghost use Rattle.histories.specs.Sums.{add_sums, sums_of};
 ghost use Rattle.part_reports.specs.inside.Sums.{AreFrontsCounted, WithFront, WithOne};
 ghost use Rattle.part_reports.specs.inside.Sums.{WithValidators};
 ghost use Rattle.part_reports.specs.inside.Sums.{or_nothing};
@@ -10,7 +10,7 @@ ghost use Rattle.std.specs.BTreeMap.{get};
 ghost use Rattle.std.specs.Ordering.{nat_cmp};
 
 use crate::front::Front;
-use shard_book::{Totals, ValidatorSum};
+use histories::{Totals, ValidatorSum};
 use std::alloc::{AllocError, Global};
 use std::collections::BTreeMap;
 

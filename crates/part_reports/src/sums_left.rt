@@ -1,11 +1,11 @@
 //! What is left of totals behind some of the lines that add up to them.
 
 ghost use Rattle.std.specs.Prelude.{◌≡◌, ◌↔◌, [], IsTrue, MatchOption};
-ghost use Rattle.shard_book.specs.Sums.{add_sums, sums, sums_of};
+ghost use Rattle.histories.specs.Sums.{add_sums, sums, sums_of};
 ghost use Rattle.part_reports.specs.declared.sums_left.SumsLeft.{SumsLeft as Left};
 ghost use Rattle.part_reports.specs.inside.SumsLeft.{left_of, sums_left};
 
-use shard_book::Totals;
+use histories::Totals;
 
 /// What is left of totals behind some of the lines that add up to them.
 #[derive(Clone, Copy, Debug, PartialEq, Eq)]

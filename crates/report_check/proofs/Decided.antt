@@ -6,9 +6,9 @@ use Rattle.std.specs.Io.BufRead.{drop_through, take_through}
 use Rattle.std.proofs.lemmas.List.{append_cancel_left}
 use Rattle.fare_texts.specs.ReportLines.{number_line}
 use Rattle.fare_texts.specs.Counts.{totals_line}
-use Rattle.shard_book.specs.Sums.{sums}
-use Rattle.shard_book.specs.SumsByKey.{sums_by_token, sums_by_validator}
-use Rattle.shard_book.specs.declared.entry.Entry.{Entry}
+use Rattle.histories.specs.Sums.{sums}
+use Rattle.histories.specs.SumsByKey.{sums_by_token, sums_by_validator}
+use Rattle.histories.specs.declared.entry.Entry.{Entry}
 use Rattle.report_texts.specs.Report.{tokens_section, upload_line, upload_lines, uploads_section}
 use Rattle.report_texts.specs.Report.{validators_section}
 use Rattle.tap_views.specs.UploadEnds.{taps_of_end}

@@ -20,9 +20,9 @@ use Rattle.report_check.specs.inside.RideTerms.{HasRideTerms}
 use Rattle.fare_texts.specs.LedgerLines.{IsLedgerLine, entry_fields, line_head, mode_field}
 use Rattle.ledger_check.specs.Lines.{Lacks}
 use Rattle.ledger_check.proofs.LineLemmas.{lacks-tested}
-use Rattle.shard_book.specs.Entry.{mode_of_place, tap_of, taps_of}
-use Rattle.shard_book.specs.History.{IsReplied}
-use Rattle.shard_book.specs.declared.entry.Entry.{Entry}
+use Rattle.histories.specs.Entry.{mode_of_place, tap_of, taps_of}
+use Rattle.histories.specs.History.{IsReplied}
+use Rattle.histories.specs.declared.entry.Entry.{Entry}
 use Rattle.tap_views.specs.Token.{bytes_of}
 use Rattle.tap_views.specs.declared.token.Token.{Token}
 

@@ -9,7 +9,7 @@ use Rattle.fare_texts.specs.Counts.{counts_text, first_counts, last_counts, tota
 use Rattle.fare_texts.specs.ReportLines.{number_line, token_line}
 use Rattle.report_texts.specs.Report.{report, tokens_section, uploads_section, validators_section}
 use Rattle.tap_views.specs.declared.upload_end.UploadEnd.{UploadEnd}
-use Rattle.shard_book.specs.Sums.{Sums}
+use Rattle.histories.specs.Sums.{Sums}
 use Rattle.tap_views.specs.Token.{bytes_of}
 use Rattle.tap_views.specs.declared.token.Token.{Token}
 use Rattle.report_check.specs.inside.Differences.{EndsWithFeed}

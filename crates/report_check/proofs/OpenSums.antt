@@ -8,14 +8,14 @@ use Rattle.std.proofs.lemmas.List.Elements.{All-weaker}
 use Rattle.ledger_check.specs.Ledger.{token_number}
 use Rattle.ledger_check.proofs.TokenOrder.{greater_number}
 use Rattle.tap_views.specs.TokenOrder.{AreBelow}
-use Rattle.shard_book.specs.Entry.{reply_of}
-use Rattle.shard_book.specs.Sums.{Sums, add_sums, sums_of_replies}
-use Rattle.shard_book.specs.SumsByKey.{sums_by_token, token_of, validator_of}
-use Rattle.shard_book.specs.TalliesByKey.{AreByKey}
-use Rattle.shard_book.specs.Tally.{sums_of_tally}
-use Rattle.shard_book.specs.declared.entry.Entry.{Entry}
-use Rattle.shard_book.proofs.SumsLemmas.{sums-append, sums-taps}
-use Rattle.shard_book.proofs.SumsByToken.{by_token_joined, no_sums, one_token_list, below_same}
+use Rattle.histories.specs.Entry.{reply_of}
+use Rattle.histories.specs.Sums.{Sums, add_sums, sums_of_replies}
+use Rattle.histories.specs.SumsByKey.{sums_by_token, token_of, validator_of}
+use Rattle.histories.specs.TalliesByKey.{AreByKey}
+use Rattle.histories.specs.Tally.{sums_of_tally}
+use Rattle.histories.specs.declared.entry.Entry.{Entry}
+use Rattle.histories.proofs.SumsLemmas.{sums-append, sums-taps}
+use Rattle.histories.proofs.SumsByToken.{by_token_joined, no_sums, one_token_list, below_same}
 use Rattle.tap_views.specs.Token.{Fits, token_cmp}
 use Rattle.tap_views.specs.declared.token.Token.{Token}
 use Rattle.tap_views.proofs.TokenLemmas.{token_cmp-total}

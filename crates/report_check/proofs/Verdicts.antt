@@ -3,9 +3,9 @@ use Rattle.std.proofs.Common.{◌≡◌, ℕ, ◌+◌, List, length, sym, ap, �
 use Rattle.std.specs.Prelude.{sum_by}
 use Rattle.tap_views.specs.UploadEnds.{taps_of_end}
 use Rattle.tap_views.specs.declared.upload_end.UploadEnd.{UploadEnd}
-use Rattle.shard_book.specs.Sums.{Sums}
-use Rattle.shard_book.specs.declared.entry.Entry.{Entry}
-use Rattle.shard_book.proofs.SumsLemmas.{sums-taps}
+use Rattle.histories.specs.Sums.{Sums}
+use Rattle.histories.specs.declared.entry.Entry.{Entry}
+use Rattle.histories.proofs.SumsLemmas.{sums-taps}
 use Rattle.report_check.specs.Reports.{BeginsWithUploads, HasOtherTaps, HaveTapsOf, IsReportVerdict}
 use Rattle.report_check.specs.Reports.{report_of}
 use Rattle.report_check.specs.Sums.{AreSumsOf}

@@ -2,12 +2,12 @@
 use Rattle.std.proofs.Common.{◌≡◌, ℕ, Bool, true, false, cond, List, [], ◌∷◌, filter, map, refl, ap}
 use Rattle.std.proofs.Common.{◌∙◌}
 use Rattle.std.specs.Ordering.{nat_cmp}
-use Rattle.shard_book.specs.Entry.{is_at, is_of, own, reply_of}
-use Rattle.shard_book.specs.Rising.{rising}
-use Rattle.shard_book.specs.Sums.{Sums, sums, sums_of_replies}
-use Rattle.shard_book.specs.SumsByKey.{entries_of_validator, sums_by_token, sums_by_validator}
-use Rattle.shard_book.specs.SumsByKey.{token_of, tokens, validator_of, validators}
-use Rattle.shard_book.specs.declared.entry.Entry.{Entry}
+use Rattle.histories.specs.Entry.{is_at, is_of, own, reply_of}
+use Rattle.histories.specs.Rising.{rising}
+use Rattle.histories.specs.Sums.{Sums, sums, sums_of_replies}
+use Rattle.histories.specs.SumsByKey.{entries_of_validator, sums_by_token, sums_by_validator}
+use Rattle.histories.specs.SumsByKey.{token_of, tokens, validator_of, validators}
+use Rattle.histories.specs.declared.entry.Entry.{Entry}
 use Rattle.tap_views.specs.Token.{token_cmp}
 use Rattle.tap_views.specs.declared.token.Token.{Token}
 use Rattle.report_check.specs.Sums.{AreSumsOf}

@@ -1,5 +1,5 @@
 -- What the line of an entry says of its sums.
-use Rattle.shard_book.specs.declared.entry.Entry.{Entry}
+use Rattle.histories.specs.declared.entry.Entry.{Entry}
 
 -- the entry, with 0 in place of its moment, which no sums have
 abbrev pub without_moment : Entry → Entry

@@ -2,7 +2,7 @@
 use Rattle.std.specs.Prelude.{◌≡◌, ◌≤◌, ◌^◌, ℕ, List, [], ◌∷◌, ◌++◌, MatchBool, false, length, map}
 use Rattle.std.specs.Prelude.{true}
 use Rattle.tariffs.specs.Fares.{Fares}
-use Rattle.shard_book.specs.declared.entry.Entry.{Entry}
+use Rattle.histories.specs.declared.entry.Entry.{Entry}
 use Rattle.ledger_check.specs.Ledger.{AreNext, IsLedger}
 use Rattle.ledger_check.specs.Lines.{Lacks, lines_of}
 use Rattle.report_check.specs.declared.ledger_sums.LedgerSums.{LedgerSums}

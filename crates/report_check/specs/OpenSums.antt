@@ -2,11 +2,11 @@
 use Rattle.std.specs.Prelude.{◌≡◌, ◌==◌, ◌<◌, All, List, [], ◌++◌, Option}
 use Rattle.std.specs.Prelude.{None, Some, length}
 use Rattle.std.specs.declared.cmp.Ordering.TheVariants.{Less}
-use Rattle.shard_book.specs.Sums.{Sums, sums}
-use Rattle.shard_book.specs.SumsByKey.{sums_by_token, validator_of}
-use Rattle.shard_book.specs.TalliesByKey.{AreByKey}
-use Rattle.shard_book.specs.Tally.{sums_of_tally}
-use Rattle.shard_book.specs.declared.entry.Entry.{Entry}
+use Rattle.histories.specs.Sums.{Sums, sums}
+use Rattle.histories.specs.SumsByKey.{sums_by_token, validator_of}
+use Rattle.histories.specs.TalliesByKey.{AreByKey}
+use Rattle.histories.specs.Tally.{sums_of_tally}
+use Rattle.histories.specs.declared.entry.Entry.{Entry}
 use Rattle.tap_views.specs.Token.{Fits, token_cmp}
 use Rattle.tap_views.specs.declared.token.Token.{Token}
 use Rattle.report_check.specs.declared.open_sums.OpenSums.{OpenSums}

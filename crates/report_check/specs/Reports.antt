@@ -8,9 +8,9 @@ use Rattle.report_texts.specs.Report.{report, upload_line, upload_lines, uploads
 use Rattle.tap_views.specs.UploadEnds.{taps_of_end}
 use Rattle.tap_views.specs.declared.upload_end.UploadEnd.{UploadEnd}
 use Rattle.tap_views.specs.declared.upload_end.UploadEnd.TheVariants.{Posted, Refused, Cut, Undrawn}
-use Rattle.shard_book.specs.Sums.{sums}
-use Rattle.shard_book.specs.SumsByKey.{sums_by_token, sums_by_validator}
-use Rattle.shard_book.specs.declared.entry.Entry.{Entry}
+use Rattle.histories.specs.Sums.{sums}
+use Rattle.histories.specs.SumsByKey.{sums_by_token, sums_by_validator}
+use Rattle.histories.specs.declared.entry.Entry.{Entry}
 use Rattle.report_check.specs.declared.verdict.ReportVerdict.{ReportVerdict}
 use Rattle.report_check.specs.declared.verdict.ReportVerdict.TheVariants.{OfLedger, Wants, NoLine}
 use Rattle.report_check.specs.declared.verdict.ReportVerdict.TheVariants.{Taps}

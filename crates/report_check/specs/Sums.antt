@@ -1,9 +1,9 @@
 -- The sums of a ledger's entries.
 use Rattle.std.specs.Prelude.{◌≡◌, List, map}
-use Rattle.shard_book.specs.Shown.{validator_sum}
-use Rattle.shard_book.specs.Sums.{sums, sums_of}
-use Rattle.shard_book.specs.SumsByKey.{sums_by_token, sums_by_validator}
-use Rattle.shard_book.specs.declared.entry.Entry.{Entry}
+use Rattle.histories.specs.Shown.{validator_sum}
+use Rattle.histories.specs.Sums.{sums, sums_of}
+use Rattle.histories.specs.SumsByKey.{sums_by_token, sums_by_validator}
+use Rattle.histories.specs.declared.entry.Entry.{Entry}
 use Rattle.report_check.specs.declared.open_sums.EntrySums.{EntrySums}
 
 -- these are the sums of the entries: by token, by validator and of all

@@ -9,16 +9,16 @@ ghost use Rattle.fare_texts.specs.LedgerLines.{mode_field};
 ghost use Rattle.fare_texts.specs.Moments.{IsMomentText};
 ghost use Rattle.ledger_check.specs.Ledger.{IsNext};
 ghost use Rattle.ledger_check.specs.Lines.{Lacks};
-ghost use Rattle.shard_book.specs.declared.entry.Entry.{Entry as AnEntry};
+ghost use Rattle.histories.specs.declared.entry.Entry.{Entry as AnEntry};
 ghost use Rattle.tap_views.specs.Token.{Fits, bytes_of};
 ghost use Rattle.tap_views.specs.declared.token.Token.{Token as AToken};
 ghost use Rattle.report_check.specs.EntryLines.{without_moment};
 ghost use Rattle.report_check.specs.inside.RideTerms.{HasRideTerms};
 
 use account_rule::Answer;
+use histories::Entry;
 use ledger_check::{field, read_moment, read_small_number};
 use report_texts::{after_word, token_before};
-use shard_book::Entry;
 use tap_views::Token;
 use tariffs::{FareTable, Terms};
 

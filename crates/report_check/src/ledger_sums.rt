@@ -3,7 +3,7 @@
 ghost use Rattle.std.specs.Prelude.{◌≡◌, ◌++◌, ◌∷◌, ℕ, [], List, IfOk, OnOk, MatchBool};
 ghost use Rattle.std.specs.Prelude.{MatchOption, true};
 ghost use Rattle.tariffs.specs.Fares.{Fares};
-ghost use Rattle.shard_book.specs.declared.entry.Entry.{Entry};
+ghost use Rattle.histories.specs.declared.entry.Entry.{Entry};
 ghost use Rattle.ledger_check.specs.Ledger.{IsLedger, IsLedgerOf};
 ghost use Rattle.ledger_check.specs.Lines.{IsLine, Lacks};
 ghost use Rattle.report_check.specs.LedgerSums.{AreSummed, HasSummed};
@@ -12,8 +12,8 @@ ghost use Rattle.report_check.specs.Sums.{AreSumsOf};
 
 use crate::entry_line::entry_of;
 use crate::open_sums::{EntrySums, OpenSums};
+use histories::HashSeed;
 use ledger_check::split_line;
-use shard_book::HashSeed;
 use std::alloc::Global;
 use tap_views::NoMemory;
 use tariffs::FareTable;

@@ -3,14 +3,14 @@
 ghost use Rattle.std.specs.Prelude.{◌≡◌, ◌+◌, ◌<◌, ◌≤◌, ◌^◌, ◌++◌, ◌∷◌, ℕ, [], List, IfOk, OnOk};
 ghost use Rattle.std.specs.Prelude.{All, MatchBool, MatchOption, length};
 ghost use Rattle.ledger_check.specs.Ledger.{token_number};
-ghost use Rattle.shard_book.specs.SumsByKey.{sums_by_token};
-ghost use Rattle.shard_book.specs.declared.entry.Entry.{Entry as AnEntry};
+ghost use Rattle.histories.specs.SumsByKey.{sums_by_token};
+ghost use Rattle.histories.specs.declared.entry.Entry.{Entry as AnEntry};
 ghost use Rattle.tap_views.specs.Token.{Fits};
 ghost use Rattle.report_check.specs.Sums.{AreSumsOf};
 ghost use Rattle.report_check.specs.OpenSums.{AreOpenSums, IsRunOf, IsSplitAt};
 ghost use Rattle.report_check.specs.inside.OpenSums.{HasRoom, IsBelow};
 
-use shard_book::{Entry, HashSeed, Tally, TokenSums, Totals, ValidatorSum, ValidatorTallies};
+use histories::{Entry, HashSeed, Tally, TokenSums, Totals, ValidatorSum, ValidatorTallies};
 use std::alloc::Global;
 use std::cmp::Ordering;
 use tap_views::{NoMemory, Token};

@@ -1,7 +1,7 @@
 //! The verdict on a report beside the sums of a ledger's entries.
 
 ghost use Rattle.std.specs.Prelude.{◌≡◌, List, IfOk};
-ghost use Rattle.shard_book.specs.declared.entry.Entry.{Entry};
+ghost use Rattle.histories.specs.declared.entry.Entry.{Entry};
 ghost use Rattle.report_check.specs.Sums.{AreSumsOf};
 ghost use Rattle.report_check.specs.Reports.{IsReportVerdict, report_of};
 ghost use Rattle.report_check.specs.inside.Differences.{EndsWithFeed, IsDifferenceFrom};

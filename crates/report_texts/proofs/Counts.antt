@@ -3,7 +3,7 @@ use Rattle.std.proofs.Common.{◌≡◌, List, [], ℕ, ◌++◌, append_assoc, 
 use Rattle.std.proofs.Common.{◌∙◌, arith}
 use Rattle.std.specs.Prelude.{codes}
 use Rattle.std.specs.Fmt.{decimal}
-use Rattle.shard_book.specs.Sums.{Sums}
+use Rattle.histories.specs.Sums.{Sums}
 use Rattle.fare_texts.specs.Counts.{counts_text, first_counts, last_counts}
 use Rattle.report_texts.specs.Numbers.{AreCounts}
 use Rattle.report_texts.specs.inside.Counted.{IsCounted, sums_with}

@@ -2,11 +2,11 @@
 use Rattle.std.specs.Prelude.{◌≡◌, ℕ, List}
 use Rattle.tariffs.specs.Fares.{Fares}
 use Rattle.tap_views.specs.declared.token.Token.{Token}
-use Rattle.shard_book.specs.Statement.{IsStatement}
-use Rattle.shard_book.specs.Sums.{sums}
-use Rattle.shard_book.specs.SumsByKey.{sums_by_validator, sums_by_token}
-use Rattle.shard_book.specs.declared.entry.Entry.{Entry}
-use Rattle.shard_book.specs.declared.statement.Statement.{Statement}
+use Rattle.histories.specs.Statement.{IsStatement}
+use Rattle.histories.specs.Sums.{sums}
+use Rattle.histories.specs.SumsByKey.{sums_by_validator, sums_by_token}
+use Rattle.histories.specs.declared.entry.Entry.{Entry}
+use Rattle.histories.specs.declared.statement.Statement.{Statement}
 use Rattle.fare_texts.specs.StatementText.{IsStatementText}
 use Rattle.report_texts.specs.Report.{report}
 use Rattle.tap_views.specs.UploadEnds.{ArePlainEnds}

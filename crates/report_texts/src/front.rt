@@ -3,8 +3,8 @@
 
 ghost use Rattle.std.specs.Prelude.{◌≡◌, ◌++◌, IfOk, OnOk, length, map, string_bytes, codes};
 ghost use Rattle.std.specs.Fmt.{decimal};
-ghost use Rattle.shard_book.specs.Shown.{validator_sum};
-ghost use Rattle.shard_book.specs.Sums.{sums_of};
+ghost use Rattle.histories.specs.Shown.{validator_sum};
+ghost use Rattle.histories.specs.Sums.{sums_of};
 ghost use Rattle.std.specs.List.{flat_map};
 ghost use Rattle.fare_texts.specs.Counts.{counts_text, totals_line};
 ghost use Rattle.report_texts.specs.Report.{report, uploads_section, validators_section};
@@ -12,7 +12,7 @@ ghost use Rattle.report_texts.specs.Report.{upload_line, upload_lines};
 ghost use Rattle.fare_texts.specs.ReportLines.{number_line, token_line, validator_line};
 
 use fare_texts::{write_counts, write_totals};
-use shard_book::{TokenSums, Totals, ValidatorSum};
+use histories::{TokenSums, Totals, ValidatorSum};
 use std::alloc::{AllocError, Global};
 use tap_views::UploadEnd;
 

@@ -8,14 +8,14 @@ ghost use Rattle.fare_texts.specs.PrintFaults.{KeepsUnlessWrite};
 ghost use Rattle.fare_texts.specs.ReportLines.{token_line};
 ghost use Rattle.fare_texts.specs.WrittenOut.{Begins};
 ghost use Rattle.fare_texts.specs.declared.print_fault.PrintFault.TheVariants.{Write as ForWrite};
-ghost use Rattle.shard_book.specs.Shown.{validator_sum};
-ghost use Rattle.shard_book.specs.Sums.{sums_of};
+ghost use Rattle.histories.specs.Shown.{validator_sum};
+ghost use Rattle.histories.specs.Sums.{sums_of};
 ghost use Rattle.report_texts.specs.Report.{report};
 
 use crate::front::report_front;
 use crate::token_lines::write_lines;
 use fare_texts::PrintFault;
-use shard_book::{TokenSums, Totals, ValidatorSum};
+use histories::{TokenSums, Totals, ValidatorSum};
 use std::alloc::Global;
 use std::io::Write;
 use tap_views::{NoMemory, UploadEnd};

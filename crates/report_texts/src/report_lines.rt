@@ -6,8 +6,8 @@ ghost use Rattle.std.specs.Char.{is_ascii_digit};
 ghost use Rattle.std.specs.Fmt.{decimal};
 ghost use Rattle.std.specs.List.{IsSplitAt, position_or_len};
 ghost use Rattle.fare_texts.specs.Counts.{counts_text, totals_line};
-ghost use Rattle.shard_book.specs.Shown.{token_sum, validator_sum};
-ghost use Rattle.shard_book.specs.Sums.{Sums, sums_of};
+ghost use Rattle.histories.specs.Shown.{token_sum, validator_sum};
+ghost use Rattle.histories.specs.Sums.{Sums, sums_of};
 ghost use Rattle.hex.specs.Hex.{encode_lower};
 ghost use Rattle.tap_views.specs.Token.{Fits, bytes_of};
 ghost use Rattle.tap_views.specs.declared.token.Token.{Token as AToken};
@@ -21,8 +21,8 @@ ghost use Rattle.report_texts.specs.inside.EndWords.{end_words, fault_number, fa
 ghost use Rattle.tap_views.specs.declared.upload_end.UploadEnd.{UploadEnd as AnEnd};
 ghost use Rattle.tap_views.specs.declared.upload_end.UploadEnd.TheVariants.{Refused};
 
+use histories::{TokenSum, Totals, ValidatorSum};
 use itoa::Buffer;
-use shard_book::{TokenSum, Totals, ValidatorSum};
 use tap_views::{LayoutFault, Token, UploadEnd};
 
 const END: &[u8] = b"\n";

@@ -5,8 +5,8 @@ ghost use Rattle.std.specs.Prelude.{codes, vec_capacity, vec_len};
 ghost use Rattle.std.specs.Io.KnownBytes.{Appends};
 ghost use Rattle.std.specs.List.{flat_map};
 ghost use Rattle.hex.specs.Hex.{encode_lower};
-ghost use Rattle.shard_book.specs.Shown.{token_sum};
-ghost use Rattle.shard_book.specs.Sums.{sums_of};
+ghost use Rattle.histories.specs.Shown.{token_sum};
+ghost use Rattle.histories.specs.Sums.{sums_of};
 ghost use Rattle.tap_views.specs.Token.{bytes_of};
 ghost use Rattle.fare_texts.specs.Counts.{first_counts, last_counts};
 ghost use Rattle.fare_texts.specs.ReportLines.{token_line};
@@ -15,7 +15,7 @@ ghost use Rattle.fare_texts.specs.declared.print_fault.PrintFault.TheVariants.{W
 
 use crate::line::Line;
 use fare_texts::{PrintFault, write_out};
-use shard_book::{TokenSum, TokenSums, Totals};
+use histories::{TokenSum, TokenSums, Totals};
 use std::io::Write;
 use tap_views::Token;
 

@@ -13,8 +13,8 @@ use Rattle.tap_views.specs.declared.token.Token.{Token}
 use Rattle.tap_views.proofs.TokenBytes.{token-order}
 use Rattle.tap_views.specs.declared.encoder.TapFields.{TapFields}
 use Rattle.tap_views.proofs.Orderings.{first_not_less}
-use Rattle.shard_book.specs.declared.entry.Entry.{Entry}
-use Rattle.shard_book.specs.Plain.{answered}
+use Rattle.histories.specs.declared.entry.Entry.{Entry}
+use Rattle.histories.specs.Plain.{answered}
 use Rattle.fare_texts.specs.Lines.{NoFall, NoFallFrom}
 use Rattle.tap_views.specs.TokenOrder.{IsUpTo}
 use Rattle.tap_parts.specs.Canonical.{tap_cmp}

@@ -7,9 +7,9 @@ use Rattle.std.specs.Ordering.{is_lt, nat_cmp, ordering_then}
 use Rattle.std.proofs.lemmas.List.{get_or-map, length-map, map-append}
 use Rattle.std.proofs.lemmas.List.Sorted.{IsPermutation-map}
 use Rattle.tariffs.specs.Fares.{Fares}
-use Rattle.shard_book.specs.Visits.{AreEntriesOf}
-use Rattle.shard_book.specs.declared.entry.Entry.{Entry}
-use Rattle.fare_service.specs.Plain.{IsPlain}
+use Rattle.histories.specs.Entry.{AreEntriesOf}
+use Rattle.histories.specs.declared.entry.Entry.{Entry}
+use Rattle.histories.specs.Plain.{IsPlain}
 use Rattle.tap_views.specs.Encoding.{fields_of}
 use Rattle.tap_views.specs.Files.{AreGoodTapsOfEach, GoodBatchesView, HasOneReading}
 use Rattle.tap_views.specs.Files.{taps_of_batches}

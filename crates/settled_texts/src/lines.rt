@@ -3,7 +3,7 @@
 ghost use Rattle.std.specs.Prelude.{◌≡◌, ◌+◌, ◌^◌, ◌<◌, ◌≤◌, ◌++◌, ◌∷◌, [], ℕ, List, IfErr, OnErr};
 ghost use Rattle.std.specs.Prelude.{OnOk, length, string_bytes};
 ghost use Rattle.tap_views.specs.Encoding.{AreEarly};
-ghost use Rattle.shard_book.specs.declared.entry.Entry.{Entry};
+ghost use Rattle.histories.specs.declared.entry.Entry.{Entry};
 ghost use Rattle.fare_texts.specs.declared.print_fault.PrintFault.TheVariants.{Write as ForWrite};
 ghost use Rattle.fare_texts.specs.Lines.{AreLinesAlong, HasCome};
 ghost use Rattle.tap_views.specs.TokenOrder.{IsUpTo};

@@ -4,8 +4,8 @@ ghost use Rattle.std.specs.Prelude.{◌≡◌, ◌<◌, ◌++◌, ◌∷◌, [],
 ghost use Rattle.std.specs.Prelude.{string_bytes};
 ghost use Rattle.std.specs.Io.KnownBytes.{Appends};
 ghost use Rattle.tap_views.specs.Encoding.{AreEarly};
-ghost use Rattle.shard_book.specs.Entry.{own};
-ghost use Rattle.shard_book.specs.declared.entry.Entry.{Entry};
+ghost use Rattle.histories.specs.Entry.{own};
+ghost use Rattle.histories.specs.declared.entry.Entry.{Entry};
 ghost use Rattle.fare_texts.specs.PrintFaults.{KeepsUnlessWrite};
 ghost use Rattle.fare_texts.specs.WrittenOut.{Begins};
 ghost use Rattle.fare_texts.specs.declared.print_fault.PrintFault.TheVariants.{Write as ForWrite};
@@ -16,8 +16,8 @@ ghost use Rattle.settlement.specs.Posted.{posted, token_of_tap};
 ghost use Rattle.settlement.specs.Replays.{HasPosted};
 
 use fare_texts::{PrintFault, statement_text, write_explained_of, write_ledger_of, write_out};
+use histories::{Entry, Lines, Statement, totals_of_entries};
 use settlement::Replay;
-use shard_book::{Entry, Lines, Statement, totals_of_entries};
 use std::alloc::Global;
 use std::io::Write;
 use tap_views::{NoMemory, TapFields, Token};

@@ -7,9 +7,9 @@ use Rattle.tap_views.specs.Token.{bytes_of}
 use Rattle.tap_views.specs.declared.encoder.TapFields.{TapFields}
 use Rattle.account_rule.specs.Replies.{reply}
 use Rattle.account_rule.specs.TokenRules.{rules_of}
-use Rattle.shard_book.specs.Entry.{is_of, own, tap_of, taps_of}
-use Rattle.shard_book.specs.declared.entry.Entry.{Entry}
-use Rattle.shard_book.specs.Plain.{answered, with_reply}
+use Rattle.histories.specs.Entry.{is_of, own, tap_of, taps_of}
+use Rattle.histories.specs.declared.entry.Entry.{Entry}
+use Rattle.histories.specs.Plain.{answered, with_reply}
 use Rattle.settlement.specs.Posted.{posted, posted_after, unposted}
 use Rattle.settlement.specs.inside.Apart.{AreOthers}
 

@@ -3,15 +3,15 @@ use Rattle.std.proofs.Common.{ℕ, List, All, None, map, ap, subst, ◌∙◌, [
 use Rattle.std.proofs.lemmas.List.Elements.{All-weaker}
 use Rattle.tariffs.specs.Fares.{Fares}
 use Rattle.tariffs.specs.declared.window_span.WindowSpan.TheVariants.{CalendarDay}
-use Rattle.shard_book.specs.Visits.{AreEntriesOf}
-use Rattle.shard_book.specs.declared.entry.Entry.{Entry}
+use Rattle.histories.specs.Entry.{AreEntriesOf}
+use Rattle.histories.specs.declared.entry.Entry.{Entry}
 use Rattle.tap_views.specs.Encoding.{fields_of}
 use Rattle.tap_views.specs.Files.{AreGoodTapsOfEach, HasOneReading}
 use Rattle.tap_views.specs.Layout.{Tap}
 use Rattle.tap_parts.specs.Canonical.{HasTokenBytes}
 use Rattle.tap_parts.specs.Parts.{taps_of_uploads}
-use Rattle.fare_service.specs.Plain.{IsPlain}
-use Rattle.shard_book.proofs.PlainReplies.{bare, plain_bare}
+use Rattle.histories.specs.Plain.{IsPlain}
+use Rattle.histories.proofs.PlainReplies.{bare, plain_bare}
 use Rattle.settlement.proofs.Own.{IsNamedBy}
 use Rattle.settlement.proofs.Ranges.{has_token_bytes}
 use Rattle.tap_views.proofs.ReadingLemmas.{one_list}

@@ -6,10 +6,10 @@ use Rattle.tap_views.specs.Encoding.{fields_of}
 use Rattle.tap_views.specs.Layout.{Tap}
 use Rattle.tap_views.specs.declared.encoder.TapFields.{TapFields}
 use Rattle.account_rule.specs.declared.reply.Answer.TheVariants.{Unknown}
-use Rattle.shard_book.specs.declared.entry.Entry.{Entry}
+use Rattle.histories.specs.declared.entry.Entry.{Entry}
 use Rattle.tap_views.specs.Files.{AreGoodTaps, IsFileOf, HasOneReading}
-use Rattle.shard_book.specs.Plain.{token_of_bytes, unanswered, answered}
-use Rattle.shard_book.specs.Plain.{plain_after}
+use Rattle.histories.specs.Plain.{token_of_bytes, unanswered, answered}
+use Rattle.histories.specs.Plain.{plain_after}
 
 -- a file's taps have the fields that it is read as
 pub read_fields : (file : List ℕ) (taps : List Tap) (list : List TapFields) → HasOneReading file

@@ -13,14 +13,14 @@ use Rattle.tap_views.specs.Layout.{Tap}
 use Rattle.tap_views.specs.declared.encoder.TapFields.{TapFields}
 use Rattle.account_rule.specs.Replies.{reply}
 use Rattle.account_rule.specs.TokenRules.{rules_of}
-use Rattle.shard_book.specs.Entry.{is_of, own, tap_of, taps_of}
-use Rattle.shard_book.specs.declared.entry.Entry.{Entry}
+use Rattle.histories.specs.Entry.{is_of, own, tap_of, taps_of}
+use Rattle.histories.specs.declared.entry.Entry.{Entry}
 use Rattle.tap_views.proofs.TokenLemmas.{same_token}
 use Rattle.tap_views.proofs.Lists.{AllZip-append}
 use Rattle.tap_parts.specs.Parts.{taps_of_uploads}
 use Rattle.tap_views.specs.UploadEnds.{IsPlainEnd}
-use Rattle.shard_book.specs.Plain.{answered, with_reply}
-use Rattle.shard_book.proofs.OwnEntries.{own-append, own_other, own_same}
+use Rattle.histories.specs.Plain.{answered, with_reply}
+use Rattle.histories.proofs.OwnEntries.{own-append, own_other, own_same}
 use Rattle.tap_views.specs.declared.upload_end.UploadEnd.{UploadEnd}
 use Rattle.settlement.specs.Posted.{only, posted, posted_after, token_of_tap, unposted}
 use Rattle.settlement.specs.inside.OwnTaps.{AreOwnAdded, AreOwnTaps}

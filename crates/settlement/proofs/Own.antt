@@ -4,11 +4,11 @@ use Rattle.std.proofs.Common.{ap, ◌∙◌, arith}
 use Rattle.std.proofs.lemmas.Bool.Decides.{nat_tests}
 use Rattle.tap_views.specs.declared.encoder.TapFields.{TapFields}
 use Rattle.tap_views.specs.declared.token.Token.{Token}
-use Rattle.shard_book.specs.Entry.{is_of}
-use Rattle.shard_book.specs.declared.entry.Entry.{Entry}
-use Rattle.shard_book.specs.Keys.{same_token}
+use Rattle.histories.specs.Entry.{is_of}
+use Rattle.histories.specs.declared.entry.Entry.{Entry}
+use Rattle.histories.specs.Keys.{same_token}
 use Rattle.tap_views.specs.Token.{bytes_of, token_eq}
-use Rattle.shard_book.specs.Plain.{token_of_bytes}
+use Rattle.histories.specs.Plain.{token_of_bytes}
 
 -- the fields' token is the one that its bytes name
 abbrev pub IsNamedBy : TapFields → Type 0

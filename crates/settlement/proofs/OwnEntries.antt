@@ -6,11 +6,11 @@ use Rattle.tap_views.specs.Token.{bytes_of}
 use Rattle.tap_views.specs.declared.token.Token.{Token}
 use Rattle.tap_views.specs.Encoding.{fields_of}
 use Rattle.tap_views.specs.Layout.{Tap}
-use Rattle.shard_book.specs.Entry.{own}
-use Rattle.shard_book.specs.Plain.{plain, unanswered}
-use Rattle.shard_book.specs.Visits.{AreEntriesOf}
-use Rattle.shard_book.specs.declared.entry.Entry.{Entry}
-use Rattle.shard_book.proofs.PlainReplies.{bare, own_bare, plain_bare, plain_legal, same_replies}
+use Rattle.histories.specs.Entry.{own}
+use Rattle.histories.specs.Plain.{plain, unanswered}
+use Rattle.histories.specs.Entry.{AreEntriesOf}
+use Rattle.histories.specs.declared.entry.Entry.{Entry}
+use Rattle.histories.proofs.PlainReplies.{bare, own_bare, plain_bare, plain_legal, same_replies}
 use Rattle.settlement.proofs.Own.{IsNamedBy}
 
 -- taps whose entries have their fields have tokens that their bytes name

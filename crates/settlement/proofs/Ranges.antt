@@ -25,12 +25,12 @@ use Rattle.tap_parts.specs.Canonical.{HasTokenBytes, IsCanonical}
 use Rattle.tap_parts.specs.Ranges.{range_of_token}
 use Rattle.tap_parts.proofs.RangeLemmas.{counts_rise}
 use Rattle.tap_parts.proofs.TokenOrder.{number_order}
-use Rattle.shard_book.specs.SumsByKey.{token_of}
-use Rattle.shard_book.specs.declared.entry.Entry.{Entry}
+use Rattle.histories.specs.SumsByKey.{token_of}
+use Rattle.histories.specs.declared.entry.Entry.{Entry}
 use Rattle.tap_views.proofs.TokenLemmas.{token_eq-sym, less_apart}
 use Rattle.tap_views.proofs.Lists.{All-unmap}
-use Rattle.shard_book.specs.Plain.{token_of_bytes}
-use Rattle.shard_book.proofs.SumsByToken.{none_of}
+use Rattle.histories.specs.Plain.{token_of_bytes}
+use Rattle.histories.proofs.SumsByToken.{none_of}
 use Rattle.tap_views.specs.TokenOrder.{AreBelow}
 use Rattle.settlement.specs.inside.Apart.{AreOthers}
 use Rattle.settlement.specs.Posted.{HasName, posted, posted_after, token_of_tap}

@@ -19,8 +19,8 @@ use Rattle.tap_parts.proofs.Early.{part_early}
 use Rattle.tap_parts.proofs.Places.{places_are_canonical}
 use Rattle.tap_parts.proofs.RangeLemmas.{range_below, ranges_in_order}
 use Rattle.tap_parts.proofs.Total.{tap_cmp_exact, tap_cmp_total}
-use Rattle.shard_book.specs.declared.entry.Entry.{Entry}
-use Rattle.shard_book.specs.Plain.{answered, plain_after, unanswered}
+use Rattle.histories.specs.declared.entry.Entry.{Entry}
+use Rattle.histories.specs.Plain.{answered, plain_after, unanswered}
 use Rattle.tap_views.specs.declared.upload_end.UploadEnd.{UploadEnd}
 use Rattle.settlement.specs.Bills.{IsBillOf}
 use Rattle.settlement.specs.Posted.{posted, posted_after}

@@ -8,14 +8,14 @@ use Rattle.tap_views.specs.Encoding.{fields_of}
 use Rattle.tap_views.specs.Layout.{Tap}
 use Rattle.tap_views.specs.declared.encoder.TapFields.{TapFields}
 use Rattle.account_rule.specs.declared.reply.Answer.TheVariants.{Stale}
-use Rattle.shard_book.specs.History.{IsLegal}
+use Rattle.histories.specs.History.{IsLegal}
 use Rattle.tap_views.specs.Token.{bytes_of}
-use Rattle.shard_book.specs.Visits.{AreEntriesOf}
-use Rattle.shard_book.specs.declared.entry.Entry.{Entry}
+use Rattle.histories.specs.Entry.{AreEntriesOf}
+use Rattle.histories.specs.declared.entry.Entry.{Entry}
 use Rattle.tap_views.specs.Files.{AreGoodTapsOfEach, HasOneReading}
-use Rattle.fare_service.specs.Plain.{IsPlain}
-use Rattle.shard_book.specs.Plain.{plain, plain_after, answered, unanswered}
-use Rattle.shard_book.proofs.PlainReplies.{bare, plain_bare, plain_legal}
+use Rattle.histories.specs.Plain.{IsPlain}
+use Rattle.histories.specs.Plain.{plain, plain_after, answered, unanswered}
+use Rattle.histories.proofs.PlainReplies.{bare, plain_bare, plain_legal}
 use Rattle.settlement.specs.Alike.{HaveSameTaps}
 use Rattle.tap_parts.specs.Canonical.{tap_cmp}
 use Rattle.settlement.specs.Settled.{IsSettledHistory}

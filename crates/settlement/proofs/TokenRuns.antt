@@ -18,11 +18,11 @@ use Rattle.tap_views.specs.Token.{Fits, bytes_of, token_cmp}
 use Rattle.tap_views.specs.declared.token.Token.{Token}
 use Rattle.tap_views.specs.declared.encoder.TapFields.{TapFields}
 use Rattle.tap_parts.specs.Canonical.{tap_cmp}
-use Rattle.shard_book.specs.SumsByKey.{token_of, tokens}
-use Rattle.shard_book.specs.declared.entry.Entry.{Entry}
+use Rattle.histories.specs.SumsByKey.{token_of, tokens}
+use Rattle.histories.specs.declared.entry.Entry.{Entry}
 use Rattle.tap_views.proofs.TokenLemmas.{high_back, low_back, token_cmp-total, token_cmp-ties}
 use Rattle.tap_views.proofs.Orderings.{first_not_less}
-use Rattle.shard_book.specs.Plain.{answered, token_of_bytes}
+use Rattle.histories.specs.Plain.{answered, token_of_bytes}
 use Rattle.tap_views.specs.TokenOrder.{AreBelow}
 use Rattle.settlement.specs.Posted.{HasName, posted, posted_after, token_of_tap, unposted}
 use Rattle.settlement.proofs.Concats.{posted_append}

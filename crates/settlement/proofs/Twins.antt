@@ -14,9 +14,9 @@ use Rattle.account_rule.specs.declared.reply.Answer.TheVariants.{Stale}
 use Rattle.account_rule.specs.declared.reply.Reply.{Reply}
 use Rattle.account_rule.specs.declared.tap.TapIn.{TapIn}
 use Rattle.account_rule.proofs.StepLemmas.{reply_stale}
-use Rattle.shard_book.specs.Entry.{is_of, mode_of_place, own, tap_of, taps_of}
-use Rattle.shard_book.specs.History.{IsLegal, IsReplied}
-use Rattle.shard_book.specs.declared.entry.Entry.{Entry}
+use Rattle.histories.specs.Entry.{is_of, mode_of_place, own, tap_of, taps_of}
+use Rattle.histories.specs.History.{IsLegal, IsReplied}
+use Rattle.histories.specs.declared.entry.Entry.{Entry}
 use Rattle.settlement.specs.Twins.{HasTwin}
 use Rattle.settlement.proofs.Contained.{kept_there, mapped_there, not_all}
 use Rattle.settlement.proofs.Own.{own_entry}

@@ -1,10 +1,10 @@
 -- What settled taps come to.
 use Rattle.std.specs.Prelude.{◌≡◌, ◌==◌, List}
-use Rattle.shard_book.specs.Sums.{sums}
-use Rattle.shard_book.specs.SumsByKey.{sums_by_token, validator_of}
-use Rattle.shard_book.specs.TalliesByKey.{AreByKey}
-use Rattle.shard_book.specs.Tally.{sums_of_tally}
-use Rattle.shard_book.specs.declared.entry.Entry.{Entry}
+use Rattle.histories.specs.Sums.{sums}
+use Rattle.histories.specs.SumsByKey.{sums_by_token, validator_of}
+use Rattle.histories.specs.TalliesByKey.{AreByKey}
+use Rattle.histories.specs.Tally.{sums_of_tally}
+use Rattle.histories.specs.declared.entry.Entry.{Entry}
 use Rattle.settlement.specs.declared.bill.Bill.{Bill}
 
 -- the bill has the sums of these entries by validator, and of all

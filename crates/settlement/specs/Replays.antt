@@ -4,8 +4,8 @@ use Rattle.tariffs.specs.Fares.{Fares}
 use Rattle.tap_views.specs.Token.{bytes_of}
 use Rattle.account_rule.specs.Stands.{Stands}
 use Rattle.account_rule.specs.TokenRules.{rules_of}
-use Rattle.shard_book.specs.Entry.{taps_of}
-use Rattle.shard_book.specs.declared.entry.Entry.{Entry}
+use Rattle.histories.specs.Entry.{taps_of}
+use Rattle.histories.specs.declared.entry.Entry.{Entry}
 use Rattle.settlement.specs.declared.replay.Replay.{Replay}
 
 -- the account stands for the token's taps among these entries

@@ -3,10 +3,10 @@ use Rattle.std.specs.Prelude.{◌≡◌, ℕ, List, map}
 use Rattle.tap_views.specs.Encoding.{fields_of}
 use Rattle.tap_views.specs.Layout.{Tap}
 use Rattle.tariffs.specs.Fares.{Fares}
-use Rattle.shard_book.specs.declared.entry.Entry.{Entry}
+use Rattle.histories.specs.declared.entry.Entry.{Entry}
 use Rattle.tap_parts.specs.Parts.{taps_of_uploads}
 use Rattle.tap_views.specs.Files.{AreGoodTapsOfEach}
-use Rattle.shard_book.specs.Plain.{plain}
+use Rattle.histories.specs.Plain.{plain}
 use Rattle.tap_parts.specs.Canonical.{IsCanonical}
 
 -- The settled history of uploads under a table: all good taps of the uploads, in canonical order,

@@ -7,15 +7,15 @@ ghost use Rattle.tap_views.specs.declared.token.Token.{Token};
 ghost use Rattle.tap_views.specs.Encoding.{AreEarly};
 ghost use Rattle.tap_views.specs.declared.encoder.TapFields.{TapFields};
 ghost use Rattle.tap_parts.specs.Canonical.{HasTokenBytes, tap_cmp};
-ghost use Rattle.shard_book.specs.SumsByKey.{sums_by_token, token_of};
-ghost use Rattle.shard_book.specs.declared.entry.Entry.{Entry};
+ghost use Rattle.histories.specs.SumsByKey.{sums_by_token, token_of};
+ghost use Rattle.histories.specs.declared.entry.Entry.{Entry};
 ghost use Rattle.tap_views.specs.TokenOrder.{AreBelow};
 ghost use Rattle.settlement.specs.Bills.{IsBillOf, IsCountOf};
 ghost use Rattle.settlement.specs.Posted.{posted, token_of_tap};
 ghost use Rattle.settlement.specs.inside.Billing.{HasBillRoom, HaveBillRoom, IsFirstToken};
 
 use crate::replay::Replay;
-use shard_book::{HashSeed, Tally, TokenSums, ValidatorTallies};
+use histories::{HashSeed, Tally, TokenSums, ValidatorTallies};
 use std::alloc::Global;
 use tap_views::{NoMemory, TapFields, Token};
 use tariffs::{Clock, FareTable};

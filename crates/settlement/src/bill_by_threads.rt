@@ -7,7 +7,7 @@ ghost use Rattle.settlement.specs.inside.Billing.{IsPartBilled, IsSoundPart};
 use crate::bill::Bill;
 use crate::pieces::Pieces;
 use crate::uploads::Uploads;
-use shard_book::HashSeed;
+use histories::HashSeed;
 use std::alloc::Global;
 use std::marker::Sync;
 use std::thread;

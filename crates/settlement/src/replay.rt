@@ -6,14 +6,14 @@ ghost use Rattle.tariffs.specs.Fares.{Fares};
 ghost use Rattle.tap_views.specs.Token.{bytes_of};
 ghost use Rattle.account_rule.specs.TokenRules.{rules_of};
 ghost use Rattle.account_rule.specs.Windows.{last_window};
-ghost use Rattle.shard_book.specs.Entry.{own, tap_of, taps_of};
-ghost use Rattle.shard_book.specs.declared.entry.Entry.{Entry};
-ghost use Rattle.shard_book.specs.Plain.{answered};
+ghost use Rattle.histories.specs.Entry.{own, tap_of, taps_of};
+ghost use Rattle.histories.specs.declared.entry.Entry.{Entry};
+ghost use Rattle.histories.specs.Plain.{answered};
 ghost use Rattle.settlement.specs.Posted.{token_of_tap, unposted};
 ghost use Rattle.settlement.specs.Replays.{HasPosted};
 
 use account_rule::{Account, TapIn, WindowView};
-use shard_book::Entry;
+use histories::Entry;
 use tap_views::{TapFields, Token};
 use tariffs::{Clock, FareTable};
 

@@ -3,7 +3,7 @@
 ghost use Rattle.std.specs.Prelude.{◌≡◌, ◌<◌, ◌≤◌, ◌^◌, All, IfOk, List, ℕ, flat_map, length};
 ghost use Rattle.tap_views.specs.UploadEnds.{ArePlainEnds};
 ghost use Rattle.tap_views.specs.Encoding.{AreEarly};
-ghost use Rattle.shard_book.specs.declared.entry.Entry.{Entry};
+ghost use Rattle.histories.specs.declared.entry.Entry.{Entry};
 ghost use Rattle.settlement.specs.Bills.{IsBillOf};
 ghost use Rattle.settlement.specs.Posted.{token_of_tap};
 ghost use Rattle.settlement.specs.Reading.{AreRead};
@@ -19,7 +19,7 @@ use crate::own_taps::{OwnTaps, own_by_threads};
 use crate::pieces::{Pieces, pieces_of};
 use crate::split_taps::{SplitTaps, bytes_of, split_by_threads};
 use crate::uploads::Uploads;
-use shard_book::HashSeed;
+use histories::HashSeed;
 use std::alloc::{AllocError, Global};
 use std::marker::Sync;
 use std::thread::Threads;

@@ -8,7 +8,7 @@ ghost use Rattle.settlement.specs.inside.SplitTaps.{AreInPartsBetween};
 
 use crate::memory::release;
 use crate::uploads::Uploads;
-use fare_service::laws::plain_history;
+use histories::laws::plain_history;
 use std::alloc::{AllocError, Global};
 use std::marker::Sync;
 use std::thread::Threads;

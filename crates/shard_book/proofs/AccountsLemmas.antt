@@ -14,9 +14,9 @@ use Rattle.shard_book.specs.declared.accounts.Accounts.{Accounts}
 use Rattle.shard_book.specs.declared.accounts.KeptAccount.{KeptAccount}
 use Rattle.shard_book.specs.inside.Accounts.{IsKept, IsKeptOrFresh, HasPlaceFor, IsPlace, StandsOn}
 use Rattle.shard_book.specs.inside.Accounts.{counted, kept_at}
-use Rattle.shard_book.specs.Counts.{sums_of_counts}
+use Rattle.histories.specs.Counts.{sums_of_counts}
 use Rattle.shard_book.specs.inside.Packed.{KeepPlaces, tokens_of}
-use Rattle.shard_book.specs.Sums.{sums_of_replies}
+use Rattle.histories.specs.Sums.{sums_of_replies}
 use Rattle.tap_views.specs.Token.{token_eq}
 use Rattle.tap_views.specs.declared.token.Token.{Token}
 use Rattle.tap_views.proofs.TokenLemmas.{same_token, token_eq-laws}

@@ -6,12 +6,12 @@ use Rattle.std.specs.Prelude.{Result, Ok, IfOk, OnOk, slice_index_or}
 use Rattle.std.specs.HashMap.{HashMap}
 use Rattle.std.proofs.lemmas.List.{take-append-drop, append-nil, drop_all, nil_from_length}
 use Rattle.std.proofs.lemmas.Grind.{div_ceil_times}
-use Rattle.shard_book.specs.declared.entry.Entry.{Entry}
-use Rattle.shard_book.specs.declared.sums.tally.Tally.{Tally}
+use Rattle.histories.specs.declared.entry.Entry.{Entry}
+use Rattle.histories.specs.declared.sums.tally.Tally.{Tally}
 use Rattle.shard_book.specs.Book.{Book}
-use Rattle.shard_book.specs.SumsByKey.{all_entries}
-use Rattle.shard_book.specs.TalliesByKey.{AreByKey, HaveRoom}
-use Rattle.shard_book.proofs.MergeLemmas.{parts-room, parts-by_key, parts-few}
+use Rattle.shard_book.specs.Book.{all_entries}
+use Rattle.histories.specs.TalliesByKey.{AreByKey, HaveRoom}
+use Rattle.shard_book.proofs.BookSums.{parts-room, parts-by_key, parts-few}
 
 -- no chunks are of no books
 pub no-chunks : (size : ℕ) (books : List Book) → 0 < size

@@ -7,17 +7,17 @@ use Rattle.std.proofs.lemmas.Bool.Decides.{nat_tests}
 use Rattle.std.proofs.lemmas.List.{append-nil}
 use Rattle.std.proofs.lemmas.List.Elements.{filter-append}
 use Rattle.shard_book.specs.declared.accounts.Accounts.{Accounts}
-use Rattle.shard_book.specs.declared.entry.Entry.{Entry}
+use Rattle.histories.specs.declared.entry.Entry.{Entry}
 use Rattle.tap_views.specs.declared.token.Token.{Token}
 use Rattle.shard_book.specs.inside.Accounts.{kept_at, counted}
 use Rattle.shard_book.specs.inside.Counting.{AreCounted}
-use Rattle.shard_book.specs.Entry.{is_of, own, reply_of}
-use Rattle.shard_book.specs.SumsByKey.{token_of}
-use Rattle.shard_book.specs.Sums.{Sums, sums, sums_of_replies, add_sums}
-use Rattle.shard_book.specs.inside.Sums.{has_taps}
+use Rattle.histories.specs.Entry.{is_of, own, reply_of}
+use Rattle.histories.specs.SumsByKey.{token_of}
+use Rattle.histories.specs.Sums.{Sums, sums, sums_of_replies, add_sums}
+use Rattle.histories.specs.Sums.{has_taps}
 use Rattle.tap_views.specs.Token.{token_eq}
 use Rattle.tap_views.proofs.TokenLemmas.{same_token, token_eq-sym}
-use Rattle.shard_book.proofs.SumsLemmas.{sums-append}
+use Rattle.histories.proofs.SumsLemmas.{sums-append}
 
 -- the token's own entries after one more
 own-push : (token : Token) (entries : List Entry) (entry : Entry)

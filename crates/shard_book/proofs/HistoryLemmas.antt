@@ -7,12 +7,12 @@ use Rattle.std.proofs.lemmas.Bool.{cases_lt}
 use Rattle.std.proofs.lemmas.Option.{slice_get-get_or, slice_get_past, slice_get_within}
 use Rattle.std.proofs.lemmas.Option.{get_or_from_slice_get}
 use Rattle.account_rule.specs.declared.reply.Reply.{Reply}
-use Rattle.shard_book.specs.declared.entry.Entry.{Entry}
+use Rattle.histories.specs.declared.entry.Entry.{Entry}
 use Rattle.tap_views.specs.declared.token.Token.{Token}
 use Rattle.tap_views.proofs.Lists.{take_next}
-use Rattle.shard_book.specs.Entry.{is_of, own, reply_of}
-use Rattle.shard_book.specs.Sums.{Sums, sums, sums_of_replies, add_sums}
-use Rattle.shard_book.proofs.SumsLemmas.{sums-more}
+use Rattle.histories.specs.Entry.{is_of, own, reply_of}
+use Rattle.histories.specs.Sums.{Sums, sums, sums_of_replies, add_sums}
+use Rattle.histories.proofs.SumsLemmas.{sums-more}
 
 -- the sums of one entry more
 pub sums-read : (entries : List Entry) (i : ℕ) (entry : Entry) (answered : Reply) (old new : Sums)

@@ -12,13 +12,13 @@ use Rattle.account_rule.specs.declared.reply.Reply.{Reply}
 use Rattle.account_rule.specs.declared.reply.Answer.TheVariants.{Paid, Transfer, Capped, Stale}
 use Rattle.account_rule.specs.declared.reply.Answer.TheVariants.{Unknown}
 use Rattle.shard_book.specs.declared.accounts.KeptAccount.{KeptAccount}
-use Rattle.shard_book.specs.declared.entry.Entry.{Entry}
+use Rattle.histories.specs.declared.entry.Entry.{Entry}
 use Rattle.shard_book.specs.declared.packed.PackedEntry.{PackedEntry}
 use Rattle.tap_views.specs.declared.token.Token.{Token}
 use Rattle.shard_book.specs.inside.Packed.{ArePlaced, HasToken, KeepPlaces, answer_at, entry_of}
 use Rattle.shard_book.specs.inside.Packed.{entry_with, history_of, no_token, bits_answer}
 use Rattle.shard_book.specs.inside.Packed.{bits_cents, bits_moment}
-use Rattle.shard_book.specs.inside.Places.{count_place}
+use Rattle.histories.specs.Places.{count_place}
 
 -- the answer with the number of an answer is that answer
 answer-back : (answer : Answer) → answer_at (count_place answer) ≡ answer

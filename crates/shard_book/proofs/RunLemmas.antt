@@ -6,12 +6,13 @@ use Rattle.std.proofs.lemmas.List.{length-append, map-append, append_assoc, appe
 use Rattle.tap_views.specs.Layout.{Tap}
 use Rattle.tap_views.specs.Shards.{ShardRun, run_taps, IsShardTap}
 use Rattle.account_rule.specs.declared.reply.Reply.{Reply}
-use Rattle.shard_book.specs.declared.entry.Entry.{Entry}
+use Rattle.histories.specs.declared.entry.Entry.{Entry}
 use Rattle.shard_book.specs.Book.{Book, PostsTap, with_entries}
-use Rattle.shard_book.specs.Entry.{IsEntryOf, reply_of}
-use Rattle.shard_book.specs.History.{IsLegal}
-use Rattle.shard_book.specs.Replies.{RepliesView}
-use Rattle.shard_book.specs.Visits.{AreEntriesOf, PostsRun}
+use Rattle.histories.specs.Entry.{IsEntryOf, reply_of}
+use Rattle.histories.specs.History.{IsLegal}
+use Rattle.histories.specs.Replies.{RepliesView}
+use Rattle.histories.specs.Entry.{AreEntriesOf}
+use Rattle.shard_book.specs.Visits.{PostsRun}
 use Rattle.shard_book.specs.inside.Visits.{PostsTaps}
 use Rattle.shard_book.specs.declared.run_end.RunEnd.TheVariants.{Whole}
 

@@ -11,19 +11,20 @@ use Rattle.account_rule.specs.Replies.{reply}
 use Rattle.account_rule.specs.TokenRules.{rules_of}
 use Rattle.shard_book.specs.declared.accounts.Accounts.{Accounts}
 use Rattle.shard_book.specs.declared.accounts.KeptAccount.{KeptAccount}
-use Rattle.shard_book.specs.declared.entry.Entry.{Entry}
+use Rattle.histories.specs.declared.entry.Entry.{Entry}
 use Rattle.tap_views.specs.declared.token.Token.{Token}
 use Rattle.shard_book.specs.inside.Accounts.{kept_at, counted, IsCounting, IsKept, StandsOn}
-use Rattle.shard_book.specs.Entry.{own, tap_of, taps_of, reply_of}
-use Rattle.shard_book.specs.History.{IsReplied}
+use Rattle.histories.specs.Entry.{own, tap_of, taps_of, reply_of}
+use Rattle.histories.specs.History.{IsReplied}
 use Rattle.shard_book.specs.inside.Sound.{IsBook, IsSound, AreKept}
 use Rattle.tap_views.specs.Token.{Fits, bytes_of, token_eq}
-use Rattle.shard_book.specs.Sums.{sums_of_replies, add_sums}
+use Rattle.histories.specs.Sums.{sums_of_replies, add_sums}
 use Rattle.shard_book.specs.declared.packed.PackedEntry.{PackedEntry}
 use Rattle.shard_book.specs.inside.Packed.{KeepPlaces, history_of, tokens_of}
 use Rattle.shard_book.proofs.AccountsLemmas.{on-same}
 use Rattle.shard_book.proofs.CountingLemmas.{counted-same, counted-push, counted-none}
-use Rattle.shard_book.proofs.Histories.{legal-none, legal-push, kept-push, tap_of-post}
+use Rattle.histories.proofs.Histories.{legal-none, legal-push, tap_of-post}
+use Rattle.shard_book.proofs.KeptLemmas.{kept-push}
 use Rattle.shard_book.proofs.PackedLemmas.{history-same, placed-kept, placed-none}
 
 -- nothing was posted: the entries are the same, and what is kept of the tokens stands on

@@ -22,24 +22,25 @@ use Rattle.std.proofs.lemmas.Map.Views.{lookup-from_Contains}
 use Rattle.std.proofs.lemmas.Map.Made.{All-is_member, IsDistinct-keys_filter, keys_of-map_values}
 use Rattle.shard_book.specs.declared.accounts.Accounts.{Accounts}
 use Rattle.shard_book.specs.declared.accounts.KeptAccount.{KeptAccount}
-use Rattle.shard_book.specs.declared.entry.Entry.{Entry}
+use Rattle.histories.specs.declared.entry.Entry.{Entry}
 use Rattle.tap_views.specs.declared.token.Token.{Token}
 use Rattle.shard_book.specs.inside.Accounts.{kept_at, counted, is_used, pair_of, pairs_of}
-use Rattle.shard_book.specs.declared.sums.counts.TokenCounts.{TokenCounts}
+use Rattle.histories.specs.declared.sums.counts.TokenCounts.{TokenCounts}
 use Rattle.tap_views.specs.Shards.{shard_of_token}
 use Rattle.shard_book.specs.Book.{Book, AreOfShard}
 use Rattle.shard_book.specs.inside.Counting.{AreCounted, AreSummed, AddsSums, AreBelow}
-use Rattle.shard_book.specs.Counts.{sums_of_counts, token_counts}
-use Rattle.shard_book.specs.Entry.{is_of, own}
-use Rattle.shard_book.specs.SumsByKey.{token_of, tokens, sums_by_token, all_entries}
-use Rattle.shard_book.specs.Sums.{Sums, sums, sums_of_replies}
-use Rattle.shard_book.specs.inside.Sums.{has_taps}
+use Rattle.histories.specs.Counts.{sums_of_counts, token_counts}
+use Rattle.histories.specs.Entry.{is_of, own}
+use Rattle.histories.specs.SumsByKey.{token_of, tokens, sums_by_token}
+use Rattle.shard_book.specs.Book.{all_entries}
+use Rattle.histories.specs.Sums.{Sums, sums, sums_of_replies}
+use Rattle.histories.specs.Sums.{has_taps}
 use Rattle.tap_views.specs.Token.{bytes_of, token_eq, token_cmp}
 use Rattle.shard_book.proofs.CountingLemmas.{own-member}
 use Rattle.tap_views.proofs.TokenLemmas.{same_token, token_eq-sym, token_eq-laws, token_cmp-total}
 use Rattle.tap_views.proofs.TokenLemmas.{token_cmp-ties}
-use Rattle.shard_book.proofs.RisingLemmas.{rising-only, sorted-rises}
-use Rattle.shard_book.proofs.SumsLemmas.{all-more}
+use Rattle.histories.proofs.RisingLemmas.{rising-only, sorted-rises}
+use Rattle.shard_book.proofs.BookSums.{all-more}
 
 -- a token that is apart from all keys is apart from those that a test leaves
 member-apart : (test : Token × KeptAccount → Bool) (token : Token) (es : List (Token × KeptAccount))

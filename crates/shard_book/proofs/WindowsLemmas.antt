@@ -8,16 +8,16 @@ use Rattle.account_rule.specs.declared.tap.TapIn.{TapIn}
 use Rattle.account_rule.specs.Laws.{is_paid_reply}
 use Rattle.account_rule.specs.declared.reply.Answer.TheVariants.{Paid, Transfer, Capped, Stale}
 use Rattle.account_rule.specs.declared.reply.Answer.TheVariants.{Unknown}
-use Rattle.shard_book.specs.Sums.{sums_of_replies, is_paid}
+use Rattle.histories.specs.Sums.{sums_of_replies, is_paid}
 use Rattle.account_rule.specs.Replies.{reply, replies, replies_after}
 use Rattle.account_rule.specs.TokenRules.{rules_of}
-use Rattle.shard_book.specs.declared.entry.Entry.{Entry}
+use Rattle.histories.specs.declared.entry.Entry.{Entry}
 use Rattle.tap_views.specs.declared.token.Token.{Token}
-use Rattle.shard_book.specs.Entry.{is_of, own, tap_of, taps_of, reply_of}
-use Rattle.shard_book.specs.History.{IsReplied, IsLegal}
-use Rattle.shard_book.specs.Keys.{same_token}
+use Rattle.histories.specs.Entry.{is_of, own, tap_of, taps_of, reply_of}
+use Rattle.histories.specs.History.{IsReplied, IsLegal}
+use Rattle.histories.specs.Keys.{same_token}
 use Rattle.tap_views.specs.Token.{bytes_of}
-use Rattle.shard_book.proofs.Histories.{taps-push}
+use Rattle.histories.proofs.Histories.{taps-push}
 
 -- the replies of the token's entries after some others
 replies-after : (table : Fares) (token : Token) (before rest : List Entry)

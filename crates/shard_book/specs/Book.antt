@@ -1,11 +1,12 @@
 -- What contracts see of a book.
-use Rattle.std.specs.Prelude.{◌≡◌, ℕ, List, [], ◌∷◌, ◌++◌, All, slice_get, Some}
+use Rattle.std.specs.Prelude.{◌≡◌, ℕ, List, [], ◌∷◌, ◌++◌, All, flat_map, slice_get}
+use Rattle.std.specs.Prelude.{Some}
 use Rattle.tap_views.specs.Layout.{Tap}
 use Rattle.tap_views.specs.Shards.{shard_of_token}
 use Rattle.tariffs.specs.Fares.{Fares}
 use Rattle.account_rule.specs.declared.reply.Reply.{Reply}
-use Rattle.shard_book.specs.declared.entry.Entry.{Entry}
-use Rattle.shard_book.specs.Entry.{IsEntryOf, reply_of}
+use Rattle.histories.specs.declared.entry.Entry.{Entry}
+use Rattle.histories.specs.Entry.{IsEntryOf, reply_of}
 use Rattle.tap_views.specs.Token.{bytes_of}
 
 -- a book: its table, its shard and the number of shards, and its whole history
@@ -32,6 +33,10 @@ with_entries book more =
       shards = book.shards;
       entries = book.entries ++ more;
     }
+
+-- the entries of several books, book by book
+abbrev pub all_entries : List Book → List Entry
+all_entries books = flat_map (λ book. book.entries) books
 
 -- exactly one entry was appended: of the tap, with the reply
 pub record PostsTap (book after : Book) (tap : Tap) (reply : Reply) : Type 0 where

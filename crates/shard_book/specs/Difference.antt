@@ -1,6 +1,6 @@
 -- Where two lists first differ.
 use Rattle.std.specs.Prelude.{◌≡◌, ◌≢◌, ℕ, List, Option, Some, None, take, slice_get}
-use Rattle.shard_book.specs.declared.entry.Entry.{Entry}
+use Rattle.histories.specs.declared.entry.Entry.{Entry}
 
 -- the lists agree before the place, and at the place they do not: another entry, or one list has
 -- ended

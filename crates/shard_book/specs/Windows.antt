@@ -8,10 +8,10 @@ use Rattle.account_rule.specs.Laws.{GrowsWithinLimits, charge_reply, is_ride}
 use Rattle.account_rule.specs.TokenRules.{rules_of}
 use Rattle.account_rule.specs.Taps.{LiveTap}
 use Rattle.account_rule.specs.Windows.{charges, paid_rides, window_cents, windows}
-use Rattle.shard_book.specs.declared.entry.Entry.{Entry}
+use Rattle.histories.specs.declared.entry.Entry.{Entry}
 use Rattle.tap_views.specs.declared.token.Token.{Token}
-use Rattle.shard_book.specs.Entry.{own, taps_of, reply_of}
-use Rattle.shard_book.specs.Sums.{sums_of_replies}
+use Rattle.histories.specs.Entry.{own, taps_of, reply_of}
+use Rattle.histories.specs.Sums.{sums_of_replies}
 use Rattle.tap_views.specs.Token.{bytes_of}
 
 -- No window has more paid rides than the ride limit or costs more than the ceiling.

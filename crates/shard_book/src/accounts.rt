@@ -12,15 +12,14 @@ ghost use Rattle.shard_book.specs.inside.Accounts.{kept_at, counted, pairs_of, I
 ghost use Rattle.shard_book.specs.inside.Accounts.{HasPlaceFor, IsPlace, StandsOn};
 ghost use Rattle.shard_book.specs.inside.Counting.{AreCounted, AreSummed};
 ghost use Rattle.shard_book.specs.inside.Packed.{HasToken, KeepPlaces, tokens_of};
-ghost use Rattle.shard_book.specs.Counts.{token_counts};
-ghost use Rattle.shard_book.specs.declared.entry.Entry.{Entry};
-ghost use Rattle.shard_book.specs.Sums.{sums_of_replies, add_sums};
+ghost use Rattle.histories.specs.Counts.{token_counts};
+ghost use Rattle.histories.specs.declared.entry.Entry.{Entry};
+ghost use Rattle.histories.specs.Sums.{sums_of_replies, add_sums};
 ghost use Rattle.tap_views.specs.Token.{bytes_of, token_eq};
 ghost use Rattle.tap_views.specs.declared.token.Token.{Token};
 
-use crate::sums::counts::{Counts, TokenCounts};
-use crate::token_hash::HashSeed;
 use account_rule::{Account, Reply, TapIn};
+use histories::{Counts, HashSeed, TokenCounts};
 use indexmap::IndexMap;
 use indexmap::map::Entry as MapEntry;
 use std::alloc::Global;

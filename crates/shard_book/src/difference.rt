@@ -4,7 +4,7 @@ ghost use Rattle.std.specs.Prelude.{◌≡◌, ◌<◌, ◌↔◌, IsTrue, Some,
 ghost use Rattle.shard_book.specs.Difference.{IsFirstDifference};
 
 use crate::book::ShardBook;
-use crate::entry::Entry;
+use histories::Entry;
 
 /// The first place at which the book's history and the list differ, the end of the shorter among
 /// them. `None` if they are equal.

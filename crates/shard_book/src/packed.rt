@@ -2,14 +2,13 @@
 
 ghost use Rattle.std.specs.Prelude.{◌≡◌, ◌/◌, ◌%◌, ◌<◌, ◌≤◌, ◌^◌, List, Some, slice_get};
 ghost use Rattle.account_rule.specs.declared.reply.Reply.{Reply};
-ghost use Rattle.shard_book.specs.declared.entry.Entry.{Entry};
+ghost use Rattle.histories.specs.declared.entry.Entry.{Entry};
 ghost use Rattle.tap_views.specs.declared.token.Token.{Token};
 ghost use Rattle.shard_book.specs.inside.Packed.{answer_at, entry_of, entry_with};
 ghost use Rattle.shard_book.specs.inside.Packed.{bits_answer, bits_cents, bits_moment};
 
-use crate::entry::Entry;
-use crate::sums::tally::place_of;
 use account_rule::{Answer, Reply};
+use histories::{Entry, place_of};
 use tap_views::Token;
 
 /// 2^42, above every moment: the moment in bits is what is left when they are divided by it.

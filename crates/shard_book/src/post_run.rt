@@ -2,13 +2,13 @@
 
 ghost use Rattle.std.specs.Prelude.{◌≡◌, ◌≤◌, length};
 ghost use Rattle.tap_views.specs.Shards.{run_taps};
-ghost use Rattle.shard_book.specs.History.{IsLegal};
+ghost use Rattle.histories.specs.History.{IsLegal};
 ghost use Rattle.shard_book.specs.Visits.{PostsRun};
 
 use crate::book::ShardBook;
 use crate::prefetch::{AT_ONCE, NO_PLACE};
-use crate::replies::Replies;
 use crate::run_end::RunEnd;
+use histories::Replies;
 use tap_views::Run;
 use tariffs::Clock;
 

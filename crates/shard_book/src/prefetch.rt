@@ -9,7 +9,6 @@ ghost use Rattle.shard_book.specs.inside.Packed.{KeepPlaces, tokens_of};
 
 use crate::accounts::{Accounts, KeptAccount};
 use crate::book::ShardBook;
-use crate::sums::counts::Counts;
 use tap_views::{NoMemory, RunTaps, Token};
 
 /// How many accounts are looked up at once.
@@ -17,14 +16,6 @@ pub(crate) const AT_ONCE: usize = 16;
 
 /// A place at which no account is.
 pub(crate) const NO_PLACE: u32 = u32::MAX;
-
-impl Counts {
-    /// Prefetch: reads the cents. True unless no cent more can be counted, so nearly always.
-    #[inline(always)]
-    pub(crate) fn prefetch(&self) -> bool {
-        self.cents < u32::MAX
-    }
-}
 
 impl KeptAccount {
     /// Prefetch: reads the account and its counts, so that both cache lines are loaded when the tap

@@ -1,34 +1,17 @@
-//! The statement of one token.
+//! The statement of one token of a book.
 
 ghost use Rattle.std.specs.Prelude.{◌≡◌, ◌∷◌, [], ◌++◌, IfOk, OnOk};
-ghost use Rattle.shard_book.specs.Entry.{own};
-ghost use Rattle.shard_book.specs.Statement.{IsStatement};
+ghost use Rattle.histories.specs.Entry.{own};
+ghost use Rattle.histories.specs.Statement.{IsStatement};
 
 use crate::book::ShardBook;
-use crate::entry::Entry;
-use crate::lines::Lines;
-use crate::sums::totals::Totals;
-use crate::sums::totals_of_entries;
-use account_rule::WindowView;
+use histories::{Entry, Lines, Statement, totals_of_entries};
 use std::alloc::Global;
 use tap_views::{NoMemory, Token};
 
-/// What a book has of one token.
-#[derive(Drop)]
-pub struct Statement {
-    /// The token.
-    pub token: Token,
-    /// Its entries, in history order.
-    pub lines: Lines,
-    /// The totals of its entries.
-    pub totals: Totals,
-    /// Its last window, if it has one.
-    pub window: Option<WindowView>,
-}
-
 /// Appends the entry, if it is the token's.
 #[inline(always)]
-#[tactic(auto, unfolding(crate::specs::Entry::own))]
+#[tactic(auto, unfolding(histories::specs::Entry::own))]
 fn push_if_own(list: &mut Vec<Entry>, entry: Entry, token: Token) -> Result<(), NoMemory>
     ensures { OnOk result (list.new.items ≡ list.old.items ++ own token (entry ∷ [])) }
 {

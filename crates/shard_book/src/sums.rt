@@ -1,118 +1,29 @@
-//! Sums of histories: in all, by validator and by token.
+//! Sums of books: in all, by validator and by token.
 
 ghost use Rattle.std.specs.Prelude.{◌≡◌, ◌<◌, ◌≤◌, ◌^◌, length, map, IfOk};
-ghost use Rattle.shard_book.specs.Counts.{token_counts};
-ghost use Rattle.shard_book.specs.SumsByKey.{all_entries, sums_by_validator, sums_by_token, tokens};
-ghost use Rattle.shard_book.specs.Shown.{validator_sum, token_sum};
-ghost use Rattle.shard_book.specs.Sums.{Sums, sums, sums_of};
+ghost use Rattle.shard_book.specs.Book.{all_entries};
+ghost use Rattle.histories.specs.SumsByKey.{sums_by_validator, sums_by_token, tokens};
+ghost use Rattle.histories.specs.Shown.{validator_sum, token_sum};
+ghost use Rattle.histories.specs.Sums.{sums, sums_of};
 
 use crate::book::ShardBook;
-use crate::entry::Entry;
-use crate::sums::by_key::{SumKey, listed, sums_of_books};
+use crate::sums::by_key::sums_of_books;
 use crate::sums::by_threads::tallies_by_validator;
 use crate::sums::by_token::rising_counts;
-use crate::sums::counts::TokenCounts;
-use crate::sums::tally::Tally;
-use crate::sums::totals::Totals;
+use histories::{Tally, TokenSum, TokenSums, Totals, ValidatorSum, listed, widened_sums};
 use std::alloc::Global;
 use std::marker::Sync;
 use std::thread::Threads;
 use tap_views::{NoMemory, Token};
 
-pub(crate) mod by_key;
-pub(crate) mod by_threads;
-pub(crate) mod by_token;
-pub(crate) mod counts;
-pub(crate) mod tally;
-pub(crate) mod token_sums;
-pub(crate) mod totals;
-pub(crate) mod validator_tallies;
-
-/// A validator and the totals of its entries.
-#[derive(Clone, Copy, Debug, PartialEq, Eq)]
-pub struct ValidatorSum {
-    /// The number of the validator.
-    pub validator: u32,
-    /// The totals of its entries.
-    pub totals: Totals,
-}
-
-/// A token and the totals of its entries.
-#[derive(Clone, Copy, Debug, PartialEq, Eq)]
-pub struct TokenSum {
-    /// The token.
-    pub token: Token,
-    /// The totals of its entries.
-    pub totals: Totals,
-}
-
-impl SumKey for u32 {
-    ghost use Rattle.shard_book.specs.SumsByKey.{validator_of};
-    ghost use Rattle.shard_book.specs.Shown.{validator_sum};
-    ghost use Rattle.shard_book.specs.Sums.{sums_of};
-    ghost use Rattle.shard_book.specs.inside.Keys.{same_number};
-
-    type Sum = ValidatorSum;
-
-    ghost key_of = { validator_of };
-
-    ghost shown = { validator_sum };
-
-    ghost same = { same_number };
-
-    fn of(entry: &Entry) -> u32 {
-        entry.validator
-    }
-
-    fn sum(self, totals: Totals) -> ValidatorSum {
-        ValidatorSum {
-            validator: self,
-            totals,
-        }
-    }
-}
-
-impl SumKey for Token {
-    ghost use Rattle.shard_book.specs.SumsByKey.{token_of};
-    ghost use Rattle.shard_book.specs.Shown.{token_sum};
-    ghost use Rattle.shard_book.specs.Sums.{sums_of};
-    ghost use Rattle.shard_book.specs.Keys.{same_token};
-
-    type Sum = TokenSum;
-
-    ghost key_of = { token_of };
-
-    ghost shown = { token_sum };
-
-    ghost same = { same_token };
-
-    fn of(entry: &Entry) -> Token {
-        entry.token
-    }
-
-    fn sum(self, totals: Totals) -> TokenSum {
-        TokenSum {
-            token: self,
-            totals,
-        }
-    }
-}
-
-/// The totals of a list of entries, in one scan.
-pub fn totals_of_entries(entries: &[Entry]) -> Totals
-    ensures sums { sums_of result ≡ sums entries.now }
-    ensures few { result.taps < 2 ^ 64 }
-{
-    let mut tally = Tally::new();
-    for entry in entries {
-        tally.add(entry.reply());
-    }
-    tally.totals()
-}
+mod by_hints;
+mod by_key;
+mod by_threads;
+mod by_token;
 
 /// The validators of the books, rising, each with the totals of its entries: one scan a book, and a
 /// sort of the validators. Of many entries, threads go over a quarter of the books each.
-#[tactic(auto, unfolding(crate::specs::inside::SumsBy::sums_by, crate::specs::ByKey::with_key, crate::specs::SumsByKey::sums_by_validator, crate::specs::SumsByKey::validators, crate::specs::SumsByKey::entries_of_validator))]
+#[tactic(auto, unfolding(histories::specs::SumsBy::sums_by, histories::specs::ByKey::with_key, histories::specs::SumsByKey::sums_by_validator, histories::specs::SumsByKey::validators, histories::specs::SumsByKey::entries_of_validator))]
 pub fn sums_by_validator<R: Threads + Sync>(
     rt: &R,
     alloc: Global,
@@ -132,7 +43,7 @@ pub fn sums_by_validator<R: Threads + Sync>(
 /// The tokens of the books, rising, each with the totals of its entries: one scan of what the books
 /// keep of their tokens, and a sort of the tokens. If two books may share a token, a scan of the
 /// histories.
-pub(crate) fn sums_by_token(alloc: Global, books: &[ShardBook]) -> Result<Vec<TokenSum>, NoMemory>
+fn sums_by_token(alloc: Global, books: &[ShardBook]) -> Result<Vec<TokenSum>, NoMemory>
     requires { length books.now ≤ 64 }
     ensures { IfOk result (λ list.
         map token_sum list.items ≡ sums_by_token (all_entries books.now)) }
@@ -143,25 +54,26 @@ pub(crate) fn sums_by_token(alloc: Global, books: &[ShardBook]) -> Result<Vec<To
     }
 }
 
+/// The sums by token of all entries of the books, as `sums_by_token` lists them. Each is made when
+/// it is asked for.
+pub fn token_sums_of_books(alloc: Global, books: &[ShardBook]) -> Result<TokenSums, NoMemory>
+    requires { length books.now ≤ 64 }
+    ensures { IfOk result (λ sums. sums ≡ sums_by_token (all_entries books.now)) }
+{
+    match rising_counts(alloc, books)? {
+        Some(list) => Ok(TokenSums::of_counts(list)),
+        None => Ok(TokenSums::of_totals(added_by_token(alloc, books)?)),
+    }
+}
+
 /// The same, added up entry by entry.
-#[tactic(auto, unfolding(crate::specs::inside::SumsBy::sums_by, crate::specs::ByKey::with_key, crate::specs::SumsByKey::sums_by_token, crate::specs::SumsByKey::tokens, crate::specs::Entry::own))]
-pub(crate) fn added_by_token(alloc: Global, books: &[ShardBook]) -> Result<Vec<TokenSum>, NoMemory>
+#[tactic(auto, unfolding(histories::specs::SumsBy::sums_by, histories::specs::ByKey::with_key, histories::specs::SumsByKey::sums_by_token, histories::specs::SumsByKey::tokens, histories::specs::Entry::own))]
+fn added_by_token(alloc: Global, books: &[ShardBook]) -> Result<Vec<TokenSum>, NoMemory>
     requires { length books.now ≤ 64 }
     ensures { IfOk result (λ list.
         map token_sum list.items ≡ sums_by_token (all_entries books.now)) }
 {
     sums_of_books::<Token>(alloc, books)
-}
-
-/// The sums that the counts are.
-pub(crate) fn widened_sums(alloc: Global, list: &[TokenCounts]) -> Result<Vec<TokenSum>, NoMemory>
-    ensures { IfOk result (λ sums. map token_sum sums.items ≡ map token_counts list.now) }
-{
-    let mut sums = Vec::with_capacity(alloc, list.len())?;
-    for counts in list {
-        sums.push_reserved(counts.sum());
-    }
-    Ok(sums)
 }
 
 /// The tokens of the sums.
@@ -187,7 +99,7 @@ impl ShardBook {
 
     /// The validators of the history, rising, each with the totals of its entries: one scan of
     /// the history, and a sort of the validators.
-    #[tactic(auto, unfolding(crate::specs::inside::SumsBy::sums_by, crate::specs::ByKey::with_key, crate::specs::SumsByKey::sums_by_validator, crate::specs::SumsByKey::validators, crate::specs::SumsByKey::entries_of_validator))]
+    #[tactic(auto, unfolding(histories::specs::SumsBy::sums_by, histories::specs::ByKey::with_key, histories::specs::SumsByKey::sums_by_validator, histories::specs::SumsByKey::validators, histories::specs::SumsByKey::entries_of_validator))]
     pub fn by_validator(&self, alloc: Global) -> Result<Vec<ValidatorSum>, NoMemory>
         ensures { IfOk result (λ list.
             map validator_sum list.items ≡ sums_by_validator self.now.entries) }

@@ -10,8 +10,8 @@ use native.Mathlib.Decide.{ℕ_discrete}
 use lib.ListN.{get_elem?}
 use Rattle.atomic_table.specs.Table.{State}
 use Rattle.atomic_table.proofs.Lists.{at_set, set_here, set_else}
-use Rattle.shard_book.specs.declared.entry.Entry.{Entry}
-use Rattle.shard_book.specs.History.{IsLegal}
+use Rattle.histories.specs.declared.entry.Entry.{Entry}
+use Rattle.histories.specs.History.{IsLegal}
 use Rattle.shared_books.specs.declared.turns.rule.Opening.{Opening}
 use Rattle.shared_books.specs.declared.turns.rule.Mark.{Mark}
 use Rattle.shared_books.specs.declared.turns.rule.PassState.{PassState}

@@ -4,9 +4,9 @@ use Rattle.std.proofs.Common.{List, [], ◌∷◌, ◌++◌, length, refl, sym, 
 use Rattle.std.proofs.Common.{Option, Some, unwrap_or, append_assoc, append-nil, length-append}
 use Rattle.std.proofs.Common.{lt_of_not-le}
 use Rattle.atomic_table.specs.Seated.{TableId}
-use Rattle.shard_book.specs.declared.entry.Entry.{Entry}
+use Rattle.histories.specs.declared.entry.Entry.{Entry}
 use Rattle.shard_book.specs.Book.{Book, with_entries}
-use Rattle.shard_book.specs.History.{IsLegal}
+use Rattle.histories.specs.History.{IsLegal}
 use Rattle.shared_books.specs.declared.turns.rule.Opening.{Opening}
 use Rattle.shared_books.specs.declared.turns.rule.Mark.{Mark}
 use Rattle.shared_books.specs.declared.turns.rule.PassState.{PassState}

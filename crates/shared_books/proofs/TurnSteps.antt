@@ -14,8 +14,8 @@ use Rattle.atomic_table.specs.Table.{State, Me, Step, step, keeps, takes, gives,
 use Rattle.atomic_table.specs.Table.{Joins, opening, Seen, Final}
 use Rattle.atomic_table.proofs.Lists.{at_set, set_here}
 use Rattle.atomic_table.proofs.Lists.{exchanged}
-use Rattle.shard_book.specs.declared.entry.Entry.{Entry}
-use Rattle.shard_book.specs.History.{IsLegal}
+use Rattle.histories.specs.declared.entry.Entry.{Entry}
+use Rattle.histories.specs.History.{IsLegal}
 use Rattle.shared_books.specs.declared.turns.rule.Opening.{Opening}
 use Rattle.shared_books.specs.declared.turns.rule.Mark.{Mark}
 use Rattle.shared_books.specs.declared.turns.rule.PassState.{PassState}

@@ -2,7 +2,7 @@
 -- visit.
 use Rattle.std.specs.Prelude.{◌≡◌, ℕ, ◌+◌, List, [], ◌∷◌, ◌++◌}
 use mathlib.Core.Option.{Option, none, some}
-use Rattle.shard_book.specs.declared.entry.Entry.{Entry}
+use Rattle.histories.specs.declared.entry.Entry.{Entry}
 
 -- the count of visits, the seat that holds the turn, and the visits so far
 pub record Machine : Type 0 where

@@ -2,9 +2,9 @@
 use Rattle.std.specs.Prelude.{◌≡◌, ℕ, ◌+◌, ◌≤◌, ◌<◌, ◌^◌, ◌⊎◌, true, List, [], ◌∷◌, ◌++◌, length}
 use Rattle.atomic_table.specs.Seated.{TableId}
 use Rattle.tariffs.specs.Fares.{Fares}
-use Rattle.shard_book.specs.declared.entry.Entry.{Entry}
+use Rattle.histories.specs.declared.entry.Entry.{Entry}
 use Rattle.shard_book.specs.Book.{Book}
-use Rattle.shard_book.specs.History.{IsLegal}
+use Rattle.histories.specs.History.{IsLegal}
 use Rattle.shared_books.specs.declared.turns.rule.Mark.{Mark}
 use Rattle.shared_books.specs.Claims.{all_claims, claims_given, claims_left}
 use Rattle.shared_books.specs.Marks.{mark, others, visits_of, history_of_visits, made_from}

@@ -1,10 +1,10 @@
 -- What the calls of a shared book return.
 use Rattle.std.specs.Prelude.{◌≡◌, ℕ, ◌+◌, List, [], ◌++◌, length, map}
 use Rattle.tap_views.specs.Shards.{ShardRun, run_taps}
-use Rattle.shard_book.specs.declared.entry.Entry.{Entry}
-use Rattle.shard_book.specs.Entry.{reply_of}
+use Rattle.histories.specs.declared.entry.Entry.{Entry}
+use Rattle.histories.specs.Entry.{reply_of}
 use Rattle.shard_book.specs.Book.{Book}
-use Rattle.shard_book.specs.Replies.{RepliesView}
+use Rattle.histories.specs.Replies.{RepliesView}
 use Rattle.shard_book.specs.Visits.{IsVisit}
 use Rattle.shared_books.specs.declared.turns.results.Visit.{Visit}
 use Rattle.shared_books.specs.declared.turns.results.ReadFault.{ReadFault}

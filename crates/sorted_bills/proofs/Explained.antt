@@ -11,7 +11,7 @@ use Rattle.tap_views.specs.Token.{token_cmp, token_eq}
 use Rattle.tap_views.specs.declared.encoder.TapFields.{TapFields}
 use Rattle.tap_views.specs.declared.token.Token.{Token}
 use Rattle.tap_views.proofs.TokenLemmas.{same_token}
-use Rattle.shard_book.specs.declared.entry.Entry.{Entry}
+use Rattle.histories.specs.declared.entry.Entry.{Entry}
 use Rattle.fare_texts.specs.declared.explainer.Explainer.{Explainer}
 use Rattle.fare_texts.specs.Lines.{AreLinesAlong, HasCome}
 use Rattle.tap_views.specs.TokenOrder.{IsUpTo}

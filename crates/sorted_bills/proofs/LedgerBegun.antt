@@ -27,7 +27,7 @@ use Rattle.fare_texts.proofs.Beginnings.{begins_front}
 use Rattle.fare_texts.proofs.PieceWriting.{along_append}
 use Rattle.fare_texts.proofs.TextsExist.{along_exist}
 use Rattle.fare_texts.specs.Lines.{AreLinesAlong}
-use Rattle.shard_book.specs.declared.entry.Entry.{Entry}
+use Rattle.histories.specs.declared.entry.Entry.{Entry}
 use Rattle.settlement.specs.Posted.{HasName, posted, posted_after}
 use Rattle.settlement.specs.Settled.{IsSettledHistory}
 use Rattle.settlement.specs.SettledTaps.{AreSettledTaps}

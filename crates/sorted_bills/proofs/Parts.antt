@@ -9,8 +9,8 @@ use Rattle.tap_views.specs.Token.{token_cmp}
 use Rattle.tap_views.specs.declared.encoder.TapFields.{TapFields}
 use Rattle.tap_views.specs.declared.token.Token.{Token}
 use Rattle.tap_views.proofs.TokenLemmas.{token_cmp-total}
-use Rattle.shard_book.specs.SumsByKey.{token_of}
-use Rattle.shard_book.specs.declared.entry.Entry.{Entry}
+use Rattle.histories.specs.SumsByKey.{token_of}
+use Rattle.histories.specs.declared.entry.Entry.{Entry}
 use Rattle.tap_views.specs.TokenOrder.{IsUpTo}
 use Rattle.tap_views.proofs.TokensUp.{up_chain, up_itself}
 use Rattle.settlement.specs.Bills.{IsBillOf}

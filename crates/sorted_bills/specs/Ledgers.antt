@@ -3,7 +3,7 @@ use Rattle.std.specs.Prelude.{◌≡◌, ◌<◌, ℕ, All, List, None, Option, 
 use Rattle.tariffs.specs.Fares.{Fares}
 use Rattle.fare_texts.specs.Ledger.{IsLedgerOver}
 use Rattle.settlement.specs.Settled.{IsSettledHistory}
-use Rattle.shard_book.specs.declared.entry.Entry.{Entry}
+use Rattle.histories.specs.declared.entry.Entry.{Entry}
 
 -- the text is the ledger of all tokens over the settled history of the files
 pub record IsLedgerOfFiles (fares : Fares) (files : List (List ℕ)) (text : List ℕ) : Type 0 where

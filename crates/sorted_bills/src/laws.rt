@@ -8,7 +8,7 @@ ghost use Rattle.tap_views.specs.Files.{AreGoodTapsOfEach};
 ghost use Rattle.tap_views.specs.Layout.{Tap};
 ghost use Rattle.tap_views.specs.declared.encoder.TapFields.{TapFields};
 ghost use Rattle.tap_parts.specs.Canonical.{tap_cmp};
-ghost use Rattle.shard_book.specs.Plain.{plain};
+ghost use Rattle.histories.specs.Plain.{plain};
 ghost use Rattle.settlement.specs.Posted.{HasName};
 ghost use Rattle.settlement.specs.Settled.{IsSettledHistory};
 ghost use Rattle.settlement.specs.SettledTaps.{AreSettledTaps};

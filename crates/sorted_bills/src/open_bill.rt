@@ -11,9 +11,9 @@ ghost use Rattle.settlement.specs.Posted.{posted, token_of_tap};
 ghost use Rattle.settled_texts.specs.ExplainedTaps.{NoTapFallsFrom, last_token};
 ghost use Rattle.sorted_bills.specs.inside.OpenBills.{HasRoomFor, IsOpenBill};
 
+use histories::{HashSeed, Tally, TokenSums, ValidatorTallies};
 use settled_texts::token_of;
 use settlement::{Bill, Replay};
-use shard_book::{HashSeed, Tally, TokenSums, ValidatorTallies};
 use std::alloc::Global;
 use tap_views::{NoMemory, TapFields, Token};
 use tariffs::{Clock, FareTable};

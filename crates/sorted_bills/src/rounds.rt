@@ -4,7 +4,7 @@ ghost use Rattle.std.specs.Prelude.{◌≡◌, ◌+◌, ◌≤◌, ◌<◌, ◌^
 ghost use Rattle.std.specs.Prelude.{IfSome, None, OnErr, OnOk, length, map, string_bytes};
 ghost use Rattle.tariffs.specs.Fares.{Fares};
 ghost use Rattle.tap_views.specs.declared.token.Token.{Token};
-ghost use Rattle.shard_book.specs.declared.entry.Entry.{Entry};
+ghost use Rattle.histories.specs.declared.entry.Entry.{Entry};
 ghost use Rattle.sorted_taps.specs.Heads.{IsRanked};
 ghost use Rattle.sorted_taps.specs.Merges.{AreAtEnd};
 ghost use Rattle.sorted_taps.specs.declared.reader.TapReader.{TapReader};

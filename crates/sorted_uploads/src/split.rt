@@ -9,7 +9,7 @@ ghost use Rattle.sorted_taps.specs.Written.{IsBegun};
 ghost use Rattle.sorted_uploads.specs.Split.{AreInPlaces, IsPartWritten};
 
 use crate::places::Places;
-use fare_service::laws::plain_history;
+use histories::laws::plain_history;
 use sorted_taps::{WriteFault, write_taps};
 use std::alloc::{AllocError, Global};
 use std::io::Write;

@@ -1,6 +1,6 @@
 -- Settling: what private functions alone cite.
 use Rattle.std.specs.Prelude.{◌≡◌, ℕ, Bool, List}
-use Rattle.shard_book.specs.declared.entry.Entry.{Entry}
+use Rattle.histories.specs.declared.entry.Entry.{Entry}
 use Rattle.tariffs.specs.Fares.{Fares}
 use Rattle.tap_views.specs.UploadEnds.{are_posted}
 use Rattle.tap_views.specs.UploadEnds.{ArePlainEnds}

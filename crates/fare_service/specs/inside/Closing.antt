@@ -3,7 +3,7 @@ use Rattle.std.specs.Prelude.{◌≡◌, ℕ, ◌<◌, ◌≤◌, List, [], ◌�
 use Rattle.std.specs.Prelude.{Result, Ok, Err}
 use Rattle.std.specs.List.{flat_map}
 use Rattle.shard_book.specs.Book.{Book}
-use Rattle.shard_book.specs.History.{IsLegal}
+use Rattle.histories.specs.History.{IsLegal}
 use Rattle.shared_books.specs.Passes.{SharedBookView, PassView, HasMadeAll, book_of}
 use Rattle.shared_books.specs.declared.turns.results.Missing.{Missing as LackingVisits}
 use Rattle.fare_service.specs.declared.faults.GatherFault.{GatherFault}

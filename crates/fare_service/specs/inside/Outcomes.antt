@@ -1,8 +1,8 @@
 -- Outcomes: what private functions alone cite.
 use Rattle.std.specs.Prelude.{◌≡◌, ℕ, ◌<◌, ◌≤◌, length, Some, slice_get}
 use Rattle.shard_book.specs.Book.{Book}
-use Rattle.shard_book.specs.SumsByKey.{all_entries}
-use Rattle.shard_book.specs.Sums.{sums}
+use Rattle.shard_book.specs.Book.{all_entries}
+use Rattle.histories.specs.Sums.{sums}
 use Rattle.fare_service.specs.Outcomes.{OutcomeView}
 
 -- what always holds of an outcome

@@ -3,26 +3,22 @@
 ghost use Rattle.std.specs.Prelude.{◌≡◌, ◌↔◌, ℕ, ◌<◌, List, All, Decides, Some, flat_map, map};
 ghost use Rattle.std.specs.Prelude.{length, slice_get};
 ghost use Rattle.tariffs.specs.Fares.{Fares};
-ghost use Rattle.tap_views.specs.Layout.{Tap};
 ghost use Rattle.tap_views.specs.Shards.{shard_of_token};
-ghost use Rattle.shard_book.specs.declared.entry.Entry.{Entry};
+ghost use Rattle.histories.specs.declared.entry.Entry.{Entry};
 ghost use Rattle.tap_views.specs.declared.token.Token.{Token};
 ghost use Rattle.shard_book.specs.Book.{AreOfShard, Book};
-ghost use Rattle.shard_book.specs.Entry.{own};
-ghost use Rattle.shard_book.specs.History.{IsLegal};
+ghost use Rattle.histories.specs.Entry.{own};
 ghost use Rattle.tap_views.specs.Token.{bytes_of};
-ghost use Rattle.shard_book.specs.Visits.{AreEntriesOf};
 ghost use Rattle.fare_service.specs.Headline.{Headline};
-ghost use Rattle.tap_views.specs.Files.{AreGoodTaps};
 ghost use Rattle.tap_views.specs.UploadEnds.{ArePlainEnds};
-ghost use Rattle.shard_book.specs.Plain.{IsNamed};
-ghost use Rattle.fare_service.specs.Plain.{IsPlain};
+ghost use Rattle.histories.specs.Plain.{IsNamed};
 ghost use Rattle.report_texts.specs.OverHistory.{IsReportOver, IsStatementOver};
 ghost use Rattle.fare_service.specs.Plain.{IsUncutGathering, WasNotCut};
 ghost use Rattle.fare_service.specs.Printed.{IsStatementOf, report_of};
 ghost use Rattle.fare_service.specs.Shares.{Worked};
 
 use crate::outcome::Outcome;
+use histories::laws::plain_history;
 use shard_book::laws::one_rising_list;
 use tap_views::UploadEnd;
 use tap_views::laws::one_reading_each;
@@ -39,34 +35,6 @@ pub fn tokens_are_named(outcome: &Outcome)
         // proof: the length of a book says what holds of its entries' tokens
         let _ = outcome.book(shard).len();
     }
-}
-
-/// A file has taps before its first layout fault, and its bytes are bytes.
-fn taps_of(file: &[u8])
-    ensures taps { (taps : List Tap) × AreGoodTaps file.now taps }
-    ensures bytes { All (λ byte. byte < 256) file.now }
-{
-    let _ = tap_views::good_batches(file);
-}
-
-/// Uploads have exactly one plain history under a table. It is legal, and its entries have the
-/// fields of the uploads' taps, in their order.
-pub fn plain_history(uploads: &[Vec<u8>])
-    ensures some { (fares : Fares) → (history : List Entry)
-        × IsPlain fares (map (λ upload. upload.items) uploads.now) history }
-    ensures one { (fares : Fares) (history other : List Entry)
-        → IsPlain fares (map (λ upload. upload.items) uploads.now) history
-        → IsPlain fares (map (λ upload. upload.items) uploads.now) other → history ≡ other }
-    ensures legal { (fares : Fares) (history : List Entry)
-        → IsPlain fares (map (λ upload. upload.items) uploads.now) history → IsLegal fares history }
-    ensures fields { (fares : Fares) (history : List Entry)
-        (plain : IsPlain fares (map (λ upload. upload.items) uploads.now) history)
-        → AreEntriesOf (flat_map (λ upload. upload) plain.taps) history }
-{
-    for upload in uploads {
-        taps_of(upload.as_slice());
-    }
-    one_reading_each(uploads);
 }
 
 /// If no upload was cut or left undrawn and no token has taps in two uploads, the entries of each

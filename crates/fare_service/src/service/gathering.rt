@@ -3,7 +3,7 @@
 ghost use Rattle.std.specs.Prelude.{◌≡◌, ℕ, ◌+◌, ◌<◌, ◌≤◌, List, All, IfOk, IfErr, OnOk, OnErr};
 ghost use Rattle.std.specs.Prelude.{length, map, slice_get, Some, [], ◌∷◌, replicate, vec_capacity};
 ghost use Rattle.std.specs.List.{flat_map};
-ghost use Rattle.shard_book.specs.Sums.{sums_of};
+ghost use Rattle.histories.specs.Sums.{sums_of};
 ghost use Rattle.shared_books.specs.Passes.{PassView};
 ghost use Rattle.fare_service.specs.Claims.{claims_at, HaveAllClaims};
 ghost use Rattle.fare_service.specs.Closing.{ReportsFirst};

@@ -37,7 +37,7 @@ impl Model for Share {
 
     ghost Value = { ShareView };
 
-    ghost use Rattle.shard_book.specs.Sums.{sums_of};
+    ghost use Rattle.histories.specs.Sums.{sums_of};
 
     ghost view = { λ s. record {
       drawer = s.drawer;
@@ -48,7 +48,7 @@ impl Model for Share {
 }
 
 impl Share {
-    ghost use Rattle.shard_book.specs.Sums.{sums_of};
+    ghost use Rattle.histories.specs.Sums.{sums_of};
 
     /// The totals of the replies that the share got.
     pub fn sums(&self) -> Totals

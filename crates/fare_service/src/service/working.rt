@@ -4,7 +4,7 @@ ghost use Rattle.std.specs.Prelude.{◌≡◌, ◌⊎◌, ℕ, ◌+◌, ◌*◌,
 ghost use Rattle.std.specs.Prelude.{IfErr, IfOk};
 ghost use Rattle.std.specs.Prelude.{IfNone, IfSome, is_ok, is_some, map, true, false, ◌++◌, ◌∷◌};
 ghost use Rattle.std.specs.Prelude.{[]};
-ghost use Rattle.shard_book.specs.Sums.{sums_of, sums_of_replies, add_sums};
+ghost use Rattle.histories.specs.Sums.{sums_of, sums_of_replies, add_sums};
 
 use crate::lending::{LentUploads, Unlent};
 use crate::service::Service;

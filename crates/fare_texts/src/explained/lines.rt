@@ -10,7 +10,7 @@ use crate::{
     Explainer, write_entry_words, write_local, write_moment, write_no_transfer, write_reason_words,
 };
 use account_rule::{NoTransfer, Reason};
-use shard_book::Entry;
+use histories::Entry;
 use std::alloc::AllocError;
 use tap_views::{NoMemory, Token};
 use tariffs::{Clock, FareTable};

@@ -2,7 +2,7 @@
 
 ghost use Rattle.std.specs.Prelude.{◌≡◌, ◌++◌, List, ℕ, OnOk, codes, map, string_bytes};
 ghost use Rattle.account_rule.specs.TokenRules.{rules_of};
-ghost use Rattle.shard_book.specs.Entry.{tap_of};
+ghost use Rattle.histories.specs.Entry.{tap_of};
 ghost use Rattle.tap_views.specs.Token.{bytes_of};
 ghost use Rattle.fare_texts.specs.Explained.{AreEarlierLines, AreWindowLines, IsLastLine};
 ghost use Rattle.fare_texts.specs.Explained.{IsExplainedWindow};
@@ -10,7 +10,7 @@ ghost use Rattle.fare_texts.specs.Explained.{IsExplainedWindow};
 use super::windows::windows_of;
 use crate::{write_local, write_moment, write_window_words};
 use account_rule::WindowView;
-use shard_book::Entry;
+use histories::Entry;
 use std::alloc::{AllocError, Global};
 use tap_views::{NoMemory, Token};
 use tariffs::{Clock, FareTable};

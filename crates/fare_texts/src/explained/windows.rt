@@ -4,14 +4,14 @@ ghost use Rattle.std.specs.Prelude.{◌≡◌, ◌++◌, IfOk, OnOk, map};
 ghost use Rattle.account_rule.specs.Laws.{is_ride};
 ghost use Rattle.account_rule.specs.TokenRules.{rules_of};
 ghost use Rattle.account_rule.specs.Windows.{last_window};
-ghost use Rattle.shard_book.specs.Entry.{tap_of};
+ghost use Rattle.histories.specs.Entry.{tap_of};
 ghost use Rattle.tap_views.specs.Token.{bytes_of};
 ghost use Rattle.fare_texts.specs.Explained.{earlier_windows};
 ghost use Rattle.fare_texts.specs.inside.Windows.{window_ended};
 
 use crate::Explainer;
 use account_rule::{Answer, Reply, WindowView};
-use shard_book::Entry;
+use histories::Entry;
 use std::alloc::Global;
 use tap_views::{NoMemory, Token};
 use tariffs::{Clock, FareTable};

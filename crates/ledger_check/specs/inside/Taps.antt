@@ -4,7 +4,7 @@ use Rattle.account_rule.specs.declared.reason.Reason.{Reason}
 use Rattle.tariffs.specs.Fares.{Fares}
 use Rattle.fare_texts.specs.LedgerLines.{IsLedgerLine}
 use Rattle.tap_views.specs.Token.{bytes_of}
-use Rattle.shard_book.specs.declared.entry.Entry.{Entry}
+use Rattle.histories.specs.declared.entry.Entry.{Entry}
 use Rattle.tap_views.specs.declared.encoder.TapFields.{TapFields}
 use Rattle.ledger_check.specs.Ledger.{IsPostable}
 use Rattle.ledger_check.specs.declared.tap.Tap.{Tap}

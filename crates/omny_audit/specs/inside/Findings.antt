@@ -2,7 +2,7 @@
 use Rattle.std.specs.Prelude.{◌≡◌, ◌⊎◌, ℕ, Bool, List, [], map, nat_eq, Option, IsTrue, true}
 use Rattle.std.specs.Io.KnownBytes.{Appends}
 use Rattle.tariffs.specs.Fares.{Fares}
-use Rattle.shard_book.specs.declared.entry.Entry.{Entry}
+use Rattle.histories.specs.declared.entry.Entry.{Entry}
 use Rattle.fare_texts.specs.WrittenOut.{Begins}
 use Rattle.ledger_check.specs.FirstLines.{AreFirstTaken}
 use Rattle.ledger_check.specs.Ledger.{IsLedgerOf}

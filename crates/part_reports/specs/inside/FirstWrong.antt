@@ -4,7 +4,7 @@ use Rattle.std.specs.Prelude.{Option, Some, None, IfSome, min, slice_get}
 use Rattle.std.specs.Io.BufRead.{take_through}
 use Rattle.std.specs.List.{AllByRecursion, count_by}
 use Rattle.std.specs.declared.cmp.Ordering.TheVariants.{Less}
-use Rattle.shard_book.specs.Sums.{Sums, add_sums, sums}
+use Rattle.histories.specs.Sums.{Sums, add_sums, sums}
 use Rattle.tap_views.specs.Token.{token_cmp}
 use Rattle.tap_views.specs.declared.token.Token.{Token}
 use Rattle.part_reports.specs.Ledgers.{IsLedgerEntryLine}

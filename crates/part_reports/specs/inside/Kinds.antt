@@ -3,7 +3,7 @@ use Rattle.std.specs.Prelude.{◌≡◌, ℕ, List, [], ◌∷◌, All, length, 
 use Rattle.std.specs.List.{AllZip}
 use Rattle.std.specs.List.Sorted.{IsStrictlySortedBy}
 use Rattle.tap_views.specs.Token.{token_cmp}
-use Rattle.shard_book.specs.Sums.{Sums, add_sums, sums}
+use Rattle.histories.specs.Sums.{Sums, add_sums, sums}
 use Rattle.fare_texts.specs.ReportLines.{token_line}
 use Rattle.report_texts.specs.Numbers.{IsTokenSum}
 use Rattle.part_reports.specs.Ledgers.{IsLedgerEntryLine}

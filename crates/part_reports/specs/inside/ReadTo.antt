@@ -3,9 +3,9 @@ use Rattle.std.specs.Prelude.{◌≡◌, ◌<◌, ◌≤◌, ◌⊎◌, ◌^◌,
 use Rattle.std.specs.Prelude.{flat_map, length, map}
 use Rattle.fare_texts.specs.ReportLines.{number_line}
 use Rattle.tap_views.specs.declared.upload_end.UploadEnd.{UploadEnd}
-use Rattle.shard_book.specs.Shown.{validator_sum}
-use Rattle.shard_book.specs.Sums.{Sums, sums_of}
-use Rattle.shard_book.specs.declared.sums.ValidatorSum.{ValidatorSum}
+use Rattle.histories.specs.Shown.{validator_sum}
+use Rattle.histories.specs.Sums.{Sums, sums_of}
+use Rattle.histories.specs.declared.sums.ValidatorSum.{ValidatorSum}
 use Rattle.part_reports.specs.Faults.{number_from}
 use Rattle.part_reports.specs.FirstWrongLines.{AreRightLines, IsFirstWrongLine, IsFirstWrongOfEnds}
 use Rattle.part_reports.specs.FirstWrongLines.{IsFirstWrongOfReport, IsNext, IsRight}

@@ -7,9 +7,9 @@ use Rattle.std.specs.Option.{option_map}
 use Rattle.std.specs.Ordering.{nat_cmp}
 use Rattle.fare_texts.specs.ReportLines.{token_line}
 use Rattle.report_texts.specs.Numbers.{IsTokenSum}
-use Rattle.shard_book.specs.Sums.{Sums, add_sums, sums, sums_of}
-use Rattle.shard_book.specs.declared.sums.ValidatorSum.{ValidatorSum}
-use Rattle.shard_book.specs.declared.sums.totals.Totals.{Totals}
+use Rattle.histories.specs.Sums.{Sums, add_sums, sums, sums_of}
+use Rattle.histories.specs.declared.sums.ValidatorSum.{ValidatorSum}
+use Rattle.histories.specs.declared.sums.totals.Totals.{Totals}
 use Rattle.tap_views.specs.declared.token.Token.{Token}
 use Rattle.part_reports.specs.Charges.{IsChargeOf, LineCharge}
 use Rattle.part_reports.specs.FirstWrongBeside.{LeaveOfTokens, last_token}

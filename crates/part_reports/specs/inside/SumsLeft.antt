@@ -1,5 +1,5 @@
 -- What is left of sums, as the code has it.
-use Rattle.shard_book.specs.Sums.{Sums}
+use Rattle.histories.specs.Sums.{Sums}
 use Rattle.part_reports.specs.declared.sums_left.SumsLeft.{SumsLeft}
 
 -- what a `SumsLeft` holds

@@ -1,8 +1,8 @@
 -- The whole's validators, as the code keeps them.
 use Rattle.std.specs.Prelude.{ℕ, List, map}
 use Rattle.std.specs.BTreeMap.{BTreeMap}
-use Rattle.shard_book.specs.Sums.{Sums, sums_of}
-use Rattle.shard_book.specs.declared.sums.totals.Totals.{Totals}
+use Rattle.histories.specs.Sums.{Sums, sums_of}
+use Rattle.histories.specs.declared.sums.totals.Totals.{Totals}
 
 -- each with its sums, in the order of the keys
 abbrev pub validators_in : BTreeMap ℕ Totals → List (ℕ × Sums)

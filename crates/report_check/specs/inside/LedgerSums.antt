@@ -2,7 +2,7 @@
 use Rattle.std.specs.Prelude.{◌≡◌, ℕ, List, [], ◌∷◌, ◌++◌}
 use Rattle.tariffs.specs.Fares.{Fares}
 use Rattle.ledger_check.specs.Ledger.{AreNext}
-use Rattle.shard_book.specs.declared.entry.Entry.{Entry}
+use Rattle.histories.specs.declared.entry.Entry.{Entry}
 
 -- no ledger begins with these lines
 abbrev pub HasNoLedger : Fares → List (List ℕ) → Type 0

@@ -1,7 +1,7 @@
 -- What private functions alone say of sums to which entries are added.
 use Rattle.std.specs.Prelude.{◌≤◌, ◌+◌, ◌^◌, ℕ, All, List, length}
 use Rattle.ledger_check.specs.Ledger.{token_number}
-use Rattle.shard_book.specs.declared.entry.Entry.{Entry}
+use Rattle.histories.specs.declared.entry.Entry.{Entry}
 use Rattle.tap_views.specs.declared.token.Token.{Token}
 use Rattle.report_check.specs.OpenSums.{AreOpenSums}
 use Rattle.report_check.specs.declared.open_sums.OpenSums.{OpenSums}

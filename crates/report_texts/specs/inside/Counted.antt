@@ -2,7 +2,7 @@
 use Rattle.std.specs.Prelude.{◌≡◌, ℕ, ◌<◌, ◌^◌, false, List, [], ◌∷◌, ◌++◌}
 use Rattle.std.specs.Char.{is_ascii_digit}
 use Rattle.std.specs.Fmt.{decimal}
-use Rattle.shard_book.specs.Sums.{Sums}
+use Rattle.histories.specs.Sums.{Sums}
 
 -- no digit stands first
 abbrev pub BeginsWithNoDigit : List ℕ → Type 0

@@ -1,7 +1,7 @@
 -- Lists that share no token.
 use Rattle.std.specs.Prelude.{◌≡◌, List, ◌∷◌, []}
-use Rattle.shard_book.specs.Entry.{own}
-use Rattle.shard_book.specs.declared.entry.Entry.{Entry}
+use Rattle.histories.specs.Entry.{own}
+use Rattle.histories.specs.declared.entry.Entry.{Entry}
 use Rattle.tap_views.specs.declared.encoder.TapFields.{TapFields}
 use Rattle.settlement.specs.Posted.{token_of_tap}
 

@@ -8,8 +8,8 @@ use Rattle.tap_views.specs.Encoding.{AreEarly}
 use Rattle.tap_parts.specs.Canonical.{HasTokenBytes, IsCanonical}
 use Rattle.tap_views.specs.TokenOrder.{AreBelow}
 use Rattle.settlement.specs.Posted.{posted, token_of_tap}
-use Rattle.shard_book.specs.SumsByKey.{sums_by_token, token_of}
-use Rattle.shard_book.specs.declared.entry.Entry.{Entry}
+use Rattle.histories.specs.SumsByKey.{sums_by_token, token_of}
+use Rattle.histories.specs.declared.entry.Entry.{Entry}
 use Rattle.settlement.specs.Bills.{IsBillOf, IsCountOf}
 use Rattle.settlement.specs.declared.bill.Bill.{Bill}
 

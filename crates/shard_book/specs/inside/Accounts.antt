@@ -8,9 +8,9 @@ use Rattle.account_rule.specs.Stands.{Stands}
 use Rattle.shard_book.specs.declared.accounts.Accounts.{Accounts}
 use Rattle.shard_book.specs.declared.accounts.KeptAccount.{KeptAccount}
 use Rattle.tap_views.specs.declared.token.Token.{Token}
-use Rattle.shard_book.specs.Counts.{sums_of_counts}
-use Rattle.shard_book.specs.Sums.{Sums, sums_of_replies}
-use Rattle.shard_book.specs.inside.Sums.{has_taps}
+use Rattle.histories.specs.Counts.{sums_of_counts}
+use Rattle.histories.specs.Sums.{Sums, sums_of_replies}
+use Rattle.histories.specs.Sums.{has_taps}
 use Rattle.tap_views.specs.Token.{token_eq}
 
 -- what is kept of the token

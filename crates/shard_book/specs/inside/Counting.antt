@@ -5,12 +5,12 @@ use Rattle.std.specs.Map.{keys_of}
 use Rattle.std.specs.Set.{is_member}
 use Rattle.tap_views.specs.Shards.{shard_of_token}
 use Rattle.shard_book.specs.declared.accounts.Accounts.{Accounts}
-use Rattle.shard_book.specs.declared.entry.Entry.{Entry}
+use Rattle.histories.specs.declared.entry.Entry.{Entry}
 use Rattle.tap_views.specs.declared.token.Token.{Token}
 use Rattle.shard_book.specs.inside.Accounts.{kept_at, counted}
-use Rattle.shard_book.specs.Entry.{own}
-use Rattle.shard_book.specs.SumsByKey.{token_of}
-use Rattle.shard_book.specs.Sums.{Sums, sums}
+use Rattle.histories.specs.Entry.{own}
+use Rattle.histories.specs.SumsByKey.{token_of}
+use Rattle.histories.specs.Sums.{Sums, sums}
 use Rattle.tap_views.specs.Token.{bytes_of, token_eq}
 
 -- for each token the sums of its own entries are kept, those of nothing if it has none

@@ -3,14 +3,14 @@ use Rattle.std.specs.Prelude.{ℕ, ◌<◌, ◌≤◌, List}
 use Rattle.tariffs.specs.Fares.{Fares}
 use Rattle.account_rule.specs.TokenRules.{rules_of}
 use Rattle.shard_book.specs.declared.accounts.Accounts.{Accounts}
-use Rattle.shard_book.specs.declared.entry.Entry.{Entry}
+use Rattle.histories.specs.declared.entry.Entry.{Entry}
 use Rattle.shard_book.specs.declared.packed.PackedEntry.{PackedEntry}
 use Rattle.tap_views.specs.declared.token.Token.{Token}
 use Rattle.shard_book.specs.inside.Accounts.{kept_at, IsCounting, IsKept}
 use Rattle.shard_book.specs.Book.{AreOfShard}
 use Rattle.shard_book.specs.inside.Counting.{AreCounted}
-use Rattle.shard_book.specs.Entry.{TokensFit, taps_of}
-use Rattle.shard_book.specs.History.{IsLegal}
+use Rattle.histories.specs.Entry.{TokensFit, taps_of}
+use Rattle.histories.specs.History.{IsLegal}
 use Rattle.shard_book.specs.inside.Packed.{ArePlaced, history_of, tokens_of}
 use Rattle.tap_views.specs.Token.{bytes_of}
 

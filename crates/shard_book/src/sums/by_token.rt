@@ -4,12 +4,13 @@ ghost use Rattle.std.specs.Prelude.{◌≡◌, length, map, IfOk, IfSome};
 ghost use Rattle.std.specs.List.Sorted.{IsPermutation, IsSorted};
 ghost use Rattle.std.specs.Map.{keys_of};
 ghost use Rattle.shard_book.specs.inside.Counting.{AreSummed};
-ghost use Rattle.shard_book.specs.Counts.{token_counts};
-ghost use Rattle.shard_book.specs.SumsByKey.{all_entries, sums_by_token};
+ghost use Rattle.histories.specs.Counts.{token_counts};
+ghost use Rattle.shard_book.specs.Book.{all_entries};
+ghost use Rattle.histories.specs.SumsByKey.{sums_by_token};
 ghost use Rattle.tap_views.specs.Token.{token_cmp};
 
 use crate::book::ShardBook;
-use crate::sums::counts::TokenCounts;
+use histories::TokenCounts;
 use std::alloc::Global;
 use tap_views::NoMemory;
 

@@ -1,9 +1,9 @@
 -- The states of seats: what private functions alone cite.
 use Rattle.std.specs.Prelude.{◌≡◌, ℕ, ◌+◌, ◌^◌, ◌<◌, ◌≤◌, true, false, List, [], ◌∷◌, ◌++◌, length}
 use Rattle.std.specs.Prelude.{None}
-use Rattle.shard_book.specs.declared.entry.Entry.{Entry}
+use Rattle.histories.specs.declared.entry.Entry.{Entry}
 use Rattle.shard_book.specs.Book.{Book}
-use Rattle.shard_book.specs.History.{IsLegal}
+use Rattle.histories.specs.History.{IsLegal}
 use Rattle.shared_books.specs.Marks.{others, visits_of, history_of_visits, made_from}
 use Rattle.shared_books.specs.Turns.{book_after}
 use Rattle.shared_books.specs.PassStates.{pass_state}

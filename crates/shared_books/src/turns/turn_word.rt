@@ -12,7 +12,7 @@ pub(super) const FULL: u64 = 1 << 63;
 impl SharedBook {
     ghost use Rattle.std.specs.Prelude.{◌≡◌, ◌+◌, ◌*◌, ◌/◌, ◌^◌, ◌<◌, ◌++◌, ◌∷◌, [], ℕ};
     ghost use Rattle.std.specs.Prelude.{true, false, List, IfSome, IfNone};
-    ghost use Rattle.shard_book.specs.declared.entry.Entry.{Entry};
+    ghost use Rattle.histories.specs.declared.entry.Entry.{Entry};
     ghost use Rattle.shared_books.specs.Marks.{mark, history_of_visits, visits_of};
     ghost use Rattle.shared_books.specs.PassStates.{pass_state};
     ghost use Rattle.shared_books.specs.inside.Steps.{HasSeen};

@@ -15,7 +15,7 @@ use tariffs::Clock;
 impl SharedBook {
     ghost use Rattle.std.specs.Prelude.{◌≡◌, ◌+◌, ◌^◌, ◌≤◌, [], length, IfOk, IfErr};
     ghost use Rattle.tap_views.specs.Shards.{run_taps};
-    ghost use Rattle.shard_book.specs.Statement.{IsStatement};
+    ghost use Rattle.histories.specs.Statement.{IsStatement};
     ghost use Rattle.shared_books.specs.Marks.{history_of_visits};
     ghost use Rattle.shared_books.specs.Passes.{new_pass, seen_by, HasSeenMore, Visits, IsFull};
     ghost use Rattle.shared_books.specs.Results.{MakesVisit, IsOpenedAs, IsReadFault};

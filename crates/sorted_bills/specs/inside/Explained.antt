@@ -9,7 +9,7 @@ use Rattle.fare_texts.specs.WrittenOut.{Begins, GoesOut}
 use Rattle.fare_texts.specs.declared.explainer.Explainer.{Explainer}
 use Rattle.settlement.specs.Posted.{HasName, posted_after}
 use Rattle.settled_texts.specs.ExplainedTaps.{AreExplained, NoTapFallsFrom, last_token}
-use Rattle.shard_book.specs.declared.entry.Entry.{Entry}
+use Rattle.histories.specs.declared.entry.Entry.{Entry}
 use Rattle.sorted_taps.specs.Spans.{HaveCome}
 use Rattle.sorted_taps.specs.declared.reader.TapReader.{TapReader}
 

@@ -4,10 +4,10 @@ use Rattle.std.specs.Prelude.{◌++◌}
 use Rattle.std.specs.Prelude.{length, map}
 use Rattle.tariffs.specs.Fares.{Fares}
 use Rattle.tap_views.specs.declared.encoder.TapFields.{TapFields}
-use Rattle.shard_book.specs.Sums.{sums}
-use Rattle.shard_book.specs.SumsByKey.{sums_by_token, validator_of}
-use Rattle.shard_book.specs.TalliesByKey.{AreByKey}
-use Rattle.shard_book.specs.Tally.{sums_of_tally}
+use Rattle.histories.specs.Sums.{sums}
+use Rattle.histories.specs.SumsByKey.{sums_by_token, validator_of}
+use Rattle.histories.specs.TalliesByKey.{AreByKey}
+use Rattle.histories.specs.Tally.{sums_of_tally}
 use Rattle.settlement.specs.Posted.{posted, token_of_tap}
 use Rattle.settlement.specs.Replays.{HasPosted}
 use Rattle.tap_views.specs.TokenOrder.{AreBelow}

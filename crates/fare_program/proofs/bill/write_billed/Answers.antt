@@ -1,12 +1,12 @@
 use Rattle.std.proofs.Common.{◌≡◌, ℕ, List, map, ap, refl, sym, ◌∙◌, arith}
 use Rattle.std.proofs.lemmas.Result.{err_from_is_err_and}
 use Rattle.fare_program.proofs.WritesFailed.{of_write}
-use Rattle.shard_book.specs.Sums.{Sums, sums, sums_of}
-use Rattle.shard_book.specs.Shown.{validator_sum}
-use Rattle.shard_book.specs.SumsByKey.{sums_by_validator}
-use Rattle.shard_book.specs.TalliesByKey.{HasRoom}
-use Rattle.shard_book.specs.declared.entry.Entry.{Entry}
-use Rattle.shard_book.proofs.SumsLemmas.{sums-taps}
+use Rattle.histories.specs.Sums.{Sums, sums, sums_of}
+use Rattle.histories.specs.Shown.{validator_sum}
+use Rattle.histories.specs.SumsByKey.{sums_by_validator}
+use Rattle.histories.specs.TalliesByKey.{HasRoom}
+use Rattle.histories.specs.declared.entry.Entry.{Entry}
+use Rattle.histories.proofs.SumsLemmas.{sums-taps}
 use Rattle.report_texts.specs.Report.{report}
 use Rattle.tap_views.specs.UploadEnds.{are_posted}
 use Rattle.settlement.specs.Bills.{IsBillOf}

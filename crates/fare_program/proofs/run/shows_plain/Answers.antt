@@ -2,7 +2,7 @@ use Rattle.std.proofs.Common.{◌≡◌, ◌<◌, ℕ, length, arith, List, [], 
 use Rattle.std.proofs.Common.{None, Some, All, sym, subst}
 use Rattle.std.proofs.lemmas.List.Elements.{All-nil, All-cons}
 use Rattle.tariffs.specs.Fares.{Fares}
-use Rattle.shard_book.specs.declared.entry.Entry.{Entry}
+use Rattle.histories.specs.declared.entry.Entry.{Entry}
 use Rattle.tap_views.specs.declared.token.Token.{Token}
 use Rattle.fare_service.specs.Outcomes.{OutcomeView}
 use Rattle.report_texts.specs.OverHistory.{IsReportOver, IsStatementOver}
@@ -17,10 +17,12 @@ use Rattle.fare_service.proofs.PlainSums.{own_all, same_report}
 use Rattle.fare_service.proofs.PlainUploads.{same_statement}
 use Rattle.tap_views.specs.Files.{HasOneReading}
 use Rattle.tap_views.proofs.Reading.{one_list_of_batches}
-use Rattle.fare_texts.specs.Explained.{IsExplainedOf, IsExplainedOver}
+use Rattle.fare_service.specs.Explained.{IsExplainedOf}
+use Rattle.fare_texts.specs.Explained.{IsExplainedOver}
 use Rattle.fare_program.proofs.Explains.{explained_same}
 use Rattle.tap_views.specs.UploadEnds.{are_posted}
-use Rattle.fare_texts.specs.Ledger.{IsLedgerOfBooks, IsLedgerOver}
+use Rattle.fare_service.specs.Ledger.{IsLedgerOfBooks}
+use Rattle.fare_texts.specs.Ledger.{IsLedgerOver}
 use Rattle.fare_program.specs.Program.{ShowsWith}
 use Rattle.fare_program.proofs.Ledgers.{ledger_same}
 use Rattle.fare_program.specs.Settling.{IsTextOver}

@@ -1,5 +1,5 @@
 use Rattle.std.proofs.Common.{sym}
-use Rattle.shard_book.proofs.Histories.{tap_of-post}
+use Rattle.histories.proofs.Histories.{tap_of-post}
 use Rattle.fare_texts.proofs.explainer.tap_of.Goals as goal
 
 pub returns-clause-tap : goal.returns-clause-tap

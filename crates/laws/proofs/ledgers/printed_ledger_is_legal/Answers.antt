@@ -1,4 +1,4 @@
-use Rattle.shard_book.specs.SumsByKey.{all_entries}
+use Rattle.shard_book.specs.Book.{all_entries}
 use Rattle.laws.specs.Written.{reported_entries}
 use Rattle.laws.proofs.Books.{books_are_read}
 use Rattle.laws.proofs.ledgers.printed_ledger_is_legal.Goals as goal

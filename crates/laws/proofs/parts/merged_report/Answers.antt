@@ -1,7 +1,7 @@
 use Rattle.std.proofs.Common.{ℕ, List, ap, ◌∙◌}
 use Rattle.tap_views.specs.declared.token.Token.{Token}
-use Rattle.shard_book.specs.SumsByKey.{sums_by_validator}
-use Rattle.shard_book.specs.Sums.{Sums, sums}
+use Rattle.histories.specs.SumsByKey.{sums_by_validator}
+use Rattle.histories.specs.Sums.{Sums, sums}
 use Rattle.report_texts.specs.Report.{report}
 use Rattle.laws.proofs.parts.merged_report.Goals as goal
 

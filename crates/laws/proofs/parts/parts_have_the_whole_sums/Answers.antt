@@ -4,9 +4,9 @@ use Rattle.tap_views.specs.Token.{bytes_of}
 use Rattle.tap_views.specs.declared.token.Token.{Token}
 use Rattle.account_rule.specs.TokenRules.{rules_of}
 use Rattle.account_rule.specs.Windows.{last_window}
-use Rattle.shard_book.specs.Entry.{own, tap_of, taps_of}
-use Rattle.shard_book.specs.Sums.{sums}
-use Rattle.shard_book.specs.declared.entry.Entry.{Entry}
+use Rattle.histories.specs.Entry.{own, tap_of, taps_of}
+use Rattle.histories.specs.Sums.{sums}
+use Rattle.histories.specs.declared.entry.Entry.{Entry}
 use Rattle.report_texts.specs.OverHistory.{IsStatementOver}
 use Rattle.laws.proofs.Merging.{merged, own_there}
 use Rattle.laws.proofs.parts.parts_have_the_whole_sums.Goals as goal

@@ -1,6 +1,6 @@
 use Rattle.std.proofs.Common.{List, ℕ, ◌++◌, refl, sym, ap, subst, ◌∙◌, string_bytes}
-use Rattle.shard_book.specs.Entry.{own, tap_of}
-use Rattle.shard_book.specs.declared.entry.Entry.{Entry}
+use Rattle.histories.specs.Entry.{own, tap_of}
+use Rattle.histories.specs.declared.entry.Entry.{Entry}
 use Rattle.account_rule.specs.declared.reply.Answer.TheVariants.{Unknown}
 use Rattle.fare_texts.specs.LedgerLines.{IsLedgerLine}
 use Rattle.ledger_check.proofs.ExplainerLemmas.{goes_on}

@@ -1,5 +1,5 @@
 use Rattle.std.specs.Prelude.{IsTrue}
-use Rattle.shard_book.specs.Sums.{sums_of}
+use Rattle.histories.specs.Sums.{sums_of}
 use Rattle.part_reports.proofs.Adding.{left_all, left_first, left_more, left_none}
 use Rattle.part_reports.proofs.front.add_up.Goals as goal
 

@@ -1,4 +1,4 @@
-use Rattle.shard_book.specs.Sums.{sums_of}
+use Rattle.histories.specs.Sums.{sums_of}
 use Rattle.part_reports.proofs.Adding.{IsLeftFrom}
 use Rattle.part_reports.proofs.front.add_up.Given as goal
 

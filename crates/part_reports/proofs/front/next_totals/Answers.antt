@@ -1,6 +1,6 @@
 use Rattle.report_texts.specs.Numbers.{AreCounts}
 use Rattle.fare_texts.specs.Counts.{totals_line}
-use Rattle.shard_book.specs.Sums.{sums_of}
+use Rattle.histories.specs.Sums.{sums_of}
 use Rattle.part_reports.proofs.LinesRead.{read_line}
 use Rattle.part_reports.proofs.OneLine.{totals_line_is_one}
 use Rattle.std.proofs.lemmas.Result.{IfErr-weaker, err_from_is_err_and}

@@ -1,6 +1,6 @@
 use Rattle.fare_texts.specs.ReportLines.{validator_line}
 use Rattle.report_texts.specs.Numbers.{IsValidatorSum}
-use Rattle.shard_book.specs.Shown.{validator_sum}
+use Rattle.histories.specs.Shown.{validator_sum}
 use Rattle.part_reports.proofs.LinesRead.{read_line}
 use Rattle.part_reports.proofs.OneLine.{validator_line_is_one}
 use Rattle.std.proofs.lemmas.Result.{IfErr-weaker, err_from_is_err_and}

@@ -1,8 +1,8 @@
 use Rattle.std.proofs.Common.{◌≡◌, subst, sym}
 use Rattle.std.specs.Prelude.{map}
 use Rattle.std.proofs.lemmas.Result.{err_from_is_err_and}
-use Rattle.shard_book.specs.Shown.{validator_sum}
-use Rattle.shard_book.specs.Sums.{sums_of}
+use Rattle.histories.specs.Shown.{validator_sum}
+use Rattle.histories.specs.Sums.{sums_of}
 use Rattle.part_reports.specs.Reports.{added}
 use Rattle.part_reports.proofs.PartsBegun.{front_adds, no_adding, no_sections}
 use Rattle.part_reports.proofs.FrontsRight.{validators_not_added}

@@ -2,9 +2,9 @@ use Rattle.std.proofs.Common.{ℕ, List, refl, sym, subst, arith, Global, ◌∙
 use Rattle.std.specs.Prelude.{map}
 use Rattle.std.specs.declared.vec.Vec.{Vec}
 use Rattle.std.proofs.lemmas.Result.{err_from_is_err_and}
-use Rattle.shard_book.specs.Sums.{Sums}
-use Rattle.shard_book.specs.Shown.{validator_sum}
-use Rattle.shard_book.specs.declared.sums.ValidatorSum.{ValidatorSum}
+use Rattle.histories.specs.Sums.{Sums}
+use Rattle.histories.specs.Shown.{validator_sum}
+use Rattle.histories.specs.declared.sums.ValidatorSum.{ValidatorSum}
 use Rattle.part_reports.specs.inside.Fronts.{AreSums, MayFollowValidators}
 use Rattle.part_reports.proofs.RisingRead.{rising_done, rising_first, rising_more, rising_no_line}
 use Rattle.part_reports.proofs.RisingRead.{rising_not}

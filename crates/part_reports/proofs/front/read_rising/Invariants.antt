@@ -1,6 +1,6 @@
 use Rattle.std.proofs.Common.{◌≡◌, ℕ, List, []}
 use Rattle.tap_views.specs.declared.upload_end.UploadEnd.{UploadEnd}
-use Rattle.shard_book.specs.Sums.{Sums}
+use Rattle.histories.specs.Sums.{Sums}
 use Rattle.part_reports.specs.FirstWrongLines.{OfValidators}
 use Rattle.part_reports.specs.inside.ReadTo.{IsReadTo}
 use Rattle.part_reports.proofs.FrontsRight.{ValidatorsTo}

@@ -1,7 +1,7 @@
 use Rattle.std.proofs.Common.{ℕ, List, codes, length}
 use Rattle.std.specs.Prelude.{flat_map}
 use Rattle.std.proofs.lemmas.Result.{err_from_is_err_and}
-use Rattle.shard_book.specs.Sums.{Sums}
+use Rattle.histories.specs.Sums.{Sums}
 use Rattle.fare_texts.specs.ReportLines.{validator_line}
 use Rattle.part_reports.specs.inside.Fronts.{AreRising, AreSums, AreValidators}
 use Rattle.part_reports.proofs.Counted.{Counting, counted, counted_no_head}

@@ -1,6 +1,6 @@
 use Rattle.std.proofs.Common.{arith, inl, inr, refl}
 use Rattle.part_reports.specs.inside.SumsLeft.{left_of}
-use Rattle.shard_book.specs.Shown.{token_sum}
+use Rattle.histories.specs.Shown.{token_sum}
 use Rattle.part_reports.proofs.Added.{no_behind}
 use Rattle.part_reports.proofs.merging.behind_token.Goals as goal
 

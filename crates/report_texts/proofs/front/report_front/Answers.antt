@@ -1,7 +1,7 @@
 use Rattle.std.proofs.Common.{ℕ, ◌++◌, codes, length, map, ap, ◌∙◌, string_bytes}
 use Rattle.std.specs.List.{flat_map}
-use Rattle.shard_book.specs.Shown.{validator_sum}
-use Rattle.shard_book.specs.Sums.{sums_of}
+use Rattle.histories.specs.Shown.{validator_sum}
+use Rattle.histories.specs.Sums.{sums_of}
 use Rattle.fare_texts.specs.ReportLines.{number_line, token_line}
 use Rattle.report_texts.specs.Report.{uploads_section, validators_section}
 use Rattle.fare_texts.specs.Counts.{totals_line}

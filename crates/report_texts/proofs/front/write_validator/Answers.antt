@@ -1,7 +1,7 @@
 use Rattle.std.proofs.Common.{string_bytes, codes}
 use Rattle.std.proofs.lemmas.Result.{on_ok_weaker}
 use Rattle.std.specs.Fmt.{decimal}
-use Rattle.shard_book.specs.Sums.{sums_of}
+use Rattle.histories.specs.Sums.{sums_of}
 use Rattle.fare_texts.specs.Counts.{counts_text}
 use Rattle.report_texts.proofs.Parts.{in_line}
 use Rattle.report_texts.proofs.front.write_validator.Goals as goal

@@ -1,6 +1,6 @@
 use Rattle.std.proofs.Common.{◌≡◌, ◌++◌, string_bytes, take, map}
 use Rattle.std.specs.List.{flat_map}
-use Rattle.shard_book.specs.Shown.{validator_sum}
+use Rattle.histories.specs.Shown.{validator_sum}
 use Rattle.fare_texts.specs.ReportLines.{validator_line}
 use Rattle.report_texts.proofs.front.write_validator_lines.Given as goal
 

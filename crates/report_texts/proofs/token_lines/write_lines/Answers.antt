@@ -3,7 +3,7 @@ use Rattle.std.specs.Io.KnownBytes.{Appends}
 use Rattle.std.proofs.lemmas.Result.{err_from_is_err_and}
 use Rattle.fare_texts.specs.WrittenOut.{Begins}
 use Rattle.fare_texts.proofs.Beginnings.{goes_nothing}
-use Rattle.shard_book.specs.Shown.{token_sum}
+use Rattle.histories.specs.Shown.{token_sum}
 use Rattle.report_texts.proofs.Parts.{last_out, lines_begun, next_token}
 use Rattle.report_texts.proofs.token_lines.write_lines.Goals as goal
 

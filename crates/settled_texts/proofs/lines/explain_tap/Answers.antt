@@ -1,7 +1,7 @@
 -- The explainer goes on to the tap's token, and posts the tap.
 use Rattle.std.proofs.Common.{sym, subst, ◌∙◌}
 use Rattle.tap_views.specs.declared.token.Token.{Token}
-use Rattle.shard_book.specs.Entry.{own}
+use Rattle.histories.specs.Entry.{own}
 use Rattle.tap_views.specs.TokenOrder.{IsUpTo}
 use Rattle.settled_texts.proofs.TapsExplained.{one_reported}
 use Rattle.settled_texts.proofs.lines.explain_tap.Goals as goal

@@ -1,5 +1,5 @@
 use Rattle.std.proofs.Common.{◌≡◌, ℕ, ◌+◌, ◌≤◌, List, ◌++◌, take, string_bytes}
-use Rattle.shard_book.specs.declared.entry.Entry.{Entry}
+use Rattle.histories.specs.declared.entry.Entry.{Entry}
 use Rattle.fare_texts.specs.Lines.{HasCome}
 use Rattle.settled_texts.specs.ExplainedTaps.{AreExplained, last_token}
 use Rattle.settled_texts.proofs.lines.explain_taps.Given as goal

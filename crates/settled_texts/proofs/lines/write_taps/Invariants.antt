@@ -1,7 +1,7 @@
 use Rattle.std.proofs.Common.{◌≡◌, ℕ, ◌+◌, ◌≤◌, List, ◌++◌, length, string_bytes}
 use Rattle.tap_views.specs.Encoding.{AreEarly}
 use Rattle.tap_views.specs.declared.encoder.TapFields.{TapFields}
-use Rattle.shard_book.specs.declared.entry.Entry.{Entry}
+use Rattle.histories.specs.declared.entry.Entry.{Entry}
 use Rattle.fare_texts.specs.Lines.{HasCome}
 use Rattle.fare_texts.specs.WrittenOut.{GoesOut}
 use Rattle.settled_texts.specs.ExplainedTaps.{AreExplained, last_token}

@@ -2,9 +2,9 @@ use Rattle.std.proofs.Common.{◌≡◌, ◌+◌, List, [], ◌∷◌, ◌++◌,
 use Rattle.std.proofs.Common.{subst, ◌∙◌, arith}
 use Rattle.std.proofs.lemmas.List.{get_or_default, take_all}
 use Rattle.tap_views.specs.declared.encoder.TapFields.{TapFields}
-use Rattle.shard_book.specs.Entry.{own}
-use Rattle.shard_book.specs.declared.entry.Entry.{Entry}
-use Rattle.shard_book.specs.Plain.{answered}
+use Rattle.histories.specs.Entry.{own}
+use Rattle.histories.specs.declared.entry.Entry.{Entry}
+use Rattle.histories.specs.Plain.{answered}
 use Rattle.settlement.specs.Posted.{posted, posted_after, unposted}
 use Rattle.settlement.specs.Replays.{HasPosted}
 use Rattle.settlement.proofs.TokenRuns.{no_tap, posted_more}

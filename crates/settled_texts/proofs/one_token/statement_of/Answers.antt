@@ -3,9 +3,9 @@ use Rattle.tap_views.specs.Token.{bytes_of}
 use Rattle.tap_views.specs.declared.token.Token.{Token}
 use Rattle.account_rule.specs.TokenRules.{rules_of}
 use Rattle.account_rule.specs.Windows.{last_window}
-use Rattle.shard_book.specs.Entry.{own, tap_of, taps_of}
-use Rattle.shard_book.specs.Sums.{sums}
-use Rattle.shard_book.specs.declared.entry.Entry.{Entry}
+use Rattle.histories.specs.Entry.{own, tap_of, taps_of}
+use Rattle.histories.specs.Sums.{sums}
+use Rattle.histories.specs.declared.entry.Entry.{Entry}
 use Rattle.settled_texts.proofs.OwnEntries.{own_again}
 use Rattle.settled_texts.proofs.one_token.statement_of.Goals as goal
 

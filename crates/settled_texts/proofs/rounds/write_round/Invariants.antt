@@ -1,5 +1,5 @@
 use Rattle.std.proofs.Common.{◌≡◌, ℕ, ◌+◌, ◌≤◌, List, length, take, string_bytes}
-use Rattle.shard_book.specs.declared.entry.Entry.{Entry}
+use Rattle.histories.specs.declared.entry.Entry.{Entry}
 use Rattle.fare_texts.specs.Lines.{HasCome}
 use Rattle.fare_texts.specs.WrittenOut.{GoesOut}
 use Rattle.settled_texts.specs.ExplainedTaps.{AreExplained, last_token}

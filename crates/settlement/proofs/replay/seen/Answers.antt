@@ -1,5 +1,5 @@
 use Rattle.std.proofs.Common.{sym}
-use Rattle.shard_book.proofs.Histories.{tap_of-post}
+use Rattle.histories.proofs.Histories.{tap_of-post}
 use Rattle.settlement.specs.Posted.{unposted}
 use Rattle.settlement.proofs.replay.seen.Goals as goal
 

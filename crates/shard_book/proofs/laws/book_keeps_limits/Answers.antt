@@ -4,7 +4,7 @@ use Rattle.account_rule.specs.Laws.{is_ride}
 use Rattle.account_rule.specs.Taps.{LiveTap}
 use Rattle.account_rule.specs.TokenRules.{rules_of, token_class}
 use Rattle.tariffs.specs.Fares.{Fares, meaning_at, terms_at, valid_at}
-use Rattle.shard_book.specs.Entry.{taps_of}
+use Rattle.histories.specs.Entry.{taps_of}
 use Rattle.tap_views.specs.Token.{bytes_of}
 use Rattle.shard_book.proofs.WindowsLemmas.{replies-own, paid-own, cents-own}
 use Rattle.shard_book.proofs.laws.book_keeps_limits.Goals as goal

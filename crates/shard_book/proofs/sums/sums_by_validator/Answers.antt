@@ -1,8 +1,8 @@
 use Rattle.std.proofs.Common.{◌≤◌, ◌*◌, ◌^◌, length, sym, ap, ◌∙◌, arith}
 use Rattle.std.specs.Option.{option_copied}
-use Rattle.shard_book.specs.SumsByKey.{all_entries}
-use Rattle.shard_book.specs.TalliesByKey.{HasRoom}
-use Rattle.shard_book.proofs.ByKeyLemmas.{validators-none}
+use Rattle.shard_book.specs.Book.{all_entries}
+use Rattle.histories.specs.TalliesByKey.{HasRoom}
+use Rattle.shard_book.proofs.BookSums.{validators-none}
 use Rattle.shard_book.proofs.sums.sums_by_validator.Goals as goal
 
 pub listed-requires : goal.listed-requires

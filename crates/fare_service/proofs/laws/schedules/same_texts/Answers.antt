@@ -1,5 +1,5 @@
 use Rattle.std.proofs.Common.{◌≡◌, List, ℕ, Vec, Global, map, sym, subst}
-use Rattle.shard_book.specs.declared.entry.Entry.{Entry}
+use Rattle.histories.specs.declared.entry.Entry.{Entry}
 use Rattle.report_texts.specs.OverHistory.{IsReportOver, IsStatementOver}
 use Rattle.fare_service.specs.Printed.{report_of}
 use Rattle.fare_service.proofs.PlainSame.{one_report}

@@ -7,11 +7,11 @@ use Rattle.std.proofs.lemmas.Nat.{from_be_bytes-to_be_bytes_8}
 use Rattle.std.proofs.lemmas.Option.{slice_get_within}
 use borrow.Author.Count.{below_more}
 use Rattle.shard_book.specs.Book.{AreOfShard, Book}
-use Rattle.shard_book.specs.Entry.{TokensFit}
+use Rattle.histories.specs.Entry.{TokensFit}
 use Rattle.tap_views.specs.Token.{Fits, bytes_of}
-use Rattle.shard_book.specs.declared.entry.Entry.{Entry}
+use Rattle.histories.specs.declared.entry.Entry.{Entry}
 use Rattle.tap_views.specs.declared.token.Token.{Token}
-use Rattle.shard_book.specs.Plain.{IsNamed, token_of_bytes}
+use Rattle.histories.specs.Plain.{IsNamed, token_of_bytes}
 use Rattle.fare_service.proofs.laws.schedules.tokens_are_named.Goals as goal
 
 abbrev pair : ℕ → ℕ → Token

@@ -1,6 +1,6 @@
 use Rattle.std.proofs.Common.{◌≡◌, ℕ, ◌<◌, All, Some, slice_get}
 use Rattle.shard_book.specs.Book.{AreOfShard, Book}
-use Rattle.shard_book.specs.Plain.{IsNamed}
+use Rattle.histories.specs.Plain.{IsNamed}
 use Rattle.fare_service.proofs.laws.schedules.tokens_are_named.Given as goal
 
 abbrev pub invariant-loop-shard : goal.invariant-loop-shard

@@ -1,7 +1,7 @@
 use Rattle.std.proofs.Common.{◌≡◌, ℕ, ◌^◌, ◌≤◌, arith, ◌<◌, List, All, length, map, replicate, sym}
 use Rattle.std.proofs.Common.{◌∙◌, ap, subst}
-use Rattle.shard_book.specs.Sums.{sums, sums_of, add_all}
-use Rattle.shard_book.specs.SumsByKey.{all_entries}
+use Rattle.histories.specs.Sums.{sums, sums_of, add_all}
+use Rattle.shard_book.specs.Book.{all_entries}
 use Rattle.tap_views.specs.declared.upload_end.UploadEnd.TheVariants.{Undrawn}
 use Rattle.fare_service.specs.declared.faults.GatherFault.{GatherFault}
 use Rattle.fare_service.specs.Claims.{HaveAllClaims}

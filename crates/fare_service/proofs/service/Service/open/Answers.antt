@@ -1,5 +1,5 @@
 use Rattle.std.proofs.Common.{ℕ, ◌≡◌, ◌<◌, ◌+◌, List, [], sym, ◌∙◌, ap, subst, arith}
-use Rattle.shard_book.specs.Sums.{sums_of}
+use Rattle.histories.specs.Sums.{sums_of}
 use Rattle.shared_books.specs.Claims.{all_claims}
 use Rattle.shared_books.specs.Passes.{PassView}
 use Rattle.fare_service.specs.Claims.{claims_at}

@@ -2,7 +2,7 @@ use Rattle.std.proofs.Common.{List, [], ◌++◌, ◌∷◌, ◌≤◌, ◌*◌,
 use Rattle.std.proofs.Common.{inl, ◌∙◌, sym, refl, subst, append-nil, arith}
 use Rattle.tap_views.specs.Layout.{Tap}
 use Rattle.tap_views.specs.Files.{IsFile}
-use Rattle.shard_book.specs.Sums.{sums_of}
+use Rattle.histories.specs.Sums.{sums_of}
 use Rattle.fare_service.specs.ServiceView.{shards_of}
 use Rattle.fare_service.proofs.VisitLemmas.{made_none}
 use Rattle.fare_service.proofs.TapCounts.{batches_taps}

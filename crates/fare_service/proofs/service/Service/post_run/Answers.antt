@@ -5,8 +5,8 @@ use Rattle.tap_views.specs.Layout.{Tap}
 use Rattle.tap_views.specs.Shards.{run_of, run_taps, ShardRun}
 use Rattle.shard_book.specs.declared.run_end.RunEnd.{RunEnd}
 use Rattle.shard_book.specs.declared.run_end.RunEnd.TheVariants.{Whole, Cut}
-use Rattle.shard_book.specs.Entry.{reply_of}
-use Rattle.shard_book.specs.Sums.{sums_of, sums_of_replies, add_sums}
+use Rattle.histories.specs.Entry.{reply_of}
+use Rattle.histories.specs.Sums.{sums_of, sums_of_replies, add_sums}
 use Rattle.shard_book.specs.Visits.{IsVisit}
 use Rattle.shared_books.specs.Passes.{PassView}
 use Rattle.fare_service.specs.declared.service.working.Stop.TheVariants.{Memory}

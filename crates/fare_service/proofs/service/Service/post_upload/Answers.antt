@@ -1,6 +1,6 @@
 use Rattle.std.proofs.Common.{ℕ, Option, None, Some, sym, refl, subst, inl}
 use Rattle.tap_views.specs.declared.upload_end.UploadEnd.{UploadEnd}
-use Rattle.shard_book.specs.Sums.{sums_of}
+use Rattle.histories.specs.Sums.{sums_of}
 use Rattle.tap_views.specs.declared.fault.LayoutFault.{LayoutFault}
 use Rattle.tap_views.specs.UploadEnds.{end_by}
 use Rattle.fare_service.specs.Plain.{WasNotCut}

@@ -2,7 +2,7 @@ use Rattle.std.proofs.Common.{ℕ, ◌≡◌, List, [], sym, ◌∙◌, ap, subs
 use Rattle.shared_books.specs.Claims.{claims_given}
 use Rattle.fare_service.specs.Claims.{claims_at, left_drawer, left_share}
 use Rattle.fare_service.specs.ShareView.{ShareView}
-use Rattle.shard_book.specs.Sums.{sums_of}
+use Rattle.histories.specs.Sums.{sums_of}
 use Rattle.shared_books.specs.Passes.{PassView}
 use Rattle.fare_service.specs.Shares.{made_visits_at, books_of, IsShareOf}
 use Rattle.fare_service.proofs.ShareLemmas.{fresh_share, fresh, own_split, books_split, holding}

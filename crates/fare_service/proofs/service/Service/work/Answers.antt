@@ -2,7 +2,7 @@ use Rattle.std.proofs.Common.{◌≡◌, [], ◌++◌, ◌∷◌, ℕ, length, i
 use Rattle.std.proofs.Common.{false, Ok, Err}
 use Rattle.std.specs.Prelude.{OnOk, Result}
 use Rattle.std.specs.Result.{is_err}
-use Rattle.shard_book.specs.Sums.{sums_of}
+use Rattle.histories.specs.Sums.{sums_of}
 use Rattle.fare_service.specs.ShareView.{ShareView}
 use Rattle.fare_service.specs.Shares.{IsShareOf, WentOn}
 use Rattle.fare_service.proofs.ShareLemmas.{holding, next_share, worked_none}

@@ -1,5 +1,5 @@
 use Rattle.std.proofs.Common.{◌≡◌, ◌+◌, ◌-◌, ◌≤◌, length, vec_len, vec_capacity}
-use Rattle.shard_book.specs.Sums.{sums_of}
+use Rattle.histories.specs.Sums.{sums_of}
 use Rattle.fare_service.specs.ServiceView.{shards_of}
 use Rattle.fare_service.specs.Shares.{IsShareOf}
 use Rattle.fare_service.proofs.ShareLemmas.{holding}

@@ -1,5 +1,5 @@
 use Rattle.std.proofs.Common.{◌≡◌, map, take}
-use Rattle.shard_book.specs.Sums.{sums_of}
+use Rattle.histories.specs.Sums.{sums_of}
 use Rattle.fare_service.proofs.service.gathering.workers_of.Given as goal
 
 abbrev pub invariant-loop-share : goal.invariant-loop-share

@@ -1,6 +1,6 @@
 use Rattle.std.proofs.Common.{◌≡◌, ◌+◌, sym, ap, ◌∙◌, arith, map, drop}
-use Rattle.shard_book.specs.Sums.{Sums, sums_of, add_sums, add_all}
-use Rattle.shard_book.proofs.SumsLemmas.{add_assoc}
+use Rattle.histories.specs.Sums.{Sums, sums_of, add_sums, add_all}
+use Rattle.histories.proofs.SumsLemmas.{add_assoc}
 use Rattle.fare_service.proofs.AddingLemmas.{next_worker, none_left, from_nothing}
 use Rattle.fare_service.proofs.service.worker_totals.added.Goals as goal
 

@@ -1,5 +1,5 @@
 use Rattle.std.proofs.Common.{◌≡◌, map, drop}
-use Rattle.shard_book.specs.Sums.{sums_of, add_sums, add_all}
+use Rattle.histories.specs.Sums.{sums_of, add_sums, add_all}
 use Rattle.fare_service.proofs.service.worker_totals.added.Given as goal
 
 abbrev pub invariant-loop-worker : goal.invariant-loop-worker

@@ -1,5 +1,5 @@
 use Rattle.std.proofs.Common.{◌≡◌, ◌≤◌, ◌*◌, ◌^◌, length, take}
-use Rattle.shard_book.specs.SumsByKey.{all_entries}
+use Rattle.shard_book.specs.Book.{all_entries}
 use Rattle.fare_service.proofs.service.worker_totals.entries_in.Given as goal
 
 abbrev pub invariant-loop-book : goal.invariant-loop-book

@@ -1,7 +1,7 @@
 use Rattle.std.proofs.Common.{◌≡◌, [], ◌∷◌, length, take, ap, ◌∙◌, arith}
 use Rattle.std.proofs.lemmas.List.{length-take-le, take_all}
-use Rattle.shard_book.specs.Sums.{Sums, sums_of, sums_of_replies, add_sums}
-use Rattle.shard_book.specs.Tally.{sums_of_tally}
+use Rattle.histories.specs.Sums.{Sums, sums_of, sums_of_replies, add_sums}
+use Rattle.histories.specs.Tally.{sums_of_tally}
 use Rattle.fare_service.proofs.VisitLemmas.{next_reply, taps_of_replies}
 use Rattle.fare_service.proofs.service.working.count.Goals as goal
 

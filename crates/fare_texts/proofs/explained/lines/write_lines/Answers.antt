@@ -2,7 +2,7 @@
 use Rattle.std.proofs.Common.{List, [], ◌++◌, take, refl, sym, ap, subst, ◌∙◌}
 use Rattle.std.proofs.Common.{string_bytes, append_assoc, append-nil, arith}
 use Rattle.std.proofs.lemmas.List.{length-take-le}
-use Rattle.shard_book.specs.declared.entry.Entry.{Entry}
+use Rattle.histories.specs.declared.entry.Entry.{Entry}
 use Rattle.fare_texts.specs.Explainers.{HasExplained}
 use Rattle.fare_texts.proofs.LineLists.{taken}
 use Rattle.fare_texts.proofs.ExplainedLines.{next_explained}

@@ -4,8 +4,8 @@ use Rattle.std.proofs.lemmas.List.{length-take-le, take_all}
 use Rattle.account_rule.specs.Reasons.{replied_by}
 use Rattle.account_rule.specs.TokenRules.{rules_of}
 use Rattle.account_rule.proofs.ReasonLemmas.{reply-follows}
-use Rattle.shard_book.specs.Entry.{tap_of}
-use Rattle.shard_book.specs.declared.entry.Entry.{Entry}
+use Rattle.histories.specs.Entry.{tap_of}
+use Rattle.histories.specs.declared.entry.Entry.{Entry}
 use Rattle.tap_views.specs.Token.{bytes_of}
 use Rattle.fare_texts.specs.Explainers.{HasExplained}
 use Rattle.fare_texts.proofs.LineLists.{more, taken}

@@ -6,7 +6,7 @@ use Rattle.account_rule.specs.Reasons.{reason}
 use Rattle.account_rule.specs.TokenRules.{rules_of}
 use Rattle.account_rule.specs.Stands.{Stands, StandsForSome}
 use Rattle.account_rule.specs.declared.tap.TapIn.{TapIn}
-use Rattle.shard_book.specs.Entry.{tap_of}
+use Rattle.histories.specs.Entry.{tap_of}
 use Rattle.tap_views.specs.Token.{bytes_of}
 use Rattle.fare_texts.proofs.Modes.{has_mode}
 use Rattle.fare_texts.proofs.explainer.Explainer.explain_next.Goals as goal

@@ -4,8 +4,8 @@ use Rattle.account_rule.specs.NoTransfers.{HasModesBelow}
 use Rattle.account_rule.specs.TokenRules.{rules_of}
 use Rattle.account_rule.specs.declared.no_transfer.NoTransfer.{NoTransfer}
 use Rattle.account_rule.specs.declared.tap.TapIn.{TapIn}
-use Rattle.shard_book.proofs.Histories.{tap_of-post}
-use Rattle.shard_book.specs.Entry.{tap_of}
+use Rattle.histories.proofs.Histories.{tap_of-post}
+use Rattle.histories.specs.Entry.{tap_of}
 use Rattle.tap_views.specs.Token.{bytes_of}
 use Rattle.fare_texts.proofs.explainer.Explainer.no_transfer.Goals as goal
 

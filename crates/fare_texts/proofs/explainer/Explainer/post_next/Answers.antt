@@ -13,10 +13,10 @@ use Rattle.account_rule.specs.Stands.{Stands, StandsForSome}
 use Rattle.account_rule.specs.declared.reply.Answer.TheVariants.{Unknown}
 use Rattle.account_rule.specs.declared.reply.Reply.{Reply}
 use Rattle.account_rule.specs.declared.tap.TapIn.{TapIn}
-use Rattle.shard_book.specs.Entry.{tap_of}
-use Rattle.shard_book.specs.declared.entry.Entry.{Entry}
+use Rattle.histories.specs.Entry.{tap_of}
+use Rattle.histories.specs.declared.entry.Entry.{Entry}
 use Rattle.tap_views.specs.Token.{bytes_of}
-use Rattle.shard_book.proofs.Histories.{tap_of-post}
+use Rattle.histories.proofs.Histories.{tap_of-post}
 use Rattle.fare_texts.specs.LedgerLines.{reason_after}
 use Rattle.fare_texts.specs.Explainers.{HasExplained}
 use Rattle.fare_texts.proofs.explainer.Explainer.post_next.Goals as goal

@@ -2,7 +2,7 @@
 use Rattle.std.proofs.Common.{ℕ, ◌+◌, [], ◌∷◌, ◌++◌, ap, subst, ◌∙◌}
 use Rattle.account_rule.specs.declared.reason.Reason.{Reason}
 use Rattle.tap_views.specs.declared.token.Token.{Token}
-use Rattle.shard_book.specs.declared.entry.Entry.{Entry}
+use Rattle.histories.specs.declared.entry.Entry.{Entry}
 use Rattle.fare_texts.specs.LedgerLines.{IsLedgerLine, IsLedgerLineAfter, reason_after}
 use Rattle.fare_texts.specs.Explainers.{HasExplained}
 use Rattle.fare_texts.proofs.explainer.Explainer.write_posted.Goals as goal

@@ -3,7 +3,7 @@ use Rattle.std.proofs.Common.{◌≡◌, ◌^◌, ◌<◌, ◌≤◌, ℕ, List,
 use Rattle.std.proofs.Common.{string_bytes}
 use Rattle.std.proofs.lemmas.Bool.{both_ways}
 use Rattle.account_rule.specs.declared.reason.Reason.{Reason}
-use Rattle.shard_book.specs.declared.entry.Entry.{Entry}
+use Rattle.histories.specs.declared.entry.Entry.{Entry}
 use Rattle.fare_texts.specs.LedgerLines.{IsLedgerLine}
 use Rattle.ledger_check.specs.Ledger.{IsPostable}
 use Rattle.ledger_check.proofs.ReplayLemmas.{read_more, wanted_next, wrong_full, wrong_less}

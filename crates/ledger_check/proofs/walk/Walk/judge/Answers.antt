@@ -4,8 +4,8 @@ use Rattle.std.specs.Prelude.{IsTrue, ◌↔◌, MatchOption, unwrap_or}
 use Rattle.std.specs.Str.{bytes_eq}
 use Rattle.std.proofs.lemmas.Bool.{false≢true}
 use Rattle.std.proofs.lemmas.Slice.Eq.{bytes_eq-Decides}
-use Rattle.shard_book.specs.Entry.{own}
-use Rattle.shard_book.specs.declared.entry.Entry.{Entry}
+use Rattle.histories.specs.Entry.{own}
+use Rattle.histories.specs.declared.entry.Entry.{Entry}
 use Rattle.fare_texts.specs.LedgerLines.{IsLedgerLineAfter}
 use Rattle.fare_texts.specs.Explainers.{next_entry}
 use Rattle.ledger_check.specs.Recounts.{AreCents, IsCentsField, IsLineOfTap, falls_after}

@@ -5,7 +5,7 @@ use Rattle.std.specs.Option.{option_map}
 use Rattle.std.specs.Ordering.{nat_cmp}
 use Rattle.std.proofs.lemmas.Result.{err_from_is_err_and}
 use Rattle.std.proofs.lemmas.Option.{IfSome_then}
-use Rattle.shard_book.specs.Sums.{sums_of}
+use Rattle.histories.specs.Sums.{sums_of}
 use Rattle.part_reports.specs.inside.Standings.{standing}
 use Rattle.part_reports.specs.inside.SumsLeft.{sums_left}
 use Rattle.part_reports.proofs.ReportsLeft.{not_begun, used_none}

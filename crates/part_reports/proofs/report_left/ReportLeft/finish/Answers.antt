@@ -1,5 +1,5 @@
 use Rattle.std.proofs.Common.{◌≡◌, ◌∙◌, [], None, refl, rules, sym}
-use Rattle.shard_book.specs.Sums.{sums}
+use Rattle.histories.specs.Sums.{sums}
 use Rattle.part_reports.specs.inside.ReportsLeft.{AreSame, report_at}
 use Rattle.part_reports.specs.inside.SumsLeft.{sums_left}
 use Rattle.report_texts.specs.declared.wrong.Wrong.TheVariants.{LessThanReport, MissingToken}

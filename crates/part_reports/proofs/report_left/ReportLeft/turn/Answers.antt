@@ -3,7 +3,7 @@ use Rattle.std.proofs.lemmas.Option.{MatchOption-at_none, MatchOption-at_some}
 use Rattle.std.proofs.lemmas.Result.{err_from_is_err_and}
 use Rattle.report_texts.specs.Numbers.{IsTokenSum}
 use Rattle.fare_texts.specs.ReportLines.{token_line}
-use Rattle.shard_book.specs.Sums.{Sums, sums}
+use Rattle.histories.specs.Sums.{Sums, sums}
 use Rattle.part_reports.specs.inside.Standings.{MayFollowToken}
 use Rattle.part_reports.specs.inside.SumsLeft.{sums_left}
 use Rattle.part_reports.specs.inside.ReportsLeft.{IsNoRest, report_at}

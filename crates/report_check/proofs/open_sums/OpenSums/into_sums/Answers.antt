@@ -1,5 +1,5 @@
 use Rattle.std.proofs.Common.{◌∙◌, arith}
-use Rattle.shard_book.specs.TalliesByKey.{HasRoom}
+use Rattle.histories.specs.TalliesByKey.{HasRoom}
 use Rattle.report_check.proofs.OpenSums.{all_few}
 use Rattle.report_check.proofs.open_sums.OpenSums.into_sums.Goals as goal
 

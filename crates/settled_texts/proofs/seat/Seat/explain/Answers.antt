@@ -1,6 +1,6 @@
 -- The first token's account is fresh, so the lines are those of the taps wherever it has no entry.
 use Rattle.std.proofs.Common.{◌≡◌, ℕ, List, [], ◌++◌, sym, ap, subst, ◌∙◌, arith}
-use Rattle.shard_book.specs.Entry.{own}
+use Rattle.histories.specs.Entry.{own}
 use Rattle.tap_views.specs.declared.token.Token.{Token}
 use Rattle.fare_texts.specs.Lines.{AreUpTo}
 use Rattle.tap_views.specs.TokenOrder.{IsUpTo}

@@ -1,6 +1,6 @@
 use Rattle.std.proofs.Common.{◌≡◌, ◌-◌, ◌≤◌, List, ◌++◌, length, map, take}
-use Rattle.shard_book.specs.SumsByKey.{sums_by_token, token_of}
-use Rattle.shard_book.specs.declared.entry.Entry.{Entry}
+use Rattle.histories.specs.SumsByKey.{sums_by_token, token_of}
+use Rattle.histories.specs.declared.entry.Entry.{Entry}
 use Rattle.tap_views.specs.TokenOrder.{AreBelow}
 use Rattle.settlement.specs.Bills.{IsCountOf}
 use Rattle.settlement.specs.Posted.{posted, token_of_tap}

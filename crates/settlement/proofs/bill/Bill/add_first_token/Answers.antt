@@ -1,6 +1,6 @@
 use Rattle.std.proofs.Common.{◌<◌, ap, arith, map, take, ◌∙◌}
 use Rattle.std.proofs.lemmas.List.{get_or-take, length-take-le}
-use Rattle.shard_book.specs.SumsByKey.{token_of}
+use Rattle.histories.specs.SumsByKey.{token_of}
 use Rattle.settlement.specs.Posted.{token_of_tap}
 use Rattle.settlement.proofs.TokenRuns.{below_first}
 use Rattle.settlement.proofs.bill.Bill.add_first_token.Goals as goal

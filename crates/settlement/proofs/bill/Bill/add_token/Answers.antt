@@ -6,16 +6,16 @@ use Rattle.std.proofs.lemmas.List.Elements.{All-take}
 use Rattle.tap_views.specs.declared.token.Token.{Token}
 use Rattle.tap_views.specs.declared.encoder.TapFields.{TapFields}
 use Rattle.account_rule.specs.declared.reply.Reply.{Reply}
-use Rattle.shard_book.specs.Entry.{own}
-use Rattle.shard_book.specs.Sums.{Sums, add_sums, sums, sums_of_replies}
-use Rattle.shard_book.specs.SumsByKey.{sums_by_token, token_of, validator_of}
-use Rattle.shard_book.specs.TalliesByKey.{AreByKey, HasRoom}
-use Rattle.shard_book.specs.Tally.{sums_of_tally}
-use Rattle.shard_book.specs.declared.entry.Entry.{Entry}
-use Rattle.shard_book.specs.declared.sums.tally.Tally.{Tally}
-use Rattle.shard_book.proofs.SumsLemmas.{sums-append, sums-taps}
-use Rattle.shard_book.specs.Plain.{answered}
-use Rattle.shard_book.proofs.SumsByToken.{by_token_joined, one_token_list, below_same}
+use Rattle.histories.specs.Entry.{own}
+use Rattle.histories.specs.Sums.{Sums, add_sums, sums, sums_of_replies}
+use Rattle.histories.specs.SumsByKey.{sums_by_token, token_of, validator_of}
+use Rattle.histories.specs.TalliesByKey.{AreByKey, HasRoom}
+use Rattle.histories.specs.Tally.{sums_of_tally}
+use Rattle.histories.specs.declared.entry.Entry.{Entry}
+use Rattle.histories.specs.declared.sums.tally.Tally.{Tally}
+use Rattle.histories.proofs.SumsLemmas.{sums-append, sums-taps}
+use Rattle.histories.specs.Plain.{answered}
+use Rattle.histories.proofs.SumsByToken.{by_token_joined, one_token_list, below_same}
 use Rattle.settlement.specs.Bills.{IsCountOf}
 use Rattle.settlement.specs.Posted.{posted, posted_after, token_of_tap, unposted}
 use Rattle.settlement.specs.Replays.{HasPosted}

@@ -1,9 +1,9 @@
 use Rattle.std.proofs.Common.{◌≡◌, ◌==◌, List, ◌++◌, take}
-use Rattle.shard_book.specs.Sums.{sums}
-use Rattle.shard_book.specs.SumsByKey.{validator_of}
-use Rattle.shard_book.specs.TalliesByKey.{AreByKey}
-use Rattle.shard_book.specs.Tally.{sums_of_tally}
-use Rattle.shard_book.specs.declared.entry.Entry.{Entry}
+use Rattle.histories.specs.Sums.{sums}
+use Rattle.histories.specs.SumsByKey.{validator_of}
+use Rattle.histories.specs.TalliesByKey.{AreByKey}
+use Rattle.histories.specs.Tally.{sums_of_tally}
+use Rattle.histories.specs.declared.entry.Entry.{Entry}
 use Rattle.settlement.specs.Posted.{posted}
 use Rattle.settlement.specs.Replays.{HasPosted}
 use Rattle.settlement.proofs.bill.Bill.add_token.Given as goal

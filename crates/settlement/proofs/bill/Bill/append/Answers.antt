@@ -1,11 +1,11 @@
 use Rattle.std.proofs.Common.{List, ◌++◌, ap, sym, ◌∙◌, arith}
 use Rattle.tap_views.specs.declared.token.Token.{Token}
-use Rattle.shard_book.specs.Sums.{Sums, add_sums, sums}
-use Rattle.shard_book.specs.SumsByKey.{sums_by_token}
-use Rattle.shard_book.specs.TalliesByKey.{HaveRoom}
-use Rattle.shard_book.specs.Tally.{sums_of_tally}
-use Rattle.shard_book.proofs.SumsLemmas.{sums-append, sums-taps}
-use Rattle.shard_book.proofs.SumsByToken.{by_token_joined}
+use Rattle.histories.specs.Sums.{Sums, add_sums, sums}
+use Rattle.histories.specs.SumsByKey.{sums_by_token}
+use Rattle.histories.specs.TalliesByKey.{HaveRoom}
+use Rattle.histories.specs.Tally.{sums_of_tally}
+use Rattle.histories.proofs.SumsLemmas.{sums-append, sums-taps}
+use Rattle.histories.proofs.SumsByToken.{by_token_joined}
 use Rattle.settlement.specs.inside.Billing.{HaveBillRoom}
 use Rattle.settlement.proofs.bill.Bill.append.Goals as goal
 

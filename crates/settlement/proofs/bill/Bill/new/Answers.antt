@@ -1,5 +1,5 @@
 use Rattle.settlement.proofs.bill.Bill.new.Goals as goal
-use Rattle.shard_book.proofs.SumsByToken.{no_sums}
+use Rattle.histories.proofs.SumsByToken.{no_sums}
 
 pub returns : goal.returns
 returns c = record {

@@ -6,11 +6,11 @@ use Rattle.account_rule.specs.declared.reply.Reply.{Reply}
 use Rattle.account_rule.specs.declared.tap.TapIn.{TapIn}
 use Rattle.tap_views.specs.Token.{bytes_of}
 use Rattle.tap_views.specs.declared.token.Token.{Token}
-use Rattle.shard_book.specs.Entry.{tap_of, taps_of}
-use Rattle.shard_book.specs.declared.entry.Entry.{Entry}
-use Rattle.shard_book.proofs.Histories.{taps-push}
+use Rattle.histories.specs.Entry.{tap_of, taps_of}
+use Rattle.histories.specs.declared.entry.Entry.{Entry}
+use Rattle.histories.proofs.Histories.{taps-push}
 use Rattle.tap_views.proofs.TokenLemmas.{token_eq-refl}
-use Rattle.shard_book.specs.Plain.{answered, with_reply}
+use Rattle.histories.specs.Plain.{answered, with_reply}
 use Rattle.settlement.specs.Posted.{unposted}
 use Rattle.settlement.specs.Replays.{HasPosted}
 use Rattle.settlement.proofs.replay.Replay.next.Goals as goal

@@ -3,7 +3,7 @@ use Rattle.account_rule.specs.Stands.{Stands}
 use Rattle.account_rule.specs.TokenRules.{rules_of}
 use Rattle.account_rule.specs.declared.tap.TapIn.{TapIn}
 use Rattle.tap_views.specs.Token.{bytes_of}
-use Rattle.shard_book.specs.Entry.{tap_of, taps_of}
+use Rattle.histories.specs.Entry.{tap_of, taps_of}
 use Rattle.settlement.specs.Replays.{HasPosted}
 use Rattle.settlement.proofs.replay.Replay.of.Goals as goal
 

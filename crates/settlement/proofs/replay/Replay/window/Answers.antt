@@ -1,6 +1,6 @@
 use Rattle.tap_views.specs.Token.{bytes_of}
 use Rattle.account_rule.specs.TokenRules.{rules_of}
-use Rattle.shard_book.specs.Entry.{taps_of}
+use Rattle.histories.specs.Entry.{taps_of}
 use Rattle.settlement.specs.Replays.{HasPosted}
 use Rattle.settlement.proofs.replay.Replay.window.Goals as goal
 

@@ -1,6 +1,6 @@
 use Rattle.std.proofs.Common.{◌≡◌, ◌++◌, map, filter}
 use Rattle.shard_book.specs.inside.Accounts.{is_used, pair_of, pairs_of}
-use Rattle.shard_book.specs.Counts.{token_counts}
+use Rattle.histories.specs.Counts.{token_counts}
 use Rattle.shard_book.proofs.accounts.Accounts.push_counts.Given as goal
 
 abbrev pub invariant-loop-token : goal.invariant-loop-token

@@ -7,7 +7,7 @@ use Rattle.account_rule.specs.Stands.{Stands, StandsForSome}
 use Rattle.shard_book.specs.declared.accounts.KeptAccount.{KeptAccount}
 use Rattle.tap_views.specs.declared.token.Token.{Token}
 use Rattle.shard_book.specs.inside.Accounts.{kept_at, counted, IsKept}
-use Rattle.shard_book.specs.Sums.{Sums, add_sums, sums_of_replies}
+use Rattle.histories.specs.Sums.{Sums, add_sums, sums_of_replies}
 use Rattle.tap_views.specs.Token.{bytes_of}
 use Rattle.tap_views.proofs.TokenBytes.{token_length}
 use Rattle.shard_book.proofs.AccountsLemmas.{stands_or, counted_or, found, written}

@@ -2,7 +2,7 @@ use Rattle.std.proofs.Common.{subst}
 use Rattle.account_rule.specs.TokenRules.{rules_of}
 use Rattle.account_rule.specs.Stands.{Stands}
 use Rattle.shard_book.specs.Book.{Book}
-use Rattle.shard_book.specs.Entry.{taps_of}
+use Rattle.histories.specs.Entry.{taps_of}
 use Rattle.shard_book.specs.inside.Sound.{AreKept}
 use Rattle.tap_views.specs.Token.{bytes_of}
 use Rattle.shard_book.proofs.book.ShardBook.account_of.Goals as goal

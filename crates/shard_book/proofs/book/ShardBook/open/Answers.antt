@@ -1,4 +1,4 @@
-use Rattle.shard_book.proofs.Histories.{legal-none}
+use Rattle.histories.proofs.Histories.{legal-none}
 use Rattle.shard_book.proofs.SoundLemmas.{book-none}
 use Rattle.shard_book.proofs.book.ShardBook.open.Goals as goal
 

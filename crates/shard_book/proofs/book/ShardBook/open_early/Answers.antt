@@ -1,7 +1,7 @@
 use Rattle.std.proofs.Common.{refl, ap, ◌∙◌, ℕ, List}
 use Rattle.tariffs.specs.Fares.{Fares}
 use Rattle.shard_book.specs.Book.{Book}
-use Rattle.shard_book.specs.declared.entry.Entry.{Entry}
+use Rattle.histories.specs.declared.entry.Entry.{Entry}
 use Rattle.shard_book.specs.inside.Packed.{tokens_of}
 use Rattle.shard_book.proofs.PackedLemmas.{history-kept}
 use Rattle.shard_book.proofs.SoundLemmas.{book-on}

@@ -1,5 +1,5 @@
 use Rattle.std.proofs.Common.{sym, append-nil}
-use Rattle.shard_book.specs.Entry.{own}
+use Rattle.histories.specs.Entry.{own}
 use Rattle.shard_book.proofs.HistoryLemmas.{own-read}
 use Rattle.shard_book.proofs.book.ShardBook.push_own.Goals as goal
 

@@ -1,5 +1,5 @@
 use Rattle.std.proofs.Common.{◌≡◌, ◌++◌, take}
-use Rattle.shard_book.specs.Entry.{own}
+use Rattle.histories.specs.Entry.{own}
 use Rattle.shard_book.proofs.book.ShardBook.push_own.Given as goal
 
 abbrev pub invariant-loop-i : goal.invariant-loop-i

@@ -1,6 +1,6 @@
 use Rattle.std.proofs.Common.{ap, map, List, ◌∙◌}
-use Rattle.shard_book.specs.declared.sums.TokenSum.{TokenSum}
-use Rattle.shard_book.proofs.ByKeyLemmas.{tokens-of-sums}
+use Rattle.histories.specs.declared.sums.TokenSum.{TokenSum}
+use Rattle.histories.proofs.ByKeyLemmas.{tokens-of-sums}
 use Rattle.shard_book.proofs.book.ShardBook.tokens.Goals as goal
 
 pub returns : goal.returns

@@ -1,6 +1,6 @@
 use Rattle.std.proofs.Common.{◌≡◌, take}
-use Rattle.shard_book.specs.Sums.{sums}
-use Rattle.shard_book.specs.Tally.{sums_of_tally}
+use Rattle.histories.specs.Sums.{sums}
+use Rattle.histories.specs.Tally.{sums_of_tally}
 use Rattle.shard_book.proofs.book.ShardBook.totals.Given as goal
 
 abbrev pub invariant-loop-i : goal.invariant-loop-i

@@ -1,6 +1,6 @@
 use Rattle.std.proofs.Common.{List, ◌++◌, take}
-use Rattle.shard_book.specs.declared.entry.Entry.{Entry}
-use Rattle.shard_book.specs.TalliesByKey.{AreByKey}
+use Rattle.histories.specs.declared.entry.Entry.{Entry}
+use Rattle.histories.specs.TalliesByKey.{AreByKey}
 use Rattle.shard_book.proofs.sums.by_key.add_entries.Given as goal
 
 abbrev pub invariant-loop-i : goal.invariant-loop-i

@@ -1,8 +1,8 @@
 use Rattle.std.proofs.Common.{◌≤◌, ◌*◌, ◌^◌, length, sym, ap, ◌∙◌, arith}
 use Rattle.std.specs.Option.{option_copied}
-use Rattle.shard_book.specs.SumsByKey.{all_entries}
-use Rattle.shard_book.specs.TalliesByKey.{HasRoom}
-use Rattle.shard_book.proofs.ByKeyLemmas.{sums_by-none}
+use Rattle.shard_book.specs.Book.{all_entries}
+use Rattle.histories.specs.TalliesByKey.{HasRoom}
+use Rattle.shard_book.proofs.BookSums.{sums_by-none}
 use Rattle.shard_book.proofs.sums.by_key.sums_of_books.Goals as goal
 
 pub returns-in_default : goal.returns-in_default

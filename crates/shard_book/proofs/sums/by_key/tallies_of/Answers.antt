@@ -1,7 +1,7 @@
 use Rattle.std.proofs.Common.{◌≤◌, ◌*◌, ◌^◌, length, take, arith}
-use Rattle.shard_book.specs.SumsByKey.{all_entries}
-use Rattle.shard_book.specs.TalliesByKey.{HasRoom}
-use Rattle.shard_book.proofs.ByKeyLemmas.{by_key-none}
+use Rattle.shard_book.specs.Book.{all_entries}
+use Rattle.histories.specs.TalliesByKey.{HasRoom}
+use Rattle.histories.proofs.ByKeyLemmas.{by_key-none}
 use Rattle.shard_book.proofs.sums.by_key.tallies_of.Goals as goal
 
 pub loop-book-init : goal.loop-book-init

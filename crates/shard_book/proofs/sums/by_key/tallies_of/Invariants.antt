@@ -1,6 +1,6 @@
 use Rattle.std.proofs.Common.{◌≤◌, ◌*◌, ◌^◌, length, take}
-use Rattle.shard_book.specs.SumsByKey.{all_entries}
-use Rattle.shard_book.specs.TalliesByKey.{AreByKey}
+use Rattle.shard_book.specs.Book.{all_entries}
+use Rattle.histories.specs.TalliesByKey.{AreByKey}
 use Rattle.shard_book.proofs.sums.by_key.tallies_of.Given as goal
 
 abbrev pub invariant-loop-book : goal.invariant-loop-book

@@ -1,6 +1,6 @@
 use Rattle.std.proofs.Common.{◌≡◌, ◌==◌, length}
 use Rattle.std.specs.Vec.Iter.{into_iter_items, into_iter_len}
-use Rattle.shard_book.specs.SumsByKey.{validator_of}
+use Rattle.histories.specs.SumsByKey.{validator_of}
 use Rattle.shard_book.proofs.ChunkLemmas.{IsMerging}
 use Rattle.shard_book.proofs.sums.by_threads.tallies_by_four.Given as goal
 

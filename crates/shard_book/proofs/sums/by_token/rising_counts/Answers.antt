@@ -1,6 +1,6 @@
 use Rattle.std.proofs.Common.{map}
-use Rattle.shard_book.specs.Counts.{token_counts}
-use Rattle.shard_book.specs.SumsByKey.{all_entries}
+use Rattle.histories.specs.Counts.{token_counts}
+use Rattle.shard_book.specs.Book.{all_entries}
 use Rattle.shard_book.proofs.SummedLemmas.{summed-sorted}
 use Rattle.shard_book.proofs.sums.by_token.rising_counts.Goals as goal
 

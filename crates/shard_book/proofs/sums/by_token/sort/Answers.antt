@@ -1,8 +1,8 @@
 use Rattle.std.proofs.Common.{rules}
 use Rattle.std.proofs.lemmas.Fn.{always_returns_same}
 use Rattle.std.proofs.lemmas.List.Sorted.{IsPermutation-map}
-use Rattle.shard_book.specs.declared.sums.counts.TokenCounts.{TokenCounts}
-use Rattle.shard_book.specs.Counts.{token_counts}
+use Rattle.histories.specs.declared.sums.counts.TokenCounts.{TokenCounts}
+use Rattle.histories.specs.Counts.{token_counts}
 use Rattle.shard_book.proofs.SummedLemmas.{counts-sorted}
 use Rattle.shard_book.proofs.sums.by_token.sort.Goals as goal
 

@@ -1,7 +1,7 @@
 use Rattle.std.proofs.Common.{◌≡◌, ◌∙◌, [], arith, ap, subst}
 use Rattle.std.proofs.lemmas.Result.{err_from_is_err_and}
 use Rattle.shard_book.specs.Book.{Book}
-use Rattle.shard_book.specs.Statement.{IsStatement}
+use Rattle.histories.specs.Statement.{IsStatement}
 use Rattle.shared_books.proofs.Passing.{full_told, full_pass_is, brings, entries_now, legal_now}
 use Rattle.shared_books.proofs.Passing.{nothing_more, legal_out, seen_out, table_out, pass_visits}
 use Rattle.shared_books.proofs.Passing.{visit_told, held_small}

@@ -2,7 +2,7 @@ use Rattle.std.proofs.Common.{◌∙◌, [], refl, sym, ap, subst}
 use Rattle.std.proofs.lemmas.Bool.{false≢true}
 use Rattle.tap_views.specs.Token.{token_eq}
 use Rattle.tap_views.specs.declared.token.Token.{Token}
-use Rattle.shard_book.specs.Entry.{own}
+use Rattle.histories.specs.Entry.{own}
 use Rattle.tap_views.proofs.TokenLemmas.{same_token, token_eq-refl}
 use Rattle.tap_views.specs.TokenOrder.{IsUpTo}
 use Rattle.sorted_bills.proofs.OpenBills.{gone_on}

@@ -4,8 +4,8 @@ use Rattle.std.specs.declared.cmp.Ordering.TheVariants.{Less}
 use Rattle.tap_views.specs.Token.{token_cmp}
 use Rattle.tap_views.specs.declared.encoder.TapFields.{TapFields}
 use Rattle.tap_views.specs.declared.token.Token.{Token}
-use Rattle.shard_book.specs.Entry.{own}
-use Rattle.shard_book.proofs.SumsByToken.{no_sums}
+use Rattle.histories.specs.Entry.{own}
+use Rattle.histories.proofs.SumsByToken.{no_sums}
 use Rattle.settlement.specs.Posted.{posted_after, token_of_tap}
 use Rattle.sorted_bills.proofs.open_bill.OpenBill.new.Goals as goal
 

@@ -1,8 +1,8 @@
 use Rattle.std.proofs.Common.{◌∙◌, ◌++◌, ◌∷◌, [], refl, ap, arith}
 use Rattle.account_rule.specs.declared.reply.Reply.{Reply}
-use Rattle.shard_book.specs.Sums.{add_sums, sums_of_replies}
-use Rattle.shard_book.specs.TalliesByKey.{HasRoom}
-use Rattle.shard_book.specs.Tally.{sums_of_tally}
+use Rattle.histories.specs.Sums.{add_sums, sums_of_replies}
+use Rattle.histories.specs.TalliesByKey.{HasRoom}
+use Rattle.histories.specs.Tally.{sums_of_tally}
 use Rattle.settlement.specs.Posted.{posted}
 use Rattle.settlement.proofs.TokenRuns.{posted_length}
 use Rattle.sorted_bills.proofs.OpenBills.{all_validators, counted_taps, one_more}

@@ -1,0 +1,12 @@
+-- The explained statement of a token of books.
+use Rattle.std.specs.Prelude.{◌≡◌, ℕ, List, Some, slice_get}
+use Rattle.shard_book.specs.Book.{Book, all_entries}
+use Rattle.tap_views.specs.declared.token.Token.{Token}
+use Rattle.fare_texts.specs.Explained.{IsExplainedOver}
+
+-- the explained statement of a token over books: that over the entries of all of them, under the
+-- table of the first
+pub record IsExplainedOf (books : List Book) (token : Token) (text : List ℕ) : Type 0 where
+  pub first : Book
+  pub stands_first : slice_get books 0 ≡ Some first
+  pub over : IsExplainedOver first.table (all_entries books) token text

@@ -1,0 +1,37 @@
+-- What stands at the spots of several books. Private functions alone cite this.
+use Rattle.std.specs.Prelude.{ℕ, ◌/◌, ◌%◌, List, Option, map, option_and_then, slice_get}
+use Rattle.std.specs.Prelude.{unwrap_or}
+use Rattle.account_rule.specs.declared.reply.Answer.TheVariants.{Unknown}
+use Rattle.shard_book.specs.Book.{Book}
+use Rattle.histories.specs.declared.entry.Entry.{Entry}
+use Rattle.fare_service.specs.declared.spot.Spot.{Spot}
+
+-- the place of the book among the books
+abbrev pub book_at : Spot → ℕ
+book_at spot = spot.bits % 65536
+
+-- the place of the entry in its book
+abbrev pub place_at : Spot → ℕ
+place_at spot = spot.bits / 65536
+
+-- the entry at a place of a book, if there is one
+abbrev pub entry_in : List Book → ℕ → ℕ → Option Entry
+entry_in books book place = option_and_then (λ b. slice_get b.entries place) (slice_get books book)
+
+-- what is read if there is none
+abbrev pub no_entry : Entry
+no_entry = record {
+  token = record { high = 0; low = 0 };
+  validator = 0;
+  moment = 0;
+  answer = Unknown;
+  cents = 0;
+}
+
+-- the entry at a spot
+unfoldable pub entry_at_spot : List Book → Spot → Entry
+entry_at_spot books spot = unwrap_or (entry_in books (book_at spot) (place_at spot)) no_entry
+
+-- the entries at the spots
+abbrev pub entries_at_spots : List Book → List Spot → List Entry
+entries_at_spots books spots = map (entry_at_spot books) spots

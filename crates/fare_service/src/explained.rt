@@ -1,0 +1,52 @@
+//! The explained statement of a token of books: why each line costs what it costs.
+
+ghost use Rattle.std.specs.Prelude.{◌≡◌, ◌<◌, ℕ, List, ◌++◌, IfErr, IfOk, OnOk, length};
+ghost use Rattle.std.specs.Prelude.{string_bytes};
+ghost use Rattle.std.specs.Io.KnownBytes.{Appends};
+ghost use Rattle.fare_service.specs.Explained.{IsExplainedOf};
+ghost use Rattle.fare_texts.specs.PrintFaults.{KeepsUnlessWrite};
+ghost use Rattle.fare_texts.specs.WrittenOut.{Begins};
+ghost use Rattle.fare_texts.specs.declared.print_fault.PrintFault.TheVariants.{Write as ForWrite};
+
+use crate::entries::own_of;
+use crate::ledger::table_of;
+use fare_texts::{PrintFault, explained_text_of, pass_on};
+use shard_book::ShardBook;
+use std::alloc::Global;
+use std::io::Write;
+use tap_views::{NoMemory, Token};
+
+/// The explained statement of a token.
+fn explained_text(alloc: Global, books: &[ShardBook], token: Token) -> Result<String, NoMemory>
+    requires { 0 < length books.now }
+    ensures { IfOk result (λ text. IsExplainedOf books.now token (string_bytes text)) }
+{
+    let table = table_of(books);
+    let entries = own_of(alloc, books, token)?;
+    let text = explained_text_of(alloc, table, token, entries.as_slice())?;
+    Ok(text)
+}
+
+/// Writes the explained statement of a token: the head line, the token's terms by each
+/// table, its entries, each
+/// with the account rule's reason for it after its earlier entries, their totals, and all its
+/// windows, the last one last. Under a zone each entry and each window has its local times too. All
+/// memory is taken before the first byte is written: on a fault of memory nothing was.
+pub fn write_explained<W: Write>(
+    alloc: Global,
+    books: &[ShardBook],
+    token: Token,
+    out: &mut W,
+) -> Result<(), PrintFault>
+    requires { 0 < length books.now }
+    ensures ok { OnOk result ((text : List ℕ) × IsExplainedOf books.now token text
+        × Appends (W.contents out.old) (W.contents out.new) text) }
+    ensures begun { IfErr result (λ fault. fault ≡ ForWrite
+        → (text : List ℕ) × IsExplainedOf books.now token text
+        × Begins (W.contents out.old) (W.contents out.new) text) }
+    ensures fault { IfErr result (λ fault. KeepsUnlessWrite fault (out.new ≡ out.old)) }
+{
+    let mut text = explained_text(alloc, books, token)?;
+    pass_on(&mut text, out)?;
+    Ok(())
+}

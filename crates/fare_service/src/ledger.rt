@@ -1,0 +1,116 @@
+//! The ledger of books.
+
+ghost use Rattle.std.specs.Prelude.{◌≡◌, ◌<◌, ℕ, List, ◌++◌, IfErr, IfOk, OnOk, None, Some};
+ghost use Rattle.std.specs.Prelude.{length, slice_get, string_bytes};
+ghost use Rattle.std.specs.Io.KnownBytes.{Appends};
+ghost use Rattle.fare_texts.specs.PrintFaults.{KeepsUnlessWrite};
+ghost use Rattle.fare_texts.specs.WrittenOut.{Begins};
+ghost use Rattle.fare_texts.specs.declared.print_fault.PrintFault.TheVariants.{Write as ForWrite};
+ghost use Rattle.shard_book.specs.Book.{Book, all_entries};
+ghost use Rattle.fare_texts.specs.LedgerLines.{head_text};
+ghost use Rattle.fare_service.specs.Ledger.{IsLedgerOfBooks};
+ghost use Rattle.fare_texts.specs.ByToken.{IsByToken};
+ghost use Rattle.fare_service.specs.inside.Spots.{entries_at_spots};
+
+use crate::entries::{by_token, own_of};
+use crate::lines::write_lines;
+use crate::spot::Spot;
+use fare_texts::{LINE_ROOM_BYTES, PrintFault, head_with_room, ledger_text_of, pass_on};
+use shard_book::ShardBook;
+use std::alloc::Global;
+use std::io::Write;
+use tap_views::{NoMemory, Token};
+use tariffs::FareTable;
+
+/// The fare table of the first book, which is that of all books of a service.
+pub(crate) fn table_of(books: &[ShardBook]) -> &FareTable
+    requires { 0 < length books.now }
+    ensures { (first : Book) × (slice_get books.now 0 ≡ Some first) × (result.now ≡ first.table) }
+{
+    books[0].table()
+}
+
+/// The head line in a text with room for a piece and a line more, and the spots of the entries of
+/// all books in order of token.
+fn begun(alloc: Global, books: &[ShardBook]) -> Result<(String, Vec<Spot>), NoMemory>
+    ensures head { IfOk result (λ begun. string_bytes begun.0 ≡ head_text) }
+    ensures entries { IfOk result
+        (λ begun. IsByToken (all_entries books.now) (entries_at_spots books.now begun.1.items)) }
+{
+    let spots = by_token(alloc, books)?;
+    let text = head_with_room(alloc, LINE_ROOM_BYTES)?;
+    Ok((text, spots))
+}
+
+/// Writes the ledger of all tokens.
+fn write_all<W: Write>(alloc: Global, books: &[ShardBook], out: &mut W) -> Result<(), PrintFault>
+    requires { 0 < length books.now }
+    ensures ok { OnOk result ((text : List ℕ) × IsLedgerOfBooks books.now None text
+        × Appends (W.contents out.old) (W.contents out.new) text) }
+    ensures begun { IfErr result (λ fault. fault ≡ ForWrite
+        → (text : List ℕ) × IsLedgerOfBooks books.now None text
+        × Begins (W.contents out.old) (W.contents out.new) text) }
+    ensures fault { IfErr result (λ fault. KeepsUnlessWrite fault (out.new ≡ out.old)) }
+{
+    let table = table_of(books);
+    let clock = table.clock(alloc)?;
+    let (mut text, spots) = begun(alloc, books)?;
+    write_lines(&mut text, table, &clock, books, spots.as_slice(), out)?;
+    Ok(())
+}
+
+/// The ledger of one token.
+fn own_text(alloc: Global, books: &[ShardBook], token: Token) -> Result<String, NoMemory>
+    requires { 0 < length books.now }
+    ensures { IfOk result (λ text. IsLedgerOfBooks books.now (Some token) (string_bytes text)) }
+{
+    let table = table_of(books);
+    let entries = own_of(alloc, books, token)?;
+    let text = ledger_text_of(alloc, table, token, entries.as_slice())?;
+    Ok(text)
+}
+
+/// Writes the ledger of one token.
+fn write_own<W: Write>(
+    alloc: Global,
+    books: &[ShardBook],
+    token: Token,
+    out: &mut W,
+) -> Result<(), PrintFault>
+    requires { 0 < length books.now }
+    ensures ok { OnOk result ((text : List ℕ) × IsLedgerOfBooks books.now (Some token) text
+        × Appends (W.contents out.old) (W.contents out.new) text) }
+    ensures begun { IfErr result (λ fault. fault ≡ ForWrite
+        → (text : List ℕ) × IsLedgerOfBooks books.now (Some token) text
+        × Begins (W.contents out.old) (W.contents out.new) text) }
+    ensures fault { IfErr result (λ fault. KeepsUnlessWrite fault (out.new ≡ out.old)) }
+{
+    let mut text = own_text(alloc, books, token)?;
+    pass_on(&mut text, out)?;
+    Ok(())
+}
+
+/// Writes the ledger of all tokens, or of one: the head line, then the lines of each token, by
+/// rising tokens, in the order of its entries. A line has twelve fields, of which the reason is the
+/// account rule's for the token's earlier entries. Of all tokens it goes out in pieces, and takes
+/// sixteen bytes a line beside the books while it sorts, and eight while it writes. All memory is
+/// taken before the first byte is written: on a fault of memory nothing was.
+pub fn write_ledger<W: Write>(
+    alloc: Global,
+    books: &[ShardBook],
+    only: Option<Token>,
+    out: &mut W,
+) -> Result<(), PrintFault>
+    requires { 0 < length books.now }
+    ensures ok { OnOk result ((text : List ℕ) × IsLedgerOfBooks books.now only text
+        × Appends (W.contents out.old) (W.contents out.new) text) }
+    ensures begun { IfErr result (λ fault. fault ≡ ForWrite
+        → (text : List ℕ) × IsLedgerOfBooks books.now only text
+        × Begins (W.contents out.old) (W.contents out.new) text) }
+    ensures fault { IfErr result (λ fault. KeepsUnlessWrite fault (out.new ≡ out.old)) }
+{
+    match only {
+        None => write_all(alloc, books, out),
+        Some(token) => write_own(alloc, books, token, out),
+    }
+}

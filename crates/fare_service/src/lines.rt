@@ -1,0 +1,104 @@
+//! The lines of entries that stand in order of token, written in pieces.
+
+ghost use Rattle.std.specs.Prelude.{◌≡◌, ℕ, List, [], ◌++◌, IfErr, OnErr, OnOk, string_bytes};
+ghost use Rattle.std.specs.Io.KnownBytes.{Appends};
+ghost use Rattle.fare_texts.specs.declared.print_fault.PrintFault.TheVariants.{Write as ForWrite};
+ghost use Rattle.fare_texts.specs.Lines.{AreLinesAlong, NoFall, NoFallFrom};
+ghost use Rattle.fare_texts.specs.WrittenOut.{Begins, GoesOut};
+ghost use Rattle.fare_service.specs.inside.Spots.{entries_at_spots};
+
+use crate::spot::Spot;
+use fare_texts::{Explainer, PrintFault, go_on_to, pass_on, pass_piece};
+use shard_book::ShardBook;
+use std::io::Write;
+use tap_views::Token;
+use tariffs::{Clock, FareTable};
+
+/// Appends the lines of the entries at the spots to the text, of which what stands there may go out
+/// first.
+fn write_pieces<W: Write>(
+    text: &mut String,
+    table: &FareTable,
+    clock: &Clock,
+    first: Token,
+    books: &[ShardBook],
+    spots: &[Spot],
+    out: &mut W,
+) -> Result<(), PrintFault>
+    requires clock { clock.now ≡ table.now.zone }
+    requires no_fall { NoFallFrom first (entries_at_spots books.now spots.now) }
+    ensures lines { OnOk result ((lines : List ℕ)
+        × AreLinesAlong table.now [] (entries_at_spots books.now spots.now) lines
+        × GoesOut (W.contents out.old) (string_bytes text.old) (W.contents out.new)
+        (string_bytes text.new) lines) }
+    ensures begun { OnErr result ((lines : List ℕ)
+        × AreLinesAlong table.now [] (entries_at_spots books.now spots.now) lines
+        × Begins (W.contents out.old) (W.contents out.new) (string_bytes text.old ++ lines)) }
+    ensures fault { IfErr result (λ fault. fault ≡ ForWrite) }
+{
+    let mut explainer = Explainer::of(first);
+    for spot in spots {
+        pass_piece(text, out)?;
+        let entry = spot.entry(books);
+        go_on_to(&mut explainer, entry.token);
+        // The text has room for a line, so that none is refused.
+        let Ok(()) = explainer.write_next(text, table, clock, &entry) else {
+            return Err(PrintFault::Write);
+        };
+    }
+    Ok(())
+}
+
+/// Appends the lines of the entries at the spots, of which there may be none, as `write_pieces`
+/// does.
+fn write_some<W: Write>(
+    text: &mut String,
+    table: &FareTable,
+    clock: &Clock,
+    books: &[ShardBook],
+    spots: &[Spot],
+    out: &mut W,
+) -> Result<(), PrintFault>
+    requires clock { clock.now ≡ table.now.zone }
+    requires no_fall { NoFall (entries_at_spots books.now spots.now) }
+    ensures lines { OnOk result ((lines : List ℕ)
+        × AreLinesAlong table.now [] (entries_at_spots books.now spots.now) lines
+        × GoesOut (W.contents out.old) (string_bytes text.old) (W.contents out.new)
+        (string_bytes text.new) lines) }
+    ensures begun { OnErr result ((lines : List ℕ)
+        × AreLinesAlong table.now [] (entries_at_spots books.now spots.now) lines
+        × Begins (W.contents out.old) (W.contents out.new) (string_bytes text.old ++ lines)) }
+    ensures fault { IfErr result (λ fault. fault ≡ ForWrite) }
+{
+    match spots.first() {
+        Some(first) => {
+            let token = first.entry(books).token;
+            write_pieces(text, table, clock, token, books, spots, out)
+        }
+        None => Ok(()),
+    }
+}
+
+/// Writes the text, and after it the lines of the entries at the spots.
+pub(crate) fn write_lines<W: Write>(
+    text: &mut String,
+    table: &FareTable,
+    clock: &Clock,
+    books: &[ShardBook],
+    spots: &[Spot],
+    out: &mut W,
+) -> Result<(), PrintFault>
+    requires clock { clock.now ≡ table.now.zone }
+    requires no_fall { NoFall (entries_at_spots books.now spots.now) }
+    ensures ok { OnOk result ((lines : List ℕ)
+        × AreLinesAlong table.now [] (entries_at_spots books.now spots.now) lines
+        × Appends (W.contents out.old) (W.contents out.new) (string_bytes text.old ++ lines)) }
+    ensures begun { OnErr result ((lines : List ℕ)
+        × AreLinesAlong table.now [] (entries_at_spots books.now spots.now) lines
+        × Begins (W.contents out.old) (W.contents out.new) (string_bytes text.old ++ lines)) }
+    ensures fault { IfErr result (λ fault. fault ≡ ForWrite) }
+{
+    write_some(text, table, clock, books, spots, out)?;
+    pass_on(text, out)?;
+    Ok(())
+}

@@ -1,9 +1,0 @@
-use Rattle.std.proofs.Common.{arith}
-use Rattle.std.proofs.lemmas.Nat.{div-mul-add, mod-mul-add}
-use Rattle.fare_texts.proofs.spot.Spot.of.Goals as goal
-
-pub returns-clause-book : goal.returns-clause-book
-returns-clause-book c = mod-mul-add c.args.place 65536 c.args.book (omega arith)
-
-pub returns-clause-place : goal.returns-clause-place
-returns-clause-place c = div-mul-add c.args.place 65536 c.args.book (omega arith)

@@ -1,0 +1,270 @@
+-- One entry more in the tally of its key.
+use Rattle.std.proofs.Common.{Ordering, take, ◌≡◌, ℕ, ◌+◌, ◌≤◌, ◌^◌, Bool, true, false, cond, ◌||◌}
+use Rattle.std.proofs.Common.{List, [], ◌∷◌, ◌++◌, length, map, Option, Some, None, refl, sym, ap}
+use Rattle.std.proofs.Common.{subst, ◌∙◌, ⊎_elim, arith}
+use Rattle.std.specs.Cmp.{IsEquivalence, IsTotalOrder}
+use Rattle.std.specs.List.{list_any, IsDistinct, slice_get}
+use Rattle.std.specs.HashMap.{HashMap, get, IsUnique, Updates}
+use Rattle.indexmap.specs.IndexMap.{set_value_at}
+use Rattle.indexmap.proofs.CallerLemmas.{updates-with_value_at}
+use Rattle.std.specs.Map.{lookup, keys_of}
+use Rattle.std.specs.List.Sorted.{IsPermutation, IsSorted}
+use Rattle.std.specs.Ordering.{eq_by_cmp, is_eq}
+use Rattle.std.proofs.lemmas.List.Sorted.{list_any-IsPermutation}
+use Rattle.std.proofs.lemmas.Map.Keys.{IsDistinct-IsPermutation}
+use Rattle.std.proofs.lemmas.Map.Made.{is_some-lookup}
+use Rattle.histories.specs.Rising.{rising}
+use Rattle.histories.proofs.RisingLemmas.{rising-only, sorted-rises}
+use Rattle.account_rule.specs.declared.reply.Reply.{Reply}
+use Rattle.std.specs.Option.{is_some, unwrap_or}
+use Rattle.std.specs.Set.{is_member}
+use Rattle.std.proofs.lemmas.Bool.{cases_Bool}
+use Rattle.std.proofs.lemmas.List.{map-append, append-nil, take_all}
+use Rattle.std.proofs.lemmas.List.Elements.{filter-append}
+use Rattle.std.proofs.lemmas.List.Sums.{length-filter, count_by-le-length}
+use Rattle.std.proofs.lemmas.List.Folds.{list_any-append}
+use Rattle.histories.specs.declared.entry.Entry.{Entry}
+use Rattle.histories.specs.declared.sums.tally.Tally.{Tally}
+use Rattle.histories.specs.Entry.{reply_of, own}
+use Rattle.histories.specs.SumsByKey.{sums_by_token, tokens}
+use Rattle.histories.specs.ByKey.{with_key}
+use Rattle.histories.specs.SumsBy.{sums_by}
+use Rattle.histories.specs.Shown.{token_sum}
+use Rattle.histories.specs.declared.sums.TokenSum.{TokenSum}
+use Rattle.tap_views.specs.declared.token.Token.{Token}
+use Rattle.histories.specs.TalliesByKey.{AreByKey, HasRoom, kept_sums}
+use Rattle.histories.specs.Sums.{Sums, sums, sums_of_replies, add_sums}
+use Rattle.histories.specs.Tally.{sums_of_tally}
+use Rattle.histories.proofs.SumsLemmas.{sums-append, sums-taps}
+
+or-true : (a : Bool) → true ≡ (a || (true || false))
+or-true true = refl
+or-true false = refl
+
+or-false : (a : Bool) → a ≡ (a || (false || false))
+or-false true = refl
+or-false false = refl
+
+-- the tally that an entry is added to holds the sums that were kept for its key
+pub kept-or : (kept : Option Tally) (fresh tally : Tally) → tally ≡ unwrap_or kept fresh
+    → sums_of_tally fresh ≡ sums_of_replies [] → sums_of_tally tally ≡ kept_sums kept
+kept-or None fresh tally is none = ap sums_of_tally is ∙ none
+kept-or (Some kept) fresh tally is none = ap sums_of_tally is
+
+-- the tally of a pair, if there is one
+tally_in : {K : Type 0} → Option (K × Tally) → Tally → Tally
+tally_in None other = other
+tally_in (Some pair) other = pair.1
+
+-- the tally that stands at a key's place holds the sums that are kept for the key
+pub kept-at : {K : Type 0} (pairs : List (K × Tally)) (place : ℕ) (key there : K)
+    (tally kept : Tally) (found : Option Tally) → slice_get pairs place ≡ Some (key, tally)
+    → slice_get pairs place ≡ Some (there, kept) → found ≡ Some tally
+    → sums_of_tally kept ≡ kept_sums found
+unfolding tally_in
+kept-at {K = K} pairs place key there tally kept found at same_place is =
+    let same : tally ≡ kept =
+    ap (λ (o : Option (K × Tally)). tally_in o kept) (sym at ∙ same_place) in
+    ap sums_of_tally (sym same) ∙ sym (ap kept_sums is)
+
+-- a with_key is no longer than the entries
+pub room-kept : {K : Type 0} (eq : K → K → Bool) (key_of : Entry → K) (pairs : List (K × Tally))
+    (key : K) (taps more : ℕ) → HasRoom eq key_of pairs more
+    → taps ≡ (kept_sums (lookup (eq key) pairs)).taps → taps + more ≤ 2 ^ 95
+unfolding HasRoom with_key
+room-kept eq key_of pairs key taps more room is =
+    let count : taps ≡ length (with_key eq key_of key room.0) =
+    is ∙ ap (λ (s : Sums). s.taps) (room.1.sums key) ∙ sums-taps (with_key eq key_of key room.0) in
+    let few : length (with_key eq key_of key room.0) ≤ length room.0 =
+    omega (
+      arith,
+      length-filter (λ (entry : Entry). eq (key_of entry) key) room.0,
+      count_by-le-length (λ (entry : Entry). eq (key_of entry) key) room.0,
+    ) in
+    let bound : length room.0 + more ≤ 2 ^ 95 = room.2 in
+    omega arith
+
+module _ {K : Type 0} {eq : K → K → Bool} (laws : IsEquivalence eq)
+    (same : (a b : K) → eq a b ≡ true → a ≡ b) (key_of : Entry → K) where
+  with_key-push : (key : K) (before : List Entry) (entry : Entry)
+      → with_key eq key_of key (before ++ entry ∷ [])
+      ≡ with_key eq key_of key before ++ cond (eq (key_of entry) key) (entry ∷ []) []
+  unfolding with_key
+  with_key-push key before entry = filter-append (λ e. eq (key_of e) key) before (entry ∷ [])
+
+  -- one entry more in the totals of its key, and the other totals as they were
+  pub by_key-push : (before : List Entry) (entry : Entry) (old new : List (K × Tally))
+      (totals : Tally)
+      → ((q : K) → lookup (eq q) new ≡ cond (eq (key_of entry) q) (Some totals) (lookup (eq q) old))
+      → sums_of_tally totals
+      ≡ add_sums (kept_sums (lookup (eq (key_of entry)) old))
+      (sums_of_replies (reply_of entry ∷ []))
+      → AreByKey eq key_of before old → AreByKey eq key_of (before ++ entry ∷ []) new
+  by_key-push before entry old new totals updates added by_key = record {
+    sums = λ q.
+        ap kept_sums (updates q)
+        ∙ ⊎_elim
+        (λ (here : eq (key_of entry) q ≡ true).
+        let is : key_of entry ≡ q = same (key_of entry) q here in
+        ap (λ (b : Bool). kept_sums (cond b (Some totals) (lookup (eq q) old))) here
+        ∙ added
+        ∙ ap (λ (s : Sums). add_sums s (sums_of_replies (reply_of entry ∷ [])))
+        (by_key.sums (key_of entry) ∙ ap (λ (k : K). sums (with_key eq key_of k before)) is)
+        ∙ sym (sums-append (with_key eq key_of q before) (entry ∷ []))
+        ∙ ap (λ (b : Bool). sums (with_key eq key_of q before ++ cond b (entry ∷ []) [])) (sym here)
+        ∙ ap sums (sym (with_key-push q before entry)))
+        (λ (apart : eq (key_of entry) q ≡ false).
+        ap (λ (b : Bool). kept_sums (cond b (Some totals) (lookup (eq q) old))) apart
+        ∙ by_key.sums q
+        ∙ ap sums (sym (append-nil (with_key eq key_of q before)))
+        ∙ ap (λ (b : Bool). sums (with_key eq key_of q before ++ cond b (entry ∷ []) []))
+        (sym apart)
+        ∙ ap sums (sym (with_key-push q before entry)))
+        (cases_Bool (eq (key_of entry) q));
+    keys = λ q.
+        ap is_some (updates q)
+        ∙ ⊎_elim
+        (λ (here : eq (key_of entry) q ≡ true).
+        ap (λ (b : Bool). is_some (cond b (Some totals) (lookup (eq q) old))) here
+        ∙ or-true (is_member eq (map key_of before) q)
+        ∙ ap (λ (b : Bool). is_member eq (map key_of before) q || (b || false))
+        (sym (laws.symm q (key_of entry) ∙ here))
+        ∙ sym (member-push q before entry))
+        (λ (apart : eq (key_of entry) q ≡ false).
+        ap (λ (b : Bool). is_some (cond b (Some totals) (lookup (eq q) old))) apart
+        ∙ by_key.keys q
+        ∙ or-false (is_member eq (map key_of before) q)
+        ∙ ap (λ (b : Bool). is_member eq (map key_of before) q || (b || false))
+        (sym (laws.symm q (key_of entry) ∙ apart))
+        ∙ sym (member-push q before entry))
+        (cases_Bool (eq (key_of entry) q));
+  }
+    where
+      member-push : (q : K) (before : List Entry) (entry : Entry)
+          → is_member eq (map key_of (before ++ entry ∷ [])) q
+          ≡ (is_member eq (map key_of before) q || (eq q (key_of entry) || false))
+      member-push q before entry =
+          ap (λ (ks : List K). list_any (eq q) ks) (map-append key_of before (entry ∷ []))
+          ∙ list_any-append (eq q) (map key_of before) (key_of entry ∷ [])
+
+  -- the same, as a map's entry has it once its value was written
+  pub by_key-written : {S : Type 0} (before : List Entry) (entry : Entry) (key : K)
+      (old next : HashMap K Tally S) (pairs : List (K × Tally)) (kept : Tally) (fresh : Tally)
+      (totals : Tally) (answered : Reply)
+      → key ≡ key_of entry
+      → pairs ≡ next.entries
+      → Updates eq old next key (Some totals)
+      → kept ≡ unwrap_or (get eq old key) fresh
+      → sums_of_tally fresh ≡ sums_of_replies []
+      → answered ≡ reply_of entry
+      → sums_of_tally totals ≡ add_sums (sums_of_tally kept) (sums_of_replies (answered ∷ []))
+      → AreByKey eq key_of before old.entries → AreByKey eq key_of (before ++ entry ∷ []) pairs
+  by_key-written before entry key old next pairs kept fresh totals answered is_key same_pairs
+      updates is_kept none is_reply added by_key =
+      by_key-push before entry old.entries pairs totals
+      (λ q. ap (λ (es : List (K × Tally)). lookup (eq q) es) same_pairs ∙ updates.0 q
+      ∙ ap (λ (k : K). cond (eq k q) (Some totals) (lookup (eq q) old.entries)) is_key)
+      (added
+      ∙ ap (λ (s : Sums). add_sums s (sums_of_replies (answered ∷ [])))
+      (kept-or (get eq old key) fresh kept is_kept none
+      ∙ ap (λ (k : K). kept_sums (get eq old k)) is_key)
+      ∙ ap (λ (r : Reply). add_sums (kept_sums (get eq old (key_of entry)))
+      (sums_of_replies (r ∷ []))) is_reply)
+      by_key
+
+  -- the same, if the tally at the key's place was written
+  pub by_key-at : {S : Type 0} (before : List Entry) (entry : Entry) (key there : K)
+      (m : HashMap K Tally S) (place : ℕ) (tally kept totals : Tally) (answered : Reply)
+      → key ≡ key_of entry
+      → IsUnique eq m
+      → slice_get m.entries place ≡ Some (key, tally)
+      → get eq m key ≡ Some tally
+      → slice_get m.entries place ≡ Some (there, kept)
+      → answered ≡ reply_of entry
+      → sums_of_tally totals ≡ add_sums (sums_of_tally kept) (sums_of_replies (answered ∷ []))
+      → AreByKey eq key_of before m.entries
+      → AreByKey eq key_of (before ++ entry ∷ []) (set_value_at m.entries place totals)
+  by_key-at before entry key there m place tally kept totals answered is_key unique at is same_place
+      is_reply added by_key =
+      by_key-push before entry m.entries (set_value_at m.entries place totals) totals
+      (λ q. (updates-with_value_at m place totals laws unique key tally at).0 q
+      ∙ ap (λ (k : K). cond (eq k q) (Some totals) (lookup (eq q) m.entries)) is_key)
+      (added
+      ∙ ap (λ (s : Sums). add_sums s (sums_of_replies (answered ∷ [])))
+      (kept-at m.entries place key there tally kept (get eq m key) at same_place is
+      ∙ ap (λ (k : K). kept_sums (get eq m k)) is_key)
+      ∙ ap (λ (r : Reply). add_sums (kept_sums (get eq m (key_of entry)))
+      (sums_of_replies (r ∷ []))) is_reply)
+      by_key
+
+-- the keys of the totals, once sorted, are the rising keys of the entries
+pub keys-rising : {K : Type 0} {cmp : K → K → Ordering} {eq : K → K → Bool}
+    (total : IsTotalOrder cmp) (laws : IsEquivalence eq) (same : (a b : K) → eq a b ≡ true → a ≡ b)
+    (ties : (a b : K) → eq a b ≡ eq_by_cmp cmp a b)
+    (key_of : Entry → K) (entries : List Entry) (pairs : List (K × Tally)) (keys sorted : List K)
+    → keys ≡ keys_of pairs → IsDistinct eq (keys_of pairs) → IsPermutation keys sorted
+    → IsSorted cmp sorted → AreByKey eq key_of entries pairs
+    → sorted ≡ rising cmp (map key_of entries)
+keys-rising {K = K} {cmp = cmp} {eq = eq} total laws same ties key_of entries pairs keys sorted
+    is_keys distinct moved in_order by_key =
+    let alike : eq ≡ eq_by_cmp cmp = λ i a b. ties a b i in
+    let apart : IsDistinct eq keys =
+    subst (λ (ks : List K). IsDistinct eq ks) (sym is_keys) distinct in
+    rising-only total (λ a b tied. same a b (ties a b ∙ ap is_eq tied)) (map key_of entries) sorted
+    (record {
+      rises = sorted-rises total (λ a b tied. same a b (ties a b ∙ ap is_eq tied)) sorted in_order
+          (subst (λ (e : K → K → Bool). IsDistinct e sorted) alike
+          (IsDistinct-IsPermutation eq laws.symm keys sorted moved apart));
+      same = λ q. subst
+          (λ (e : K → K → Bool). is_member e sorted q ≡ is_member e (map key_of entries) q) alike
+          (sym (list_any-IsPermutation (eq q) keys sorted moved)
+          ∙ ap (λ (ks : List K). list_any (eq q) ks) is_keys ∙ sym (is_some-lookup (eq q) pairs)
+          ∙ by_key.keys q);
+    })
+
+-- the rising keys, each with its kept sums, are the sums of the entries
+pub sums-listed : {K : Type 0} (cmp : K → K → Ordering) (eq : K → K → Bool) (key_of : Entry → K)
+    (entries : List Entry) (pairs : List (K × Tally)) (keys items : List K) (n : ℕ)
+    (shown : List (K × Sums))
+    → shown ≡ map (λ key. (key, kept_sums (lookup (eq key) pairs))) (take n items)
+    → length items ≤ n
+    → items ≡ keys
+    → keys ≡ rising cmp (map key_of entries)
+    → AreByKey eq key_of entries pairs
+    → shown ≡ sums_by cmp eq key_of entries
+unfolding sums_by
+sums-listed {K = K} cmp eq key_of entries pairs keys items n shown is whole same_items risen
+    by_key =
+    is
+    ∙ ap (λ (ks : List K). map (λ key. (key, kept_sums (lookup (eq key) pairs))) ks)
+    (take_all n items whole ∙ same_items ∙ risen)
+    ∙ (λ i. map (λ key. (key, by_key.sums key i)) (rising cmp (map key_of entries)))
+
+-- no totals stand for no entries
+pub by_key-none : {K : Type 0} (eq : K → K → Bool) (key_of : Entry → K) (pairs : List (K × Tally))
+    → pairs ≡ [] → AreByKey eq key_of [] pairs
+unfolding with_key
+by_key-none {K = K} eq key_of pairs none =
+    subst (λ (es : List (K × Tally)). AreByKey eq key_of [] es) (sym none)
+    (record { sums = λ key. refl; keys = λ key. refl })
+
+-- the tokens of the sums by token are the tokens
+map-first : {K : Type 0} (f : K → Sums) (keys : List K)
+    → map (λ (pair : K × Sums). pair.0) (map (λ key. (key, f key)) keys) ≡ keys
+map-first f [] = refl
+map-first f (key ∷ keys) = ap (λ ks. key ∷ ks) (map-first f keys)
+
+map-token : (list : List TokenSum)
+    → map (λ (pair : Token × Sums). pair.0) (map token_sum list)
+    ≡ map (λ (sum : TokenSum). sum.token) list
+map-token [] = refl
+map-token (sum ∷ list) = ap (λ ts. sum.token ∷ ts) (map-token list)
+
+pub tokens-of-sums : (entries : List Entry) (list : List TokenSum)
+    → map token_sum list ≡ sums_by_token entries
+    → map (λ (sum : TokenSum). sum.token) list ≡ tokens entries
+unfolding sums_by_token
+tokens-of-sums entries list is =
+    sym (map-token list)
+    ∙ ap (λ (pairs : List (Token × Sums)). map (λ (pair : Token × Sums). pair.0) pairs) is
+    ∙ map-first (λ token. sums (own token entries)) (tokens entries)

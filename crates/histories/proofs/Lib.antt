@@ -1,0 +1,13 @@
+pub mod ByKeyLemmas
+pub mod Histories
+pub mod MergeLemmas
+pub mod OwnEntries
+pub mod PlainFields
+pub mod PlainReplies
+pub mod PlainUploads
+pub mod RisingLemmas
+pub mod SameEntries
+pub mod SameUnderKeys
+pub mod TallyLemmas
+pub mod SumsByToken
+pub mod SumsLemmas

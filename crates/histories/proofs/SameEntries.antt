@@ -1,0 +1,103 @@
+-- Histories with the same entries of each token have the same sums, in all and by key.
+use Rattle.std.specs.Prelude.{ℕ, ◌≡◌, ◌↔◌, cond, List, map, filter, IsPermutation}
+use Rattle.std.specs.Ordering.{eq_by_cmp, nat_cmp}
+use Rattle.std.specs.declared.cmp.Ordering.{Ordering}
+use Rattle.std.proofs.Common.{refl, sym, ◌∙◌, ap}
+use Rattle.std.proofs.lemmas.List.Sorted.{IsPermutation-map, length_permutation}
+use Rattle.std.proofs.lemmas.List.Sorted.{sum_by-IsPermutation, list_any-IsPermutation}
+use Rattle.account_rule.specs.declared.reply.Reply.{Reply}
+use Rattle.histories.specs.declared.entry.Entry.{Entry}
+use Rattle.tap_views.specs.declared.token.Token.{Token}
+use Rattle.histories.specs.Entry.{is_of, is_at, own, reply_of}
+use Rattle.histories.specs.SumsByKey.{entries_of_validator, validators, tokens, sums_by_validator}
+use Rattle.histories.specs.SumsByKey.{sums_by_token, validator_of, token_of}
+use Rattle.histories.specs.Keys.{same_token}
+use Rattle.histories.specs.Rising.{rising, IsRising}
+use Rattle.histories.specs.Sums.{sums, sums_of_replies, is_paid, is_transfer, is_capped, is_stale}
+use Rattle.histories.specs.Sums.{is_unknown}
+use Rattle.tap_views.specs.Token.{token_cmp, token_eq}
+use Rattle.tap_views.proofs.Lists.{filter-filter}
+use Rattle.tap_views.proofs.TokenLemmas.{token_eq-refl}
+use Rattle.histories.proofs.SameUnderKeys.{same_elements}
+
+-- ---- the same elements have the same sums and keys
+pub same_sums : (xs ys : List Entry) → IsPermutation xs ys → sums xs ≡ sums ys
+unfolding sums_of_replies
+same_sums xs ys moved =
+    let replies = IsPermutation-map reply_of xs ys moved in
+    let one = map reply_of xs in
+    let other = map reply_of ys in
+    λ i. record {
+      taps = sym (length_permutation one other replies) i;
+      paid = sym (sum_by-IsPermutation (λ (r : Reply). cond (is_paid r.answer) 1 0) one other
+          replies) i;
+      transfers = sym (sum_by-IsPermutation (λ (r : Reply). cond (is_transfer r.answer) 1 0) one
+          other replies) i;
+      capped = sym (sum_by-IsPermutation (λ (r : Reply). cond (is_capped r.answer) 1 0) one other
+          replies) i;
+      stale = sym (sum_by-IsPermutation (λ (r : Reply). cond (is_stale r.answer) 1 0) one other
+          replies) i;
+      unknown = sym (sum_by-IsPermutation (λ (r : Reply). cond (is_unknown r.answer) 1 0) one other
+          replies) i;
+      cents = sym (sum_by-IsPermutation (λ (r : Reply). r.cents) one other replies) i;
+    }
+
+pub same_rising : {K : Type 0} (cmp : K → K → Ordering)
+    → ((keys risen : List K) → IsRising cmp keys risen ↔ (risen ≡ rising cmp keys))
+    → (xs ys : List K) → IsPermutation xs ys → rising cmp xs ≡ rising cmp ys
+same_rising cmp law xs ys moved =
+    let is = (law xs (rising cmp xs)).1 refl in
+    (law ys (rising cmp xs)).0 (record {
+      rises = is.rises;
+      same = λ key. is.same key ∙ list_any-IsPermutation (eq_by_cmp cmp key) xs ys moved;
+    })
+
+-- histories with the same entries of each token have the same entries, and so have those of one
+-- validator
+pub same_entries : (xs ys : List Entry) → ((token : Token) → own token xs ≡ own token ys)
+    → IsPermutation xs ys
+unfolding own
+same_entries xs ys same =
+    same_elements (λ (entry : Entry). entry.token) token_eq token_eq-refl same_token xs ys same
+
+-- so have those of one validator
+pub same_at : (validator : ℕ) (xs ys : List Entry) → ((token : Token) → own token xs ≡ own token ys)
+    → (token : Token)
+    → own token (entries_of_validator validator xs) ≡ own token (entries_of_validator validator ys)
+unfolding own entries_of_validator
+same_at validator xs ys same token =
+    filter-filter (is_of token) (is_at validator) xs ∙ ap (filter (is_at validator)) (same token)
+    ∙ sym (filter-filter (is_of token) (is_at validator) ys)
+
+-- numbers rise to one list
+abbrev pub RisingNumbers : Type 0
+RisingNumbers = (keys risen : List ℕ) → IsRising nat_cmp keys risen ↔ (risen ≡ rising nat_cmp keys)
+
+-- tokens rise to one list
+abbrev pub RisingTokens : Type 0
+RisingTokens = (keys risen : List Token) → IsRising token_cmp keys risen
+    ↔ (risen ≡ rising token_cmp keys)
+
+module _ (numbers : RisingNumbers) (names : RisingTokens) (xs ys : List Entry)
+    (same : (token : Token) → own token xs ≡ own token ys) where
+  -- the sums by validator are the same
+  pub same_by_validator : sums_by_validator xs ≡ sums_by_validator ys
+  unfolding sums_by_validator validators
+  same_by_validator =
+      let keys = same_rising nat_cmp numbers (map validator_of xs) (map validator_of ys)
+      (IsPermutation-map validator_of xs ys (same_entries xs ys same)) in
+      let each : (v : ℕ) → sums (entries_of_validator v xs) ≡ sums (entries_of_validator v ys) =
+      λ v. same_sums (entries_of_validator v xs) (entries_of_validator v ys)
+      (same_entries (entries_of_validator v xs) (entries_of_validator v ys)
+      (same_at v xs ys same)) in
+      ap (map (λ (v : ℕ). (v, sums (entries_of_validator v xs)))) keys
+      ∙ (λ i. map (λ (v : ℕ). (v, each v i)) (rising nat_cmp (map validator_of ys)))
+
+  -- the sums by token are the same
+  pub same_by_token : sums_by_token xs ≡ sums_by_token ys
+  unfolding sums_by_token tokens
+  same_by_token =
+      let keys = same_rising token_cmp names (map token_of xs) (map token_of ys)
+      (IsPermutation-map token_of xs ys (same_entries xs ys same)) in
+      ap (map (λ (t : Token). (t, sums (own t xs)))) keys
+      ∙ (λ i. map (λ (t : Token). (t, sums (same t i))) (rising token_cmp (map token_of ys)))

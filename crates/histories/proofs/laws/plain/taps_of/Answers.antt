@@ -1,0 +1,15 @@
+use Rattle.std.proofs.Common.{◌<◌, arith}
+use Rattle.std.proofs.lemmas.List.Elements.{All-from_get_or}
+use Rattle.tap_views.specs.Files.{taps_of_batches}
+use Rattle.tap_views.proofs.ReadingLemmas.{good_taps}
+use Rattle.histories.proofs.laws.plain.taps_of.Goals as goal
+
+pub returns-clause-taps : goal.returns-clause-taps
+returns-clause-taps c =
+    let good = c.good_batches in
+    (taps_of_batches good.result.batches, good_taps _ _ _ good.ensures)
+
+pub returns-clause-bytes : goal.returns-clause-bytes
+returns-clause-bytes c =
+    All-from_get_or (λ byte. byte < 256) c.args.file.now 0
+    (λ i within. let byte = c.type_inv.file i in omega arith)

@@ -1,0 +1,22 @@
+-- What small counts stand for.
+use Rattle.std.specs.Prelude.{◌+◌}
+use Rattle.histories.specs.declared.sums.counts.Counts.{Counts}
+use Rattle.histories.specs.declared.sums.counts.TokenCounts.{TokenCounts}
+use Rattle.tap_views.specs.declared.token.Token.{Token}
+use Rattle.histories.specs.Sums.{Sums}
+
+-- the sums that the counts hold
+abbrev pub sums_of_counts : Counts → Sums
+sums_of_counts counts = record {
+  taps = counts.paid + counts.transfers + counts.capped + counts.stale + counts.unknown;
+  paid = counts.paid;
+  transfers = counts.transfers;
+  capped = counts.capped;
+  stale = counts.stale;
+  unknown = counts.unknown;
+  cents = counts.cents;
+}
+
+-- a token with the sums that are kept of it
+abbrev pub token_counts : TokenCounts → Token × Sums
+token_counts kept = (kept.token, sums_of_counts kept.counts)

@@ -1,0 +1,19 @@
+-- Legal histories: every reply is the account rule's.
+use Rattle.std.specs.Prelude.{◌≡◌, List, ◌∷◌, ◌++◌}
+use Rattle.tariffs.specs.Fares.{Fares}
+use Rattle.account_rule.specs.Replies.{reply}
+use Rattle.account_rule.specs.TokenRules.{rules_of}
+use Rattle.histories.specs.declared.entry.Entry.{Entry}
+use Rattle.histories.specs.Entry.{reply_of, tap_of, taps_of}
+use Rattle.tap_views.specs.Token.{bytes_of}
+
+-- after these entries, the entry's reply is the account rule's for its token's earlier taps
+unfoldable pub IsReplied : Fares → List Entry → Entry → Type 0
+IsReplied table before entry =
+    reply_of entry ≡ reply (rules_of table (bytes_of entry.token))
+    (taps_of table entry.token before) (tap_of table entry)
+
+-- each entry, wherever it stands, has the reply that the account rule gives after those before it
+pub record IsLegal (table : Fares) (entries : List Entry) : Type 0 where
+  pub each : (before : List Entry) (entry : Entry) (after : List Entry)
+      → entries ≡ before ++ entry ∷ after → IsReplied table before entry

@@ -1,0 +1,39 @@
+-- Sums of a history by the validators and by the tokens of its entries.
+use Rattle.std.specs.Prelude.{ℕ, List, map, filter}
+use Rattle.std.specs.Ordering.{nat_cmp}
+use Rattle.histories.specs.declared.entry.Entry.{Entry}
+use Rattle.tap_views.specs.declared.token.Token.{Token}
+use Rattle.histories.specs.Entry.{is_at, own}
+use Rattle.histories.specs.Rising.{rising}
+use Rattle.histories.specs.Sums.{Sums, sums}
+use Rattle.tap_views.specs.Token.{token_cmp}
+
+-- the validator of an entry
+abbrev pub validator_of : Entry → ℕ
+validator_of entry = entry.validator
+
+-- the token of an entry
+abbrev pub token_of : Entry → Token
+token_of entry = entry.token
+
+-- the validators of a history, rising, each once
+unfoldable pub validators : List Entry → List ℕ
+validators entries = rising nat_cmp (map validator_of entries)
+
+-- the tokens of a history, rising, each once
+unfoldable pub tokens : List Entry → List Token
+tokens entries = rising token_cmp (map token_of entries)
+
+-- the entries of one validator, in history order
+unfoldable pub entries_of_validator : ℕ → List Entry → List Entry
+entries_of_validator validator entries = filter (is_at validator) entries
+
+-- the validators, rising, each with the sums of its entries
+unfoldable pub sums_by_validator : List Entry → List (ℕ × Sums)
+sums_by_validator entries =
+    map (λ validator. (validator, sums (entries_of_validator validator entries)))
+    (validators entries)
+
+-- the tokens, rising, each with the sums of its own entries
+unfoldable pub sums_by_token : List Entry → List (Token × Sums)
+sums_by_token entries = map (λ token. (token, sums (own token entries))) (tokens entries)

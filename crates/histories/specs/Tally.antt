@@ -1,0 +1,21 @@
+-- What a tally stands for.
+use Rattle.std.specs.Prelude.{ℕ, List, slice_index}
+use Rattle.histories.specs.declared.sums.tally.Tally.{Tally}
+use Rattle.histories.specs.Places.{all_of}
+use Rattle.histories.specs.Sums.{Sums}
+
+-- the sums that five counts and the cents are
+abbrev pub sums_of_places : List ℕ → ℕ → Sums
+sums_of_places counts cents = record {
+  taps = all_of counts;
+  paid = slice_index counts 0;
+  transfers = slice_index counts 1;
+  capped = slice_index counts 2;
+  stale = slice_index counts 3;
+  unknown = slice_index counts 4;
+  cents = cents;
+}
+
+-- the sums that a tally stands for
+abbrev pub sums_of_tally : Tally → Sums
+sums_of_tally tally = sums_of_places tally.counts tally.cents

@@ -1,0 +1,35 @@
+//! Laws of the definitions, each as the contract of a small function.
+
+ghost use Rattle.std.specs.Prelude.{◌≡◌, ◌↔◌, ◌++◌, ℕ, List};
+ghost use Rattle.std.specs.Ordering.{nat_cmp};
+ghost use Rattle.tariffs.specs.Fares.{Fares};
+ghost use Rattle.histories.specs.declared.entry.Entry.{Entry};
+ghost use Rattle.tap_views.specs.declared.token.Token.{Token};
+ghost use Rattle.histories.specs.History.{IsLegal};
+ghost use Rattle.histories.specs.Rising.{rising, IsRising};
+ghost use Rattle.histories.specs.Sums.{sums, add_sums};
+ghost use Rattle.tap_views.specs.Token.{token_cmp};
+
+mod plain;
+
+pub use plain::plain_history;
+
+/// The rising list of the keys is the one strictly rising list that has the same members.
+pub fn one_rising_list()
+    ensures numbers { (keys risen : List ℕ) → IsRising nat_cmp keys risen
+        ↔ (risen ≡ rising nat_cmp keys) }
+    ensures tokens { (keys risen : List Token) → IsRising token_cmp keys risen
+        ↔ (risen ≡ rising token_cmp keys) }
+{}
+
+/// The sums of one history after another are the sums of both, added up.
+pub fn sums_add_up()
+    ensures { (before after : List Entry)
+        → sums (before ++ after) ≡ add_sums (sums before) (sums after) }
+{}
+
+/// The beginning of a legal history is legal.
+pub fn beginnings_are_legal()
+    ensures { (table : Fares) (before after : List Entry) → IsLegal table (before ++ after)
+        → IsLegal table before }
+{}

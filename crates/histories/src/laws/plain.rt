@@ -1,0 +1,40 @@
+//! The plain history of uploads.
+
+ghost use Rattle.std.specs.Prelude.{◌≡◌, ◌<◌, ℕ, List, All, flat_map, map};
+ghost use Rattle.tariffs.specs.Fares.{Fares};
+ghost use Rattle.tap_views.specs.Layout.{Tap};
+ghost use Rattle.tap_views.specs.Files.{AreGoodTaps};
+ghost use Rattle.histories.specs.declared.entry.Entry.{Entry};
+ghost use Rattle.histories.specs.Entry.{AreEntriesOf};
+ghost use Rattle.histories.specs.History.{IsLegal};
+ghost use Rattle.histories.specs.Plain.{IsPlain};
+
+use tap_views::laws::one_reading_each;
+
+/// A file has taps before its first layout fault, and its bytes are bytes.
+fn taps_of(file: &[u8])
+    ensures taps { (taps : List Tap) × AreGoodTaps file.now taps }
+    ensures bytes { All (λ byte. byte < 256) file.now }
+{
+    let _ = tap_views::good_batches(file);
+}
+
+/// Uploads have exactly one plain history under a table. It is legal, and its entries have the
+/// fields of the uploads' taps, in their order.
+pub fn plain_history(uploads: &[Vec<u8>])
+    ensures some { (fares : Fares) → (history : List Entry)
+        × IsPlain fares (map (λ upload. upload.items) uploads.now) history }
+    ensures one { (fares : Fares) (history other : List Entry)
+        → IsPlain fares (map (λ upload. upload.items) uploads.now) history
+        → IsPlain fares (map (λ upload. upload.items) uploads.now) other → history ≡ other }
+    ensures legal { (fares : Fares) (history : List Entry)
+        → IsPlain fares (map (λ upload. upload.items) uploads.now) history → IsLegal fares history }
+    ensures fields { (fares : Fares) (history : List Entry)
+        (plain : IsPlain fares (map (λ upload. upload.items) uploads.now) history)
+        → AreEntriesOf (flat_map (λ upload. upload) plain.taps) history }
+{
+    for upload in uploads {
+        taps_of(upload.as_slice());
+    }
+    one_reading_each(uploads);
+}

@@ -1,0 +1,26 @@
+//! What entries of a history are, their sums, and the plain history of uploads.
+//!
+//! An entry is a tap with the account rule's reply. Here are the lists of entries, their sums by
+//! token and by validator, and the history that uploads have without shards and without workers.
+#![tactic(auto)]
+
+mod entry;
+pub mod laws;
+mod lines;
+mod replies;
+mod statement;
+mod sums;
+mod token_hash;
+
+pub use entry::Entry;
+pub use lines::Lines;
+pub use replies::Replies;
+pub use statement::Statement;
+pub use sums::by_key::{SumKey, add_entry, add_tallies, listed};
+pub use sums::counts::{Counts, TokenCounts};
+pub use sums::tally::{Tally, place_of};
+pub use sums::token_sums::TokenSums;
+pub use sums::totals::Totals;
+pub use sums::validator_tallies::ValidatorTallies;
+pub use sums::{TokenSum, ValidatorSum, totals_of_entries, widened_sums};
+pub use token_hash::HashSeed;

@@ -1,0 +1,136 @@
+//! Tallies of entries by their validators, for entries that come one by one.
+
+ghost use Rattle.std.specs.Prelude.{◌≡◌, ◌==◌, List, [], ◌∷◌, ◌++◌, map, IfOk, OnOk};
+ghost use Rattle.histories.specs.declared.entry.Entry.{Entry};
+ghost use Rattle.histories.specs.Shown.{validator_sum};
+ghost use Rattle.histories.specs.SumsByKey.{sums_by_validator, validator_of};
+ghost use Rattle.histories.specs.TalliesByKey.{AreByKey, HasRoom, HaveRoom};
+
+use crate::entry::Entry;
+use crate::sums::ValidatorSum;
+use crate::sums::by_key::{add_at, add_entry, add_tallies, listed};
+use crate::sums::tally::Tally;
+use crate::token_hash::HashSeed;
+use indexmap::IndexMap;
+use std::alloc::Global;
+use std::marker::Model;
+use tap_views::NoMemory;
+
+/// How many hints there are, a power of two.
+const HINTS: usize = 16_384;
+
+/// By how many bits a number is shifted, once it is spread, so that it is below the number of
+/// hints.
+const HINT_SHIFT: u32 = 18;
+
+/// The tally of each validator of the entries that were added. Contracts see the validators with
+/// their tallies, in no order.
+#[derive(Drop)]
+pub struct ValidatorTallies {
+    /// The tallies, by the number of the validator.
+    tallies: IndexMap<u32, Tally, HashSeed>,
+    /// Where the tally of a validator may stand: the place is asked for before the validator is
+    /// looked up. Any places serve. None are kept before the first entry.
+    hints: Vec<u32>,
+}
+
+/// The hint of the validator. The numbers of neighbours spread evenly.
+#[inline(always)]
+fn hint_of(validator: u32) -> usize {
+    (validator.wrapping_mul(0x9e37_79b1) >> HINT_SHIFT) as usize
+}
+
+impl Model for ValidatorTallies {
+    ghost use Rattle.std.specs.Prelude.{ℕ, List};
+    ghost use Rattle.histories.specs.declared.sums.tally.Tally.{Tally};
+
+    ghost Value = { List (ℕ × Tally) };
+
+    ghost view = { λ t. t.tallies.entries };
+}
+
+impl ValidatorTallies {
+    /// Of no entries. The seed serves to hash the validators' numbers.
+    pub fn new(alloc: Global, seed: HashSeed) -> Self
+        ensures { AreByKey ◌==◌ validator_of [] result }
+    {
+        ValidatorTallies {
+            tallies: IndexMap::with_hasher(alloc, seed),
+            hints: Vec::new(alloc),
+        }
+    }
+
+    /// Adds an entry. After want of memory the tallies are of no use.
+    #[inline(always)]
+    pub fn add(&mut self, entry: &Entry) -> Result<(), NoMemory>
+        requires { HasRoom ◌==◌ validator_of self.old 1 }
+        ensures { OnOk result ((before : List Entry)
+            → AreByKey ◌==◌ validator_of before self.old
+            → AreByKey ◌==◌ validator_of (before ++ entry.now ∷ []) self.new) }
+    {
+        let place = match self.hints.get(hint_of(entry.validator)) {
+            Some(place) => *place as usize,
+            None => 0,
+        };
+        if add_at(&mut self.tallies, place, entry) {
+            return Ok(());
+        }
+        // a copy, so that the entry itself stays in registers
+        let unhinted = *entry;
+        self.look_up(&unhinted)
+    }
+
+    /// Adds an entry whose hint is wrong, and keeps a hint for it.
+    #[inline(never)]
+    fn look_up(&mut self, entry: &Entry) -> Result<(), NoMemory>
+        requires { HasRoom ◌==◌ validator_of self.old 1 }
+        ensures { OnOk result ((before : List Entry)
+            → AreByKey ◌==◌ validator_of before self.old
+            → AreByKey ◌==◌ validator_of (before ++ entry.now ∷ []) self.new) }
+    {
+        add_entry(&mut self.tallies, entry)?;
+        self.keep_hint(entry.validator)
+    }
+
+    /// Keeps the place of the validator's tally as its hint.
+    fn keep_hint(&mut self, validator: u32) -> Result<(), NoMemory>
+        ensures { self.new ≡ self.old }
+    {
+        self.hints.resize(HINTS, 0)?;
+        let place = self.tallies.get_index_of(&validator).unwrap_or(0);
+        if let Some(hint) = self.hints.get_mut(hint_of(validator)) {
+            *hint = place.min(0xffff_ffff) as u32;
+        }
+        Ok(())
+    }
+
+    /// Adds all entries of other tallies. After want of memory the tallies are of no use.
+    pub fn add_all(&mut self, more: &ValidatorTallies) -> Result<(), NoMemory>
+        requires { HaveRoom ◌==◌ validator_of self.old more.now }
+        ensures { OnOk result ((before after : List Entry)
+            → AreByKey ◌==◌ validator_of before self.old
+            → AreByKey ◌==◌ validator_of after more.now
+            → AreByKey ◌==◌ validator_of (before ++ after) self.new) }
+    {
+        add_tallies(&mut self.tallies, &more.tallies)
+    }
+
+    /// The validators, rising, each with the totals of its entries.
+    #[tactic(auto, unfolding(crate::specs::SumsBy::sums_by, crate::specs::ByKey::with_key, crate::specs::SumsByKey::sums_by_validator, crate::specs::SumsByKey::validators, crate::specs::SumsByKey::entries_of_validator))]
+    pub fn sums(&self, alloc: Global) -> Result<Vec<ValidatorSum>, NoMemory>
+        requires { HasRoom ◌==◌ validator_of self.now 0 }
+        ensures { IfOk result (λ list. (entries : List Entry)
+            → AreByKey ◌==◌ validator_of entries self.now
+            → map validator_sum list.items ≡ sums_by_validator entries) }
+    {
+        listed(alloc, &self.tallies)
+    }
+
+    /// The tallies, by the number of the validator.
+    pub fn into_map(self) -> IndexMap<u32, Tally, HashSeed>
+        ensures { result.entries ≡ self }
+    {
+        let ValidatorTallies { tallies, hints: _ } = self;
+        tallies
+    }
+}

@@ -1,0 +1,81 @@
+-- The entries of several books, their sums and their tallies.
+use Rattle.std.proofs.Common.{◌≡◌, ℕ, ◌+◌, ◌*◌, ◌<◌, ◌≤◌, ◌^◌, Bool, List, [], ◌∷◌, ◌++◌, length}
+use Rattle.std.proofs.Common.{map, take, get_or, None, sym, ap, subst, ◌∙◌, arith, Ordering}
+use Rattle.std.proofs.lemmas.List.{length-append, take_more, append-nil}
+use Rattle.std.proofs.lemmas.Grind.{flat_map-append}
+use Rattle.std.specs.List.{slice_get}
+use Rattle.histories.specs.declared.entry.Entry.{Entry}
+use Rattle.histories.specs.declared.sums.tally.Tally.{Tally}
+use Rattle.histories.specs.declared.sums.ValidatorSum.{ValidatorSum}
+use Rattle.shard_book.specs.Book.{Book, all_entries}
+use Rattle.histories.specs.SumsByKey.{sums_by_validator, validators}
+use Rattle.histories.specs.SumsBy.{sums_by}
+use Rattle.histories.specs.Rising.{rising}
+use Rattle.histories.specs.Shown.{validator_sum}
+use Rattle.histories.specs.Sums.{Sums}
+use Rattle.histories.specs.TalliesByKey.{AreByKey, HaveRoom}
+
+-- all entries of one book more
+pub all-more : (books : List Book) (i : ℕ) (blank : Book) → i < length books
+    → all_entries (take (i + 1) books)
+    ≡ all_entries (take i books) ++ (get_or books i blank).entries
+all-more books i blank within =
+    ap all_entries (take_more books i blank within)
+    ∙ flat_map-append (λ (book : Book). book.entries) (take i books) (get_or books i blank ∷ [])
+    ∙ ap (λ (es : List Entry). all_entries (take i books) ++ es)
+    (append-nil (get_or books i blank).entries)
+
+-- no books have no sums
+pub sums_by-none : {K Y : Type 0} (cmp : K → K → Ordering) (eq : K → K → Bool) (key_of : Entry → K)
+    (shown : Y → K × Sums) (books : List Book) (items : List Y) → items ≡ []
+    → None ≡ slice_get books 0 → map shown items ≡ sums_by cmp eq key_of (all_entries books)
+unfolding sums_by rising
+sums_by-none cmp eq key_of shown [] items none first = ap (map shown) none
+sums_by-none cmp eq key_of shown (book ∷ books) items none first = absurd (cc)
+
+pub validators-none : (books : List Book) (items : List ValidatorSum) → items ≡ []
+    → None ≡ slice_get books 0 → map validator_sum items ≡ sums_by_validator (all_entries books)
+unfolding sums_by_validator validators rising
+validators-none [] items none first = ap (map validator_sum) none
+validators-none (book ∷ books) items none first = absurd (cc)
+
+-- there is room for the tallies of two parts of the books
+pub parts-room : {K : Type 0} (eq : K → K → Bool) (key_of : Entry → K)
+    (books front back : List Book) (first more : List (K × Tally))
+    → length books ≤ 64 → books ≡ front ++ back
+    → length (all_entries front) ≤ length front * 2 ^ 64
+    → length (all_entries back) ≤ length back * 2 ^ 64
+    → AreByKey eq key_of (all_entries front) first → AreByKey eq key_of (all_entries back) more
+    → HaveRoom eq key_of first more
+unfolding HaveRoom
+parts-room eq key_of books front back first more few parts few_front few_back by_key by_key_more =
+    let all : length books ≡ length front + length back =
+    ap length parts ∙ length-append front back in (
+      all_entries front,
+      all_entries back,
+      by_key,
+      by_key_more,
+      omega (arith, few, all, few_front, few_back),
+    )
+
+-- the tallies of both parts are those of the books
+pub parts-by_key : {K : Type 0} (eq : K → K → Bool) (key_of : Entry → K)
+    (books front back : List Book) (now : List (K × Tally))
+    → books ≡ front ++ back → AreByKey eq key_of (all_entries front ++ all_entries back) now
+    → AreByKey eq key_of (all_entries books) now
+parts-by_key eq key_of books front back now parts by_key =
+    subst (λ (entries : List Entry). AreByKey eq key_of entries now)
+    (sym (ap all_entries parts ∙ flat_map-append (λ (book : Book). book.entries) front back)) by_key
+
+-- so few entries have the books as their parts have
+pub parts-few : (books front back : List Book) → books ≡ front ++ back
+    → length (all_entries front) ≤ length front * 2 ^ 64
+    → length (all_entries back) ≤ length back * 2 ^ 64
+    → length (all_entries books) ≤ length books * 2 ^ 64
+parts-few books front back parts few_front few_back =
+    let all : length books ≡ length front + length back =
+    ap length parts ∙ length-append front back in
+    let both : length (all_entries books) ≡ length (all_entries front) + length (all_entries back) =
+    ap length (ap all_entries parts ∙ flat_map-append (λ (book : Book). book.entries) front back)
+    ∙ length-append (all_entries front) (all_entries back) in
+    omega (arith, all, both, few_front, few_back)

@@ -1,0 +1,16 @@
+use Rattle.std.proofs.Common.{◌≤◌, ◌*◌, ◌^◌, length, take, arith}
+use Rattle.shard_book.specs.Book.{all_entries}
+use Rattle.histories.specs.TalliesByKey.{HasRoom}
+use Rattle.shard_book.proofs.sums.by_hints.tallies_by_hints.Goals as goal
+
+pub loop-book-init : goal.loop-book-init
+loop-book-init c = (c.new-hinted.ensures, omega arith)
+
+pub add_book-requires : goal.add_book-requires
+unfolding HasRoom
+add_book-requires c =
+    let before = take c.loop-book.book-index c.args.books.now in
+    let bound : length (all_entries before) ≤ c.loop-book.book-index * 2 ^ 64 =
+    c.loop-book.invariant.1 in
+    let most : length c.args.books.now ≤ 64 = c.requires in
+    (all_entries before, c.loop-book.invariant.0, omega (arith, c.len.ensures.len))

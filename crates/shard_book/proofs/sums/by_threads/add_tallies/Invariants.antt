@@ -1,7 +1,0 @@
-use Rattle.shard_book.proofs.MergeLemmas.{IsAdding}
-use Rattle.shard_book.proofs.sums.by_threads.add_tallies.Given as goal
-
-abbrev pub invariant-loop-key : goal.invariant-loop-key
-invariant-loop-key g l =
-    IsAdding g.K.PartialEq.eq l.initial.tallies.entries l.more.entries l.tallies.entries
-    l.key-iterator

@@ -1,7 +1,0 @@
-use Rattle.std.proofs.Common.{◌≡◌, take}
-use Rattle.shard_book.specs.Sums.{sums}
-use Rattle.shard_book.specs.Tally.{sums_of_tally}
-use Rattle.shard_book.proofs.sums.totals_of_entries.Given as goal
-
-abbrev pub invariant-loop-entry : goal.invariant-loop-entry
-invariant-loop-entry l = sums_of_tally l.tally ≡ sums (take l.entry-index l.entries)

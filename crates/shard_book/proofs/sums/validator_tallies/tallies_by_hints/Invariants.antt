@@ -1,9 +1,0 @@
-use Rattle.std.proofs.Common.{◌==◌, ◌≤◌, ◌*◌, ◌^◌, length, take}
-use Rattle.shard_book.specs.SumsByKey.{all_entries, validator_of}
-use Rattle.shard_book.specs.TalliesByKey.{AreByKey}
-use Rattle.shard_book.proofs.sums.validator_tallies.tallies_by_hints.Given as goal
-
-abbrev pub invariant-loop-book : goal.invariant-loop-book
-invariant-loop-book l =
-    AreByKey ◌==◌ validator_of (all_entries (take l.book-index l.books)) l.hinted
-    × (length (all_entries (take l.book-index l.books)) ≤ l.book-index * 2 ^ 64)

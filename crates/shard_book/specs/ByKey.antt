@@ -1,7 +1,0 @@
--- Entries by a key of theirs.
-use Rattle.std.specs.Prelude.{Bool, List, filter}
-use Rattle.shard_book.specs.declared.entry.Entry.{Entry}
-
--- the entries with the key, in order
-unfoldable pub with_key : {K : Type 0} → (K → K → Bool) → (Entry → K) → K → List Entry → List Entry
-with_key eq key_of key entries = filter (λ entry. eq (key_of entry) key) entries
