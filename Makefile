@@ -3,8 +3,9 @@
 #               is built and run, and it says so
 # make trial    builds the three programs without a proof: out/trial/NAME. Nothing is proved of them,
 #               and they are slow
-# make build    proves the three programs and all crates below them, with a line for each crate, and
-#               builds the programs: crates/NAME/out/NAME. What rt says is in out/build.log
+# make build    proves the three programs and all crates below them, up to three side by side, with a
+#               line for each crate, and builds the programs: crates/NAME/out/NAME. What rt says is in
+#               out/build.log. scripts/proof_minutes then writes docs/PROOF_MINUTES.md
 # make install  the three proved programs, their manual pages and completions, the documents for
 #               users, the example, and what others do with a ledger (sql, viewer, audit), into
 #               DESTDIR/PREFIX; PREFIX is /usr/local if not given. tests/installed tries it
@@ -50,15 +51,27 @@ build:
 install:
 	@scripts/install_programs "$(DESTDIR)" "$(PREFIX)"
 
-# At most four checks at once, which take 10 GB: without RT_JOBS rt ci plans for more than they
-# take. The last line of the output is the verdict of rt ci: the cases are silent if all is well.
+# RT_JOBS is how many proofs rt ci runs at once, each with one job. If it is not set, rt ci shares the
+# idle processors among all tasks that are ready. Where a crate ends, these are the next proof, its
+# tests and the last crate's wrong bodies, so one proof still gets one job of four processors. It also
+# plans with two to three times the memory that checks take, so it runs one or two at once in 23 GB.
+# So RT_JOBS is the processors, at most four, and at most one for each 3 GB. With fewer the proofs
+# wait, and more slow down the longest chain. It is not set where one crate's proof can get several
+# jobs: from 8 processors on, with 7 GB for each.
+#
+# The last line of the output is the verdict of rt ci: the cases are silent if all is well.
 test:
 	@scripts/check_documents
 	@scripts/private_definitions
 	@scripts/repeated_lemmas
+	@tests/proof_minutes
 	tests/must_not_compile
 	@scripts/version
-	@n=$$(nproc) && RT_JOBS=$${RT_JOBS:-$$((n < 4 ? n : 4))} rt ci
+	@n=$$(nproc) && gb=$$(awk '/^MemAvailable/ { print int($$2 / 1e6) }' /proc/meminfo) && \
+	if [ "$$n" -lt 8 ] || [ "$$gb" -lt $$((7 * n)) ]; then \
+	    n=$$((n < 4 ? n : 4)) gb=$$((gb / 3 > 1 ? gb / 3 : 1)); \
+	    export RT_JOBS=$${RT_JOBS:-$$((n < gb ? n : gb))}; \
+	fi && rt ci
 	@scripts/version
 	@tests/program_cases
 	@tests/tool_manners
