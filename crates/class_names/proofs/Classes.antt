@@ -3,9 +3,8 @@ use Rattle.std.proofs.Common.{◌≡◌, ◌∙◌, ℕ, List, Bool, true, false
 use Rattle.std.proofs.Common.{ap, subst, [], ◌∷◌, ◌++◌, ◌+◌, ◌<◌, All, add-one, arith, cond}
 use Rattle.std.proofs.Common.{drop, get_or, inl, inr, length, map, suc, take, zero}
 use Rattle.std.proofs.lemmas.Bool.{cases_lt}
-use Rattle.std.proofs.lemmas.List.{get_or-take, length-take, take_all, take_more}
+use Rattle.std.proofs.lemmas.List.{get_or-take, length-take, take_more}
 use Rattle.std.proofs.lemmas.Option.{get_or_from_slice_get, slice_get_within}
-use Rattle.tariffs.specs.Fares.{Fares}
 use Rattle.tariffs.specs.TableMeaning.{TableMeaning}
 use Rattle.std.specs.Prelude.{is_some, nat_le, slice_get, option_map, if◌then◌else◌, string_bytes}
 use Rattle.std.specs.Prelude.{String}
@@ -17,7 +16,7 @@ use Rattle.std.specs.Ordering.{nat_cmp}
 use Rattle.std.specs.declared.alloc.Global.{Global}
 use Rattle.toml.specs.Data.{Members, same_key}
 use Rattle.toml.specs.Parse.{parse_document}
-use Rattle.class_names.specs.Classes.{AreLaterTrees, AreTrees, class_of_token, first_class}
+use Rattle.class_names.specs.Classes.{AreLaterTrees, class_of_token, first_class}
 use Rattle.class_names.specs.Classes.{tree_at}
 use Rattle.class_names.specs.Names.{HasClasses, IsDatedOf, NamesOf, class_by, names_at, rider_by}
 use Rattle.class_names.specs.declared.names.ClassNames.{ClassNames}
@@ -156,21 +155,6 @@ next_trees dated texts trees place next text tree at stands are is =
     (ap (λ t. take place texts ++ t ∷ []) (sym (get_or_from_slice_get texts place text text stands))
     ∙ sym (take_more texts place text (slice_get_within texts place text stands)))
     (trees_more (take place dated) (take place texts) trees next text tree are is))
-
--- the trees of all texts
-pub all_trees : (fares : Fares) (texts : List (List ℕ)) (text : List ℕ) (tree : Members)
-    (trees : List (ℕ × Members)) (place : ℕ)
-    → length texts ≡ length fares.later + 1 → place ≡ length fares.later
-    → slice_get texts 0 ≡ Some text → parse_document text ≡ Some tree
-    → AreLaterTrees (take place fares.later) (take place (drop 1 texts)) trees
-    → AreTrees fares texts tree trees
-all_trees fares [] text tree trees place long end at is are = absurd (omega (arith, long))
-all_trees fares (first ∷ rest) text tree trees place long end at is are =
-    let same : first ≡ text = cc in
-    let all : take place fares.later ≡ fares.later =
-    take_all place fares.later (omega (arith, end)) in
-    let texts : take place rest ≡ rest = take_all place rest (omega (arith, end, long)) in
-    (ap parse_document same ∙ is, rw (texts, all) at are)
 
 -- what stands at a place of a list is got there of what is made of each
 pub at_place : {A B : Type 0} (f : A → B) (xs : List A) (place : ℕ) (x : A) → place < length xs

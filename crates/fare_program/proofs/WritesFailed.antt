@@ -11,7 +11,7 @@ use Rattle.program_manners.specs.declared.loading.LoadFault.{LoadFault}
 use Rattle.program_manners.specs.declared.output.WriteEnd.{WriteEnd}
 use Rattle.fare_program.specs.Begun.{AreOfBytes, HasBegun, IsBegun, IsLeftBy}
 use Rattle.fare_program.specs.Causes.{IsRightFault}
-use Rattle.fare_program.specs.Fault.{IsLate, status_of}
+use Rattle.fare_program.specs.Fault.{IsLate}
 use Rattle.fare_program.specs.Options.{Asked, lists}
 use Rattle.fare_program.specs.Program.{Does, RunsListing, RunsService, RunsSorted, RunsTraced}
 use Rattle.fare_program.specs.declared.fault.Fault.{Fault}
@@ -96,19 +96,6 @@ begun_done asked known loaded loaded' out out' well done =
     )
 
 -- ---- what is reported of a fault
-pub same_status : (end : Option WriteEnd) (fault : Fault)
-    → status_of (as_remembered end fault) ≡ status_of fault
-same_status (Some why) fault = refl
-same_status None Write = refl
-same_status None fault = refl
-
--- a mistake is reported as it is
-pub same_mistake : (end : Option WriteEnd) (fault : Fault) → status_of fault ≡ 2
-    → as_remembered end fault ≡ fault
-same_mistake (Some why) fault two = refl
-same_mistake None Write two = cc
-same_mistake None fault two = refl
-
 -- a write is reported only if one that failed is remembered
 pub write_remembered : (end : Option WriteEnd) (fault : Fault) → as_remembered end fault ≡ Write
     → end ≢ None

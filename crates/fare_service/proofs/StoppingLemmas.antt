@@ -1,6 +1,6 @@
 -- A worker that goes on, and where it stops.
 use Rattle.std.specs.Prelude.{◌≡◌, ◌⊎◌, List, [], ◌∷◌, ◌++◌, All, length, Some, None}
-use Rattle.std.proofs.Common.{refl, inl, inr, arith}
+use Rattle.std.proofs.Common.{refl, inl, inr}
 use Rattle.std.proofs.lemmas.List.Elements.{All-nil, All-cons, All-append, All-weaker}
 use Rattle.std.specs.Option.{option_to_list}
 use Rattle.histories.specs.Sums.{Sums}
@@ -11,10 +11,10 @@ use Rattle.fare_service.specs.ServiceView.{ServiceView, shards_of}
 use Rattle.fare_service.specs.ShareView.{ShareView}
 use Rattle.fare_service.specs.Plain.{WasNotCut}
 use Rattle.fare_service.specs.Runs.{RunVisit}
-use Rattle.fare_service.specs.Shares.{Worked, HasWorked, IsShareOf, IsWorked, HasVisited, WentOn}
+use Rattle.fare_service.specs.Shares.{Worked, HasWorked, IsWorked, HasVisited, WentOn}
 use Rattle.fare_service.specs.inside.Shares.{worked}
 use Rattle.fare_service.specs.Stopping.{SomeFull, MayGoOn, StoppedWell, WasCut}
-use Rattle.fare_service.proofs.ShareLemmas.{holding, next_done, share_more, worked_none}
+use Rattle.fare_service.proofs.ShareLemmas.{holding, next_done, worked_none}
 use Rattle.fare_service.proofs.ShareLemmas.{worked_more}
 
 -- the worker worked on these uploads, and went on after each
@@ -107,13 +107,6 @@ module _ (service : ServiceView) (drawer drawer' : DrawerView) (passes : List Pa
       []
   stays = worked_none service (holding drawer passes totals done)
       (holding drawer' passes totals done) claims same refl refl refl
-
-  pub share_stays : IsShareOf service (holding drawer passes totals done)
-      → drawer'.drawn_from ≡ drawer.drawn_from
-      → IsShareOf service (holding drawer' passes totals done)
-  share_stays share drawn_from =
-      share_more service (holding drawer passes totals done) (holding drawer' passes totals done) []
-      share stays drawn_from (omega arith)
 
   pub none_next : (old : ShareView) → Going service old (holding drawer passes totals done)
       → drawer'.seen ≡ length service.uploads

@@ -1,10 +1,10 @@
 -- A text that goes out in pieces.
-use Rattle.std.proofs.Common.{◌≡◌, ℕ, List, [], ◌++◌, ◌-◌, Option, Some, None, refl, sym, ap, ◌∙◌}
+use Rattle.std.proofs.Common.{◌≡◌, ℕ, List, [], ◌++◌, ◌-◌, Option, refl, sym, ap, ◌∙◌}
 use Rattle.std.proofs.Common.{append_assoc, append-nil, arith, drop, length, length-drop, subst}
 use Rattle.std.proofs.Common.{take, take_all}
 use Rattle.std.proofs.lemmas.List.{take-append-drop}
-use Rattle.std.specs.Io.KnownBytes.{Appends, Keeps, append_known}
-use Rattle.std.proofs.KnownBytes.{Appends-kept, Appends-nil, Appends-trans, append_known-moved}
+use Rattle.std.specs.Io.KnownBytes.{Appends, Keeps}
+use Rattle.std.proofs.KnownBytes.{Appends-kept, Appends-nil, Appends-trans}
 use Rattle.fare_texts.specs.WrittenOut.{Begins, GoesOut}
 
 -- ---- beginnings
@@ -151,29 +151,3 @@ pub goes_last : (a b c : Option (List ℕ)) (old new x : List ℕ) → GoesOut a
 goes_last a b c old new x gone written =
     subst (λ t. Appends a c t) (sym gone.whole)
     (Appends-trans a b c gone.front new gone.written written)
-
--- all that waited went out, and nothing waits
-pub passed_keeps : (a b : Option (List ℕ)) (old new : List ℕ) → Appends a b old → new ≡ []
-    → Keeps (append_known a old) (append_known b new)
-passed_keeps a b old new written empty =
-    append_known-moved a b old new old written
-    (sym (ap (λ t. old ++ t) empty ∙ append-nil old))
-
--- what has gone out and what waits, together
-pub goes_appends : (a b : Option (List ℕ)) (old new text : List ℕ) → GoesOut a old b new text
-    → Appends (append_known a old) (append_known b new) text
-goes_appends None b old new text gone = tt
-goes_appends (Some xs) None old new text gone = absurd gone.written
-goes_appends (Some xs) (Some ys) old new text gone =
-    ap (λ t. t ++ new) gone.written ∙ append_assoc xs gone.front new
-    ∙ ap (λ t. xs ++ t) (sym gone.whole) ∙ sym (append_assoc xs old text)
-
--- what waits goes out behind all that has gone out
-pub waits_out : (a b c : Option (List ℕ)) (first waits text : List ℕ)
-    → Appends (append_known a first) (append_known b waits) text → Appends b c waits
-    → Appends a c (first ++ text)
-waits_out None b c first waits text all last = tt
-waits_out (Some x) None c first waits text all last = absurd all
-waits_out (Some x) (Some y) None first waits text all last = absurd last
-waits_out (Some x) (Some y) (Some z) first waits text all last =
-    last ∙ all ∙ append_assoc x first text

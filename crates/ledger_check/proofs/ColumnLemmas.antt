@@ -2,10 +2,10 @@
 use Rattle.std.proofs.Common.{◌≡◌, ◌≢◌, ◌∙◌, ℕ, ◌+◌, ◌-◌, ◌<◌, ◌≤◌, ◌^◌, ◌&&◌, Bool, true, false}
 use Rattle.std.proofs.Common.{List, [], ◌∷◌, ◌++◌, length, get_or, take, drop, Option, None, Some}
 use Rattle.std.proofs.Common.{refl, sym, ap, subst, arith, zero, suc, nat_lt, if◌then◌else◌}
-use Rattle.std.proofs.Common.{length-append, append_assoc, ⊎_elim}
+use Rattle.std.proofs.Common.{length-append, append_assoc}
 use Rattle.std.specs.Prelude.{MatchOption, option_map}
 use Rattle.std.specs.Option.{option_and_then}
-use Rattle.std.proofs.lemmas.Bool.{and_parts, cases_lt, le-ltb, lt-ltb, ltb-true, ne_eqb}
+use Rattle.std.proofs.lemmas.Bool.{and_parts, le-ltb, lt-ltb, ltb-true, ne_eqb}
 use Rattle.std.proofs.lemmas.Fmt.{decimal_is_IsNumeral}
 use Rattle.std.proofs.lemmas.Slice.Eq.{bytes_eq-Decides}
 use Rattle.std.specs.Fmt.{decimal}
@@ -247,14 +247,6 @@ cut_by_class line text front place upload class short is has named =
     to_line : Option (List ℕ × List ℕ) → Option TracedLine
     to_line o = option_map
         (λ parts. record { fields = parts.0; class = parts.1; upload = upload; place = place }) o
-
--- a line that is cut has at most 352 bytes
-pub cut_fits : (line : List ℕ) (cut : TracedLine) → cut_line line ≡ Some cut → length line ≤ 352
-cut_fits line cut is = ⊎_elim (λ long. absurd (none_some (sym (cut_long line long) ∙ is)))
-    (λ short. short) (cases_lt 352 (length line))
-  where
-    none_some : None ≡ Some cut → ⊥
-    none_some same = cc
 
 -- what is read in place of lines and of more lines
 pub untraced-append : (lines more : List (List ℕ)) → untraced_lines (lines ++ more) ≡ untraced_lines

@@ -24,15 +24,6 @@ pub enum Difference {
     Surplus(TapFields),
 }
 
-impl Difference {
-    /// The tap.
-    pub fn tap(&self) -> &TapFields {
-        match self {
-            Difference::Missing(tap) | Difference::Surplus(tap) => tap,
-        }
-    }
-}
-
 /// How many are left of the tap.
 pub(crate) fn count_at(left: &BTreeMap<TapFields, u64>, tap: TapFields) -> u64
     ensures { result ≡ left_at left.now tap }

@@ -24,10 +24,7 @@ use Rattle.omny_audit.proofs.TableFaults.{classes_are_right}
 use Rattle.class_names.specs.ClassFaults.{IsWrongAt}
 use Rattle.class_names.specs.declared.names.WrongNames.{WrongNames}
 use Rattle.program_manners.specs.TableLoads.{LoadsTables}
-use Rattle.program_manners.specs.TableViews.{wrong_of}
-use Rattle.program_manners.specs.TableWords.{date_text, table_files, wrong_word}
-use Rattle.program_manners.specs.declared.table_words.DateFault.{DateFault}
-use Rattle.program_manners.specs.declared.table_words.WrongWord.{WrongWord}
+use Rattle.program_manners.specs.TableWords.{table_files}
 use Rattle.program_manners.specs.Refusals.{IsOneOf}
 use Rattle.program_manners.proofs.Refusals.{is_one_at}
 use Rattle.omny_audit.specs.inside.Tables.{IsClassFault}
@@ -398,24 +395,3 @@ kept_lists names same kept has uploads lists is are named lent =
     is ∙ ap (λ (u : List (List TapFields)). if has then Some u else None) are
     ∙ compared_is names lists has named
     ∙ ap (λ (ns : List (Bor Text)). compared (map (λ n. n.now) ns) lists) lent
-
--- no word of a table is wrong
-pub no_wrong_word : (asked : AuditAsked) (found : Option WrongWord)
-    → option_map wrong_of found ≡ wrong_word asked.table → found ≡ None
-    → wrong_word asked.table ≡ None
-no_wrong_word asked found is none = sym is ∙ ap (option_map wrong_of) none
-
--- the word that is reported is the first wrong one
-pub first_wrong : (asked other : AuditAsked) (found : Option WrongWord) (wrong : WrongWord)
-    → asked ≡ other → option_map wrong_of found ≡ wrong_word asked.table → found ≡ Some wrong
-    → wrong_word other.table ≡ Some (wrong_of wrong)
-first_wrong asked other found wrong same is some =
-    sym (ap (λ (a : AuditAsked). wrong_word a.table) same) ∙ sym is ∙ ap (option_map wrong_of) some
-
-pub same_wrong : (wrong : WrongWord) (word : List ℕ) (why : DateFault) (Said : List ℕ → Type 0)
-    → Some (wrong_of wrong) ≡ Some (word, why)
-    → Said (codes "fault: " ++ date_text wrong.word.now wrong.fault)
-    → Said (codes "fault: " ++ date_text word why)
-same_wrong wrong word why Said same said =
-    let both : wrong_of wrong ≡ (word, why) = cc in
-    subst (λ (w : List ℕ × DateFault). Said (codes "fault: " ++ date_text w.0 w.1)) both said

@@ -3,7 +3,7 @@ use Rattle.std.proofs.Common.{◌≡◌, ◌∙◌, inl, inr, ℕ, ◌+◌, ◌<
 use Rattle.std.proofs.Common.{true, false, List, [], ◌∷◌, ◌++◌, append_assoc, append-nil}
 use Rattle.std.proofs.Common.{length, Option, None, Some, refl, sym, ap, subst}
 use Rattle.std.proofs.Common.{arith, if◌then◌else◌}
-use Rattle.std.specs.Prelude.{◌&&◌, ◌||◌, is_some, not}
+use Rattle.std.specs.Prelude.{◌&&◌, is_some, not}
 use Rattle.std.specs.Option.{option_or}
 use Rattle.std.specs.Str.{bytes_eq}
 use Rattle.std.proofs.Math.Bool.{or-false}
@@ -18,23 +18,18 @@ use Rattle.ledger_check.specs.Lines.{IsLine, Lacks, lines_of}
 use Rattle.ledger_check.proofs.ColumnLemmas.{cut_long, untraced-append}
 use Rattle.ledger_check.proofs.LineLemmas.{lacks-append, lines-part}
 use Rattle.ledger_check.proofs.RecountLemmas.{split_line_at, split_part}
-use Rattle.ledger_check.specs.Places.{is_named, is_place, place_finding}
-use Rattle.ledger_check.specs.Places.{tap_at, uploads_of}
-use Rattle.ledger_check.specs.declared.places.PlaceFinding.{PlaceFinding}
-use Rattle.ledger_check.specs.declared.places.PlaceFinding.TheVariants.{Right, Another, Again}
+use Rattle.ledger_check.specs.Places.{uploads_of}
 use Rattle.ledger_check.specs.declared.places.Places.{Places}
-use Rattle.omny_audit.specs.Traced.{AreColumnsReported, AreLinesOf, IsFaultBehind}
+use Rattle.omny_audit.specs.Traced.{AreColumnsReported, AreLinesOf}
 use Rattle.omny_audit.specs.Traced.{IsPlaceFault}
 use Rattle.omny_audit.specs.Traced.{ReadLine, class_text, place_text}
 use Rattle.omny_audit.specs.Traced.{NamesTapWithColumns, TapWithColumns, Wanted, class_fault}
-use Rattle.omny_audit.specs.Traced.{fault_by}
-use Rattle.omny_audit.specs.Traced.{have_place, lines_read, place_fault, traced_by, wrong_class}
+use Rattle.omny_audit.specs.Traced.{have_place, lines_read, traced_by, wrong_class}
 use Rattle.omny_audit.specs.Traced.{wrong_place}
 use Rattle.omny_audit.specs.inside.Traced.{HasColumns, HasLines, HasPlaces, HasReadAll, HasReadAs}
 use Rattle.omny_audit.specs.inside.Traced.{HasTraced, IsKeptOf, uploads_in, wanted_by}
 use Rattle.omny_audit.specs.inside.Traced.{wanted_of, wrong_place_in}
 use Rattle.omny_audit.specs.declared.traced.PlaceFault.{PlaceFault}
-use Rattle.omny_audit.specs.declared.traced.PlaceFault.TheVariants.{NoLine, OtherTap, Repeated}
 use Rattle.omny_audit.specs.declared.traced.LinesRead.{LinesRead}
 use Rattle.omny_audit.specs.declared.traced.TracedPieces.{TracedPieces}
 use Rattle.omny_audit.specs.declared.traced.WrongClass.{WrongClass}
@@ -61,14 +56,6 @@ long_other line long =
     omega (arith, long, size, short))
 
 -- the tap that a line names, of which this was kept
-kept_long : (kept whole : List ℕ) → IsKeptOf kept whole → 352 < length kept → 352 < length whole
-kept_long kept whole (inl same) long = subst (λ (l : List ℕ). 352 < length l) same long
-kept_long kept whole (inr (left, right)) long = right
-
-pub kept_short : (kept whole : List ℕ) → IsKeptOf kept whole → length kept ≤ 352 → kept ≡ whole
-kept_short kept whole (inl same) short = same
-kept_short kept whole (inr (left, right)) short = absurd (omega (arith, left, short))
-
 pub kept_cut : (kept whole : List ℕ) (cut : Option TracedLine) → IsKeptOf kept whole
     → cut_line kept ≡ cut
     → cut_line whole ≡ cut
@@ -105,61 +92,6 @@ no_tap_placed (Some places) wrong line read has = record {
       has.named none upload place ∙ sym (or-false (have_place read upload place));
 }
 
--- behind a wrong place the places stay as they were
-pub wrong_stays : (places : Option Places) (wrong : PlaceFault) (line : List ℕ)
-    (traced : Option TapWithColumns) (read : List ReadLine) → HasPlaces places (Some wrong) read
-    → HasPlaces places (Some wrong) (record { line = line; traced = traced } ∷ read)
-wrong_stays None wrong line traced read has =
-    record { wrong_is = has.wrong_is; named = λ none. absurd (apart none) }
-  where
-    apart : ◌≡◌ {A = Option PlaceFault} (Some wrong) None → ⊥
-    apart none = cc
-wrong_stays (Some places) wrong line traced read has = record {
-  wrong_is = ap (λ (w : Option PlaceFault). option_or w
-      (place_fault (uploads_of places) read (length read + 1) traced)) has.wrong_is;
-  named = λ none. absurd (apart none);
-}
-  where
-    apart : ◌≡◌ {A = Option PlaceFault} (Some wrong) None → ⊥
-    apart none = cc
-
--- without uploads nothing is looked at
-pub no_uploads_placed : (line : List ℕ) (traced : Option TapWithColumns) (read : List ReadLine)
-    → HasPlaces None None read
-    → HasPlaces None None (record { line = line; traced = traced } ∷ read)
-no_uploads_placed line traced read has = record { wrong_is = refl; named = λ none. tt }
-
--- a place was named, and what was found of the tap there
-pub place_named : (places after : Places) (line : List ℕ) (traced : TapWithColumns)
-    (read : List ReadLine) (number : ℕ) (finding : PlaceFinding)
-    → HasPlaces (Some places) None read → number ≡ length read + 1
-    → finding ≡ place_finding (tap_at (uploads_of places) traced.upload traced.place)
-    (is_named places traced.upload traced.place) traced.tap
-    → uploads_of after ≡ uploads_of places
-    → (finding ≡ Right → (upload place : ℕ) → is_named after upload place
-    ≡ (is_named places upload place || is_place upload place traced.upload traced.place))
-    → HasPlaces (Some after) (fault_by number traced.upload traced.place finding)
-    (record { line = line; traced = Some traced } ∷ read)
-place_named places after line traced read number finding has counted found same named = record {
-  wrong_is = ap (λ (n : ℕ). fault_by n traced.upload traced.place finding) counted
-      ∙ ap (fault_by (length read + 1) traced.upload traced.place) (found
-      ∙ ap (λ (b : Bool). place_finding (tap_at (uploads_of places) traced.upload traced.place) b
-      traced.tap) (has.named refl traced.upload traced.place))
-      ∙ ap (λ (w : Option PlaceFault). option_or w (place_fault (uploads_of places) read
-      (length read + 1) (Some traced))) has.wrong_is
-      ∙ ap (λ (u : List (List TapFields)). wrong_place u
-      (record { line = line; traced = Some traced } ∷ read)) (sym same);
-  named = λ none upload place.
-      named (right_of finding none) upload place
-      ∙ ap (λ (b : Bool). b || is_place upload place traced.upload traced.place)
-      (has.named refl upload place);
-}
-  where
-    right_of : (f : PlaceFinding) → fault_by number traced.upload traced.place f ≡ None → f ≡ Right
-    right_of Right none = refl
-    right_of Another none = absurd (cc)
-    right_of Again none = absurd (cc)
-
 -- what the columns are held against stays the same
 pub wanted_same : (a b : LinesRead) → a.names ≡ b.names → uploads_in a.places ≡ uploads_in b.places
     → wanted_of a ≡ wanted_of b
@@ -177,35 +109,6 @@ pub placed_same : (places after : Option Places) (wrong wrong' : Option PlaceFau
 placed_same places after wrong wrong' read same same' has =
     subst (λ (p : Option Places). HasPlaces p wrong' read) (sym same)
     (subst (λ (w : Option PlaceFault). HasPlaces places w read) (sym same') has)
-
--- the fault behind lines, by the places that they have
-pub fault_behind : (uploads : List (List TapFields)) (named named' : ℕ → ℕ → Bool)
-    (wrong fault : Option PlaceFault)
-    → (wrong ≡ None → (upload place : ℕ) → named upload place ≡ named' upload place)
-    → IsFaultBehind uploads named wrong fault → IsFaultBehind uploads named' wrong fault
-fault_behind uploads named named' (Some wrong) fault same is = is
-fault_behind uploads named named' None None same is = λ upload place left.
-    is upload place (record {
-      some = left.some;
-      not_named = same refl upload place
-          ∙ left.not_named;
-    })
-fault_behind uploads named named' None (Some (OtherTap line upload place)) same is = is
-fault_behind uploads named named' None (Some (Repeated line upload place)) same is = is
-fault_behind uploads named named' None (Some (NoLine upload place)) same is = record {
-  is = record { some = is.is.some; not_named = sym (same refl upload place) ∙ is.is.not_named };
-  first = λ upload' place' before left. is.first upload' place' before
-      (record { some = left.some; not_named = same refl upload' place' ∙ left.not_named });
-}
-
-pub place_fault_of : (places : Places) (wrong fault : Option PlaceFault) (read : List ReadLine)
-    → HasPlaces (Some places) wrong read
-    → IsFaultBehind (uploads_of places) (is_named places) wrong fault
-    → IsPlaceFault (Some (uploads_of places)) read fault
-place_fault_of places wrong fault read has is =
-    subst (λ (w : Option PlaceFault). IsFaultBehind (uploads_of places) (have_place read) w fault)
-    has.wrong_is
-    (fault_behind (uploads_of places) (is_named places) (have_place read) wrong fault has.named is)
 
 -- one line more
 pub took_other : (so_far after : LinesRead) (kept whole : List ℕ) (read : List ReadLine)

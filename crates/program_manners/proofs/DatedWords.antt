@@ -1,20 +1,18 @@
 -- Which words of `--table` end in the form of a date.
 use Rattle.std.specs.Prelude.{ℕ, ◌≡◌, ◌<◌, ◌≤◌, ◌-◌, ◌&&◌, ◌==◌, Bool, true, false, List}
 use Rattle.std.specs.Prelude.{Option, None, Some, drop, if◌then◌else◌, length, take}
-use Rattle.std.proofs.Common.{refl, sym, ap, ◌∙◌, arith, get_or, [], ◌∷◌, Bor, map, subst, suc}
+use Rattle.std.proofs.Common.{refl, sym, ap, ◌∙◌, arith, get_or, [], ◌∷◌, Bor, map, suc}
 use Rattle.std.proofs.Common.{zero}
 use Rattle.std.proofs.lemmas.Bool.{eqb-true}
 use Rattle.std.proofs.lemmas.List.{get_or-drop}
 use Rattle.std.proofs.lemmas.Str.{IsCharBoundary-before_ascii}
 use Rattle.std.specs.Str.{IsCharBoundary}
 use Rattle.program_manners.specs.TableWords.{byte_at, date_of, end_start, file_named, two_digits}
-use Rattle.program_manners.specs.TableWords.{TableNames, date_fault, date_fault_of, found_or}
-use Rattle.program_manners.specs.TableWords.{has_year, is_day, written_date, written_in}
+use Rattle.program_manners.specs.TableWords.{TableNames, date_fault, found_or}
+use Rattle.program_manners.specs.TableWords.{written_date, written_in}
 use Rattle.program_manners.specs.TableWords.{wrong_later}
 use Rattle.program_manners.specs.TableWords.{wrong_word}
 use Rattle.program_manners.specs.declared.table_words.DateFault.{DateFault}
-use Rattle.program_manners.specs.declared.table_words.DateFault.TheVariants.{IsFirst, NotADay}
-use Rattle.program_manners.specs.declared.table_words.DateFault.TheVariants.{OtherYear}
 use Rattle.program_manners.specs.declared.table_words.WrittenDate.{WrittenDate}
 
 -- the date of an end that has the form of one, or has not
@@ -77,27 +75,6 @@ pub cut_name : (word : List ℕ) (date : WrittenDate) → written_date word ≡ 
     → file_named word ≡ take (end_start word) word
 unfolding file_named
 cut_name word date some = rw some refl
-
--- a word behind the first one that is right has a date
-pub has_date : (date : Option WrittenDate) → date_fault_of false date ≡ None → date ≡ None → ⊥
-has_date None right none = cc
-has_date (Some date) right none = cc
-
-by_tests : (year day : Bool)
-    → (if year then (if day then (if false then Some IsFirst else None) else Some NotADay)
-    else Some OtherYear) ≡ None → (year ≡ true) × (day ≡ true)
-by_tests true true right = (refl, refl)
-by_tests true false right = cc
-by_tests false day right = cc
-
--- its date is one of the calendar, from 1970 to 2099
-pub right_date : (found : Option WrittenDate) (date : WrittenDate) → found ≡ Some date
-    → date_fault_of false found ≡ None → (has_year date ≡ true) × (is_day date ≡ true)
-right_date None date is right = cc
-right_date (Some other) date is right =
-    let same : other ≡ date = cc in
-    subst (λ (d : WrittenDate). (has_year d ≡ true) × (is_day d ≡ true)) same
-    (by_tests (has_year other) (is_day other) right)
 
 -- what is found behind a word that is right
 behind_right : (word : List ℕ) (fault : Option DateFault) (behind : Option (List ℕ × DateFault))

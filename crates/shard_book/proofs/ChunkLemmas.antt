@@ -146,7 +146,3 @@ module _ {K S E : Type 0} (eq : K → K → Bool) (key_of : Entry → K) where
     pub merging-by_key : AreByKey eq key_of (all_entries books) now
     merging-by_key = subst (λ (bs : List Book). AreByKey eq key_of (all_entries bs) now) (sym whole)
         merging.by_key
-
-    pub merging-few : length (all_entries books) ≤ length books * 2 ^ 64
-    merging-few = subst (λ (bs : List Book). length (all_entries bs) ≤ length bs * 2 ^ 64)
-        (sym whole) merging.few

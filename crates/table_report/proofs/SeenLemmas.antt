@@ -41,14 +41,6 @@ one_inserted span keys new tap n is has update v =
     ∙ ap (λ b. cond same true b) (among keys v) ∙ in_one (is_among keys v) same
     ∙ ap (λ b. is_among keys v || (b && same)) (sym has)
 
--- a tap whose moment the span has not
-pub none_inserted : (span : MomentSpan) (keys : List ℕ) (tap : Tap)
-    → is_from_to span.first span.last (num tap.moment) ≡ false
-    → (v : ℕ) → is_among keys v ≡ (is_among keys v || is_tap_at span v tap)
-none_inserted span keys tap not v =
-    sym (or-false (is_among keys v))
-    ∙ ap (λ b. is_among keys v || (b && nat_eq v (num tap.validator))) (sym not)
-
 -- one more tap
 pub one_more : (span : MomentSpan) (old keys new : List ℕ) (taps : List Tap) (tap : Tap)
     → ((v : ℕ) → is_among new v ≡ (is_among keys v || is_tap_at span v tap))

@@ -5,6 +5,5 @@ pub mod FullBatches
 pub mod Pieces
 pub mod Places
 pub mod RangeLemmas
-mod SplitLemmas
 pub mod TokenOrder
 pub mod Total

@@ -6,14 +6,11 @@ use Rattle.std.proofs.KnownBytes.{Keeps-refl}
 use Rattle.csv.specs.declared.reader.Reader.{Reader}
 use Rattle.fare_texts.proofs.Beginnings.{begins_behind, begins_kept, begins_whole}
 use Rattle.tap_views.specs.declared.encoder.TapFields.{TapFields}
-use Rattle.tap_rows.specs.Agencies.{AreBegun, IsRowsEncoded, IsUploadBegun, MayEndOnce, taps_in}
+use Rattle.tap_rows.specs.Agencies.{AreBegun, IsRowsEncoded, IsUploadBegun, taps_in}
 use Rattle.tap_rows.specs.declared.agency.choice.Choice.{Choice}
-use Rattle.tap_rows.specs.declared.agency.fault.AgencyFault.{AgencyFault}
-use Rattle.tap_rows.specs.declared.agency.fault.AgencyFault.TheVariants as fault
 use Rattle.tap_rows.specs.declared.agency.places.Places.{Places}
 use Rattle.tap_rows.specs.declared.agency.summary.Summary.{Summary}
-use Rattle.tap_rows.specs.inside.Goings.{IsGoing, IsOfSystem}
-use Rattle.tap_rows.specs.inside.Places.{IsHeadFault}
+use Rattle.tap_rows.specs.inside.Goings.{IsGoing}
 use Rattle.tap_rows.specs.inside.TapTables.{IsBegunAs}
 use Rattle.tap_rows.specs.inside.WaitingTaps.{AreWritten}
 use Rattle.tap_rows.proofs.TableLemmas.{two_files}
@@ -43,12 +40,6 @@ pub still_waiting : (old here : Option (List ℕ)) (waiting taps : List TapField
     → AreWritten old here waiting taps → AreBegun taps old here
 still_waiting old here waiting taps is =
     begun_waiting old here here waiting taps is (inl (Keeps-refl here))
-
--- nothing was written of a text that may be known
-pub none_begun : (choice : Choice) (text out : Option (List ℕ))
-    → IfSome text (λ bytes. IsUploadBegun choice bytes out out)
-none_begun choice None out = tt
-none_begun choice (Some bytes) out = inl (Keeps-refl out)
 
 -- some rows were read, and a beginning of the upload of their taps was written
 pub going_begun : {R : Type 0} (remaining : R → Option (List ℕ)) (choice : Choice)
@@ -108,23 +99,3 @@ whole_begun choice bytes old new old_refused new_refused summary encoded =
         begun = begins_whole old new encoded.file encoded.written;
       };
     })
-
--- ---- which faults end it
-pub system_may_end : (f : AgencyFault) → IsOfSystem f → MayEndOnce f
-system_may_end (fault.Column wanted) is = tt
-system_may_end (fault.Row number reason) is = absurd is
-system_may_end fault.Changed is = absurd is
-system_may_end fault.Unread is = tt
-system_may_end fault.Write is = tt
-system_may_end fault.RefusedWrite is = tt
-system_may_end fault.NoMemory is = tt
-
-pub head_may_end : (choice : Choice) (head : List (List ℕ)) (f : AgencyFault)
-    → IsHeadFault choice head f → MayEndOnce f
-head_may_end choice head (fault.Column wanted) is = tt
-head_may_end choice head (fault.Row number reason) is = absurd is
-head_may_end choice head fault.Changed is = absurd is
-head_may_end choice head fault.Unread is = tt
-head_may_end choice head fault.Write is = tt
-head_may_end choice head fault.RefusedWrite is = tt
-head_may_end choice head fault.NoMemory is = tt

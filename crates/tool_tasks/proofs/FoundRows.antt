@@ -5,7 +5,7 @@ use Rattle.std.proofs.Common.{drop, flat_map, get_or, length, map, refl, subst, 
 use Rattle.std.proofs.lemmas.Bool.{cases_lt}
 use Rattle.std.proofs.lemmas.List.{take-append-drop, take_more}
 use Rattle.std.proofs.lemmas.List.Concat.{flat_map-append}
-use Rattle.std.proofs.KnownBytes.{Appends-nil, Appends-trans}
+use Rattle.std.proofs.KnownBytes.{Appends-trans}
 use Rattle.std.specs.Fmt.{decimal}
 use Rattle.std.specs.Io.KnownBytes.{Appends}
 use Rattle.std.specs.List.{slice_get}
@@ -113,9 +113,6 @@ one_text : {A : Type 0} (is : A → List ℕ → Type 0) (x : A) (text : List �
 one_text is x text shown = (text, [], shown, refl, sym (append-nil text))
 
 -- ---- rows that were written
-pub rows_none : (names : List (List ℕ)) (out : Option (List ℕ)) → AppendsRows names [] out out
-rows_none names out = ([], refl, Appends-nil out)
-
 pub rows_join : (names : List (List ℕ)) (rows more : List Row) (a b c : Option (List ℕ))
     → AppendsRows names rows a b → AppendsRows names more b c → AppendsRows names (rows ++ more) a c
 rows_join names rows more a b c (x, are, written) (y, are_more, written_more) = (

@@ -1,13 +1,13 @@
 -- The lines of an upload, and the file of its good part.
-use Rattle.std.proofs.Common.{◌≡◌, ◌≢◌, ◌∙◌, ℕ, Bool, List, [], ◌∷◌, None, Option, Some, ap}
-use Rattle.std.proofs.Common.{inl, inr, refl, subst, sym}
+use Rattle.std.proofs.Common.{◌≡◌, ◌≢◌, ◌∙◌, ℕ, Bool, List, [], ◌∷◌, Option, ap}
+use Rattle.std.proofs.Common.{inl, inr, refl, sym}
 use Rattle.std.specs.Io.KnownBytes.{Keeps}
 use Rattle.program_manners.specs.Loads.{Loaded}
 use Rattle.program_manners.specs.declared.loading.LoadFault.{LoadFault}
 use Rattle.program_manners.specs.declared.output.WriteEnd.{WriteEnd}
 use Rattle.tool_tasks.specs.Fault.{failed_as}
 use Rattle.tool_tasks.specs.GoodPart.{GivesUpGoodPart, IsUnmadeNew, KeepsGoodPart}
-use Rattle.tool_tasks.specs.Sink.{IsNotMade, Made, RefusesNew, StopsFile}
+use Rattle.tool_tasks.specs.Sink.{IsNotMade, Made, RefusesNew}
 use Rattle.tool_tasks.specs.Uploads.{GivesUpUploads, Listed, ListsUploads}
 use Rattle.tool_tasks.specs.declared.fault.Fault.{Fault}
 use Rattle.tool_tasks.specs.declared.fault.Fault.TheVariants.{Exists, NoMemory, Unmade, Write}
@@ -17,7 +17,6 @@ use Rattle.tool_tasks.specs.declared.sink.MakeFault.TheVariants as make
 use Rattle.tool_tasks.specs.declared.sink.NewFault.{NewFault}
 use Rattle.tool_tasks.specs.declared.sink.NewFault.TheVariants as newly
 use Rattle.tool_tasks.specs.inside.EncodeRows.{IsNewFault, IsUnfinished}
-use Rattle.tool_tasks.specs.inside.GoodPart.{unwritten_as}
 use Rattle.tool_tasks.specs.inside.Uploads.{ListsOne, StopsListing}
 use Rattle.tool_tasks.proofs.Listing.{lists_more, lists_none, lists_stop}
 use Rattle.tool_tasks.proofs.ListingWith.{with_fault_again, with_fault_kept, with_kept}
@@ -61,15 +60,6 @@ pub new_unfinished : (name : List ℕ) (failed : Option (List ℕ))
 new_unfinished name failed unbegun make.Unmade Write is why = why refl
 new_unfinished name failed unbegun make.NoMemory NoMemory is why = tt
 new_unfinished name failed unbegun fault reported is why = absurd is
-
--- a write to it failed
-pub new_unwritten : (name : List ℕ) (end : Option WriteEnd) (failed failed' : Option (List ℕ))
-    (unbegun : Option (List ℕ × NewFault)) (reported : Fault) → reported ≡ unwritten_as end
-    → StopsFile name end failed failed' → IsUnmadeNew name failed' unbegun reported
-new_unwritten name None failed failed' unbegun reported is stops =
-    subst (IsUnmadeNew name failed' unbegun) (sym is) tt
-new_unwritten name (Some end) failed failed' unbegun reported is stops =
-    subst (IsUnmadeNew name failed' unbegun) (sym is) stops
 
 -- ---- what was written goes out
 pub keeps_kept : (words : GoodPartWords) (loaded loaded' : Option (List Loaded))

@@ -4,7 +4,6 @@ use Rattle.std.proofs.Common.{◌++◌, None, Option, Some, ap, append_assoc, ar
 use Rattle.std.proofs.Common.{drop_of_length-le, get_or, inl, inr, length, length-append, map}
 use Rattle.std.proofs.Common.{option_map, refl, set, subst, sym, take}
 use Rattle.std.proofs.Math.Bool.{or-false}
-use Rattle.std.proofs.lemmas.List.{map-append}
 use Rattle.std.proofs.lemmas.List.Folds.{list_any-append}
 use Rattle.std.specs.Prelude.{◌≢◌, ◌||◌, slice_get}
 use Rattle.std.specs.List.{AllByRecursion, AllZip, list_any}
@@ -125,21 +124,6 @@ pub seen_more : (spans : List MomentSpan) (old new : List SeenAt) (uploads : Lis
 seen_more spans old new uploads upload are adds = record {
   same = spans_same upload old new adds ∙ are.same;
   each = each_more old new uploads upload are.each adds;
-}
-
--- one span more, of no upload
-pub span_more : (spans : List MomentSpan) (seen : List SeenAt) (at : SeenAt) (span : MomentSpan)
-    → at.span ≡ span → at.seen ≡ [] → AreSeenEach spans seen []
-    → AreSeenEach (spans ++ span ∷ []) (seen ++ at ∷ []) []
-span_more spans seen at span is none are = record {
-  same = map-append (λ (a : SeenAt). a.span) seen (at ∷ [])
-      ∙ ap (λ (ss : List MomentSpan). ss ++ at.span ∷ []) are.same
-      ∙ ap (λ (s : MomentSpan). spans ++ s ∷ []) is;
-  each = each-append (λ (a : SeenAt). AreValidatorsAt a.span [] a.seen) seen (at ∷ []) are.each (
-    subst (λ (vs : List ℕ). AreValidatorsAt at.span [] vs) (sym none)
-        (record { taps = []; are_good = tt; same = λ v. refl }),
-    tt,
-  );
 }
 
 -- ---- what is warned of

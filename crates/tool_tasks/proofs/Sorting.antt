@@ -1,14 +1,13 @@
 -- Uploads that are loaded and sorted, and the lines of their layout faults.
 use Rattle.std.proofs.Common.{◌≡◌, ◌∙◌, ◌<◌, ◌+◌, ℕ, List, [], ◌∷◌, ◌++◌, ◌&&◌, Bool, Bor, true}
-use Rattle.std.proofs.Common.{false, None, Option, Some, append-nil, append_assoc, ap, arith}
+use Rattle.std.proofs.Common.{false, Option, Some, append-nil, append_assoc, ap, arith}
 use Rattle.std.proofs.Common.{get_or}
 use Rattle.std.proofs.Common.{length-take}
 use Rattle.std.proofs.lemmas.List.{take_more}
 use Rattle.std.proofs.Common.{length, map, refl, subst, sym, take}
-use Rattle.std.specs.Prelude.{◌≢◌, slice_get}
+use Rattle.std.specs.Prelude.{slice_get}
 use Rattle.std.proofs.KnownBytes.{Appends-trans}
 use Rattle.program_manners.specs.Loads.{Loaded, LoadsOne}
-use Rattle.program_manners.specs.declared.output.WriteEnd.{WriteEnd}
 use Rattle.tap_views.specs.UploadEnds.{are_posted, is_posted}
 use Rattle.tap_views.specs.declared.upload_end.UploadEnd.{UploadEnd}
 use Rattle.tap_views.specs.declared.upload_end.UploadEnd.TheVariants.{Posted}
@@ -22,7 +21,7 @@ use Rattle.tool_tasks.specs.declared.fault.Fault.{Fault}
 use Rattle.tool_tasks.specs.declared.fault.Fault.TheVariants.{NoMemory, Unmade}
 use Rattle.tool_tasks.specs.declared.sink.MakeFault.{MakeFault}
 use Rattle.tool_tasks.specs.declared.sink.MakeFault.TheVariants as make
-use Rattle.tool_tasks.specs.inside.Sort.{IsMakeFault, IsUnwritten, line_at}
+use Rattle.tool_tasks.specs.inside.Sort.{IsMakeFault, line_at}
 
 -- the bytes of one more upload that was loaded
 pub loaded_word : (words : List (Bor (List ℕ))) (k : ℕ) (d : Bor (List ℕ)) (kept : List Loaded)
@@ -98,13 +97,6 @@ posted_next ends i within all =
     ∙ sym (ap are_posted (take_more ends i (Posted 0) within)) ∙ all)
 
 -- ---- files that could not be made
--- a write that failed, as the file's fault says it
-pub unwritten : (word : List ℕ) (why : MakeFault) (fault : Fault) (end : Option WriteEnd)
-    → IsMakeFault word why fault → (why ≡ make.Unmade → end ≢ None) → IsUnwritten word end fault
-unwritten word make.Unmade (Unmade named) end is failed = (is, failed refl)
-unwritten word make.NoMemory NoMemory end is failed = tt
-unwritten word why fault end is failed = absurd is
-
 -- a file that the sink could not make
 pub unmade : (word : List ℕ) (why : MakeFault) (fault : Fault) (failed : Option (List ℕ))
     → IsMakeFault word why fault → (why ≡ make.Unmade → IsNotMade failed word)

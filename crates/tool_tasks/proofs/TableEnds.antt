@@ -17,7 +17,7 @@ use Rattle.tool_tasks.specs.Decode.{AreReported}
 use Rattle.tool_tasks.specs.Fault.{IsFaultReported, failed_as}
 use Rattle.tool_tasks.specs.Source.{HasOpened}
 use Rattle.tool_tasks.specs.Table.{AreTables, AreWarnings, Checked, EndsIll}
-use Rattle.tool_tasks.specs.Table.{HasNoTable, HasReported}
+use Rattle.tool_tasks.specs.Table.{HasReported}
 use Rattle.tool_tasks.specs.Table.{HasWarned}
 use Rattle.tool_tasks.specs.Table.{LoadsBoth, LoadsUploads, RefusesNext}
 use Rattle.tool_tasks.specs.Table.{Understands, checked_lines, checked_uploads}
@@ -281,21 +281,6 @@ ends_kept asked loaded loaded' out out' out'' said said' failed false Still (inr
     })))
 
 -- ---- texts that are refused
--- one of them is no table
-pub ends_refused : (asked : TableQuestion) (loaded between : Option (List Loaded))
-    (texts : List (List ℕ)) (out said said' : Option (List ℕ)) (failed : Bool) (Still : Type 0)
-    → HasOpened (files_of (tables_asked asked)) loaded between texts → HasNoTable texts
-    → HasReported said said' failed
-    → EndsAs asked loaded between out out said said' failed false Still
-ends_refused asked loaded between texts out said said' failed Still opened none reported =
-    inl (record {
-      texts = texts;
-      opened = opened;
-      none = none;
-      reported = reported;
-      kept = Keeps-refl out;
-    })
-
 -- one of them does not follow
 pub ends_behind : (asked : TableQuestion) (loaded between : Option (List Loaded))
     (texts : List (List ℕ)) (out said said' said'' : Option (List ℕ)) (failed : Bool)

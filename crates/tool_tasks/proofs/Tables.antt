@@ -3,19 +3,13 @@ use Rattle.std.proofs.Common.{◌≡◌, ◌∙◌, ◌<◌, ◌+◌, ℕ, Bool,
 use Rattle.std.proofs.Common.{Bor, None, Option, Some, ap, append-nil, drop, eqb}
 use Rattle.std.proofs.Common.{arith, get_or, inl, inr, length, map, refl, subst, suc, sym, take}
 use Rattle.std.proofs.Common.{zero}
-use Rattle.std.specs.Prelude.{◌&&◌, ◌≢◌, Err, IsUtf8, Ok, is_none}
+use Rattle.std.specs.Prelude.{◌&&◌, ◌≢◌, is_none}
 use Rattle.std.specs.Io.KnownBytes.{Appends}
 use Rattle.std.proofs.KnownBytes.{Appends-nil, Appends-trans}
 use Rattle.std.proofs.lemmas.List.{map-append, take_more}
 use Rattle.std.proofs.lemmas.List.Concat.{flat_map-append}
 use Rattle.tariffs.specs.Fares.{Fares}
-use Rattle.tariffs.specs.TableMeaning.{TableMeaning}
-use Rattle.fare_table.specs.TableMeaning.{meaning_in}
-use Rattle.fare_table.specs.declared.fault.TableFault.{TableFault}
-use Rattle.fare_table.specs.declared.fault.TableFault.TheVariants as faults
-use Rattle.program_manners.specs.LineWritten.{LineWritten}
 use Rattle.program_manners.specs.Loads.{Loaded}
-use Rattle.program_manners.specs.Refusals.{IsFirstTableFault}
 use Rattle.program_manners.specs.TableLoads.{Follows}
 use Rattle.program_manners.specs.declared.loading.LoadFault.{LoadFault}
 use Rattle.program_manners.specs.declared.output.WriteEnd.{WriteEnd}
@@ -47,25 +41,11 @@ use Rattle.tool_tasks.proofs.SeenUploads.{none_push, seen_more, seen_of, some_fr
 use Rattle.tool_tasks.proofs.Sorting.{both_true}
 
 -- ---- what is reported
-not_nothing : (lines : List ℕ) (byte : ℕ) → lines ++ byte ∷ [] ≡ [] → ⊥
-not_nothing [] byte is = cc
-not_nothing (one ∷ lines) byte is = cc
-
 still_not : (first more : List ℕ) → (first ≡ [] → ⊥) → first ++ more ≡ [] → ⊥
 still_not [] more some is = some refl
 still_not (one ∷ first) more some is = cc
 
-not_behind : (first more : List ℕ) → (more ≡ [] → ⊥) → first ++ more ≡ [] → ⊥
-not_behind [] more some is = some is
-not_behind (one ∷ first) more some is = cc
-
--- a line
-pub line_reported : (said said' : Option (List ℕ)) (failed : Bool) (line : List ℕ)
-    → LineWritten said said' failed line → HasReported said said' failed
-line_reported said said' failed line is =
-    (line ++ 10 ∷ [], not_nothing line 10, is)
-
--- and more
+-- what is reported, and more
 pub reported_both : (a b c : Option (List ℕ)) (failed failed' : Bool) → HasReported a b failed
     → HasReported b c failed' → (failed' ≡ false → failed ≡ false) → HasReported a c failed'
 reported_both a b c failed failed' first second kept = (
@@ -172,27 +152,6 @@ texts_on said said' said'' failed failed' texts text tables tables' well is Quie
     (λ some still. let p = to still in
     reported_to said said' said'' failed failed' p.0 p.1 some)
     (λ some more. reported_both said said' said'' failed failed' some more kept) all one
-
--- what the text of a fare table has is a fare table
-pub is_table : (text : List ℕ) (table : ReadTable) → IsReadFrom text table → IsFareTable text
-is_table text table is = record {
-  utf8 = is.utf8;
-  meaning = table.fares.meaning;
-  means = is.means.0;
-}
-
--- a text that means no table is none
-pub no_table : (text : List ℕ)
-    → (IsUtf8 text → (meaning : TableMeaning) → ¬ (meaning_in text ≡ Ok meaning))
-    → ¬ IsFareTable text
-no_table text none = λ is. none is.utf8 is.meaning is.means
-
--- neither is one that has a fault
-pub first_fault_none : (text : List ℕ) (fault : TableFault) → fault ≢ faults.NoMemory
-    → IsFirstTableFault text fault → ¬ IsFareTable text
-first_fault_none text fault other first = λ is.
-    let wrong : meaning_in text ≡ Err fault = first.of_text other is.utf8 in
-    let right : meaning_in text ≡ Ok is.meaning = is.means in cc
 
 -- ---- tables that follow others
 pub follow_push : (first : Fares) (words : List (List ℕ)) (word : List ℕ)

@@ -33,13 +33,6 @@ pub(crate) fn word_at<'a>(words: &[&'a str], number: usize) -> Option<&'a str>
 pub struct Name<'a>(pub &'a str);
 
 impl<'a> Name<'a> {
-    /// Standard input.
-    pub fn input() -> Name<'a>
-        ensures { result.0.now ≡ codes "-" }
-    {
-        Name(INPUT_WORD)
-    }
-
     /// Whether this is standard input.
     pub fn is_input(&self) -> bool
         ensures { result ≡ bytes_eq self.now.0.now (codes "-") }

@@ -11,7 +11,7 @@ use Rattle.std.proofs.lemmas.List.Elements.{filter_map-append}
 use Rattle.std.proofs.lemmas.List.Folds.{list_all-append, list_all-map, list_all_at}
 use Rattle.clap.specs.Words.{Text}
 use Rattle.tap_rows.specs.declared.agency.choice.Condition.{Condition}
-use Rattle.tool_words.specs.Columns.{conditions_in, have_parts, is_equals, parts_of, sole}
+use Rattle.tool_words.specs.Columns.{conditions_in, have_parts, is_equals, parts_of}
 use Rattle.tool_words.specs.Tasks.{condition_of, text_in, texts_of}
 
 -- the parts round the first `=` are those of the word
@@ -54,18 +54,6 @@ found_more find words place other found within is =
     ∙ filter_map-append find (texts_of (take place words)) _
     ∙ ap (λ more. filter_map find (texts_of (take place words)) ++ more)
     (one_found find (get_or words place other).now ∙ ap option_to_list is)
-
--- the one of the list, if it has no other
-pub sole_one : (names : List (Bor Text)) (other : Bor Text) → length names ≡ 1
-    → text_in (Some (get_or names 0 other)) ≡ sole (texts_of names)
-sole_one [] other one = absurd (omega (arith, one))
-sole_one (name ∷ []) other one = refl
-sole_one (name ∷ next ∷ names) other one = absurd (omega (arith, one))
-
-pub sole_none : (names : List (Bor Text)) → ¬ (length names ≡ 1) → None ≡ sole (texts_of names)
-sole_none [] many = refl
-sole_none (name ∷ []) many = absurd (many refl)
-sole_none (name ∷ next ∷ names) many = refl
 
 -- the texts of references, of which one more may be found
 texts_found : (names : List (Bor Text)) (found : Option (Bor Text))

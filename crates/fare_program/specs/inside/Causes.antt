@@ -1,9 +1,5 @@
 -- Causes of faults: what private functions alone cite.
-use Rattle.std.specs.Prelude.{◌≡◌, ◌<◌, ℕ, List, Option, Bool, false}
-use Rattle.program_manners.specs.Loads.{Loaded}
-use Rattle.program_manners.specs.declared.loading.LoadFault.{LoadFault}
-use Rattle.fare_program.specs.Causes.{IsRightFault}
-use Rattle.fare_program.specs.Options.{Asked}
+use Rattle.std.specs.Prelude.{◌≡◌, ◌<◌, ℕ, Bool, false}
 use Rattle.fare_program.specs.declared.fault.Fault.{Fault}
 use Rattle.fare_program.specs.declared.fault.Fault.TheVariants.{Uploads, Gather, Write, NoMemory}
 
@@ -22,9 +18,3 @@ IsRightOfUploads settle uploads (Gather fault) = settle ≡ false
 IsRightOfUploads settle uploads Write = Unit {0}
 IsRightOfUploads settle uploads NoMemory = Unit {0}
 IsRightOfUploads settle uploads fault = ⊥
-
--- the fault is the right one, whatever was loaded and refused, and whatever stands on the disk
-abbrev pub IsRightAlways : Asked → Fault → Type 0
-IsRightAlways asked fault = (under : List ℕ → Option (List ℕ))
-    (loaded loaded' : Option (List Loaded)) (refused : Option (Option (List ℕ) × LoadFault))
-    → IsRightFault asked under loaded loaded' refused fault

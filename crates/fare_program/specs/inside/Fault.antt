@@ -1,7 +1,6 @@
 -- Fault: what private functions alone cite.
 use Rattle.std.specs.Prelude.{◌≡◌, ◌++◌, ℕ, List, MatchOption, None, Option, codes}
-use Rattle.fare_table.specs.declared.fault.TableFault.{TableFault}
-use Rattle.program_manners.specs.Lines.{load_text, table_text}
+use Rattle.program_manners.specs.Lines.{load_text}
 use Rattle.program_manners.specs.TableWords.{date_text}
 use Rattle.program_manners.specs.declared.loading.LoadFault.{LoadFault}
 use Rattle.program_manners.specs.declared.output.WriteEnd.{WriteEnd}
@@ -46,10 +45,6 @@ IsRunFailure uploads _ = ⊥
 -- the line is of a load under this name
 abbrev pub IsLoadLine : List ℕ → List ℕ → Type 0
 IsLoadLine name line = (fault : LoadFault) × (line ≡ load_text name fault)
-
--- the line is of a table's text
-abbrev pub IsTableLine : List ℕ → Type 0
-IsTableLine line = (fault : TableFault) × (line ≡ table_text fault)
 
 -- Why the program gives up: the first mistake in what is asked for, or else the first wrong date of
 -- a table, with their status, if there is one; else a fault with the other status.

@@ -1,4 +1,4 @@
-use Rattle.tool_tasks.proofs.GoodParts.{new_not_begun, new_unfinished, new_unwritten}
+use Rattle.tool_tasks.proofs.GoodParts.{new_not_begun, new_unfinished}
 use Rattle.tool_tasks.proofs.good_part.make.Goals as goal
 
 pub returns-in-Err-clause-fault : goal.returns-in-Err-clause-fault
