@@ -1,6 +1,6 @@
 -- Each moment has a text, and each entry a line, whichever it is.
-use Rattle.std.proofs.Common.{◌≡◌, ℕ, zero, suc, ◌+◌, ◌/◌, ◌%◌, ◌<◌, ◌≤◌, ◌⊎◌, inl, inr, ℤ, pos}
-use Rattle.std.proofs.Common.{neg_ℤ, ◌+ℤ◌, ◌<ℤ◌, ◌≤ℤ◌, List, [], ◌∷◌, ◌++◌, length, map, refl, sym}
+use Rattle.std.proofs.Common.{◌≡◌, ℕ, zero, suc, ◌+◌, ◌/◌, ◌%◌, ◌<◌, ◌≤◌, ℤ, pos}
+use Rattle.std.proofs.Common.{◌+ℤ◌, List, [], ◌∷◌, ◌++◌, length, refl, sym}
 use Rattle.std.proofs.Common.{ap, ◌∙◌, arith, rules, codes, ⊎_elim}
 use Rattle.std.proofs.lemmas.Bool.{cases_lt}
 use Rattle.std.proofs.lemmas.Int.{by_lt_z}
@@ -21,9 +21,9 @@ use Rattle.account_rule.specs.declared.reason.Reason.TheVariants.{Unknown, Stale
 use Rattle.histories.specs.Entry.{own}
 use Rattle.histories.specs.declared.entry.Entry.{Entry}
 use Rattle.tap_views.specs.declared.token.Token.{Token}
-use Rattle.fare_texts.specs.LedgerLines.{IsLedgerLine, IsPointing, IsReasonFields, IsRideFields}
+use Rattle.fare_texts.specs.LedgerLines.{IsLedgerLine, IsPointing, IsReasonFields}
 use Rattle.fare_texts.specs.LedgerLines.{entry_fields, line_head, reason_after, ride_rest}
-use Rattle.fare_texts.specs.Lines.{AreLinesAlong, IsLineAfter}
+use Rattle.fare_texts.specs.Lines.{AreLinesAlong}
 use Rattle.fare_texts.specs.Moments.{IsMomentText, clock_text}
 
 -- ---- days

@@ -16,7 +16,7 @@ use settlement::laws::same_history;
 /// Uploads that have the same good taps, whatever their order and however the taps are split into
 /// uploads, have reports that are the same after the lines of the uploads.
 pub fn same_reports(uploads: &[Vec<u8>], others: &[Vec<u8>])
-    ensures reports { (fares : Fares) (history again : List Entry) (text other : List ℕ)
+    ensures { (fares : Fares) (history again : List Entry) (text other : List ℕ)
         → HaveSameTaps (map (λ u. u.items) uploads.now) (map (λ u. u.items) others.now)
         → IsSettledHistory fares (map (λ u. u.items) uploads.now) history
         → IsSettledHistory fares (map (λ u. u.items) others.now) again

@@ -52,7 +52,7 @@ pub returns : goal.returns
 returns c = λ asked again fares token text other well ill same ledger explain one two.
     let files = map bytes_in c.args.files.now in
     let others = map bytes_in c.args.others.now in
-    let histories = c.same_history.ensures.histories fares one.history two.history same
+    let histories = c.same_history.ensures fares one.history two.history same
     one.is_settled two.is_settled in
     let shown : IsAsked asked.ledger asked.explain token fares others two.history other =
     subst (λ e. IsAsked asked.ledger e token fares others two.history other) (sym explain)
@@ -63,5 +63,5 @@ returns c = λ asked again fares token text other well ill same ledger explain o
     one.shows in
     let one_too = subst (λ h. IsSettledHistory fares files h) histories one.is_settled in
     by_asked asked.ledger asked.explain token fares files others two.history text other
-    (λ none report again. c.same_reports.ensures.reports fares two.history two.history text other
+    (λ none report again. c.same_reports.ensures fares two.history two.history text other
     same one_too two.is_settled report again) moved shown

@@ -5,7 +5,7 @@ use Rattle.settlement.proofs.laws.same_history.Goals as goal
 abbrev bytes_in : Vec ℕ Global → List ℕ
 bytes_in upload = upload.items
 
-pub returns-clause-histories : goal.returns-clause-histories
-returns-clause-histories c = λ fares history again same one other.
+pub returns : goal.returns
+returns c = λ fares history again same one other.
     same_history fares (map bytes_in c.args.uploads.now) (map bytes_in c.args.others.now) history
     again c.one_reading_each.ensures c.one_reading_each-2.ensures same one other
