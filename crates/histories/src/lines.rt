@@ -1,6 +1,6 @@
 //! The lines of a statement.
 
-ghost use Rattle.std.specs.Prelude.{◌≡◌, ◌<◌, [], length, slice_get, Some, IsTrue, ◌↔◌};
+ghost use Rattle.std.specs.Prelude.{◌≡◌, ◌<◌, length, slice_get, Some};
 
 use crate::entry::Entry;
 use std::marker::Model;
@@ -33,13 +33,6 @@ impl Lines {
         ensures { result ≡ length self.now }
     {
         self.entries.len() as u64
-    }
-
-    /// Whether there is none.
-    pub fn is_empty(&self) -> bool
-        ensures { IsTrue result ↔ (self.now ≡ []) }
-    {
-        self.entries.is_empty()
     }
 
     /// The line at place `i`, from 0.

@@ -1,7 +1,7 @@
 //! The replies that a caller collects, with room taken beforehand.
 
 ghost use Rattle.std.specs.Prelude.{◌≡◌, ◌+◌, ◌-◌, ◌<◌, ◌≤◌, [], ◌∷◌, ◌++◌, length, slice_get};
-ghost use Rattle.std.specs.Prelude.{Some, OnOk, OnErr, IsTrue, ◌↔◌};
+ghost use Rattle.std.specs.Prelude.{Some, OnOk, OnErr};
 
 use account_rule::Reply;
 use std::alloc::Global;
@@ -63,13 +63,6 @@ impl Replies {
         ensures { result ≡ length self.now.items }
     {
         self.replies.len() as u64
-    }
-
-    /// Whether there is none.
-    pub fn is_empty(&self) -> bool
-        ensures { IsTrue result ↔ (self.now.items ≡ []) }
-    {
-        self.replies.is_empty()
     }
 
     /// The reply at place `i`, from 0.

@@ -1,7 +1,7 @@
 //! The book of one shard: its table, its accounts and its whole history.
 
 ghost use Rattle.std.specs.Prelude.{◌≡◌, ◌<◌, ◌≤◌, [], length, map, slice_get, IfOk, OnOk, OnErr};
-ghost use Rattle.std.specs.Prelude.{IsTrue, ◌↔◌, Some};
+ghost use Rattle.std.specs.Prelude.{IsTrue, Some};
 ghost use Rattle.tap_views.specs.Shards.{shard_of_token};
 ghost use Rattle.account_rule.specs.TokenRules.{rules_of};
 ghost use Rattle.account_rule.specs.Stands.{Stands};
@@ -156,13 +156,6 @@ impl ShardBook {
         ensures fits { TokensFit self.now.entries }
     {
         self.history.len() as u64
-    }
-
-    /// Whether the history has no entry.
-    pub fn is_empty(&self) -> bool
-        ensures { IsTrue result ↔ (self.now.entries ≡ []) }
-    {
-        self.history.is_empty()
     }
 
     /// The entry at place `i` of the history, from 0.
