@@ -15,6 +15,7 @@
 //! | `staged` | files that are written whole under another name |
 //! | `writing` | pieces that are written to a stream |
 //! | `saying` | texts and fault lines that are given to the standard error |
+//! | `recorded` | a writer whose writes are recorded, for code that writes to any `Write` |
 //! | `world` | the traits: what a program may read, and what it may do |
 //! | `system` | both traits over the files and streams of the system |
 #![tactic(auto)]
@@ -23,6 +24,7 @@ mod faults;
 mod files;
 mod ghost_bytes;
 mod loaded;
+mod recorded;
 mod saying;
 mod staged;
 mod system;
@@ -34,6 +36,7 @@ pub use faults::{Fault, LoadFault, MakeFault, WriteFault};
 pub use files::{LOAD_LIMIT_BYTES, load_file, load_input, load_into};
 pub use ghost_bytes::GhostBytes;
 pub use loaded::{Loaded, load_apart};
+pub use recorded::Recorded;
 pub use staged::Staged;
 pub use system::System;
 pub use trace::Trace;

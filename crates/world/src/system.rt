@@ -3,11 +3,12 @@
 use crate::faults::{Fault, LoadFault, MakeFault, WriteFault};
 use crate::files::{load_file, load_input, load_into};
 use crate::loaded::Loaded;
-use crate::saying::{give, give_fault};
+use crate::saying::{give, give_fault, give_line};
 use crate::staged::Staged;
 use crate::trace::Trace;
 use crate::world::{Inputs, World};
 use crate::writing::write_piece;
+use std::fmt::Display;
 use std::fs::{Files, OpenFile};
 use std::io::{Input, Write};
 use std::{fs, io};
@@ -96,6 +97,10 @@ impl<R: Files + Input + AllocGlobal, W: Write, E: Write> World for System<'_, R,
 
     fn report(&mut self, why: Fault<'_>) {
         give_fault(&mut self.err, why, &mut self.trace);
+    }
+
+    fn report_line<D: Display + Drop>(&mut self, line: D) -> Result<(), io::Error> {
+        give_line(&mut self.err, line, &mut self.trace)
     }
 
     fn stage(&mut self, name: &str, begun: &str, bytes: &[u8]) -> Result<Staged, MakeFault> {

@@ -5,6 +5,8 @@ use crate::files::LOAD_LIMIT_BYTES;
 use crate::loaded::Loaded;
 use crate::staged::Staged;
 use crate::trace::Trace;
+use std::fmt::Display;
+use std::io;
 
 /// What a program may read.
 pub trait Inputs {
@@ -49,10 +51,10 @@ pub trait Inputs {
 
 /// What a program may do.
 pub trait World: Inputs {
-    ghost use Rattle.std.specs.Prelude.{◌≡◌, ◌++◌, IfErr, IfOk, OnErr, OnOk, codes, string_bytes};
+    ghost use Rattle.std.specs.Prelude.{◌≡◌, ◌++◌, IfErr, IfOk, IfSome, OnOk, codes};
     ghost use Rattle.world.specs.Run.{with_cut, with_flushed, with_made, with_said, with_written};
     ghost use Rattle.world.specs.Faults.{fault_text};
-    ghost use Rattle.world.specs.Writes.{IsCut, IsUnmade};
+    ghost use Rattle.world.specs.Writes.{IsCut, IsSaid, IsUnmade};
 
     /// Writes the piece to the output, whole if the output takes it.
     fn write(&mut self, piece: &[u8]) -> Result<(), WriteFault>
@@ -74,6 +76,13 @@ pub trait World: Inputs {
     fn report(&mut self, why: Fault<'_>)
         ensures { Self.run self.new
             ≡ with_said (Self.run self.old) (fault_text why.entry ++ codes "\n") };
+
+    /// Gives the line and a line feed to the standard error. An error is that the line's `Display`
+    /// gave up.
+    fn report_line<D: Display + Drop>(&mut self, line: D) -> Result<(), io::Error>
+        ensures line { OnOk result (IfSome (D.output line)
+            (λ text. Self.run self.new ≡ with_said (Self.run self.old) (text ++ codes "\n"))) }
+        ensures said { IsSaid (Self.run self.old) (Self.run self.new) };
 
     /// Writes a file whole, under the name `begun`, and syncs it. `publish` makes it a file of this
     /// name.
