@@ -42,13 +42,21 @@ impl<W> Recorded<W> {
 }
 
 impl<W: Write> Write for Recorded<W> {
-    ghost use Rattle.std.specs.Prelude.{◌≡◌, OnOk, Some};
-    ghost use Rattle.std.specs.Io.KnownBytes.{Keeps};
+    ghost use Rattle.std.specs.Prelude.{◌≡◌, ◌≢◌, IfErr, None, OnErr, OnOk, Some};
+    ghost use Rattle.std.specs.Io.{WritesAtMost};
+    ghost use Rattle.std.specs.Io.KnownBytes.{Keeps, WriteAppends};
+    ghost use Rattle.std.specs.IoError.{error_kind};
     ghost use Rattle.world.specs.Run.{with_flushed};
 
     ghost contents = { λ out. Some out.trace.run.written };
 
-    fn write(&mut self, bytes: &[u8]) -> io::Result<usize> {
+    fn write(&mut self, bytes: &[u8]) -> io::Result<usize>
+        ensures bound { WritesAtMost result bytes.now }
+        ensures bytes { WriteAppends (Some self.old.trace.run.written)
+            (Some self.new.trace.run.written) result bytes.now }
+        ensures cut { IfErr result (λ error. error_kind error ≢ ErrorKind.Interrupted
+            → self.new.trace.run.cut ≢ None) }
+    {
         match self.writer.write(bytes) {
             Ok(count) => {
                 self.trace.wrote(bytes, 0, count);
@@ -64,6 +72,7 @@ impl<W: Write> Write for Recorded<W> {
 
     fn flush(&mut self) -> io::Result<()>
         ensures bytes { Keeps (Some self.old.trace.run.written) (Some self.new.trace.run.written) }
+        ensures cut { OnErr result (self.new.trace.run.cut ≢ None) }
         ensures flushed { OnOk result (self.new.trace.run ≡ with_flushed self.old.trace.run) }
     {
         match self.writer.flush() {
