@@ -65,11 +65,20 @@ impl<R: Files + Input + AllocGlobal, W, E> Inputs for System<'_, R, W, E> {
     }
 }
 
-/// Makes a file of these bytes, which are on the disk when it returns.
-fn write_file<R: Files>(rt: &R, name: &str, bytes: &[u8]) -> io::Result<()> {
-    let mut file = fs::create(rt, name)?;
+/// Writes these bytes to the file. They are on the disk when it returns.
+fn fill_file<F: Write + OpenFile>(file: &mut F, bytes: &[u8]) -> io::Result<()> {
     file.write_all(bytes)?;
     file.sync_all()
+}
+
+/// Makes a file of these bytes. If they are not written whole, the file is removed.
+fn write_file<R: Files>(rt: &R, name: &str, bytes: &[u8]) -> io::Result<()> {
+    let mut file = fs::create(rt, name)?;
+    let filled = fill_file(&mut file, bytes);
+    if filled.is_err() {
+        let _ = fs::remove_file(rt, name);
+    }
+    filled
 }
 
 impl<R: Files + Input + AllocGlobal, W: Write, E: Write> World for System<'_, R, W, E> {
@@ -112,7 +121,6 @@ impl<R: Files + Input + AllocGlobal, W: Write, E: Write> World for System<'_, R,
                 Ok(Staged::new(own, own_begun, bytes))
             }
             Err(_) => {
-                let _ = fs::remove_file(self.rt, begun);
                 self.trace.unmade(name);
                 Err(MakeFault::Unmade)
             }
