@@ -1,0 +1,6 @@
+pub mod Faults
+pub mod GhostBytes
+pub mod Loads
+pub mod Run
+pub mod Writes
+pub mod inside

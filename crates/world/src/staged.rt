@@ -1,0 +1,52 @@
+//! Files that are written whole under another name.
+
+use crate::ghost_bytes::GhostBytes;
+use std::marker::Model;
+
+/// A file that was written whole and synced under another name. Only this crate makes one.
+#[derive(Drop)]
+pub struct Staged {
+    /// Its name, once it is made.
+    name: String,
+    /// The name that it has until then.
+    begun: String,
+    /// What was written to it.
+    bytes: GhostBytes,
+}
+
+impl Model for Staged {
+    ghost use Rattle.std.specs.Prelude.{string_bytes};
+    ghost use Rattle.world.specs.Run.{Named};
+
+    ghost Value = { Named };
+
+    ghost view = { λ file.
+        record { name = string_bytes file.name; bytes = file.bytes.bytes } };
+}
+
+impl Staged {
+    ghost use Rattle.std.specs.Prelude.{◌≡◌, string_bytes};
+
+    /// A file of this name, which has the name `begun` until it is made.
+    pub(crate) fn new(name: String, begun: String, bytes: &[u8]) -> Staged
+        ensures { result ≡ record { name = string_bytes name; bytes = bytes.now } }
+    {
+        Staged {
+            name,
+            begun,
+            bytes: GhostBytes::of(bytes),
+        }
+    }
+
+    /// Its name, once it is made.
+    pub(crate) fn name(&self) -> &str
+        ensures { result.now ≡ self.now.name }
+    {
+        self.name.as_str()
+    }
+
+    /// The name that it has until then.
+    pub(crate) fn begun(&self) -> &str {
+        self.begun.as_str()
+    }
+}

@@ -1,0 +1,143 @@
+//! The files and streams of the system, each call recorded.
+
+use crate::faults::{Fault, LoadFault, MakeFault, WriteFault};
+use crate::files::{load_file, load_input, load_into};
+use crate::loaded::Loaded;
+use crate::saying::{give, give_fault, give_line};
+use crate::staged::Staged;
+use crate::trace::Trace;
+use crate::world::{Inputs, World};
+use crate::writing::write_piece;
+use std::fmt::Display;
+use std::fs::{Files, OpenFile};
+use std::io::{Input, Write};
+use std::{fs, io};
+
+/// The files of the system, its standard input, and the two streams that a program writes to. It
+/// records each call.
+#[derive(Drop)]
+pub struct System<'a, R, W, E> {
+    /// What reaches the files.
+    rt: &'a R,
+    out: W,
+    err: E,
+    trace: Trace,
+}
+
+impl<'a, R, W, E> System<'a, R, W, E> {
+    ghost use Rattle.std.specs.Prelude.{◌≡◌};
+    ghost use Rattle.world.specs.Run.{no_calls};
+
+    /// The system, of which nothing was asked yet. A program makes one: two have two runs.
+    pub fn new(rt: &'a R, out: W, err: E) -> System<'a, R, W, E>
+        ensures { result.trace ≡ no_calls }
+    {
+        System {
+            rt,
+            out,
+            err,
+            trace: Trace::new(),
+        }
+    }
+}
+
+impl<R: Files + Input + AllocGlobal, W, E> Inputs for System<'_, R, W, E> {
+    ghost run = { λ s. s.trace.run };
+
+    fn load(&mut self, name: &str) -> Result<Vec<u8>, LoadFault> {
+        load_file(self.rt, self.rt.alloc(), name, &mut self.trace)
+    }
+
+    fn load_into(&mut self, name: &str, room: Vec<u8>) -> Result<Vec<u8>, LoadFault> {
+        load_into(self.rt, name, room, &mut self.trace)
+    }
+
+    fn input(&mut self) -> Result<Vec<u8>, LoadFault> {
+        load_input(self.rt.alloc(), &mut self.rt.reader(), &mut self.trace)
+    }
+
+    fn take(&mut self, file: Loaded) -> Vec<u8> {
+        file.join(&mut self.trace)
+    }
+
+    fn join(&mut self, calls: Trace) {
+        self.trace.join(calls);
+    }
+}
+
+/// Writes these bytes to the file. They are on the disk when it returns.
+fn fill_file<F: Write + OpenFile>(file: &mut F, bytes: &[u8]) -> io::Result<()> {
+    file.write_all(bytes)?;
+    file.sync_all()
+}
+
+/// Makes a file of these bytes. If they are not written whole, the file is removed.
+fn write_file<R: Files>(rt: &R, name: &str, bytes: &[u8]) -> io::Result<()> {
+    let mut file = fs::create(rt, name)?;
+    let filled = fill_file(&mut file, bytes);
+    if filled.is_err() {
+        let _ = fs::remove_file(rt, name);
+    }
+    filled
+}
+
+impl<R: Files + Input + AllocGlobal, W: Write, E: Write> World for System<'_, R, W, E> {
+    fn write(&mut self, piece: &[u8]) -> Result<(), WriteFault> {
+        write_piece(&mut self.out, piece, &mut self.trace)
+    }
+
+    fn flush(&mut self) -> Result<(), WriteFault> {
+        match self.out.flush() {
+            Ok(()) => {
+                self.trace.flushed();
+                Ok(())
+            }
+            Err(error) => {
+                let fault = WriteFault::of(&error);
+                self.trace.cut(fault);
+                Err(fault)
+            }
+        }
+    }
+
+    fn say(&mut self, text: &[u8]) {
+        give(&mut self.err, text, &mut self.trace);
+    }
+
+    fn report(&mut self, why: Fault<'_>) {
+        give_fault(&mut self.err, why, &mut self.trace);
+    }
+
+    fn report_line<D: Display + Drop>(&mut self, line: D) -> Result<(), io::Error> {
+        give_line(&mut self.err, line, &mut self.trace)
+    }
+
+    fn stage(&mut self, name: &str, begun: &str, bytes: &[u8]) -> Result<Staged, MakeFault> {
+        let own = String::from_str(self.rt.alloc(), name)?;
+        let own_begun = String::from_str(self.rt.alloc(), begun)?;
+        match write_file(self.rt, begun, bytes) {
+            Ok(()) => {
+                self.trace.staged(name, bytes);
+                Ok(Staged::new(own, own_begun, bytes))
+            }
+            Err(_) => {
+                self.trace.unmade(name);
+                Err(MakeFault::Unmade)
+            }
+        }
+    }
+
+    fn publish(&mut self, file: Staged) -> Result<(), MakeFault> {
+        match fs::rename(self.rt, file.begun(), file.name()) {
+            Ok(()) => {
+                self.trace.made(&file);
+                Ok(())
+            }
+            Err(_) => {
+                let _ = fs::remove_file(self.rt, file.begun());
+                self.trace.unmade(file.name());
+                Err(MakeFault::Unmade)
+            }
+        }
+    }
+}
