@@ -64,6 +64,7 @@ test:
 	@scripts/check_documents
 	@scripts/private_definitions
 	@scripts/repeated_lemmas
+	@scripts/unused_crates
 	@tests/proof_minutes
 	tests/must_not_compile
 	@scripts/version
