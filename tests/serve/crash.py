@@ -3,13 +3,12 @@
 After each kill -9 the front starts over its archive. Each upload that was acknowledged has to be
 there, with its bytes, in the folder and in the answers.
 """
-import asyncio, os, random, sys, tempfile, time
+import asyncio, os, random, sys, tempfile
 from pathlib import Path
 import aiohttp
 import serving
 
 TIMES, SENDERS = int(sys.argv[1]) if len(sys.argv) > 1 else 10, int(sys.argv[2]) if len(sys.argv) > 2 else 30
-PORT = 18_081
 
 
 async def depot(session, url, sender, turn, acknowledged):
@@ -30,7 +29,7 @@ async def depot(session, url, sender, turn, acknowledged):
 
 
 async def turn_of(folder, turn, acknowledged):
-    process, url = serving.start(folder, PORT)
+    process, url = serving.start(folder)
     try:
         async with aiohttp.ClientSession(connector=aiohttp.TCPConnector(limit=0)) as session:
             for name, (_, token) in random.sample(sorted(acknowledged.items()), min(5, len(acknowledged))):

@@ -11,7 +11,7 @@ import aiohttp
 import serving
 
 SECONDS, UPLOADS, QUESTIONS = [float(it) for it in (*sys.argv[1:], *"20 20 50".split()[len(sys.argv) - 1:])]
-VALIDATORS, PORT = 200, 18_082
+VALIDATORS = 200
 TOKENS = [f"{it:032x}" for it in range(0, 640_000, 64)]
 WANTED_MS = 50
 
@@ -81,7 +81,7 @@ class Load:
 
 def main():
     with tempfile.TemporaryDirectory() as folder:
-        process, url = serving.start(folder, PORT, at_once=os.cpu_count())
+        process, url = serving.start(folder, at_once=os.cpu_count())
         try:
             load = Load(url, Path(folder), time.monotonic() + SECONDS)
             asyncio.run(load.run())

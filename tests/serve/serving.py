@@ -1,5 +1,6 @@
 """What the tests of share/serve share: the front as a module, uploads, settings, and a front's process."""
-import hashlib, importlib.machinery, importlib.util, os, struct, subprocess, sys, time, urllib.request
+import hashlib, importlib.machinery, importlib.util, os, socket, struct, subprocess, sys, time
+import urllib.request
 
 sys.dont_write_bytecode = True
 ROOT = os.path.dirname(os.path.dirname(os.path.dirname(os.path.realpath(__file__))))
@@ -40,8 +41,10 @@ def write_settings(path, values):
         file.write("\n".join(plain) + "\n")
 
 
-def start(folder, port, **others):
+def start(folder, **others):
     """A front's process over FOLDER/archive, once it answers, and its address."""
+    with socket.create_server(("127.0.0.1", 0)) as free:
+        port = free.getsockname()[1]
     write_settings(f"{folder}/front.toml", settings(f"{folder}/archive", port=port, **others))
     process = subprocess.Popen(["/usr/bin/python3", f"{SERVE}/front", f"{folder}/front.toml"],
                                stderr=subprocess.DEVNULL)
