@@ -25,7 +25,7 @@ def upload(*taps):
         bytes.fromhex(token) + struct.pack(">IQ", validator, DAY_MS + at) for token, validator, at in taps)
 
 
-def settings(archive, **others):
+def settings(archive, /, **others):
     return {"archive": archive, "cli": CLI, "tables": [TABLE], "at_once": 2, "port": 8080,
             "depots": {it: digest(WORDS[it]) for it in ("east", "west")},
             "clerks": {"desk": digest(WORDS["desk"])}, "riders_key": "00" * 32, **others}

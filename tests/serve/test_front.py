@@ -104,7 +104,7 @@ class Tests(unittest.IsolatedAsyncioTestCase):
                 (b"", "since it is empty"), (one[:-1], "at 0 L5"), (one + b"TAP", "at 36 L1"),
                 (one + b"TAP2\0\0\0\0", "at 36 L1"), (b"<!doctype html>", "at 0 L2"), (gzip.compress(one), "at 0 L2"),
                 (one[:6] + b"\0\1" + one[8:], "at 0 L3"), (b"TAP1\x10\x01\0\0", "at 0 L4"),
-                (one + upload((A, 1, 10 ** 13)), "at 36 L6")):
+                (one + upload((A, 1, front.MOMENT_LIMIT - serving.DAY_MS)), "at 36 L6")):
             self.assertEqual(await self.put("east-1.tap", data), 422, fault)
             self.assertIn(f"refused {fault}: nothing was accepted", self.said)
         self.assertEqual(await self.put("east-1.tap", gzip.compress(one), **{"Content-Encoding": "gzip"}), 422)
@@ -119,6 +119,8 @@ class Tests(unittest.IsolatedAsyncioTestCase):
         self.assertEqual(await self.put("east-1.tap", pieces()), 413)
         self.assertEqual(self.there(), [])
         self.assertEqual(await self.put("east-1.tap", limit), 201)
+        last = upload((A, 1, front.MOMENT_LIMIT - serving.DAY_MS - 1))
+        self.assertEqual(await self.put("east-2.tap", last), 201)
 
     def test_layout_faults_are_those_of_the_program(self):
         made, files = random.Random(7), []
@@ -182,7 +184,7 @@ class Tests(unittest.IsolatedAsyncioTestCase):
             except asyncio.TimeoutError:        # it waits for more
                 writer.write_eof()
                 line = await asyncio.wait_for(reader.readline(), 5)
-            self.assertRegex(line, rb"^(HTTP/1\.[01] 4\d\d .*\r\n)?$", word)
+            self.assertRegex(line, rb"^(HTTP/\d\.\d 4\d\d .*\r\n)?$", word)
             writer.close()
         self.assertEqual(self.there(), [])
         self.assertEqual(await self.get("/health"), 200)
@@ -206,9 +208,23 @@ class Tests(unittest.IsolatedAsyncioTestCase):
             await asyncio.sleep(.1)
             sent.cancel()
             again = asyncio.create_task(self.put("east-1.tap", one))
+            ended = asyncio.create_task(self.front.archive.accept("east-2.tap", one, {bytes.fromhex(A)}))
             await asyncio.sleep(.1)
+            ended.cancel()
             held.set()
             self.assertEqual(await again, 200)
+        self.assertEqual(await self.put("east-2.tap", one), 200)
+        self.assertEqual(sorted(self.front.archive.names(A)), ["east-1.tap", "east-2.tap"])
+
+    async def test_a_load_while_an_upload_is_written(self):
+        write, loop = self.front.archive.write, asyncio.get_running_loop()
+
+        def then_load(*words):
+            status = write(*words)
+            loop.call_soon_threadsafe(self.front.archive.load)
+            return status
+        with mock.patch.object(self.front.archive, "write", then_load):
+            self.assertEqual(await self.put("east-1.tap", upload((A, 1000, 0))), 201)
         self.assertEqual(self.front.archive.names(A), ["east-1.tap"])
 
     async def test_a_disk_that_refuses(self):
@@ -398,7 +414,7 @@ class Tests(unittest.IsolatedAsyncioTestCase):
 
     async def test_what_the_program_does_wrong(self):
         right = statement(A, []).decode()
-        for text in ("exit 0", "echo x", "kill -9 $$", "echo fault: out of memory >&2; exit 1", "yes",
+        for text in ("exit 0", "echo x", "kill -9 $$", "echo fault: out of memory >&2; exit 1", "exec yes",
                      f"printf '%s' '{right[:-1]}'", f"printf '%s' '{right}'; exit 1", f"printf '%s' '{right}extra'"):
             self.program(text)
             self.assertEqual(await self.get(f"/statement/{A}"), 502, text)
