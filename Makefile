@@ -7,8 +7,8 @@
 #               line for each crate, and builds the programs: crates/NAME/out/NAME. What rt says is in
 #               out/build.log. scripts/proof_minutes then writes docs/PROOF_MINUTES.md
 # make install  the three proved programs, their manual pages and completions, the documents for
-#               users, the example, and what others do with a ledger (sql, viewer, audit), into
-#               DESTDIR/PREFIX; PREFIX is /usr/local if not given. tests/installed tries it
+#               users, the example, what others do with a ledger (sql, viewer, audit), and the HTTP
+#               front, into DESTDIR/PREFIX; PREFIX is /usr/local if not given. tests/installed tries it
 # make test     everything that must pass: what the documents say of the sources, no lemma proved
 #               once more, what must not compile, the proofs, the tests, the wrong bodies in
 #               must-fail/, the stored runs, and then the cases of the built program and the settled
@@ -27,15 +27,18 @@
 # make sql      the example's ledger in SQLite and in PostgreSQL, an auditor's questions, those that
 #               know the fare table too, and journals for hledger
 # make viewer   the page that shows a ledger, in headless Chromium
+# make serve    the HTTP front over the proved programs, on the loopback address: each status, nights,
+#               kill -9 under load, uploads and questions at once, and the rider's page in Chromium
 # make cluster  3 million taps over 8 parts: on this machine, on Slurm and on Dask, with a machine
 #               lost in the middle; then what may go wrong. docs/CLUSTER.md says more
 #
 # run, trial, build, test and wrong need the toolchain (rt, which needs Python 3), make and bash.
 # model needs spin and gcc. hostile also needs a C compiler, bench also rustc. audit needs Python
-# 3.11. sql needs sqlite3 and viewer needs chromium. cluster needs Slurm and Dask, and root for
-# Slurm. If these are not there, model, sql, viewer and cluster say so in a line and are skipped.
+# 3.11. sql needs sqlite3 and viewer needs chromium. serve needs python3-aiohttp of Debian, and for the
+# page chromium. cluster needs Slurm and Dask, and root for Slurm. If these are not there, model, sql,
+# viewer, serve and cluster say so in a line and are skipped.
 
-.PHONY: run trial build install test wrong model hostile bench audit sql viewer cluster
+.PHONY: run trial build install test wrong model hostile bench audit sql viewer serve cluster
 
 PREFIX ?= /usr/local
 
@@ -98,6 +101,9 @@ sql:
 
 viewer:
 	@ledgers/viewer/test
+
+serve:
+	@tests/serve/run
 
 cluster:
 	@cluster/try
