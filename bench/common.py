@@ -53,15 +53,17 @@ class Program:
 
 
 class Run:
-    """One run of a program in a folder: wall and processor seconds, peak memory in KiB, exit status."""
+    """One run of a program in a folder: wall and processor seconds, peak memory in KiB, exit status, and the bytes
+    that it read and wrote by calls, -1 if the system does not count them."""
 
     def __init__(self, words, out, folder):
         # In their folder files have short names, so that 65,535 of them fit on a command line.
         command = [build_rust("timed"), str(out), *words]
         told = subprocess.run(command, cwd=folder, stdin=subprocess.DEVNULL, stdout=subprocess.PIPE, check=True, text=True)
-        seconds, busy, memory, status = told.stdout.split()
+        seconds, busy, memory, status, read, written = told.stdout.split()
         self.seconds, self.busy, self.memory = float(seconds), float(busy), int(memory)
         self.status = os.waitstatus_to_exitcode(int(status))
+        self.read, self.written = int(read), int(written)
 
 
 def instructions(words, folder):
