@@ -1,11 +1,11 @@
 """What `compare` needs: building, running, medians, tables."""
 
+import functools
 import os
 import re
 import statistics
 import subprocess
 import sys
-import time
 from pathlib import Path
 
 BENCH = Path(__file__).resolve().parent
@@ -20,6 +20,7 @@ if os.uname().machine == "x86_64":
 RUSTC += ["-C", "llvm-args=-inline-threshold=600"]
 
 
+@functools.cache
 def build_rust(name):
     """Builds bench/NAME/main.rs to out/NAME if a source is newer than that."""
     OUT.mkdir(exist_ok=True)
@@ -52,23 +53,17 @@ class Program:
 
 
 class Run:
-    """One run of a program in a folder: wall and processor seconds, peak memory in KiB, exit status."""
+    """One run of a program in a folder: wall and processor seconds, peak memory in KiB, exit status, and the bytes
+    that it read and wrote by calls, -1 if the system does not count them."""
 
     def __init__(self, words, out, folder):
-        # The text of the run before is dropped first, which is no part of a run.
-        with open(out, "wb") as file:
-            # In their folder files have short names, so that 65,535 of them fit on a command line.
-            os.chdir(folder)
-            start = time.perf_counter()
-            # A child made by posix_spawn shares no page of this script, so that its peak is its own.
-            pid = os.posix_spawn(words[0], words, os.environ,
-                                 file_actions=[(os.POSIX_SPAWN_DUP2, file.fileno(), 1)])
-            _, status, usage = os.wait4(pid, 0)
-            self.seconds = time.perf_counter() - start
-            os.chdir(ROOT)
-        self.status = os.waitstatus_to_exitcode(status)
-        self.busy = usage.ru_utime + usage.ru_stime
-        self.memory = usage.ru_maxrss
+        # In their folder files have short names, so that 65,535 of them fit on a command line.
+        command = [build_rust("timed"), str(out), *words]
+        told = subprocess.run(command, cwd=folder, stdin=subprocess.DEVNULL, stdout=subprocess.PIPE, check=True, text=True)
+        seconds, busy, memory, status, read, written = told.stdout.split()
+        self.seconds, self.busy, self.memory = float(seconds), float(busy), int(memory)
+        self.status = os.waitstatus_to_exitcode(int(status))
+        self.read, self.written = int(read), int(written)
 
 
 def instructions(words, folder):

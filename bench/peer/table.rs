@@ -63,6 +63,12 @@ impl Table {
         &self.modes[mode as usize]
     }
 
+    /// The names of all modes, in the order of their places. The peer writes no ledger.
+    #[allow(dead_code)]
+    pub fn mode_names(&self) -> impl Iterator<Item = &str> {
+        self.modes.iter().map(String::as_str)
+    }
+
     /// Whether rides by these two modes, one after the other, may be a transfer.
     pub fn permits(&self, from: u8, to: u8) -> bool {
         self.permitted[from as usize & 31] >> (to & 31) & 1 == 1

@@ -58,6 +58,16 @@ impl Account {
         self.next != 0
     }
 
+    /// The moment of the last live tap, if there was one.
+    pub fn last_live(&self) -> u64 {
+        self.next.wrapping_sub(1)
+    }
+
+    /// The place of the class.
+    pub fn class(&self) -> u16 {
+        self.class
+    }
+
     /// Answer and cents of the next tap. No processor guesses which answer a live tap gets, so it
     /// is worked out without a branch.
     #[inline(always)]

@@ -1,9 +1,9 @@
 //! The rival: the program's job and texts in Rust over std alone, as fast as its writer could make
 //! it. It claims nothing and proves nothing; its tables have no zone.
 //!
-//! `rival [--table F] [--way stream|shards] [--settle] [--list] [--workers N] [--shards N]
-//! [--threads N] [--token HEX] [FILE...]`. `--threads` are those that read and report: as many as
-//! workers but four at least if it is not given, as in the program.
+//! `rival [--table F] [--way stream|shards] [--settle] [--sorted] [--ledger] [--list] [--workers N]
+//! [--shards N] [--threads N] [--token HEX] [FILE...]`. `--threads` are those that read and report: as
+//! many as workers but four at least if it is not given, as in the program. `--ledger` needs `--sorted`.
 
 mod account;
 mod accounts;
@@ -12,6 +12,7 @@ mod civil;
 #[path = "../peer/end.rs"]
 mod end;
 mod hash;
+mod ledger;
 mod listing;
 mod live;
 mod memory;
@@ -19,6 +20,7 @@ mod reading;
 mod report;
 mod settle;
 mod shards;
+mod sorted;
 mod statement;
 mod stream;
 #[path = "../peer/table.rs"]
@@ -38,8 +40,8 @@ use reading::LoadFault;
 use table::Table;
 use tap::Token;
 
-const USAGE: &str = "usage: rival [--table F] [--way stream|shards] [--settle] [--list] [--workers N] [--shards N] [--threads N] \
-                     [--token HEX] [FILE...]";
+const USAGE: &str = "usage: rival [--table F] [--way stream|shards] [--settle] [--sorted] [--ledger] [--list] [--workers N] \
+                     [--shards N] [--threads N] [--token HEX] [FILE...]";
 
 /// How the uploads are posted.
 #[derive(Clone, Copy, PartialEq)]
@@ -47,6 +49,8 @@ enum Way {
     Stream,
     Shards,
     Settle,
+    Sorted,
+    Ledger,
     List,
 }
 
@@ -75,7 +79,10 @@ fn words() -> Option<Words> {
                     _ => return None,
                 }
             }
-            "--settle" => way = Way::Settle,
+            "--settle" if way == Way::Stream => way = Way::Settle,
+            "--sorted" if way == Way::Settle => way = Way::Sorted,
+            "--ledger" if way == Way::Sorted => way = Way::Ledger,
+            "--settle" | "--sorted" | "--ledger" => return None,
             "--list" => way = Way::List,
             "--workers" => workers = args.next()?.parse().ok()?,
             "--shards" => shards = args.next()?.parse().ok()?,
@@ -88,7 +95,8 @@ fn words() -> Option<Words> {
     let has_table = table.is_some() || way == Way::List;
     let fits =
         (1..=16).contains(&workers) && (1..=64).contains(&shards) && threads > 0 && has_table;
-    fits.then_some(Words {
+    let has_token_way = token.is_none() || !matches!(way, Way::Sorted | Way::Ledger);
+    (fits && has_token_way).then_some(Words {
         table,
         way,
         workers,
@@ -125,30 +133,43 @@ fn run(words: &Words) -> Result<Vec<End>, String> {
         return listing::write(table.as_ref(), seed, files, &mut out).map_err(load_fault);
     }
     let table = table.ok_or(USAGE)?;
-    let (ends, written) = if words.way == Way::Settle {
-        let settled = settle::run(&table, seed, files, both).map_err(load_fault)?;
-        let written = match words.token {
-            None => report::write_settled(&settled, words.threads, &mut out),
-            Some(token) => {
-                out.write_all(&statement::statement(&table, token, &settled.lines(token)).0)
-            }
-        };
-        (settled.ends, written)
-    } else {
-        let posted = match words.way {
-            Way::Shards => shards::run(&table, seed, files, shards, both),
-            _ => stream::run(&table, seed, files, shards, workers),
-        };
-        let posted = posted.map_err(load_fault)?;
-        let written = match words.token {
-            None => report::write_live(&posted, words.threads, &mut out),
-            Some(token) => {
-                let book = &posted.books[accounts::Sharding::new(shards).shard(token)];
-                let lines = book.history.lines(&book.accounts, token);
-                out.write_all(&statement::statement(&table, token, &lines).0)
-            }
-        };
-        (posted.ends, written)
+    if words.way == Way::Ledger {
+        ledger::run(&table, seed, files, &mut out)?;
+        return Ok(Vec::new());
+    }
+    let (ends, written) = match (words.way, words.token) {
+        (Way::Settle, Some(token)) => {
+            let (ends, lines) =
+                settle::lines(&table, files, words.threads, token).map_err(load_fault)?;
+            let text = statement::statement(&table, token, &lines);
+            (ends, out.write_all(&text.0))
+        }
+        (Way::Settle | Way::Sorted, _) => {
+            let settled = if words.way == Way::Sorted {
+                sorted::run(&table, seed, files)?
+            } else {
+                settle::run(&table, seed, files, both).map_err(load_fault)?
+            };
+            let written = report::write_settled(&settled, words.threads, &mut out);
+            (settled.ends, written)
+        }
+        (way, token) => {
+            let posted = if way == Way::Shards {
+                shards::run(&table, seed, files, shards, both)
+            } else {
+                stream::run(&table, seed, files, shards, workers)
+            };
+            let posted = posted.map_err(load_fault)?;
+            let written = match token {
+                None => report::write_live(&posted, words.threads, &mut out),
+                Some(token) => {
+                    let book = &posted.books[accounts::Sharding::new(shards).shard(token)];
+                    let lines = book.history.lines(&book.accounts, token);
+                    out.write_all(&statement::statement(&table, token, &lines).0)
+                }
+            };
+            (posted.ends, written)
+        }
     };
     written.map_err(|_| "cannot write".to_string())?;
     Ok(ends)

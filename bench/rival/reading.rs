@@ -12,7 +12,8 @@ use crate::tap::{Tap, Token};
 
 /// The most bytes of a file.
 const FILE_LIMIT: u64 = 67_108_864;
-const MOMENT_LIMIT: u64 = 4_102_444_800_000;
+/// No tap is of this moment or later.
+pub const MOMENT_LIMIT: u64 = 4_102_444_800_000;
 const BUFFER: usize = 256 << 10;
 /// The most uploads that a thread draws at once.
 const GROUP: usize = 256;

@@ -10,7 +10,7 @@ pub const LINE: usize = 256;
 pub struct Text(pub Vec<u8>);
 
 /// The two digits of each number below a hundred.
-const PAIRS: [[u8; 2]; 100] = {
+pub const PAIRS: [[u8; 2]; 100] = {
     let mut pairs = [[0; 2]; 100];
     let mut number = 0;
     while number < 100 {
@@ -20,7 +20,8 @@ const PAIRS: [[u8; 2]; 100] = {
     pairs
 };
 
-const HEX: [[u8; 2]; 256] = {
+/// The two hexadecimal digits of each byte.
+pub const HEX: [[u8; 2]; 256] = {
     let mut pairs = [[0; 2]; 256];
     let digits = b"0123456789abcdef";
     let mut number = 0;
@@ -117,7 +118,7 @@ impl Text {
 
 /// Writes the digits of a number before this place, and returns where they start.
 #[inline(always)]
-fn put(line: &mut [u8], mut at: usize, mut number: u64) -> usize {
+pub fn put(line: &mut [u8], mut at: usize, mut number: u64) -> usize {
     while number >= 100 {
         at -= 2;
         line[at..at + 2].copy_from_slice(&PAIRS[(number % 100) as usize]);
