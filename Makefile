@@ -30,7 +30,7 @@
 # make serve    the HTTP front over the proved programs, on the loopback address: each status, nights,
 #               kill -9 under load, uploads and questions at once, and the rider's page in Chromium
 # make cluster  3 million taps over 8 parts: on this machine, on Slurm and on Dask, with a machine
-#               lost in the middle; then what may go wrong. docs/CLUSTER.md says more
+#               lost in the middle; then what may go wrong. docs/GUIDE.md says more
 #
 # run, trial, build, test and wrong need the toolchain (rt, which needs Python 3), make and bash.
 # model needs spin and gcc. hostile also needs a C compiler, bench also rustc. audit needs Python
