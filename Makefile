@@ -7,14 +7,15 @@
 #               line for each crate, and builds the programs: crates/NAME/out/NAME. What rt says is in
 #               out/build.log. scripts/proof_minutes then writes docs/PROOF_MINUTES.md
 # make install  the three proved programs, their manual pages and completions, the documents for
-#               users, the example, what others do with a ledger (sql, viewer, audit), and the HTTP
-#               front, into DESTDIR/PREFIX; PREFIX is /usr/local if not given. tests/installed tries it
-# make test     everything that must pass: what the documents say of the sources, no lemma proved
-#               once more, what must not compile, the proofs, the tests, the wrong bodies in
-#               must-fail/, the stored runs, and then the cases of the built program and the settled
-#               week
-# make wrong    all wrong bodies, those in wrong/ too: each must be refused by the function that it
-#               changes. Some crates alone: make wrong CRATES="tap_views fare_table"
+#               users, the index of all contracts, the example, what others do with a ledger (sql,
+#               viewer, audit), and the HTTP front, into DESTDIR/PREFIX; PREFIX is /usr/local if not
+#               given. tests/installed tries it
+# make test     everything that must pass: what the documents say of the sources, the index of
+#               contracts (out/contracts), no lemma proved once more, what must not compile, the
+#               proofs, the tests, the mutants in must-fail/, the stored runs, and then the cases of
+#               the built program and the settled week
+# make wrong    all mutants, those in wrong/ too: the proof of the function that it changes must reject
+#               each. Some crates alone: make wrong CRATES="tap_views fare_table"
 # make model    the turn protocol of a shared book in Spin: no worker sleeps for ever, and one at a
 #               time has the book. The fare rule as a program, on random lists of taps and tables.
 #               tests/model/README.md says what the models have
@@ -65,6 +66,7 @@ install:
 # The last line of the output is the verdict of rt ci: the cases are silent if all is well.
 test:
 	@scripts/check_documents
+	@scripts/index_contracts
 	@scripts/private_definitions
 	@scripts/repeated_lemmas
 	@scripts/unused_crates
