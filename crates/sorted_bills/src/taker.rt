@@ -1,16 +1,15 @@
 //! Taps of merged files, taken some at a time.
 
-ghost use Rattle.std.specs.Prelude.{◌≡◌, ◌≤◌, ◌<◌, [], All, ℕ, List, IfOk, IfSome, IsTrue, OnOk, None};
+ghost use Rattle.std.specs.Prelude.{◌≡◌, ◌≤◌, ◌<◌, [], ℕ, List, IfOk, IfSome, IsTrue, OnOk, None};
 ghost use Rattle.std.specs.Prelude.{Some};
 ghost use Rattle.std.specs.Prelude.{length, map};
 ghost use Rattle.tap_views.specs.TokenOrder.{IsUpTo};
 ghost use Rattle.settlement.specs.Posted.{HasName, token_of_tap};
-ghost use Rattle.settled_texts.specs.ExplainedTaps.{NoTapFallsFrom, last_token};
-ghost use Rattle.tap_views.specs.Encoding.{AreEarly};
+ghost use Rattle.settled_texts.specs.ExplainedTaps.{NoTapFallsFrom};
 ghost use Rattle.sorted_taps.specs.Heads.{IsRanked};
 ghost use Rattle.sorted_taps.specs.Merges.{AreAtEnd, AreBegun};
 ghost use Rattle.sorted_taps.specs.Reading.{window_bytes};
-ghost use Rattle.sorted_bills.specs.inside.Taken.{AreTapsTaken, IsReady};
+ghost use Rattle.sorted_bills.specs.inside.Taken.{AreFollowing, AreTapsTaken, IsReady};
 
 use placed_files::Placed;
 use sorted_taps::{Merge, SortedFault, TapReader};
@@ -59,10 +58,7 @@ fn may_follow(tap: &TapFields, last: Token, token: Token) -> bool
 /// The token of the last of these taps, or of the one before them if there are none. None if a tap
 /// cannot come next after the one before it.
 fn last_of(taps: &[TapFields], last: Token) -> Option<Token>
-    ensures early { IfSome result (λ _. AreEarly (λ (tap : TapFields). tap.moment) taps.now) }
-    ensures named { IfSome result (λ _. All HasName taps.now) }
-    ensures no_fall { IfSome result (λ _. NoTapFallsFrom last taps.now) }
-    ensures last { IfSome result (λ token. token ≡ last_token last taps.now) }
+    ensures { IfSome result (AreFollowing last taps.now) }
 {
     let mut last = last;
     for tap in taps {

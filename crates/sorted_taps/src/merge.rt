@@ -1,9 +1,9 @@
 //! The taps of several files, merged.
 
 ghost use Rattle.std.specs.Prelude.{◌≡◌, ◌<◌, ◌≤◌, ℕ, List, length, map, set, IfOk, IfSome};
-ghost use Rattle.std.specs.Prelude.{MatchOption, None, Some, OnOk};
+ghost use Rattle.std.specs.Prelude.{None, Some, OnOk};
 ghost use Rattle.sorted_taps.specs.Heads.{IsRanked};
-ghost use Rattle.sorted_taps.specs.Merges.{AreAtEnd, AreBegun, IsLeastHead, IsTapTaken};
+ghost use Rattle.sorted_taps.specs.Merges.{AreAtEnd, AreBegun, IsTapTaken};
 ghost use Rattle.sorted_taps.specs.Merges.{TakesTaps};
 ghost use Rattle.sorted_taps.specs.declared.reader.TapReader.{TapReader};
 ghost use Rattle.sorted_taps.specs.Reading.{window_bytes};
@@ -72,16 +72,6 @@ impl Merge {
             readers.push(reader_near(alloc, file, token, window)?)?;
         }
         Ok(Merge::of(alloc, readers)?)
-    }
-
-    /// The tap that is taken next, or none if all files are at their ends.
-    pub fn least(&self) -> Option<TapFields>
-        requires { IsRanked self.now.readers.items self.now.heads.items }
-        ensures { MatchOption result (AreAtEnd self.now.readers.items)
-            (λ tap. (at : ℕ) × IsLeastHead self.now.readers.items at tap) }
-    {
-        let (_at, tap) = least_of(&self.heads)?;
-        Some(tap)
     }
 
     /// The readers, in the order of the files.
