@@ -13,10 +13,11 @@ use Rattle.tap_views.specs.TokenOrder.{IsUpTo}
 use Rattle.settlement.specs.Posted.{HasName, token_of_tap}
 use Rattle.settlement.proofs.TokenRuns.{named_token}
 use Rattle.settled_texts.specs.ExplainedTaps.{NoTapFallsFrom, last_token}
-use Rattle.sorted_taps.specs.Merges.{IsTapTaken}
+use Rattle.settled_texts.proofs.TapsExplained.{last_append}
+use Rattle.sorted_taps.specs.Merges.{TakesTaps}
 use Rattle.sorted_taps.specs.declared.reader.TapReader.{TapReader}
 use Rattle.sorted_taps.proofs.Spans.{taken_append}
-use Rattle.sorted_bills.specs.inside.Taken.{AreTapsTaken}
+use Rattle.sorted_bills.specs.inside.Taken.{AreFollowing, AreTapsTaken}
 
 abbrev pub Early : TapFields → Type 0
 Early tap = tap.moment < moment_limit
@@ -39,21 +40,31 @@ both_taken known old mid new xs ys first rest = record {
   named = All-append HasName xs ys first.named rest.named;
 }
 
-pub one_taken : (known : List (Option (List ℕ))) (old new : List TapReader) (tap : TapFields)
-    → ((files : List (List ℕ)) → known ≡ map Some files → IsTapTaken files old tap new)
-    → Early tap → HasName tap → AreTapsTaken known old (tap ∷ []) new
-one_taken known old new tap taken early named = record {
-  taken = λ files are. (new, taken files are, refl);
-  early = All-cons Early tap [] early (All-nil Early);
-  named = All-cons HasName tap [] named (All-nil HasName);
-}
-
 -- one tap more, which is not below the last token
 pub fall_more : (from : Token) (xs : List TapFields) (tap : TapFields) → NoTapFallsFrom from xs
     → IsUpTo (last_token from xs) (token_of_tap tap) → NoTapFallsFrom from (xs ++ tap ∷ [])
 fall_more from [] tap no_fall up = (up, tt)
 fall_more from (x ∷ xs) tap (first, no_fall) up =
     (first, fall_more (token_of_tap x) xs tap no_fall up)
+
+-- no taps
+pub none_follow : (from : Token) → AreFollowing from [] from
+none_follow from =
+    record { early = All-nil Early; named = All-nil HasName; no_fall = tt; is_last = refl }
+
+-- one tap more
+pub one_follows : (from : Token) (taps : List TapFields) (last : Token) (tap : TapFields)
+    (token : Token) → AreFollowing from taps last → Early tap → HasName tap
+    → token ≡ token_of_tap tap → IsUpTo last token → AreFollowing from (taps ++ tap ∷ []) token
+one_follows from taps last tap token are early named is up = record {
+  early = All-append Early taps (tap ∷ []) are.early (All-cons Early tap [] early (All-nil Early));
+  named = All-append HasName taps (tap ∷ []) are.named
+      (All-cons HasName tap [] named (All-nil HasName));
+  no_fall = fall_more from taps tap are.no_fall
+      (subst (λ (t : Token). IsUpTo (last_token from taps) t) is
+      (subst (λ (t : Token). IsUpTo t token) are.is_last up));
+  is_last = is ∙ sym (last_append from taps (tap ∷ []));
+}
 
 -- more taps, which do not fall from the last token
 pub fall_both : (from : Token) (xs ys : List TapFields) → NoTapFallsFrom from xs
@@ -77,6 +88,14 @@ pub none_there : (taps : Vec TapFields Global) (is_empty : Bool) → is_empty �
 none_there taps is_empty test empty =
     let zero : vec_len taps ≡ 0 = eqb-true (vec_len taps) 0 (sym test ∙ empty) in
     nil_from_length taps.items (grind arith)
+
+-- taps that a run took, which can come one after another
+pub run_taken : (known : List (Option (List ℕ))) (old new : List TapReader)
+    (before after : List TapFields) (from last : Token)
+    → (takes : TakesTaps known old before after new) → AreFollowing from takes.more last
+    → AreTapsTaken known old takes.more new
+run_taken known old new before after from last takes are =
+    record { taken = takes.taken; early = are.early; named = are.named }
 
 -- the last turn takes no tap
 pub last_taken : (known : List (Option (List ℕ))) (old mid new : List TapReader)

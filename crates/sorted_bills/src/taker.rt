@@ -1,6 +1,6 @@
 //! Taps of merged files, taken some at a time.
 
-ghost use Rattle.std.specs.Prelude.{◌≡◌, ◌≤◌, ◌<◌, [], true, ℕ, List, IfOk, IsTrue, OnOk, None};
+ghost use Rattle.std.specs.Prelude.{◌≡◌, ◌≤◌, ◌<◌, [], ℕ, List, IfOk, IfSome, IsTrue, OnOk, None};
 ghost use Rattle.std.specs.Prelude.{Some};
 ghost use Rattle.std.specs.Prelude.{length, map};
 ghost use Rattle.tap_views.specs.TokenOrder.{IsUpTo};
@@ -9,7 +9,7 @@ ghost use Rattle.settled_texts.specs.ExplainedTaps.{NoTapFallsFrom};
 ghost use Rattle.sorted_taps.specs.Heads.{IsRanked};
 ghost use Rattle.sorted_taps.specs.Merges.{AreAtEnd, AreBegun};
 ghost use Rattle.sorted_taps.specs.Reading.{window_bytes};
-ghost use Rattle.sorted_bills.specs.inside.Taken.{AreTapsTaken, IsReady};
+ghost use Rattle.sorted_bills.specs.inside.Taken.{AreFollowing, AreTapsTaken, IsReady};
 
 use placed_files::Placed;
 use sorted_taps::{Merge, SortedFault, TapReader};
@@ -55,18 +55,20 @@ fn may_follow(tap: &TapFields, last: Token, token: Token) -> bool
     is_early(tap)
 }
 
-/// Whether a next tap may be taken: if there is a bound, only one with a token below it.
-fn may_take(merge: &Merge, below: Option<Token>) -> bool
-    requires { IsRanked merge.now.readers.items merge.now.heads.items }
-    ensures { below ≡ None → result ≡ true }
+/// The token of the last of these taps, or of the one before them if there are none. None if a tap
+/// cannot come next after the one before it.
+fn last_of(taps: &[TapFields], last: Token) -> Option<Token>
+    ensures { IfSome result (AreFollowing last taps.now) }
 {
-    let Some(bound) = below else {
-        return true;
-    };
-    match merge.least() {
-        Some(tap) => name_of(&tap) < bound,
-        None => false,
+    let mut last = last;
+    for tap in taps {
+        let token = name_of(tap);
+        if !may_follow(tap, last, token) {
+            return None;
+        }
+        last = token;
     }
+    Some(last)
 }
 
 /// Takes the next taps of the files into the list, in place of what was there: 512, or all that are
@@ -94,22 +96,20 @@ fn take_some<F: Placed>(
 {
     taps.clear();
     let mut last = from;
-    for _place in 0..TAKEN_TAPS {
-        if !may_take(merge, below) {
+    for _run in 0..TAKEN_TAPS {
+        let before = taps.len();
+        if before >= TAKEN_TAPS {
             return Ok(());
         }
-        match merge.next(files, window)? {
-            Some(tap) => {
-                let token = name_of(&tap);
-                // proof: no batch has a later moment, and no reader goes back
-                if !may_follow(&tap, last, token) {
-                    return Err(SortedFault::Unread);
-                }
-                taps.push(tap)?;
-                last = token;
-            }
-            None => return Ok(()),
+        merge.take_run(files, window, below, TAKEN_TAPS, taps)?;
+        // proof: no batch has a later moment, and no reader goes back
+        let Some(token) = last_of(&taps[before..], last) else {
+            return Err(SortedFault::Unread);
+        };
+        if taps.len() == before {
+            return Ok(());
         }
+        last = token;
     }
     Ok(())
 }

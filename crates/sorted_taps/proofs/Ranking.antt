@@ -23,7 +23,7 @@ pub not_after_self : (tap : Option TapFields) → IsNotAfter tap tap
 not_after_self None = tt
 not_after_self (Some tap) = ap is_lt (tied_itself tap_cmp_total tap)
 
-not_after_far : (one mid far : Option TapFields) → IsNotAfter one mid → IsNotAfter mid far
+pub not_after_far : (one mid far : Option TapFields) → IsNotAfter one mid → IsNotAfter mid far
     → IsNotAfter one far
 not_after_far one mid None near then = tt
 not_after_far one None (Some far) near then = absurd then
@@ -39,7 +39,7 @@ is_none : (list : List TapFields) → IsNotAfter None (first_of list) → list �
 is_none [] is = refl
 is_none (head ∷ rest) is = absurd is
 
-begins : (tap : TapFields) (list : List TapFields) → IsNotAfter (Some tap) (first_of list)
+pub begins : (tap : TapFields) (list : List TapFields) → IsNotAfter (Some tap) (first_of list)
     → BeginsNotBefore tap list
 begins tap [] is = tt
 begins tap (head ∷ rest) is = is
@@ -118,7 +118,7 @@ module _ (readers : List TapReader) (tree : List Head) (is : IsRanked readers tr
           by_child (inr same) other (k, low, leaf) = (k, low, same ∙ leaf)
 
   -- none of the readers stands at a tap before the root's
-  none_before : (root : Head) → root ≡ get_or tree 1 root → (k : ℕ) (e : TapReader)
+  pub none_before : (root : Head) → root ≡ get_or tree 1 root → (k : ℕ) (e : TapReader)
       → k < length readers → IsNotAfter root.tap (head_of (get_or readers k e))
   none_before root here k e low =
       subst (λ t. IsNotAfter root.tap t) (is.leaves.tap k root e low)
@@ -241,6 +241,15 @@ chosen_before n tree last at head before first within from chosen place some hig
         by_less (inr high) = high
         by_less (inl less) = absurd (other (omega (arith, less, before, high)))
 
+-- the place of a leaf is put anew: only the one above may not be chosen
+pub put_chosen : (readers : List TapReader) (tree : List Head) (at : ℕ) (was : TapReader)
+    (head : Head) → IsRanked (set readers at was) tree
+    → AreChosenBut (length readers) (set tree (length readers + at) head) (length readers + at)
+put_chosen readers tree at was head is place some within left right =
+    kept_at tree (length readers + at) head place (λ e. absurd (omega (arith, e, within))) left
+    right
+    (is.inner place some (let l = length-set readers at was in omega (arith, l, within)))
+
 -- the head of one reader is put anew
 module _ (readers : List TapReader) (tree : List Head) (at : ℕ) (was reader : TapReader)
     (head : Head)
@@ -289,13 +298,6 @@ module _ (readers : List TapReader) (tree : List Head) (at : ℕ) (was reader : 
           head d (λ e. other (omega (arith, e))))
           ∙ subst (λ n. (get_or tree (n + k) d).at ≡ k) long
           (is.leaves.at k d (let l = long in omega (arith, l, within)))
-
-  pub put_chosen : AreChosenBut (length readers) (set tree (length readers + at) head)
-      (length readers + at)
-  put_chosen place some within left right =
-      kept_at tree (length readers + at) head place (λ e. absurd (omega (arith, e, within))) left
-      right
-      (is.inner place some (let l = long in omega (arith, l, within)))
 
 -- a reader that is set and then set back
 pub set_back : (readers : List TapReader) (at : ℕ) (is was : TapReader)

@@ -1,5 +1,6 @@
 -- Readers of several files whose taps are merged.
-use Rattle.std.specs.Prelude.{◌≡◌, ℕ, ◌<◌, List, [], ◌∷◌, length, get_or, set}
+use Rattle.std.specs.Prelude.{◌≡◌, ℕ, ◌<◌, List, [], ◌∷◌, ◌++◌, length, get_or, map, set}
+use Rattle.std.specs.Prelude.{Option, Some}
 use Rattle.tap_views.specs.declared.encoder.TapFields.{TapFields}
 use Rattle.sorted_taps.specs.Merged.{BeginsNotBefore}
 use Rattle.sorted_taps.specs.Readers.{ahead, StandsIn, IsAdvanced}
@@ -39,6 +40,13 @@ abbrev pub AreTaken : List (List ℕ) → List TapReader → List TapFields → 
 AreTaken files old [] new = old ≡ new
 AreTaken files old (tap ∷ taps) new =
     (mid : List TapReader) × IsTapTaken files old tap mid × AreTaken files mid taps new
+
+-- the list went on with taps that were taken, of files whose bytes are these if they are known
+pub record TakesTaps (known : List (Option (List ℕ))) (old : List TapReader)
+    (before after : List TapFields) (new : List TapReader) : Type 0 where
+  pub more : List TapFields
+  pub items : after ≡ before ++ more
+  pub taken : (files : List (List ℕ)) → known ≡ map Some files → AreTaken files old more new
 
 -- each file is sorted, and has the taps of the list at its place
 pub record AreSortedFiles (files : List (List ℕ)) (lists : List (List TapFields)) : Type 0 where

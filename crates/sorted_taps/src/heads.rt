@@ -1,10 +1,10 @@
 //! The heads of readers, as a tree whose root is a least one.
 
 ghost use Rattle.std.specs.Prelude.{◌≡◌, ◌+◌, ◌*◌, ◌<◌, ℕ, List, get_or, length, set, IfOk};
-ghost use Rattle.std.specs.Prelude.{MatchOption, true, false};
+ghost use Rattle.std.specs.Prelude.{[], MatchOption, Some, true, false};
 ghost use Rattle.sorted_taps.specs.Heads.{HasLeaves, IsChosen, IsNotAfter, IsRanked};
 ghost use Rattle.sorted_taps.specs.Merges.{AreAtEnd, IsLeastHead};
-ghost use Rattle.sorted_taps.specs.Readers.{head_of};
+ghost use Rattle.sorted_taps.specs.Readers.{ahead, head_of};
 ghost use Rattle.sorted_taps.specs.declared.heads.Head.{Head};
 ghost use Rattle.sorted_taps.specs.declared.reader.TapReader.{TapReader};
 ghost use Rattle.sorted_taps.specs.inside.Choosing.{IsChosenAnew};
@@ -107,6 +107,22 @@ pub(crate) fn tree_of(alloc: Global, readers: &[TapReader]) -> Result<Vec<Head>,
     Ok(tree)
 }
 
+/// Puts the head into the tree, which has those of the other readers.
+#[inline(always)]
+fn put(tree: &mut [Head], readers: &[TapReader], head: Head)
+    requires within { head.at < length readers.now }
+    requires ranked { (was : TapReader) × IsRanked (set readers.now head.at was) tree.old }
+    ensures { (is : TapReader) → head.tap ≡ head_of is
+        → IsRanked (set readers.now head.at is) tree.new }
+{
+    let mut place = readers.len() + head.at;
+    tree[place] = head;
+    while place > 1 {
+        place /= 2;
+        choose(tree, place);
+    }
+}
+
 /// Puts the head of the reader at the index into the tree, which has those of the others.
 pub(crate) fn put_head(tree: &mut [Head], readers: &[TapReader], at: usize)
     requires within { at < length readers.now }
@@ -114,13 +130,17 @@ pub(crate) fn put_head(tree: &mut [Head], readers: &[TapReader], at: usize)
     ensures { IsRanked readers.now tree.new }
 {
     let reader = &readers[at];
-    let head = Head::of(reader, at);
-    let mut place = readers.len() + at;
-    tree[place] = head;
-    while place > 1 {
-        place /= 2;
-        choose(tree, place);
-    }
+    put(tree, readers, Head::of(reader, at));
+}
+
+/// Lets the reader at the index stand at no tap in the tree, which has the heads of the others.
+pub(crate) fn put_end(tree: &mut [Head], readers: &[TapReader], at: usize)
+    requires within { at < length readers.now }
+    requires ranked { (was : TapReader) × IsRanked (set readers.now at was) tree.old }
+    ensures { (gone : TapReader) → ahead gone ≡ []
+        → IsRanked (set readers.now at gone) tree.new }
+{
+    put(tree, readers, Head { tap: None, at });
 }
 
 /// A least head of the readers of the tree, and the index of its reader; none if all are at the
@@ -136,5 +156,28 @@ pub(crate) fn least_of(tree: &[Head]) -> Option<(usize, TapFields)>
     match root.tap {
         Some(tap) => Some((root.at, tap)),
         None => None,
+    }
+}
+
+/// The least tap at which a reader of the tree stands; none if all are at the end.
+pub(crate) fn least_tap(tree: &[Head]) -> Option<TapFields>
+    ensures { (readers : List TapReader) → IsRanked readers tree.now → (k : ℕ) (d : TapReader)
+        → k < length readers → IsNotAfter result (head_of (get_or readers k d)) }
+{
+    if tree.len() < 2 {
+        return None;
+    }
+    let root = head_at(tree, 1);
+    root.tap
+}
+
+/// Whether the other tap, if there is one, is before this one.
+#[inline(always)]
+pub(crate) fn is_after(tap: &TapFields, other: &Option<TapFields>) -> bool
+    ensures { result ≡ false → IsNotAfter (Some tap.now) other.now }
+{
+    match other {
+        Some(next) => compare(next, tap).is_lt(),
+        None => false,
     }
 }

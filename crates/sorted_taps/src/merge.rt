@@ -1,15 +1,18 @@
 //! The taps of several files, merged.
 
-ghost use Rattle.std.specs.Prelude.{◌≡◌, ◌≤◌, ℕ, List, length, map, IfOk, IfSome, MatchOption};
+ghost use Rattle.std.specs.Prelude.{◌≡◌, ◌<◌, ◌≤◌, ℕ, List, length, map, set, IfOk, IfSome};
 ghost use Rattle.std.specs.Prelude.{None, Some, OnOk};
 ghost use Rattle.sorted_taps.specs.Heads.{IsRanked};
-ghost use Rattle.sorted_taps.specs.Merges.{AreAtEnd, AreBegun, IsLeastHead, IsTapTaken};
+ghost use Rattle.sorted_taps.specs.Merges.{AreAtEnd, AreBegun, IsTapTaken};
+ghost use Rattle.sorted_taps.specs.Merges.{TakesTaps};
+ghost use Rattle.sorted_taps.specs.declared.reader.TapReader.{TapReader};
 ghost use Rattle.sorted_taps.specs.Reading.{window_bytes};
 
 use crate::fault::SortedFault;
-use crate::heads::{Head, least_of, put_head, tree_of};
+use crate::heads::{Head, least_of, least_tap, put_end, put_head, tree_of};
 use crate::ranges::reader_near;
 use crate::reader::TapReader;
+use crate::run::{is_below, take_run};
 use crate::span::{begun, numbers_of};
 use placed_files::Placed;
 use std::alloc::{AllocError, Global};
@@ -71,16 +74,6 @@ impl Merge {
         Ok(Merge::of(alloc, readers)?)
     }
 
-    /// The tap that is taken next, or none if all files are at their ends.
-    pub fn least(&self) -> Option<TapFields>
-        requires { IsRanked self.now.readers.items self.now.heads.items }
-        ensures { MatchOption result (AreAtEnd self.now.readers.items)
-            (λ tap. (at : ℕ) × IsLeastHead self.now.readers.items at tap) }
-    {
-        let (_at, tap) = least_of(&self.heads)?;
-        Some(tap)
-    }
-
     /// The readers, in the order of the files.
     pub fn readers(&self) -> &[TapReader]
         ensures { result.now ≡ self.now.readers.items }
@@ -122,6 +115,77 @@ impl Merge {
         reader.advance(&files[at], window)?;
         put_head(&mut self.heads, &self.readers, at);
         Ok(Some(tap))
+    }
+
+    /// Takes the next taps of one file into the list: as many as are there in front of those of the
+    /// other files, until the list has `most`, or a token is not below the bound, if there is one.
+    /// Without a bound it takes none only if all files are at their ends. It compares each tap with
+    /// the least of the other files alone. After a fault, which is that of the reader, the merge is
+    /// of no use. The window has `WINDOW_BYTES` at least.
+    pub fn take_run<F: Placed>(
+        &mut self,
+        files: &[F],
+        window: &mut [u8],
+        below: Option<Token>,
+        most: usize,
+        taps: &mut Vec<TapFields>,
+    ) -> Result<(), SortedFault>
+        requires window { window_bytes ≤ length window.old }
+        requires files { length self.old.readers.items ≡ length files.now }
+        requires ranked { IsRanked self.old.readers.items self.old.heads.items }
+        requires room { length taps.old.items < most }
+        ensures ranked { OnOk result (IsRanked self.new.readers.items self.new.heads.items) }
+        ensures number { OnOk result
+            (length self.new.readers.items ≡ length files.now) }
+        ensures taken { OnOk result (TakesTaps (map F.bytes files.now) self.old.readers.items
+            taps.old.items taps.new.items self.new.readers.items) }
+        ensures few { OnOk result (length taps.new.items ≤ most) }
+        ensures end { OnOk result (below ≡ None → taps.new.items ≡ taps.old.items
+            → AreAtEnd self.new.readers.items) }
+    {
+        let Some((at, tap)) = least_of(&self.heads) else {
+            return Ok(());
+        };
+        if !is_below(&tap, below) {
+            return Ok(());
+        }
+        taps.push(tap)?;
+        let reader = &mut self.readers[at];
+        reader.advance(&files[at], window)?;
+        self.go_on(at, files, window, below, most, taps)?;
+        Ok(())
+    }
+
+    /// Takes more taps of the file at the index, whose reader has gone on since its head was put
+    /// into the tree.
+    fn go_on<F: Placed>(
+        &mut self,
+        at: usize,
+        files: &[F],
+        window: &mut [u8],
+        below: Option<Token>,
+        most: usize,
+        taps: &mut Vec<TapFields>,
+    ) -> Result<(), SortedFault>
+        requires window { window_bytes ≤ length window.old }
+        requires files { length self.old.readers.items ≡ length files.now }
+        requires within { at < length self.old.readers.items }
+        requires ranked { (was : TapReader)
+            × IsRanked (set self.old.readers.items at was) self.old.heads.items }
+        requires room { length taps.old.items ≤ most }
+        ensures ranked { OnOk result (IsRanked self.new.readers.items self.new.heads.items) }
+        ensures number { OnOk result
+            (length self.new.readers.items ≡ length files.now) }
+        ensures taken { OnOk result (TakesTaps (map F.bytes files.now) self.old.readers.items
+            taps.old.items taps.new.items self.new.readers.items) }
+        ensures few { OnOk result (length taps.new.items ≤ most) }
+    {
+        put_end(&mut self.heads, &self.readers, at);
+        let other = least_tap(&self.heads);
+        let reader = &mut self.readers[at];
+        take_run(reader, &files[at], window, &other, below, most, taps)?;
+        put_head(&mut self.heads, &self.readers, at);
+        Ok(())
     }
 
     /// How many taps were taken of each file.

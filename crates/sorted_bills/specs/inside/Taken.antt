@@ -2,7 +2,9 @@
 use Rattle.std.specs.Prelude.{◌≡◌, ◌≤◌, ℕ, All, List, Option, Some, length, map}
 use Rattle.tap_views.specs.Encoding.{AreEarly}
 use Rattle.tap_views.specs.declared.encoder.TapFields.{TapFields}
+use Rattle.tap_views.specs.declared.token.Token.{Token}
 use Rattle.settlement.specs.Posted.{HasName}
+use Rattle.settled_texts.specs.ExplainedTaps.{NoTapFallsFrom, last_token}
 use Rattle.sorted_taps.specs.Heads.{IsRanked}
 use Rattle.sorted_taps.specs.Merges.{AreTaken}
 use Rattle.sorted_taps.specs.Reading.{window_bytes}
@@ -16,6 +18,14 @@ pub record AreTapsTaken (known : List (Option (List ℕ))) (old : List TapReader
   pub taken : (files : List (List ℕ)) → known ≡ map Some files → AreTaken files old taps new
   pub early : AreEarly (λ (tap : TapFields). tap.moment) taps
   pub named : All HasName taps
+
+-- taps that can come one after another, the first of them after a tap of one token, and the last of
+-- which has the other token
+pub record AreFollowing (from : Token) (taps : List TapFields) (last : Token) : Type 0 where
+  pub early : AreEarly (λ (tap : TapFields). tap.moment) taps
+  pub named : All HasName taps
+  pub no_fall : NoTapFallsFrom from taps
+  pub is_last : last ≡ last_token from taps
 
 -- there is a reader of each of the files, their heads are ranked, and there is room to read
 pub record IsReady (files : ℕ) (taker : Taker) : Type 0 where

@@ -5,9 +5,9 @@ use Rattle.sorted_taps.specs.Reading.{window_bytes}
 use Rattle.sorted_bills.specs.inside.Taken.{AreTapsTaken}
 use Rattle.sorted_bills.proofs.taker.take_some.Given as goal
 
--- as many taps were taken as rounds were made, and the last of them has the last token
-abbrev pub invariant-loop-place : goal.invariant-loop-place
-invariant-loop-place g l = record {
+-- each round took a tap at least, and the last of them has the last token
+abbrev pub invariant-loop-run : goal.invariant-loop-run
+invariant-loop-run g l = record {
   window : window_bytes ≤ length l.window;
   readers : length l.merge.readers.items ≡ length l.files;
   ranked : IsRanked l.merge.readers.items l.merge.heads.items;
@@ -15,5 +15,6 @@ invariant-loop-place g l = record {
       l.merge.readers.items;
   no_fall : NoTapFallsFrom l.fn.from l.taps.items;
   last : l.last ≡ last_token l.fn.from l.taps.items;
-  number : length l.taps.items ≡ l._place;
+  some : l._run ≤ length l.taps.items;
+  few : length l.taps.items ≤ 512;
 }

@@ -1,0 +1,18 @@
+use Rattle.std.proofs.Common.{◌≡◌, ◌*◌, ◌<◌, length, set}
+use Rattle.sorted_taps.specs.Heads.{HasLeaves}
+use Rattle.sorted_taps.specs.Readers.{head_of}
+use Rattle.sorted_taps.specs.declared.reader.TapReader.{TapReader}
+use Rattle.sorted_taps.proofs.Ranking.{AreChosenBut}
+use Rattle.sorted_taps.proofs.heads.put.Given as goal
+
+abbrev pub invariant-loop-place : goal.invariant-loop-place
+invariant-loop-place l = record {
+  leaves : (is : TapReader) → l.fn.head.tap ≡ head_of is
+      → HasLeaves (set l.readers l.fn.head.at is) l.tree;
+  chosen : AreChosenBut (length l.readers) l.tree l.place;
+  size : length l.tree ≡ 2 * length l.readers;
+  within : l.place < length l.tree;
+}
+
+abbrev pub decreases-loop-place : goal.decreases-loop-place
+decreases-loop-place l = l.place

@@ -1,0 +1,87 @@
+use Rattle.std.proofs.Common.{◌≡◌, ◌<◌, ◌∙◌, [], length, get_or, set, arith, sym, subst, drop}
+use Rattle.std.proofs.Math.Seq.{drop-length}
+use Rattle.std.proofs.lemmas.List.{get_or_default, get_or-set_other, length-set, set-set, take_at}
+use Rattle.sorted_taps.specs.Heads.{IsNotAfter, IsRanked}
+use Rattle.sorted_taps.specs.Readers.{head_of}
+use Rattle.sorted_taps.specs.inside.Runs.{IsRunOf}
+use Rattle.sorted_taps.specs.declared.reader.TapReader.{TapReader}
+use Rattle.sorted_taps.proofs.Files.{known_at, if_known}
+use Rattle.sorted_taps.proofs.Running.{run_taken}
+use Rattle.sorted_taps.proofs.merge.Merge.go_on.Goals as goal
+
+pub put_end-requires-clause-ranked : goal.put_end-requires-clause-ranked
+put_end-requires-clause-ranked g c =
+    let (was, is) = c.requires.ranked in
+    (was, rw (c.deref.ensures.value, c.deref_mut.ensures.value) is)
+
+pub put_head-requires-clause-ranked : goal.put_head-requires-clause-ranked
+put_head-requires-clause-ranked g c =
+    let readers = c.args.self.now.readers.items in
+    let heads = c.args.self.now.heads in
+    let at = c.args.at in
+    let reader = c.index_mut-reader.result.now in
+    let gone = record reader { next = length reader.taps.items } in
+    let tree = c.put_end.new.tree in
+    let ended : IsRanked (set readers at gone) tree =
+    subst (λ rs. IsRanked (set rs at gone) tree) c.deref.ensures.value
+    (c.put_end.ensures gone (drop-length reader.taps.items)) in
+    let (was, is) = c.requires.ranked in
+    let size = ended.leaves.size in
+    let before = is.leaves.size in
+    let long = heads.ok.0 in
+    let now = length-set readers at gone in
+    let then = length-set readers at was in (
+      gone,
+      rw (
+        c.deref-3.ensures.value,
+        c.deref_mut-2.ensures.value,
+        set-set readers at c.take_run.new.reader gone,
+        take_at tree (drop (length tree) heads.items) heads.len
+            (omega (arith, size, before, long, now, then)),
+      ) ended,
+    )
+
+pub returns-clause-taken : goal.returns-clause-taken
+returns-clause-taken g c =
+    let readers = c.args.self.now.readers.items in
+    let heads = c.args.self.now.heads in
+    let at = c.args.at in
+    let within = c.requires.within in
+    let reader = c.index_mut-reader.result.now in
+    let new = c.take_run.new.reader in
+    let other = c.least_tap-other.result in
+    let file = c.index-files-at.result in
+    let gone = record reader { next = length reader.taps.items } in
+    let tree = c.put_end.new.tree in
+    let ended : IsRanked (set readers at gone) tree =
+    subst (λ rs. IsRanked (set rs at gone) tree) c.deref.ensures.value
+    (c.put_end.ensures gone (drop-length reader.taps.items)) in
+    let (was, is) = c.requires.ranked in
+    let size = ended.leaves.size in
+    let before = is.leaves.size in
+    let long = heads.ok.0 in
+    let now = length-set readers at gone in
+    let then = length-set readers at was in
+    let ranked : IsRanked (set readers at gone) c.deref-2.result.now =
+    rw (
+      c.deref-2.ensures.value,
+      take_at tree (drop (length tree) heads.items) heads.len
+          (omega (arith, size, before, long, now, then)),
+    ) ended in
+    let number = c.requires.files in
+    let takes = c.in_ok-take_run.ensures.taken in
+    record {
+      more = takes.run;
+      items = takes.items;
+      taken = λ all are. run_taken all at other takes.run readers reader new within
+          (λ k d low apart.
+          subst (λ (r : TapReader). IsNotAfter other (head_of r))
+          (get_or-set_other readers at k gone d apart)
+          (c.least_tap-other.ensures (set readers at gone) ranked k d (omega (arith, now, low))))
+          (λ d. sym (c.index_mut-reader.ensures.value
+          ∙ get_or_default readers at reader d within))
+          (if_known (λ a. IsRunOf a other reader takes.run new) (g.F.Placed.bytes file)
+          (get_or all at [])
+          (known_at g.F.Placed.bytes c.args.files.now all at file are
+          (omega (arith, within, number)) c.index-files-at.is) takes.passed);
+    }
