@@ -7,7 +7,7 @@ use Rattle.omny_cli.proofs.SystemRuns.{at_start, charges_named}
 use Rattle.omny_cli.proofs.system.run_system.Goals as goal
 
 pub returns-clause-run : goal.returns-clause-run
-returns-clause-run c =
+returns-clause-run g c =
     let new = c.run_beside_line.new in
     at_start (λ loads out said. IsRun (map string_bytes c.args.words.now) (λ _. None) file loads
     (Some new.source.from.loads.trace.run.loads)
@@ -20,11 +20,11 @@ returns-clause-run c =
     c.run_beside_line.ensures
 
 pub returns-clause-charged : goal.returns-clause-charged
-returns-clause-charged c parses well names =
+returns-clause-charged g c parses well names =
     charges_named (asked_by (map string_bytes c.args.words.now))
     c.run_beside_line.new.source.from.loads.trace.run.loads
     (Some c.run_beside_line.new.out.writer.to.trace.run.written) names
-    ((returns-clause-run c).done parses well)
+    ((returns-clause-run g c).done parses well)
 
 pub returns-clause-refused : goal.returns-clause-refused
-returns-clause-refused c = c.run_beside_line.new.source.from.loads.shown
+returns-clause-refused g c = c.run_beside_line.new.source.from.loads.shown
