@@ -22,7 +22,7 @@ use world::Recorded;
 /// Runs the whole program over the files, the standard input, the standard output and the standard
 /// error of the system, of which nothing was read and to which nothing was written yet. What was
 /// loaded, written and reported is what the system calls tell.
-pub(crate) fn run_system<R: Threads + Wait + Clock + RandomSource + Sync + AllocGlobal>(
+pub fn run_system<R: Threads + Wait + Clock + RandomSource + Sync + AllocGlobal>(
     rt: &R,
     system: &HostRuntime,
     words: &[String],
