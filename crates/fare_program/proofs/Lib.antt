@@ -8,6 +8,7 @@ pub mod LastMoments
 pub mod ListedFiles
 pub mod Loads
 pub mod PostedTexts
+pub mod ReadAhead
 pub mod Ledgers
 pub mod Explains
 pub mod Finished

@@ -1,6 +1,7 @@
 pub mod Begun
 pub mod Causes
 pub mod Fault
+pub mod FilesLoaded
 pub mod Lines
 pub mod Listing
 pub mod Notes
