@@ -7,7 +7,7 @@ use Rattle.fare_texts.specs.WrittenOut.{Begins}
 use Rattle.fare_texts.specs.declared.print_fault.PrintFault.{PrintFault}
 use Rattle.fare_texts.specs.declared.print_fault.PrintFault.TheVariants as print
 use Rattle.program_manners.specs.Loads.{Loaded}
-use Rattle.program_manners.specs.declared.loading.LoadFault.{LoadFault}
+use Rattle.world.specs.declared.faults.LoadFault.{LoadFault}
 use Rattle.program_manners.specs.declared.output.WriteEnd.{WriteEnd}
 use Rattle.world.specs.Origins.{Origin}
 use Rattle.fare_program.specs.Begun.{AreOfBytes, HasBegun, IsBegun, IsLeftBy}

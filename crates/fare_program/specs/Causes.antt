@@ -7,7 +7,7 @@ use Rattle.program_manners.specs.Refusals.{IsOneOf, HasRefused}
 use Rattle.program_manners.specs.TableLoads.{LoadsTables}
 use Rattle.program_manners.specs.TableRefusals.{RefusesNamed, RefusesOnly, RefusesToFollow}
 use Rattle.program_manners.specs.TableWords.{TableNames, file_named}
-use Rattle.program_manners.specs.declared.loading.LoadFault.{LoadFault}
+use Rattle.world.specs.declared.faults.LoadFault.{LoadFault}
 use Rattle.sorted_bills.specs.Faults.{HaveTooManyTaps}
 use Rattle.class_names.specs.Classes.{has_plain_classes}
 use Rattle.sorted_taps.specs.Checked.{IsFirstUnsorted}

@@ -4,7 +4,7 @@ use Rattle.std.specs.Prelude.{codes, is_some}
 use Rattle.std.specs.Io.KnownBytes.{Keeps}
 use Rattle.program_manners.specs.Loads.{Loaded}
 use Rattle.program_manners.specs.TableWords.{date_text}
-use Rattle.program_manners.specs.declared.loading.LoadFault.{LoadFault}
+use Rattle.world.specs.declared.faults.LoadFault.{LoadFault}
 use Rattle.program_manners.specs.declared.output.WriteEnd.{WriteEnd}
 use Rattle.program_manners.specs.declared.table_words.DateFault.{DateFault}
 use Rattle.world.specs.Origins.{Origin}

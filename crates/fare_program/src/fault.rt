@@ -9,7 +9,7 @@ ghost use Rattle.fare_program.specs.Options.{Asked};
 ghost use Rattle.sorted_bills.specs.Faults.{IsBeforeText, IsBillFault};
 ghost use Rattle.program_manners.specs.Loads.{Loaded};
 ghost use Rattle.program_manners.specs.Refusals.{IsOneOf, HasRefused};
-ghost use Rattle.program_manners.specs.declared.loading.LoadFault.{LoadFault as ALoadFault};
+ghost use Rattle.world.specs.declared.faults.LoadFault.{LoadFault as ALoadFault};
 ghost use Rattle.program_manners.specs.Lines.{load_text, table_text};
 
 use crate::sorted_fault::{LateFault, UnopenedFile, UnsortedFile};

@@ -2,7 +2,7 @@
 use Rattle.std.specs.Prelude.{◌≡◌, ◌++◌, ℕ, List, MatchOption, None, Option, codes}
 use Rattle.program_manners.specs.Lines.{load_text}
 use Rattle.program_manners.specs.TableWords.{date_text}
-use Rattle.program_manners.specs.declared.loading.LoadFault.{LoadFault}
+use Rattle.world.specs.declared.faults.LoadFault.{LoadFault}
 use Rattle.program_manners.specs.declared.output.WriteEnd.{WriteEnd}
 use Rattle.program_manners.specs.declared.table_loads.TablesFault.{TablesFault}
 use Rattle.program_manners.specs.declared.table_loads.TablesFault.TheVariants as unloaded
