@@ -1,6 +1,7 @@
 pub mod Appends
 pub mod Billed
 pub mod Causes
+pub mod Counts
 pub mod DefaultClasses
 pub mod Defaults
 pub mod Going
@@ -16,3 +17,4 @@ pub mod SortedRuns
 pub mod Works
 pub mod WritesFailed
 pub mod TableCauses
+pub mod SystemFiles

@@ -10,5 +10,6 @@ pub mod Program
 pub mod Runs
 pub mod Settling
 pub mod SortedFaults
+pub mod SystemFiles
 pub mod Uploads
 pub mod inside

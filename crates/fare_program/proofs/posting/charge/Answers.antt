@@ -1,8 +1,9 @@
-use Rattle.std.proofs.Common.{◌≡◌, ◌∙◌, ℕ, List, Some, Vec, Global, ap, length, map, subst, sym}
-use Rattle.std.specs.Prelude.{slice_get}
+use Rattle.std.proofs.Common.{◌≡◌, ◌∙◌, ℕ, List, [], Vec, Global, ap, length, map, subst, sym}
+use Rattle.std.specs.Prelude.{slice_index_or}
 use Rattle.std.proofs.lemmas.List.{length-map}
-use Rattle.std.specs.Io.KnownBytes.{Appends}
 use Rattle.std.proofs.lemmas.Result.{IfErr-weaker, IfOk-weaker}
+use Rattle.world.specs.Origins.{memory}
+use Rattle.world.specs.Run.{Run}
 use Rattle.fare_program.specs.inside.Options.{asked_of}
 use Rattle.fare_program.specs.Program.{ShowsAsked}
 use Rattle.fare_program.specs.Settling.{ShowsSettled}
