@@ -16,10 +16,11 @@ use Rattle.tap_views.specs.declared.token.Token.{Token}
 use Rattle.tap_views.specs.declared.upload_end.UploadEnd.{UploadEnd}
 use Rattle.tap_views.specs.declared.upload_end.UploadEnd.TheVariants.{Cut, Posted, Refused, Undrawn}
 use Rattle.shared_books.specs.Drawing.{times}
-use Rattle.fare_service.specs.Headline.{Headline, drawn_by, end_of}
+use Rattle.fare_service.specs.Headline.{drawn_by}
 use Rattle.fare_service.specs.Shares.{IsWorkOf, Worked, all_works}
-use Rattle.fare_service.proofs.GatherLemmas.{each_work, end_other}
-use Rattle.fare_service.proofs.PlainLists.{count_other, count_same}
+use Rattle.fare_service.proofs.DrawnUploads.{each_drawn_once}
+use Rattle.fare_service.proofs.GatherLemmas.{each_work}
+use Rattle.fare_service.proofs.PlainLists.{count_other}
 use Rattle.world.specs.Origins.{IsFrom, Origin, file, loads_from}
 use Rattle.fare_program.specs.Causes.{table_files}
 use Rattle.fare_program.specs.FilesLoaded.{AreLoaded, AreReadAhead, AreReadAsDrawn, AreReadInOrder}
@@ -161,21 +162,6 @@ posted_at (Refused taps offset fault ∷ ends) place posted few = absurd (cc)
 posted_at (Cut taps ∷ ends) place posted few = absurd (cc)
 posted_at (Undrawn ∷ ends) place posted few = absurd (cc)
 
-undrawn_end : (works : List Worked) (place : ℕ) → times place (map (λ w. w.upload) works) ≡ 0
-    → end_of place works ≡ Undrawn
-undrawn_end [] place none = refl
-undrawn_end (w ∷ works) place none = by_test (eqb_tells w.upload place) (undrawn_end works place)
-  where
-    by_test : (((w.upload == place) ≡ true) × (w.upload ≡ place))
-        ⊎ (((w.upload == place) ≡ false) × (w.upload ≢ place))
-        → (times place (map (λ w. w.upload) works) ≡ 0 → end_of place works ≡ Undrawn)
-        → end_of place (w ∷ works) ≡ Undrawn
-    by_test (inl (is, same)) rest =
-        absurd (omega (arith, none, count_same place w.upload (map (λ x. x.upload) works) is))
-    by_test (inr (is, apart)) rest =
-        end_other w works place is
-        ∙ rest (sym (count_other place w.upload (map (λ x. x.upload) works) is) ∙ none)
-
 not_outside : (number : ℕ) (works : List Worked) (place : ℕ) → All (λ w. w.upload < number) works
     → number ≤ place → times place (map (λ w. w.upload) works) ≡ 0
 not_outside number [] place each more = refl
@@ -200,23 +186,12 @@ drawn_once : (asked : Asked) (fares : Fares) (files : List (List ℕ)) (drawn : 
     → (is : ShowsLiveRun asked fares files drawn token text true) → (place : ℕ)
     → place < length files → times place drawn ≡ 1
 drawn_once asked fares files drawn token text is place within =
+    let headline = is.run.2 in
+    let (taps, there) = posted_at is.outcome.ends place (sym is.is_well)
+    (omega (arith, within, headline.uploads)) in
     ap (times place) is.drawn_are
-    ∙ by_count (times place (drawn_by is.run.0)) refl
-  where
-    headline : Headline fares asked.shards files is.run.0 is.outcome
-    headline = is.run.2
-
-    by_count : (n : ℕ) → times place (drawn_by is.run.0) ≡ n → times place (drawn_by is.run.0) ≡ 1
-    by_count zero none =
-        let (taps, there) = posted_at is.outcome.ends place (sym is.is_well)
-        (omega (arith, within, headline.uploads)) in
-        let ended = headline.ended place (Posted taps) there
-        ∙ undrawn_end (all_works is.run.0) place none in
-        absurd (posted_undrawn taps ended)
-      where
-        posted_undrawn : (taps : ℕ) → Posted taps ≡ Undrawn → ⊥
-        posted_undrawn taps same = cc
-    by_count (suc n) some = omega (arith, some, headline.drawn_once place)
+    ∙ each_drawn_once fares asked.shards files is.run.0 is.outcome headline place (Posted taps) there
+    (λ same. cc)
 
 none_outside : (asked : Asked) (fares : Fares) (files : List (List ℕ)) (drawn : List ℕ)
     (token : Option Token) (text : List ℕ)
