@@ -5,7 +5,7 @@ use Rattle.fare_table.specs.TableMeaning.{meaning_in}
 use Rattle.fare_table.specs.declared.fault.TableFault.{TableFault}
 use Rattle.fare_table.specs.declared.fault.TableFault.TheVariants.{NoMemory, Text}
 use Rattle.program_manners.specs.Loads.{Loaded, LoadsOne}
-use Rattle.program_manners.specs.declared.recorded_loads.Refusal.{Refusal}
+use Rattle.program_manners.specs.declared.refusal.Refusal.{Refusal}
 use Rattle.world.specs.Run.{Run}
 use Rattle.world.specs.declared.faults.LoadFault.{LoadFault}
 use Rattle.world.specs.declared.faults.LoadFault.TheVariants as load

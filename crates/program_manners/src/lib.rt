@@ -7,7 +7,7 @@
 //! | `output` | where the text of a run goes, and why it cannot go there |
 //! | `loading` | whole files up to a limit, and the line of one that was not loaded |
 //! | `file_source` | where whole files come from, by their names |
-//! | `recorded_loads` | the files of the system and its standard input, as a source loads them |
+//! | `recorded_loads`, `refusal` | what a source loads of the system, and what was refused last |
 //! | `opened` | a file or standard input, to be read in pieces |
 //! | `table_line` | the line of a fault of the fare table |
 //! | `table_words` | words of `--table`: a file, and the date from which its table is valid |
@@ -35,6 +35,7 @@ mod loading;
 mod opened;
 mod output;
 mod recorded_loads;
+mod refusal;
 mod table_line;
 mod table_loads;
 mod table_words;

@@ -1,17 +1,12 @@
 //! The files of the system and its standard input, as a source loads them.
+ghost use Rattle.std.specs.Prelude.{◌≡◌, None, Some};
+ghost use Rattle.program_manners.specs.Refusals.{IsShown, refusal_of};
 
+use crate::refusal::Refusal;
 use std::fs::Files;
 use std::io::Input;
 use std::snapshot::Snapshot;
 use world::{GhostBytes, LoadFault, Loaded, Trace, load_file, load_input};
-
-/// A load that was refused.
-#[derive(Drop)]
-struct Refusal {
-    /// The name of the file; standard input has none.
-    name: Option<GhostBytes>,
-    fault: LoadFault,
-}
 
 /// What a source loads of the files of the system and of its standard input, each call recorded,
 /// and the load that was refused last. It has no bytes at run time.
@@ -20,7 +15,24 @@ pub struct RecordedLoads {
     trace: Trace,
     last: Snapshot<Refusal>,
     // The calls show the refusal.
-    pub ghost shown: { IsShown trace.run (refusal_of last.value) },
+    pub ghost shown: { ∥ IsShown trace.run (refusal_of last.value) ∥₁ },
+}
+
+/// The file of this name was refused.
+fn named(name: &str, fault: LoadFault) -> Snapshot<Refusal>
+    ensures { refusal_of result.value ≡ (Some name.now, fault) }
+{
+    Snapshot::of(&Refusal {
+        name: Some(GhostBytes::of(name.as_bytes())),
+        fault,
+    })
+}
+
+/// Standard input was refused.
+fn unnamed(fault: LoadFault) -> Snapshot<Refusal>
+    ensures { refusal_of result.value ≡ (None, fault) }
+{
+    Snapshot::of(&Refusal { name: None, fault })
 }
 
 const _: () = prove!(size_of::<RecordedLoads>() == 0);
@@ -29,7 +41,6 @@ impl RecordedLoads {
     ghost use Rattle.std.specs.Prelude.{◌≡◌, IfErr, IfOk, None, OnOk, Some, string_bytes};
     ghost use Rattle.world.specs.Run.{no_calls, with_all, with_load};
     ghost use Rattle.world.specs.Loads.{IsRefused};
-    ghost use Rattle.program_manners.specs.Refusals.{IsShown, refusal_of};
 
     /// Nothing was loaded or refused yet. So the last refusal is that memory was refused, which no
     /// call shows.
@@ -39,10 +50,7 @@ impl RecordedLoads {
     {
         RecordedLoads {
             trace: Trace::new(),
-            last: Snapshot::of(&Refusal {
-                name: None,
-                fault: LoadFault::NoMemory,
-            }),
+            last: unnamed(LoadFault::NoMemory),
         }
     }
 
@@ -58,10 +66,7 @@ impl RecordedLoads {
     {
         let loaded = load_file(rt, rt.alloc(), name, &mut self.trace);
         if let Err(fault) = loaded {
-            self.last = Snapshot::of(&Refusal {
-                name: Some(GhostBytes::of(name.as_bytes())),
-                fault,
-            });
+            self.last = named(name, fault);
         }
         loaded
     }
@@ -80,7 +85,7 @@ impl RecordedLoads {
     {
         let loaded = load_input(rt.alloc(), &mut rt.reader(), &mut self.trace);
         if let Err(fault) = loaded {
-            self.last = Snapshot::of(&Refusal { name: None, fault });
+            self.last = unnamed(fault);
         }
         loaded
     }
