@@ -9,7 +9,9 @@ use fare_program::{
 use placed_files::{InMemory, Unopened};
 use std::alloc::{AllocError, Global};
 use std::io::Read;
+use std::marker::Sync;
 use std::test::Fail;
+use std::thread::Threads;
 use std::{fs, io};
 use world::{Loaded, Trace};
 
@@ -129,16 +131,15 @@ fn reads_files_ahead_by_several_threads_alone(rt: HostRuntime) -> Result<(), Fai
 }
 
 /// A disk of the system's files, but for some names.
-struct Names<'a> {
-    rt: &'a HostRuntime,
+#[derive(Drop)]
+struct Names<'a, R> {
+    rt: &'a R,
 }
 
-impl Disk for Names<'_> {
-    ghost use Rattle.world.specs.Origins.{file};
-
+impl<R: Disk> Disk for Names<'_, R> {
     type File = InMemory<'static>;
 
-    ghost origin = { λ _ name. file name };
+    ghost origin = { λ disk name. R.origin disk.rt.now name };
 
     fn open_placed(&self, _: &str) -> Result<InMemory<'static>, Unopened> {
         Err(Unopened::Unread)
@@ -172,9 +173,13 @@ impl Disk for Names<'_> {
 }
 
 /// The names of what two threads read ahead, in the order of the list.
-fn ahead_names(rt: &HostRuntime, names: &[&str]) -> Result<String, Fail> {
-    let mut text = String::new(rt.alloc());
-    for file in read_ahead(rt, rt.alloc(), &Names { rt }, names, 2) {
+fn ahead_names<R: Threads + Sync + Disk>(
+    rt: &R,
+    alloc: Global,
+    names: &[&str],
+) -> Result<String, Fail> {
+    let mut text = String::new(alloc);
+    for file in read_ahead(rt, alloc, &Names { rt }, names, 2) {
         write!(text, "{} ", file.name())?;
     }
     Ok(text)
@@ -198,7 +203,7 @@ fn reads_parts_up_to_a_fault(rt: HostRuntime) -> Result<(), Fail> {
         (["pipe", b, c, d], ""),
     ];
     for (names, reported) in rows {
-        let text = ahead_names(&rt, &names)?;
+        let text = ahead_names(&rt, rt.alloc(), &names)?;
         assert_eq!(rt; text.as_str(), reported, "{names:?}");
     }
     for name in files {

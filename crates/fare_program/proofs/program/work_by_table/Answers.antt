@@ -42,9 +42,9 @@ returns-in-Some-clause-ok g c =
     (λ well done loaded_before before loads is_token kept live. does_charge
     (asked_of c.args.options.now)
     (g.D.Disk.bytes_under c.args.disk.now) (g.D.Disk.origin c.args.disk.now) loaded_before _ _ before _ _ well
-    c.args.table loads kept c.in-Some.table (map bytes_in c.in_ok-files.files.items) c.args.token
-    c.in-Some.is
-    (inl loaded) is_token c.if-options.false live done)
+    c.args.table loads kept c.in-Some.table (map bytes_in c.in_ok-files.files.items) done.0
+    c.args.token c.in-Some.is (inl loaded) is_token c.if-options.false live
+    (done.1, done.2, done.3))
     c.charge.ensures.ok
 
 pub returns-clause-ok : goal.returns-clause-ok
@@ -118,15 +118,15 @@ returns-in-Some-clause-begun g c =
     (λ fault begun write loaded_before before loads is_token kept live.
     let is = begun write in (
       is.0,
-      begun_by before (g.W.Write.contents c.args.out.now) (g.W.Write.contents c.charge.new.out) is.1
+      begun_by before (g.W.Write.contents c.args.out.now) (g.W.Write.contents c.charge.new.out) is.2
           (λ all. DoesUntraced asked under origin loaded_before (g.S.FileSource.loaded c.load_files.new.source)
           before
           all is.0)
-          kept is.3
+          kept is.4
           (λ all written. does_charge asked under origin loaded_before _ _ before _ all is.0 c.args.table
           loads
-          kept c.in-Some.table (map bytes_in c.in_ok-files.files.items) c.args.token c.in-Some.is
-          (inl loaded) is_token c.if-options.false live (is.1, is.2, written)),
+          kept c.in-Some.table (map bytes_in c.in_ok-files.files.items) is.1 c.args.token
+          c.in-Some.is (inl loaded) is_token c.if-options.false live (is.2, is.3, written)),
     ))
     c.charge.ensures.begun
 
