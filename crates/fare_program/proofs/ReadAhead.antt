@@ -84,27 +84,27 @@ pub ahead_joined : (asked : Asked) (origin : List ℕ → Origin) (loaded : Opti
     → AreReadAhead asked origin loaded (option_map (λ l. l ++ more) loaded) files drawn
 ahead_joined asked origin loaded more files drawn =
     either asked.settle
-    where
-      names : List (List ℕ)
-      names = asked.files
+  where
+    names : List (List ℕ)
+    names = asked.files
 
-      either : (settle : Bool)
-          → MatchBool settle (AreReadInOrder origin names (Some []) (Some more) files)
-          (AreReadAsDrawn origin names (Some []) (Some more) files drawn)
-          → MatchBool settle
-          (AreReadInOrder origin names loaded (option_map (λ l. l ++ more) loaded) files)
-          (AreReadAsDrawn origin names loaded (option_map (λ l. l ++ more) loaded) files drawn)
-      either true read = record {
-        some = read.some;
-        from = read.from;
-        loads = joined loaded _ more read.loads;
-      }
-      either false read = record {
-        some = read.some;
-        number = read.number;
-        from = read.from;
-        loads = joined loaded _ more read.loads;
-      }
+    either : (settle : Bool)
+        → MatchBool settle (AreReadInOrder origin names (Some []) (Some more) files)
+        (AreReadAsDrawn origin names (Some []) (Some more) files drawn)
+        → MatchBool settle
+        (AreReadInOrder origin names loaded (option_map (λ l. l ++ more) loaded) files)
+        (AreReadAsDrawn origin names loaded (option_map (λ l. l ++ more) loaded) files drawn)
+    either true read = record {
+      some = read.some;
+      from = read.from;
+      loads = joined loaded _ more read.loads;
+    }
+    either false read = record {
+      some = read.some;
+      number = read.number;
+      from = read.from;
+      loads = joined loaded _ more read.loads;
+    }
 
 -- ---- uploads under the names that are asked for
 abbrev names_in : List (Bor (List ℕ)) → List (List ℕ)

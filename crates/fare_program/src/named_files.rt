@@ -200,7 +200,9 @@ pub(crate) fn charge_ahead<
         return Ok(None);
     };
     let mut calls = Trace::new();
-    match charge_named(rt, alloc, disk, options, table, token, &sizes, &mut calls, out) {
+    match charge_named(
+        rt, alloc, disk, options, table, token, &sizes, &mut calls, out,
+    ) {
         Ok(well) => {
             source.join(calls);
             Ok(Some(well))

@@ -41,12 +41,7 @@ impl Disk for CountingDisk<'_> {
         Ok(())
     }
 
-    fn read_into(
-        &self,
-        name: &str,
-        room: Vec<u8>,
-        _: &mut Trace,
-    ) -> Result<Vec<u8>, LoadFault> {
+    fn read_into(&self, name: &str, room: Vec<u8>, _: &mut Trace) -> Result<Vec<u8>, LoadFault> {
         self.reads.fetch_add(1, Ordering::SeqCst);
         match name {
             "none" => Err(LoadFault::Unread),

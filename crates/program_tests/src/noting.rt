@@ -41,12 +41,7 @@ impl Disk for NotingDisk {
         Ok(())
     }
 
-    fn read_into(
-        &self,
-        _: &str,
-        _: Vec<u8>,
-        _: &mut Trace,
-    ) -> Result<Vec<u8>, LoadFault> {
+    fn read_into(&self, _: &str, _: Vec<u8>, _: &mut Trace) -> Result<Vec<u8>, LoadFault> {
         Err(LoadFault::Unread)
     }
 

@@ -51,12 +51,7 @@ impl<'a> Disk for TwoFiles<'a> {
         Ok(())
     }
 
-    fn read_into(
-        &self,
-        _: &str,
-        _: Vec<u8>,
-        _: &mut Trace,
-    ) -> Result<Vec<u8>, LoadFault> {
+    fn read_into(&self, _: &str, _: Vec<u8>, _: &mut Trace) -> Result<Vec<u8>, LoadFault> {
         Err(LoadFault::Unread)
     }
 
@@ -249,12 +244,7 @@ impl<'a> Disk for FickleDisk<'a> {
         Ok(())
     }
 
-    fn read_into(
-        &self,
-        _: &str,
-        _: Vec<u8>,
-        _: &mut Trace,
-    ) -> Result<Vec<u8>, LoadFault> {
+    fn read_into(&self, _: &str, _: Vec<u8>, _: &mut Trace) -> Result<Vec<u8>, LoadFault> {
         Err(LoadFault::Unread)
     }
 
