@@ -78,7 +78,8 @@ pub(crate) fn take_next(ahead: &mut Vec<Loaded>, name: &str) -> Option<Loaded>
     if ahead.last()?.name().as_str() != name {
         return None;
     }
-    ahead.pop()
+    let next = ahead.pop()?;
+    Some(next)
 }
 
 /// How many files may be read before they are due. The first that may not keeps all behind it
