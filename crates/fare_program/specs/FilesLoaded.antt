@@ -26,8 +26,8 @@ loads_of origin (name ∷ names) [] = []
 loads_of origin (name ∷ names) (file ∷ files) =
     loads_from (origin name) file ++ loads_of origin names files
 
--- The files of these names were read ahead from the disk, each once, in their order. There is one at
--- least.
+-- The files of these names were read ahead from the disk, each once, in their order. There is one
+-- at least.
 pub record AreReadInOrder (origin : List ℕ → Origin) (names : List (List ℕ))
     (loaded loaded' : Option (List Loaded)) (files : List (List ℕ)) : Type 0 where
   pub some : 0 < length names

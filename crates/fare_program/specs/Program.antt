@@ -87,8 +87,8 @@ IsTokenIn (Some digits) (Some token) = decode_sized digits 16 ≡ Ok (bytes_of t
 IsTokenIn _ _ = ⊥
 
 -- A service was run over the files as they are, of which these were drawn, and the text is what is
--- asked for of its outcome. It is well if each upload was posted whole. A text that is well is then that of the plain history
--- of the files, if no token has taps in two of them.
+-- asked for of its outcome. It is well if each upload was posted whole. A text that is well is then
+-- that of the plain history of the files, if no token has taps in two of them.
 pub record ShowsLiveRun (asked : Asked) (fares : Fares) (files : List (List ℕ)) (drawn : List ℕ)
     (token : Option Token) (text : List ℕ) (well : Bool) : Type 0 where
   pub outcome : OutcomeView

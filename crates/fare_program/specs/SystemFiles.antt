@@ -45,8 +45,8 @@ pub record ChargesFiles (asked : Asked) (before after : List Loaded) (out out' :
   pub shows : ShowsAsked asked fares files drawn token text true
   pub written : Appends out out' text
 
--- If each name is that of a file of the system, and the source tells what it loaded, this follows of
--- each run of the service over named files that is well.
+-- If each name is that of a file of the system, and the source tells what it loaded, this follows
+-- of each run of the service over named files that is well.
 abbrev pub RunsChargeFiles : Type 0
 RunsChargeFiles = (asked : Asked) (origin : List ℕ → Origin) (before after : List Loaded)
     (out out' : Option (List ℕ)) → ((name : List ℕ) → origin name ≡ file name)

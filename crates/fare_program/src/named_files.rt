@@ -1,5 +1,6 @@
 //! Named files that are read while their taps are charged.
-ghost use Rattle.std.specs.Prelude.{◌≡◌, ◌≢◌, ◌<◌, Bool, false, length, None, Some, IfErr, IfOk, IfSome, OnErr};
+ghost use Rattle.std.specs.Prelude.{◌≡◌, ◌≢◌, ◌<◌, Bool, false, length, None, Some};
+ghost use Rattle.std.specs.Prelude.{IfErr, IfOk, IfSome, OnErr};
 ghost use Rattle.std.specs.Io.KnownBytes.{Appends, Keeps};
 ghost use Rattle.fare_texts.specs.WrittenOut.{Begins};
 ghost use Rattle.fare_program.specs.inside.Options.{asked_of};
@@ -157,8 +158,8 @@ fn charge_named<'a, R: Threads + Wait + RandomSource + Sync, D: Disk + Sync, W: 
 }
 
 /// Charges the named files while they are read, and writes what is asked for, if all files may be
-/// read before they are due. Says whether each file was posted whole. The source takes over what was
-/// loaded.
+/// read before they are due. Says whether each file was posted whole. The source takes over what
+/// was loaded.
 ///
 /// If it says nothing, nothing was written and nothing loaded. Then the files are to be loaded in
 /// their turns: so the fault that is reported is that of the first file in the order of the words.

@@ -358,7 +358,8 @@ fn work_by_table<'a, R: Threads + Wait + RandomSource + Sync, D: Disk + Sync, S:
         → LoadsTable (asked_of options.now).table loaded (S.loaded source.old) table
         → IsTokenIn (asked_of options.now).token token → Keeps before (W.contents out.old)
         → (asked_of options.now).sorted ≡ false
-        → DoesUntraced (asked_of options.now) (D.bytes_under disk.now) (D.origin disk.now) loaded (S.loaded source.new)
+        → DoesUntraced (asked_of options.now) (D.bytes_under disk.now) (D.origin disk.now)
+        loaded (S.loaded source.new)
         before (W.contents out.new) well) }
     ensures begun { IfErr result (λ fault. fault ≡ Fault.Write
         → (loaded : Option (List Loaded)) (before : Option (List ℕ))
@@ -366,7 +367,8 @@ fn work_by_table<'a, R: Threads + Wait + RandomSource + Sync, D: Disk + Sync, S:
         → IsTokenIn (asked_of options.now).token token → Keeps before (W.contents out.old)
         → (asked_of options.now).sorted ≡ false
         → (well : Bool) × IsBegun before (W.contents out.new) (λ whole.
-        DoesUntraced (asked_of options.now) (D.bytes_under disk.now) (D.origin disk.now) loaded (S.loaded source.new)
+        DoesUntraced (asked_of options.now) (D.bytes_under disk.now) (D.origin disk.now)
+        loaded (S.loaded source.new)
         before whole well)) }
     ensures fault { IfErr result (λ fault. fault ≢ Fault.Write
         → Keeps (W.contents out.old) (W.contents out.new)) }
@@ -439,7 +441,8 @@ fn work<'a, R: Threads + Wait + RandomSource + Sync, D: Disk + Sync, S: Source, 
     out: &mut W,
 ) -> Result<bool, Fault<'a>>
     ensures ok { IfOk result (λ well.
-        Does (asked_of options.now) (D.bytes_under disk.now) (D.origin disk.now) (S.loaded source.old)
+        Does (asked_of options.now) (D.bytes_under disk.now) (D.origin disk.now)
+        (S.loaded source.old)
         (S.loaded source.new) (W.contents out.old) (W.contents out.new) well) }
     ensures right { OnOk result (mistake (asked_of options.now) ≡ None) }
     ensures dates { OnOk result (wrong_date (asked_of options.now) ≡ None) }
@@ -453,7 +456,8 @@ fn work<'a, R: Threads + Wait + RandomSource + Sync, D: Disk + Sync, S: Source, 
     // What a write that failed left is a beginning of the text that is asked for.
     ensures begun { IfErr result (λ fault. fault ≡ Fault.Write
         → AreOfBytes (asked_of options.now) (D.bytes_under disk.now)
-        → HasBegun (asked_of options.now) (D.bytes_under disk.now) (D.origin disk.now) (S.loaded source.old)
+        → HasBegun (asked_of options.now) (D.bytes_under disk.now) (D.origin disk.now)
+        (S.loaded source.old)
         (S.loaded source.new) (W.contents out.old) (W.contents out.new)) }
 
     // A mistake in what is asked for is seen before all else, and then nothing was loaded. Another
@@ -633,7 +637,8 @@ pub fn main_over<
         ⊎ (Parses (map string_bytes words.now) × (fault : Fault) × (status_of fault ≡ 1)
         × IsRightFault (asked_by (map string_bytes words.now)) (D.bytes_under disk.now)
         (S.loaded source.old) (S.loaded source.new) (S.refused source.new) fault
-        × GaveUpOn (asked_by (map string_bytes words.now)) (D.bytes_under disk.now) (D.origin disk.now)
+        × GaveUpOn (asked_by (map string_bytes words.now)) (D.bytes_under disk.now)
+        (D.origin disk.now)
         (S.loaded source.old) (S.loaded source.new) fault out.new.end
         (E.contents err.old.writer) (E.contents err.new.writer) err.new.failed
         (W.contents out.old.writer) (W.contents out.new.writer)))) }
