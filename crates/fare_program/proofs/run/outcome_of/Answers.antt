@@ -1,5 +1,6 @@
-use Rattle.std.proofs.Common.{ℕ, List, subst}
+use Rattle.std.proofs.Common.{ℕ, List, subst, sym}
 use Rattle.tariffs.specs.Fares.{Fares}
+use Rattle.fare_service.specs.Claims.{HasAllClaims}
 use Rattle.fare_service.specs.ServiceView.{ServiceView, shards_of}
 use Rattle.fare_service.specs.Headline.{HasRunOver}
 use Rattle.fare_service.specs.Outcomes.{OutcomeView}
@@ -24,3 +25,10 @@ pub returns-in-Ok-run-clause-run : goal.returns-in-Ok-run-clause-run
 returns-in-Ok-run-clause-run g c =
     run_of c.in-Ok.opened.0 _ _ _ _ _ c.in-Ok.ensures.table c.in-Ok.ensures.shards
     c.in-Ok.ensures.uploads c.in-Ok-run.ensures.headline
+
+-- the share that the service was opened with has all claims
+pub of_run-requires-clause-claims : goal.of_run-requires-clause-claims
+of_run-requires-clause-claims g c =
+    c.in-Err-run.ensures.claims
+    (subst (λ (n : ℕ). HasAllClaims n c.in-Ok.opened.1) (sym c.in-Ok.ensures.shards)
+    c.in-Ok.ensures.claims)
