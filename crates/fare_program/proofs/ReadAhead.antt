@@ -1,22 +1,23 @@
 -- Files that were read ahead, and what a source that takes them over has loaded.
 use Rattle.std.proofs.Common.{◌≡◌, ◌∙◌, ◌+◌, ◌<◌, ◌++◌, ◌∷◌, [], ℕ, zero, suc, List, Bool, true}
 use Rattle.std.proofs.Common.{false, Bor, Option, None, Some, All, length, map, flat_map, arith, ap}
-use Rattle.std.proofs.Common.{ap₂, refl, sym, subst}
+use Rattle.std.proofs.Common.{ap₂, get_or, refl, sym, subst}
 use Rattle.std.proofs.lemmas.List.{length-map}
 use Rattle.std.proofs.lemmas.List.Elements.{All-cons, All-head, All-nil, All-tail}
 use Rattle.std.specs.Prelude.{MatchBool, option_map}
 use Rattle.std.specs.List.{AllZip}
 use Rattle.tariffs.specs.Fares.{Fares}
 use Rattle.tap_views.specs.declared.token.Token.{Token}
-use Rattle.world.specs.Origins.{IsFrom, Origin, loads_from}
+use Rattle.world.specs.Origins.{IsFrom, IsLent, Origin, anywhere, file, loads_from, memory}
+use Rattle.world.specs.Origins.{nowhere}
 use Rattle.world.specs.Run.{Calls, Load, Run, no_calls}
 use Rattle.fare_service.specs.Headline.{loads_at}
-use Rattle.fare_service.specs.Lending.{origin_at}
+use Rattle.fare_service.specs.Lending.{IsOutside, origin_at}
 use Rattle.fare_service.specs.Shares.{file_at}
 use Rattle.fare_service.proofs.LentFiles.{lent_number}
 use Rattle.settlement.specs.Reading.{AreRead, loads_in_order}
 use Rattle.fare_program.specs.FilesLoaded.{AreReadAhead, AreReadAsDrawn, AreReadInOrder, load_at}
-use Rattle.fare_program.specs.FilesLoaded.{loads_of, text_at}
+use Rattle.fare_program.specs.FilesLoaded.{loads_of, text_at, unless_memory}
 use Rattle.fare_program.specs.Options.{Asked}
 use Rattle.fare_program.specs.inside.ChargedAhead.{IsChargedAhead}
 use Rattle.fare_program.specs.inside.PostedFiles.{AreLent}
@@ -110,6 +111,48 @@ ahead_joined asked origin loaded more files drawn =
 abbrev names_in : List (Bor (List ℕ)) → List (List ℕ)
 names_in words = map (λ w. w.now) words
 
+pub name_there : (words : List (Bor (List ℕ))) (place : ℕ) (none : Bor (List ℕ))
+    → place < length words → text_at (names_in words) place ≡ (get_or words place none).now
+name_there [] place none few = absurd (omega (arith, few))
+name_there (w ∷ words) zero none few = refl
+name_there (w ∷ words) (suc place) none few = name_there words place none (omega (arith, few))
+
+-- the upload of this number is under its name
+pub named_at : (named : List ℕ → Origin) (words : List (Bor (List ℕ))) (place : ℕ)
+    → place < length words
+    → origin_at (map (λ w. named w.now) words) place ≡ named (text_at (names_in words) place)
+named_at named [] place few = absurd (omega (arith, few))
+named_at named (w ∷ words) zero few = refl
+named_at named (w ∷ words) (suc place) few = named_at named words place (omega (arith, few))
+
+-- so it is if it may have bytes
+named_from : (named : List ℕ → Origin) (words : List (Bor (List ℕ))) (place : ℕ) (bytes : List ℕ)
+    → IsFrom (origin_at (map (λ w. named w.now) words) place) bytes
+    → origin_at (map (λ w. named w.now) words) place ≡ named (text_at (names_in words) place)
+named_from named [] place bytes from = absurd from
+named_from named (w ∷ words) zero bytes from = refl
+named_from named (w ∷ words) (suc place) bytes from = named_from named words place bytes from
+
+outside_loads : (origin : Origin) (bytes : List ℕ)
+    → loads_from (unless_memory origin) bytes ≡ loads_from origin bytes
+outside_loads nowhere bytes = refl
+outside_loads (memory known) bytes = refl
+outside_loads (file name) bytes = refl
+outside_loads anywhere bytes = refl
+
+pub outside_lent : (origin : Origin) (old new : Run) (bytes : List ℕ) → IsLent origin old new bytes
+    → IsLent (unless_memory origin) old new bytes
+outside_lent nowhere old new bytes lent = lent
+outside_lent (memory known) old new bytes lent = record { from = tt; loads = lent.loads }
+outside_lent (file name) old new bytes lent = lent
+outside_lent anywhere old new bytes lent = lent
+
+pub is_outside : (origin : Origin) → IsOutside (unless_memory origin)
+is_outside nowhere = tt
+is_outside (memory known) = tt
+is_outside (file name) = tt
+is_outside anywhere = tt
+
 module _ (asked : Asked) (origin : List ℕ → Origin) (words : List (Bor (List ℕ)))
     (files : List (List ℕ)) (old new : Run) (some : 0 < length words)
     (are : asked.files ≡ names_in words) where
@@ -132,29 +175,25 @@ module _ (asked : Asked) (origin : List ℕ → Origin) (words : List (Bor (List
       (subst (λ (ns : List (List ℕ)).
       AreReadInOrder origin ns (Some old.loads) (Some new.loads) files) (sym are) in_order)
 
-  -- an upload that may have bytes is under its name
-  same_origin : (ws : List (Bor (List ℕ))) (place : ℕ) (bytes : List ℕ)
-      → IsFrom (origin_at (map (λ w. origin w.now) ws) place) bytes
-      → origin_at (map (λ w. origin w.now) ws) place ≡ origin (text_at (names_in ws) place)
-  same_origin [] place bytes from = absurd from
-  same_origin (w ∷ ws) zero bytes from = refl
-  same_origin (w ∷ ws) (suc place) bytes from = same_origin ws place bytes from
+  abbrev named : List ℕ → Origin
+  named name = unless_memory (origin name)
 
   abbrev origins : List Origin
-  origins = map (λ w. origin w.now) words
+  origins = map (λ w. named w.now) words
 
   abbrev From : ℕ → Type 0
   From place = IsFrom (origin_at origins place) (file_at files place)
 
   abbrev FromName : ℕ → Type 0
-  FromName place = IsFrom (origin (text_at (names_in words) place)) (text_at files place)
+  FromName place = IsFrom (named (text_at (names_in words) place)) (text_at files place)
 
   from_names : (drawn : List ℕ) → All From drawn → All FromName drawn
   from_names [] from = All-nil FromName
   from_names (place ∷ drawn) from =
       let here = All-head From place drawn from in
       All-cons FromName place drawn
-      (subst (λ (o : Origin). IsFrom o (file_at files place)) (same_origin words place _ here) here)
+      (subst (λ (o : Origin). IsFrom o (file_at files place)) (named_from named words place _ here)
+      here)
       (from_names drawn (All-tail From place drawn from))
 
   same_loads : (drawn : List ℕ) → All From drawn
@@ -163,15 +202,16 @@ module _ (asked : Asked) (origin : List ℕ → Origin) (words : List (Bor (List
   same_loads (place ∷ drawn) from =
       let here = All-head From place drawn from in
       ap₂ (λ (ls more : List Load). ls ++ more)
-      (ap (λ (o : Origin). loads_from o (file_at files place)) (same_origin words place _ here))
+      (ap (λ (o : Origin). loads_from o (file_at files place)) (named_from named words place _ here)
+      ∙ outside_loads (origin (text_at (names_in words) place)) (file_at files place))
       (same_loads drawn (All-tail From place drawn from))
 
   pub drawn_ahead : (drawn : List ℕ) → asked.settle ≡ false
-      → AreLent (map (λ w. origin w.now) words) files drawn old new
+      → AreLent (map (λ w. unless_memory (origin w.now)) words) files drawn old new
       → AreReadAhead asked origin (Some old.loads) (Some new.loads) files drawn
   drawn_ahead drawn live lent =
       let number : length files ≡ length (names_in words) =
-      lent_number origins files lent.lent ∙ length-map words (λ (w : Bor (List ℕ)). origin w.now)
+      lent_number origins files lent.lent ∙ length-map words (λ (w : Bor (List ℕ)). named w.now)
       ∙ sym (length-map words (λ (w : Bor (List ℕ)). w.now)) in
       let loads : new.loads ≡ old.loads ++ flat_map (load_at origin (names_in words) files) drawn =
       ap (λ (r : Run). r.loads) lent.appended

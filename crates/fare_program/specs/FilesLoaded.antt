@@ -2,7 +2,7 @@
 use Rattle.std.specs.Prelude.{◌≡◌, ◌⊎◌, ◌<◌, ℕ, Bool, List, [], ◌∷◌, ◌++◌, map, Option, None, Some}
 use Rattle.std.specs.Prelude.{All, MatchBool, length, slice_index_or}
 use Rattle.std.specs.List.{AllZip, flat_map}
-use Rattle.world.specs.Origins.{IsFrom, Origin, loads_from}
+use Rattle.world.specs.Origins.{IsFrom, Origin, anywhere, file, loads_from, memory, nowhere}
 use Rattle.fare_program.specs.Options.{Asked}
 use Rattle.program_manners.specs.Loads.{Loaded, LoadsAll}
 
@@ -42,13 +42,21 @@ text_at texts place = slice_index_or texts place []
 abbrev pub load_at : (List ℕ → Origin) → List (List ℕ) → List (List ℕ) → ℕ → List Loaded
 load_at origin names files place = loads_from (origin (text_at names place)) (text_at files place)
 
+-- the same, but that nothing is said of bytes in memory: also a disk that has them may refuse a read
+abbrev pub unless_memory : Origin → Origin
+unless_memory (memory known) = anywhere
+unless_memory nowhere = nowhere
+unless_memory (file name) = file name
+unless_memory anywhere = anywhere
+
 -- The files of these names were read ahead from the disk by the workers that drew them: these
 -- places, each once. There is a name at least.
 pub record AreReadAsDrawn (origin : List ℕ → Origin) (names : List (List ℕ))
     (loaded loaded' : Option (List Loaded)) (files : List (List ℕ)) (drawn : List ℕ) : Type 0 where
   pub some : 0 < length names
   pub number : length files ≡ length names
-  pub from : All (λ place. IsFrom (origin (text_at names place)) (text_at files place)) drawn
+  pub from : All (λ place. IsFrom (unless_memory (origin (text_at names place)))
+      (text_at files place)) drawn
   pub loads : LoadsAll loaded loaded' (flat_map (load_at origin names files) drawn)
 
 -- The files that are asked for were read ahead from the disk: in their order if they are settled,

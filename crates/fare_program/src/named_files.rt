@@ -85,8 +85,10 @@ impl<D: Disk> Uploads for NamedFiles<'_, D> {
 
 impl<D: Disk> LentUploads for NamedFiles<'_, D> {
     ghost use Rattle.std.specs.Prelude.{map};
+    ghost use Rattle.fare_program.specs.FilesLoaded.{unless_memory};
 
-    ghost origins = { λ files. map (λ n. D.origin files.disk.now n.now) files.names.now };
+    ghost origins = { λ files.
+        map (λ n. unless_memory (D.origin files.disk.now n.now)) files.names.now };
 
     fn len(&self) -> usize {
         self.names.len()

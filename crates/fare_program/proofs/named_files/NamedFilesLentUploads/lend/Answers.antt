@@ -1,6 +1,31 @@
-use Rattle.std.proofs.Common.{arith}
+use Rattle.std.proofs.Common.{◌<◌, ℕ, List, arith, length, subst, sym}
 use Rattle.std.proofs.lemmas.List.{length-map}
+use Rattle.world.specs.Origins.{IsLent, Origin}
+use Rattle.fare_service.specs.Lending.{IsOutside}
+use Rattle.fare_program.specs.FilesLoaded.{unless_memory}
+use Rattle.fare_program.proofs.ReadAhead.{is_outside, named_at, outside_lent}
 use Rattle.fare_program.proofs.named_files.NamedFilesLentUploads.lend.Goals as goal
 
 pub read-requires : goal.read-requires
 read-requires g c = omega (arith, c.requires, length-map c.args.self.now.names.now _)
+
+pub returns-clause-lent : goal.returns-clause-lent
+returns-clause-lent g c =
+    let names = c.args.self.now.names.now in
+    let origin = g.D.Disk.origin c.args.self.now.disk.now in
+    let few : c.args.upload < length names = omega (arith, c.requires, length-map names _) in
+    let same = named_at (λ name. unless_memory (origin name)) names c.args.upload few in
+    subst (λ (o : Origin). IsLent o c.args.calls.now.run c.read.new.calls.run c.as_slice.result.now)
+    (sym same) (outside_lent _ _ _ _
+    (subst (λ (bytes : List ℕ). IsLent _ c.args.calls.now.run c.read.new.calls.run bytes)
+    (sym c.as_slice.ensures.value) c.in-Ok.ensures))
+
+pub returns-in_default-clause-none : goal.returns-in_default-clause-none
+returns-in_default-clause-none g c =
+    let names = c.args.self.now.names.now in
+    let origin = g.D.Disk.origin c.args.self.now.disk.now in
+    let few : c.args.upload < length names = omega (arith, c.requires, length-map names _) in
+    let same = named_at (λ name. unless_memory (origin name)) names c.args.upload few in (
+      c.requires,
+      subst (λ (o : Origin). IsOutside o) (sym same) (is_outside _),
+    )
