@@ -8,8 +8,8 @@ use Rattle.std.specs.Prelude.{MatchBool, option_map}
 use Rattle.std.specs.List.{AllZip}
 use Rattle.tariffs.specs.Fares.{Fares}
 use Rattle.tap_views.specs.declared.token.Token.{Token}
-use Rattle.world.specs.Origins.{IsFrom, IsLent, Origin, anywhere, file, loads_from, memory}
-use Rattle.world.specs.Origins.{nowhere}
+use Rattle.world.specs.Origins.{IsFrom, IsLent, Origin, anywhere, file as of_system, loads_from}
+use Rattle.world.specs.Origins.{memory, nowhere}
 use Rattle.world.specs.Run.{Calls, Load, Run, no_calls}
 use Rattle.fare_service.specs.Headline.{loads_at}
 use Rattle.fare_service.specs.Lending.{IsOutside, origin_at}
@@ -137,20 +137,20 @@ outside_loads : (origin : Origin) (bytes : List ℕ)
     → loads_from (unless_memory origin) bytes ≡ loads_from origin bytes
 outside_loads nowhere bytes = refl
 outside_loads (memory known) bytes = refl
-outside_loads (file name) bytes = refl
+outside_loads (of_system name) bytes = refl
 outside_loads anywhere bytes = refl
 
 pub outside_lent : (origin : Origin) (old new : Run) (bytes : List ℕ) → IsLent origin old new bytes
     → IsLent (unless_memory origin) old new bytes
 outside_lent nowhere old new bytes lent = lent
 outside_lent (memory known) old new bytes lent = record { from = tt; loads = lent.loads }
-outside_lent (file name) old new bytes lent = lent
+outside_lent (of_system name) old new bytes lent = lent
 outside_lent anywhere old new bytes lent = lent
 
 pub is_outside : (origin : Origin) → IsOutside (unless_memory origin)
 is_outside nowhere = tt
 is_outside (memory known) = tt
-is_outside (file name) = tt
+is_outside (of_system name) = tt
 is_outside anywhere = tt
 
 module _ (asked : Asked) (origin : List ℕ → Origin) (words : List (Bor (List ℕ)))

@@ -2,7 +2,8 @@
 use Rattle.std.specs.Prelude.{◌≡◌, ◌⊎◌, ◌<◌, ℕ, Bool, List, [], ◌∷◌, ◌++◌, map, Option, None, Some}
 use Rattle.std.specs.Prelude.{All, MatchBool, length, slice_index_or}
 use Rattle.std.specs.List.{AllZip, flat_map}
-use Rattle.world.specs.Origins.{IsFrom, Origin, anywhere, file, loads_from, memory, nowhere}
+use Rattle.world.specs.Origins.{IsFrom, Origin, anywhere, file as of_system, loads_from, memory}
+use Rattle.world.specs.Origins.{nowhere}
 use Rattle.fare_program.specs.Options.{Asked}
 use Rattle.program_manners.specs.Loads.{Loaded, LoadsAll}
 
@@ -46,7 +47,7 @@ load_at origin names files place = loads_from (origin (text_at names place)) (te
 abbrev pub unless_memory : Origin → Origin
 unless_memory (memory known) = anywhere
 unless_memory nowhere = nowhere
-unless_memory (file name) = file name
+unless_memory (of_system name) = of_system name
 unless_memory anywhere = anywhere
 
 -- The files of these names were read ahead from the disk by the workers that drew them: these
