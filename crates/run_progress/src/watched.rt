@@ -2,12 +2,13 @@
 
 use crate::meter::Meter;
 use crate::ticker::Ticker;
-use file_sources::{Amount, Disk, FileAhead, Source};
+use file_sources::{Amount, Disk, Source};
 use placed_files::{FileStamp, Placed, Unopened};
 use program_manners::{FileSource, LoadFault};
 use std::alloc::{AllocError, Global};
 use std::io;
 use std::sync::Wait;
+use world::{Loaded, Trace};
 
 /// A disk or a source whose reads are noted. It gives what the one below gives.
 #[derive(Drop)]
@@ -18,23 +19,32 @@ pub struct Watched<'a, R: Wait, S: Drop> {
 }
 
 impl<'a, R: Wait, S: Drop> Watched<'a, R, S> {
+    ghost use Rattle.std.specs.Prelude.{◌≡◌};
+
     /// The source `from`, whose reads the ticker shows.
-    pub fn new(rt: &'a R, ticker: &'a Ticker, from: S) -> Watched<'a, R, S> {
+    pub fn new(rt: &'a R, ticker: &'a Ticker, from: S) -> Watched<'a, R, S>
+        ensures { result.from ≡ from }
+    {
         Watched { rt, ticker, from }
     }
 }
 
-/// The disk of a runtime, whose reads are noted.
+/// A disk whose reads are noted. It gives what the one below gives.
 #[derive(Clone, Copy)]
-pub struct WatchedDisk<'a, R: Wait> {
+pub struct WatchedDisk<'a, R: Wait, D> {
     rt: &'a R,
     ticker: &'a Ticker,
+    from: &'a D,
 }
 
-impl<'a, R: Wait> WatchedDisk<'a, R> {
-    /// The runtime's disk, whose reads the ticker shows.
-    pub fn new(rt: &'a R, ticker: &'a Ticker) -> WatchedDisk<'a, R> {
-        WatchedDisk { rt, ticker }
+impl<'a, R: Wait, D> WatchedDisk<'a, R, D> {
+    ghost use Rattle.std.specs.Prelude.{◌≡◌};
+
+    /// The disk `from`, whose reads the ticker shows.
+    pub fn new(rt: &'a R, ticker: &'a Ticker, from: &'a D) -> WatchedDisk<'a, R, D>
+        ensures { result.from ≡ from.entry }
+    {
+        WatchedDisk { rt, ticker, from }
     }
 }
 
@@ -60,13 +70,15 @@ impl<F: Placed + Drop> Placed for WatchedFile<'_, F> {
     }
 }
 
-impl<'a, R: Disk + Wait> Disk for WatchedDisk<'a, R> {
-    type File = WatchedFile<'a, R::File>;
+impl<'a, R: Wait, D: Disk> Disk for WatchedDisk<'a, R, D> {
+    type File = WatchedFile<'a, D::File>;
 
-    ghost bytes_under = { λ w name. R.bytes_under w.rt.now name };
+    ghost bytes_under = { λ w name. D.bytes_under w.from.now name };
 
-    fn open_placed(&self, name: &str) -> Result<WatchedFile<'a, R::File>, Unopened> {
-        let from = self.rt.open_placed(name)?;
+    ghost origin = { λ w name. D.origin w.from.now name };
+
+    fn open_placed(&self, name: &str) -> Result<WatchedFile<'a, D::File>, Unopened> {
+        let from = self.from.open_placed(name)?;
         let meter = &self.ticker.meters.sorted;
         if let Ok(stamp) = from.stamp() {
             meter.extend(stamp.bytes);
@@ -76,7 +88,7 @@ impl<'a, R: Disk + Wait> Disk for WatchedDisk<'a, R> {
     }
 
     fn size_ahead(&self, name: &str) -> Option<u64> {
-        let size = self.rt.size_ahead(name);
+        let size = self.from.size_ahead(name);
         self.ticker.steps.lock(self.rt).look(size.is_some());
         size
     }
@@ -87,19 +99,24 @@ impl<'a, R: Disk + Wait> Disk for WatchedDisk<'a, R> {
         name: &str,
         sample: &mut Vec<u128>,
     ) -> Result<(), AllocError> {
-        self.rt.push_sample(alloc, name, sample)
+        self.from.push_sample(alloc, name, sample)
     }
 
-    fn read(&self, alloc: Global, name: &str) -> Result<Vec<u8>, LoadFault> {
+    fn read(&self, alloc: Global, name: String) -> Result<Loaded, LoadFault> {
         self.ticker.steps.lock(self.rt).begin_ahead();
-        let bytes = self.rt.read(alloc, name)?;
+        let file = self.from.read(alloc, name)?;
         self.ticker.steps.lock(self.rt).end_ahead();
-        Ok(bytes)
+        Ok(file)
     }
 
-    fn read_into(&self, name: &str, room: Vec<u8>) -> Result<Vec<u8>, LoadFault> {
+    fn read_into(
+        &self,
+        name: &str,
+        room: Vec<u8>,
+        calls: &mut Trace,
+    ) -> Result<Vec<u8>, LoadFault> {
         self.ticker.steps.lock(self.rt).begin_ahead();
-        let bytes = self.rt.read_into(name, room)?;
+        let bytes = self.from.read_into(name, room, calls)?;
         self.ticker.steps.lock(self.rt).end_settled();
         Ok(bytes)
     }
@@ -129,11 +146,7 @@ impl<R: Wait, S: FileSource + Drop> FileSource for Watched<'_, R, S> {
 }
 
 impl<R: Wait, S: Source + Drop> Source for Watched<'_, R, S> {
-    fn keeps_loads(&self) -> bool {
-        self.from.keeps_loads()
-    }
-
-    fn keep_ahead(&mut self, ahead: Vec<FileAhead>) {
+    fn keep_ahead(&mut self, ahead: Vec<Loaded>) {
         self.ticker.steps.lock(self.rt).keep_ahead(ahead.len());
         self.from.keep_ahead(ahead);
     }
@@ -143,5 +156,9 @@ impl<R: Wait, S: Source + Drop> Source for Watched<'_, R, S> {
         let bytes = self.from.input()?;
         self.ticker.steps.lock(self.rt).end_input();
         Ok(bytes)
+    }
+
+    fn join(&mut self, calls: Trace) {
+        self.from.join(calls);
     }
 }
