@@ -11,10 +11,10 @@ mod beside;
 
 use beside::run_beside_line;
 use fare_program::{Complaints, Host, Note, Output, list_words, unread_words, words_of};
-use program_manners::take_list;
+use program_manners::{Escaping, take_list};
 use run_progress::{Hushing, Steps, Ticker, Watched, WatchedDisk};
 use std::fs;
-use std::io::IsTerminal;
+use std::io::{IsTerminal, Write};
 use std::process::ExitCode;
 
 /// The ticker of the run that the words ask for. If the standard error is a terminal, the note on
@@ -30,13 +30,20 @@ fn ticker_for(rt: &HostRuntime, words: &[String]) -> Ticker {
 /// The words of the command line with the names of the list that they name, if they name one. On an
 /// error the reason was printed, and the error is the status.
 fn words_with_list(rt: &HostRuntime) -> Result<Vec<String>, u8> {
-    let mut err = Complaints::new(rt.stderr());
+    let mut err = Complaints::new(Escaping::new(rt.stderr()));
+    let words = named_words(rt, &mut err);
+    err.into_writer().finish();
+    words
+}
+
+/// The same. On an error the reason was reported.
+fn named_words<E: Write>(rt: &HostRuntime, err: &mut Complaints<E>) -> Result<Vec<String>, u8> {
     let words = match words_of(rt) {
         Ok(words) => words,
-        Err(fault) => return Err(unread_words(&fault, &mut err)),
+        Err(fault) => return Err(unread_words(&fault, err)),
     };
     let list = list_words(rt.alloc(), &words);
-    let more = take_list(rt, &words, list, None, &mut err)?;
+    let more = take_list(rt, &words, list, None, err)?;
     Ok(more.unwrap_or(words))
 }
 
@@ -55,13 +62,17 @@ fn main(rt: HostRuntime) -> ExitCode {
         Err(status) => return ExitCode::from(status),
     };
     let ticker = ticker_for(&rt, &words);
-    ExitCode::from(run_beside_line(
+    let hushing = Hushing::new(&rt, &ticker, rt.stderr(), false);
+    let mut err = Complaints::new(Escaping::new(hushing));
+    let status = run_beside_line(
         &rt,
         &words,
         &ticker,
         &WatchedDisk::new(&rt, &ticker),
         &mut Watched::new(&rt, &ticker, Host::new(&rt)),
         &mut Output::new(Hushing::new(&rt, &ticker, rt.stdout(), writes_to_file(&rt))),
-        &mut Complaints::new(Hushing::new(&rt, &ticker, rt.stderr(), false)),
-    ))
+        &mut err,
+    );
+    err.into_writer().finish();
+    ExitCode::from(status)
 }
