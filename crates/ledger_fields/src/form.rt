@@ -1,7 +1,7 @@
 //! The form of a ledger's line: its fields, and the row that they make.
 
 ghost use Rattle.std.specs.Prelude.{◌≡◌, ◌≢◌, ◌∷◌, ◌++◌, ◌<◌, ◌^◌, [], ℕ, List, MatchOption};
-ghost use Rattle.std.specs.Prelude.{All, IsTrue, ◌↔◌, codes, length};
+ghost use Rattle.std.specs.Prelude.{All, IsTrue, ◌↔◌, codes, length, true};
 ghost use Rattle.std.specs.Fmt.{decimal};
 ghost use Rattle.ledger_fields.specs.RowLines.{IsRowLine, IsTokenText, fields_of, is_line_byte};
 ghost use Rattle.ledger_fields.specs.RowLines.{is_token_digit};

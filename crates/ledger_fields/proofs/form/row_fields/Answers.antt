@@ -11,7 +11,7 @@ returns c =
     let is : c.is_token.result ≡ true = search rules in
     let plain : c.has_line_bytes.result ≡ true = search rules in
     record {
-      short = omega (arith, c.if-line_len-gt-MAX_LINE_BYTES.false);
+      short = omega (arith, c.if-line-gt-MAX_LINE_BYTES.false);
       token = c.is_token.ensures.0 is;
       validator = c.in_ok-validator.ensures.0;
       cents = c.in_ok-cents.ensures.0;
