@@ -20,7 +20,7 @@ _omny_tools() {
     # the options of the task, and the ending of its files: * is any name
     case $task in
     '') words='-V --version' ;;
-    encode) words='--columns --validators --only --separator --refused' ending=csv ;;
+    encode) words='--columns --validators --only --separator --unit --refused' ending=csv ;;
     merge-ledgers) words='--reports' ending=csv ;;
     corrections) words='--tokens' ending=csv ;;
     uploads) words='--good-part --tokens --look --within --from --until --table --list' ;;
@@ -44,7 +44,7 @@ _omny_tools() {
     uploads--table | table--table) ending=toml ;;
     esac
     case $before in
-    --from | --until | --within | --parts | --first | --columns | --only | --separator) return ;;
+    --from | --until | --within | --parts | --first | --columns | --only | --separator | --unit) return ;;
     --good-part | --refused | --files-from) ending='*' ;;
     --part-files) ending=/ ;;
     esac

@@ -35,6 +35,7 @@ complete -c omny_tools -n $encode -l validators -x -k -d 'Take the validators by
     -a '(__omny_tools_files .csv)'
 complete -c omny_tools -n $encode -l only -x -d 'Keep only the rows with this value'
 complete -c omny_tools -n $encode -l separator -x -a ', ";" tab' -d 'What stands between two fields'
+complete -c omny_tools -n $encode -l unit -x -a 's ms' -d 'What a plain number of a moment counts'
 complete -c omny_tools -n $encode -l refused -r -d 'Make a file of the rows that are no taps'
 set -l uploads '__fish_seen_subcommand_from uploads'
 complete -c omny_tools -n $uploads -l good-part -r -d 'Make a file of what stands before the fault'

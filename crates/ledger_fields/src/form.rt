@@ -1,14 +1,18 @@
 //! The form of a ledger's line: its fields, and the row that they make.
 
 ghost use Rattle.std.specs.Prelude.{◌≡◌, ◌≢◌, ◌∷◌, ◌++◌, ◌<◌, ◌^◌, [], ℕ, List, MatchOption};
-ghost use Rattle.std.specs.Prelude.{IsTrue, ◌↔◌, codes, length};
+ghost use Rattle.std.specs.Prelude.{All, IsTrue, ◌↔◌, codes, length, true};
 ghost use Rattle.std.specs.Fmt.{decimal};
-ghost use Rattle.ledger_fields.specs.RowLines.{IsRowLine, IsTokenText, fields_of, is_token_digit};
+ghost use Rattle.ledger_fields.specs.RowLines.{IsRowLine, IsTokenText, fields_of, is_line_byte};
+ghost use Rattle.ledger_fields.specs.RowLines.{is_token_digit};
 ghost use Rattle.ledger_fields.specs.Rows.{Row};
 ghost use Rattle.ledger_fields.specs.RowFields.{row_of_fields};
 ghost use Rattle.ledger_fields.specs.inside.Fields.{all_fields};
 
 use itoa::Buffer;
+
+/// How many bytes a ledger's line has at most, with its line feed.
+const MAX_LINE_BYTES: usize = 255;
 
 /// The fields of a ledger's line, as their texts.
 #[derive(Clone, Copy)]
@@ -101,6 +105,20 @@ fn is_token(text: &[u8]) -> bool
     text.len() == 32 && text.iter().all(|byte| is_digit(*byte))
 }
 
+/// Whether the byte is one that a ledger's line has before its line feed.
+fn is_line_byte(byte: u8) -> bool
+    ensures { result ≡ is_line_byte byte }
+{
+    32 < byte && byte < 127
+}
+
+/// Whether each byte is one.
+fn has_line_bytes(text: &[u8]) -> bool
+    ensures { IsTrue result ↔ All (λ byte. is_line_byte byte ≡ true) text.now }
+{
+    text.iter().all(|byte| is_line_byte(*byte))
+}
+
 /// The number of at most 32 bits that the digits write, if a ledger writes it so.
 fn number_of(digits: &[u8]) -> Option<u32>
     ensures { MatchOption result
@@ -127,13 +145,20 @@ fn without_feed(line: &[u8]) -> Option<&[u8]>
     line.strip_suffix(b"\n")
 }
 
-/// The fields of a ledger's line, with its line feed; nothing if the line has not twelve fields,
-/// its token is none, or its validator or its cents are no number of at most 32 bits.
+/// The fields of a ledger's line, with its line feed; nothing if the line has more than 255 bytes, a
+/// byte that no ledger has, or not twelve fields, if its token is none, or its validator or its
+/// cents are no number of at most 32 bits.
 pub fn row_fields(line: &[u8]) -> Option<RowFields<'_>>
     ensures { MatchOption result ((row : Row) → ¬ (IsRowLine row line.now))
         (λ fields. IsRowLine (row_of_fields fields) line.now) }
 {
+    if line.len() > MAX_LINE_BYTES {
+        return None;
+    }
     let text = without_feed(line)?;
+    if !has_line_bytes(text) {
+        return None;
+    }
     let fields = twelve_fields(text)?;
     if !is_token(fields.token) {
         return None;

@@ -16,12 +16,10 @@
 //! | `traced` | a traced ledger, read as a ledger, and its columns |
 //! | `output` | texts, written whole |
 //! | `fault` | why the program gives up, and the line that says so |
-//! | `escaping` | the control characters of mistakes and faults |
 //! | `program` | the whole |
 #![tactic(auto)]
 
 mod audit;
-mod escaping;
 mod fault;
 mod files;
 mod full_audit;
@@ -35,11 +33,10 @@ mod source;
 mod text;
 mod traced;
 
-use escaping::Escaping;
 use files::Host;
 use options::list_words;
 use program::main_over;
-use program_manners::{Complaints, Output, take_list, unread_words, words_of};
+use program_manners::{Complaints, Escaping, Output, take_list, unread_words, words_of};
 use std::io::Write;
 use std::process::ExitCode;
 use world::Recorded;

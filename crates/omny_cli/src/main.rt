@@ -4,18 +4,18 @@
 //!
 //! | module | what it does |
 //! |---|---|
-//! | `system` | a run over the files and the outputs of the system: what binds the program |
 //! | `beside` | a run with the line of `run_progress` beside it |
+//! | `system` | a run over the files and the outputs of the system: what binds the program |
 #![tactic(auto)]
 
 mod beside;
 mod system;
 
 use fare_program::{Complaints, Host, Note, Output, list_words, unread_words, words_of};
-use program_manners::take_list;
+use program_manners::{Escaping, take_list};
 use run_progress::{Hushing, Steps, Ticker, Watched};
 use std::fs;
-use std::io::IsTerminal;
+use std::io::{IsTerminal, Write};
 use std::process::ExitCode;
 use system::run_system;
 use world::Recorded;
@@ -33,13 +33,20 @@ fn ticker_for(rt: &HostRuntime, words: &[String]) -> Ticker {
 /// The words of the command line with the names of the list that they name, if they name one. On an
 /// error the reason was printed, and the error is the status.
 fn words_with_list(rt: &HostRuntime) -> Result<Vec<String>, u8> {
-    let mut err = Complaints::new(rt.stderr());
+    let mut err = Complaints::new(Escaping::new(rt.stderr()));
+    let words = named_words(rt, &mut err);
+    err.into_writer().finish();
+    words
+}
+
+/// The same. On an error the reason was reported.
+fn named_words<E: Write>(rt: &HostRuntime, err: &mut Complaints<E>) -> Result<Vec<String>, u8> {
     let words = match words_of(rt) {
         Ok(words) => words,
-        Err(fault) => return Err(unread_words(&fault, &mut err)),
+        Err(fault) => return Err(unread_words(&fault, err)),
     };
     let list = list_words(rt.alloc(), &words);
-    let more = take_list(rt, &words, list, None, &mut err)?;
+    let more = take_list(rt, &words, list, None, err)?;
     Ok(more.unwrap_or(words))
 }
 
@@ -59,14 +66,18 @@ fn main(rt: HostRuntime) -> ExitCode {
     };
     let ticker = ticker_for(&rt, &words);
     let out = Recorded::new(rt.stdout());
-    let err = Recorded::new(rt.stderr());
-    ExitCode::from(run_system(
+    let err = Recorded::new(Escaping::new(rt.stderr()));
+    let mut err = Complaints::new(Hushing::new(&rt, &ticker, err, false));
+    let status = run_system(
         &rt,
         &rt,
         &words,
         &ticker,
         &mut Watched::new(&rt, &ticker, Host::new(&rt)),
         &mut Output::new(Hushing::new(&rt, &ticker, out, writes_to_file(&rt))),
-        &mut Complaints::new(Hushing::new(&rt, &ticker, err, false)),
-    ))
+        &mut err,
+    );
+    let (escaping, _calls) = err.into_writer().into_writer().into_parts();
+    escaping.finish();
+    ExitCode::from(status)
 }

@@ -10,6 +10,7 @@ ghost use Rattle.omny_cli.specs.Charges.{ChargesNamed};
 
 use crate::beside::run_beside_line;
 use fare_program::{Complaints, Host, Output};
+use program_manners::Escaping;
 use run_progress::{Hushing, Ticker, Watched, WatchedDisk};
 use std::io::{Stderr, Stdout};
 use std::marker::Sync;
@@ -21,7 +22,8 @@ use world::Recorded;
 
 /// Runs the whole program over the files, the standard input, the standard output and the standard
 /// error of the system, of which nothing was read and to which nothing was written yet. What was
-/// loaded, written and reported is what the system calls tell.
+/// loaded and written is what the system calls tell. What was reported is what went to the standard
+/// error, before its control characters were escaped.
 pub fn run_system<R: Threads + Wait + Clock + RandomSource + Sync + AllocGlobal>(
     rt: &R,
     system: &HostRuntime,
@@ -29,7 +31,7 @@ pub fn run_system<R: Threads + Wait + Clock + RandomSource + Sync + AllocGlobal>
     ticker: &Ticker,
     source: &mut Watched<'_, R, Host<'_, HostRuntime>>,
     out: &mut Output<Hushing<'_, R, Recorded<Stdout>>>,
-    err: &mut Complaints<Hushing<'_, R, Recorded<Stderr>>>,
+    err: &mut Complaints<Hushing<'_, R, Recorded<Escaping<Stderr>>>>,
 ) -> u8
     requires unread { source.old.from.loads.trace ≡ no_calls }
     requires unwritten { out.old.writer.to.trace ≡ no_calls }

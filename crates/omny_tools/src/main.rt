@@ -3,9 +3,12 @@
 //!
 //! | module | what it does |
 //! |---|---|
+//! | `lines` | reports and ledgers of others |
 //! | `list_words` | the list of files that the words name |
+//! | `manner` | what the words ask for, as far as the system matters |
 //! | `output` | standard output |
 //! | `progress` | how far a long run is, on a terminal |
+//! | `quotes` | an agency's CSV, in which each quote is to be closed |
 //! | `texts` | files and standard input of the system |
 //! | `placed` | files of the system that are read at any offset |
 //! | `files_made` | files of the system that are made |
@@ -13,10 +16,13 @@
 #![tactic(auto)]
 
 mod files_made;
+mod lines;
 mod list_words;
+mod manner;
 mod output;
 mod placed;
 mod progress;
+mod quotes;
 mod run;
 mod texts;
 

@@ -1,6 +1,8 @@
 //! The whole program over the system, from the words to the status.
 
-use crate::files_made::{BegunName, FilesMade};
+use crate::files_made::FilesMade;
+use crate::lines::Looks;
+use crate::manner::{Manner, manner_of};
 use crate::output::collect;
 use crate::placed::FilesByName;
 use crate::progress::{Progress, Watching};
@@ -15,35 +17,46 @@ use std::thread::Threads;
 use tool_program::{Fault, main_over, say};
 use world::Recorded;
 
-/// What a terminal shows beside a run, and under which names files are begun, by the subcommand.
+/// What a terminal shows beside a run, and what is looked at in texts, by the subcommand.
 #[derive(Clone, Copy)]
-struct Manner {
+struct Shows {
     /// Whether counts are shown also where the text goes to a terminal: it is made behind them, or
     /// none is.
-    shows_counts: bool,
+    counts: bool,
     /// Whether it is shown how much of the text is written.
-    shows_text: bool,
-    /// Under which other names files are begun.
-    begun: BegunName,
+    text: bool,
+    /// What is looked at in the lines of texts.
+    looks: Looks,
 }
 
-impl Manner {
+impl Shows {
     /// That of the subcommand, which is the first word behind the program's name.
-    fn of(words: &[String]) -> Manner {
+    fn of(words: &[String]) -> Shows {
         let name = match words.get(1) {
             Some(word) => word.as_str(),
             None => "",
         };
-        Manner {
-            shows_counts: name == "uploads" || name == "table" || name == "sort" || name == "split",
-            shows_text: name == "merge" || name == "merge-ledgers" || name == "corrections",
-            begun: if name == "sort" {
-                BegunName::DotProcess
-            } else {
-                BegunName::Dot
+        Shows {
+            counts: name == "uploads" || name == "table" || name == "sort" || name == "split",
+            text: name == "merge" || name == "merge-ledgers" || name == "corrections",
+            looks: match name {
+                "merge-ledgers" => Looks::Controls,
+                "merge" | "corrections" => Looks::Length,
+                _ => Looks::None,
             },
         }
     }
+}
+
+/// The texts of a run.
+fn texts_of<'r>(rt: &'r HostRuntime, manner: Manner, shows: Shows) -> Texts<'r> {
+    if let Manner::Rows(separator) = manner {
+        return Texts::of_rows(rt, separator);
+    }
+    if shows.counts {
+        return Texts::shown(rt);
+    }
+    Texts::of_others(rt, shows.looks)
 }
 
 /// The whole program over the system: reads the words, of which the first is the program's name,
@@ -54,8 +67,13 @@ pub(crate) fn run<R: Threads + Sync, E: Write>(
     words: &[String],
     err: &mut Complaints<E>,
 ) -> u8 {
-    let manner = Manner::of(words);
-    let progress = if manner.shows_text {
+    let manner = manner_of(rt, words);
+    if let Manner::Refused(line) = manner {
+        err.report_line(line);
+        return 2;
+    }
+    let shows = Shows::of(words);
+    let progress = if shows.text {
         Progress::beside_text(rt)
     } else {
         Progress::hidden(rt)
@@ -69,12 +87,8 @@ pub(crate) fn run<R: Threads + Sync, E: Write>(
         say(err, &Fault::NoMemory);
         return 1;
     };
-    let mut source = if manner.shows_counts {
-        Texts::shown(rt)
-    } else {
-        Texts::new(rt)
-    };
-    let mut sink = FilesMade::new(rt, manner.begun);
+    let mut source = texts_of(rt, manner, shows);
+    let mut sink = FilesMade::new(rt);
     main_over(
         threads,
         rt.alloc(),

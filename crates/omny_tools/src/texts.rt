@@ -1,6 +1,8 @@
 //! The texts of the system, for the subcommands of `tool_program`.
 
+use crate::lines::{Lines, Looks};
 use crate::progress::{Progress, Watched};
+use crate::quotes::Quotes;
 use program_manners::{LoadFault, Opened, load_file, load_from, open_file};
 use std::alloc::Global;
 use std::fs;
@@ -35,6 +37,10 @@ pub(crate) struct Texts<'r> {
     rt: &'r HostRuntime,
     /// Where counts are shown.
     progress: Progress<'r>,
+    /// What is looked at in their lines.
+    looks: Looks,
+    /// What stands between two fields of a CSV whose quotes are looked at, if they are.
+    separator: Option<u8>,
 }
 
 impl<'r> Texts<'r> {
@@ -43,7 +49,34 @@ impl<'r> Texts<'r> {
         Texts {
             rt,
             progress: Progress::beside_text(rt),
+            looks: Looks::None,
+            separator: None,
         }
+    }
+
+    /// The same, of reports and ledgers of others, in whose lines something is looked at.
+    pub(crate) fn of_others(rt: &'r HostRuntime, looks: Looks) -> Texts<'r> {
+        Texts {
+            rt,
+            progress: Progress::beside_text(rt),
+            looks,
+            separator: None,
+        }
+    }
+
+    /// The same, of an agency's CSV with this byte between two fields.
+    pub(crate) fn of_rows(rt: &'r HostRuntime, separator: u8) -> Texts<'r> {
+        let mut texts = Texts::new(rt);
+        texts.separator = Some(separator);
+        texts
+    }
+
+    /// A text whose quotes are looked at, if that is wanted.
+    fn quotes(&self, name: Option<&str>) -> Result<Quotes<'r, Opened>, LoadFault> {
+        let Ok(word) = String::from_str(self.rt.alloc(), name.unwrap_or("-")) else {
+            return Err(LoadFault::NoMemory);
+        };
+        Ok(Quotes::new(self.rt, opened(self.rt, name)?, word, self.separator))
     }
 
     /// The same. Counts are shown whether or not: the text is made behind them, or none is.
@@ -51,6 +84,8 @@ impl<'r> Texts<'r> {
         Texts {
             rt,
             progress: Progress::new(rt),
+            looks: Looks::None,
+            separator: None,
         }
     }
 
@@ -60,8 +95,8 @@ impl<'r> Texts<'r> {
         name: Option<&str>,
         progress: Progress<'r>,
         shown: Shown,
-    ) -> Result<BufReader<Watched<'r, Opened>>, LoadFault> {
-        let from = opened(self.rt, name)?;
+    ) -> Result<BufReader<Watched<'r, Lines<Quotes<'r, Opened>>>>, LoadFault> {
+        let from = Lines::new(self.quotes(name)?, self.looks);
         let watched = Watched::new(from, progress, Some(shown.bytes), shown.verb);
         match BufReader::with_capacity(self.rt.alloc(), READ_BYTES, watched) {
             Ok(reader) => Ok(reader),
@@ -71,9 +106,12 @@ impl<'r> Texts<'r> {
 }
 
 impl<'r> Source for Texts<'r> {
-    type Text = BufReader<Watched<'r, Opened>>;
+    type Text = BufReader<Watched<'r, Lines<Quotes<'r, Opened>>>>;
 
-    fn open(&mut self, name: Option<&str>) -> Result<BufReader<Watched<'r, Opened>>, LoadFault> {
+    fn open(
+        &mut self,
+        name: Option<&str>,
+    ) -> Result<BufReader<Watched<'r, Lines<Quotes<'r, Opened>>>>, LoadFault> {
         let unshown = Shown {
             bytes: 0,
             verb: "read",
@@ -85,11 +123,11 @@ impl<'r> Source for Texts<'r> {
         &mut self,
         name: Option<&str>,
         shown: Shown,
-    ) -> Result<BufReader<Watched<'r, Opened>>, LoadFault> {
+    ) -> Result<BufReader<Watched<'r, Lines<Quotes<'r, Opened>>>>, LoadFault> {
         self.read(name, Progress::beside_text(self.rt), shown)
     }
 
-    fn end_shown(&mut self, text: &mut BufReader<Watched<'r, Opened>>) {
+    fn end_shown(&mut self, text: &mut BufReader<Watched<'r, Lines<Quotes<'r, Opened>>>>) {
         text.get_mut().end();
     }
 
@@ -102,7 +140,7 @@ impl<'r> Source for Texts<'r> {
     }
 
     fn load_any(&mut self, alloc: Global, name: Option<&str>) -> Result<Vec<u8>, LoadFault> {
-        let from = opened(self.rt, name)?;
+        let from = self.quotes(name)?;
         let mut watched = Watched::new(from, Progress::beside_text(self.rt), None, "read");
         let bytes = read_whole(alloc, &mut watched);
         watched.end();

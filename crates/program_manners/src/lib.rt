@@ -4,6 +4,7 @@
 //! | module | what it does |
 //! |---|---|
 //! | `complaints` | where mistakes and faults are reported |
+//! | `escaping` | the control characters of what is reported |
 //! | `output` | where the text of a run goes, and why it cannot go there |
 //! | `loading` | whole files up to a limit, and the line of one that was not loaded |
 //! | `file_source` | where whole files come from, by their names |
@@ -25,6 +26,7 @@
 mod answers;
 mod arguments;
 mod complaints;
+mod escaping;
 mod file_list;
 mod file_source;
 mod following;
@@ -46,6 +48,7 @@ mod words;
 pub use answers::show_answer;
 pub use arguments::{WordsFault, unread_words, words_of};
 pub use complaints::Complaints;
+pub use escaping::Escaping;
 pub use file_list::{ListFault, NameEnd, WrongName, names_of_list};
 pub use file_source::FileSource;
 pub use following::{FollowLine, NamedClassLine, NamedTableLine, NextFault, table_behind};

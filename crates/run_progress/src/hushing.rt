@@ -1,5 +1,7 @@
 //! A writer that takes the line away before it writes to where the line is.
 
+ghost use Rattle.std.specs.Prelude.{◌≡◌};
+
 use crate::ticker::Ticker;
 use std::io;
 use std::io::Write;
@@ -29,6 +31,21 @@ impl<'a, R: Wait, W: Write + Drop> Hushing<'a, R, W> {
             to,
             is_over: is_file,
         }
+    }
+}
+
+impl<R: Wait, W: Write + Drop> Hushing<'_, R, W> {
+    /// The writer below, when all is written.
+    pub fn into_writer(self) -> W
+        ensures { result ≡ self.to }
+    {
+        let Hushing {
+            rt: _,
+            ticker: _,
+            to,
+            is_over: _,
+        } = self;
+        to
     }
 }
 

@@ -1,8 +1,8 @@
 -- The text of the SQL tables that a fare table is written as: SQLite and PostgreSQL read it.
-use Rattle.std.specs.Prelude.{ℕ, List, [], ◌∷◌, ◌++◌, ◌==◌, ◌||◌, Bool, not, if◌then◌else◌, codes}
-use Rattle.std.specs.Prelude.{nat_lt}
+use Rattle.std.specs.Prelude.{ℕ, List, [], ◌∷◌, ◌++◌, ◌==◌, ◌||◌, ◌&&◌, Bool, true, false, not, if◌then◌else◌}
+use Rattle.std.specs.Prelude.{codes, nat_lt}
 use Rattle.std.specs.Fmt.{decimal}
-use Rattle.std.specs.List.{flat_map, list_all, list_any}
+use Rattle.std.specs.List.{flat_map, list_all}
 use Rattle.tariffs.specs.Fares.{Fares}
 use Rattle.table_report.specs.SqlRows.{Field, number, text, class_rows, fare_rows, mode_rows}
 use Rattle.table_report.specs.SqlRows.{pair_rows, range_rows, rider_rows, window_rows, zone_rows}
@@ -72,13 +72,23 @@ rows_text fares =
 abbrev pub sql_text : Fares → List ℕ
 sql_text fares = codes "BEGIN;\n" ++ (tables_text ++ (rows_text fares ++ codes "COMMIT;\n"))
 
--- a control character, which a program that reads SQL may change or end a text at
+-- a control character of one byte, which a program that reads SQL may change or end a text at
 abbrev pub is_control : ℕ → Bool
 is_control byte = nat_lt byte 32 || byte == 127
 
+-- the byte behind the first one of a control character of two bytes, U+0080 to U+009F
+abbrev pub is_control_end : List ℕ → Bool
+is_control_end [] = false
+is_control_end (byte ∷ rest) = nat_lt byte 160
+
+-- a control character begins with this byte, before these
+abbrev pub begins_control : ℕ → List ℕ → Bool
+begins_control byte rest = is_control byte || (byte == 194 && is_control_end rest)
+
 -- the name has none
 abbrev pub is_in_line : List ℕ → Bool
-is_in_line name = not (list_any is_control name)
+is_in_line [] = true
+is_in_line (byte ∷ rest) = not (begins_control byte rest) && is_in_line rest
 
 -- no name of a class has one
 abbrev pub has_names_in_line : Fares → Bool

@@ -9,6 +9,10 @@ use toml_parser::{Key, ParseError, dotted_key, quoted, starts_string, unquoted};
 /// The mark that may stand before the first line. An editor does not show it.
 const BYTE_ORDER_MARK: &str = "\u{feff}";
 
+/// How many parts of a key that has dots are kept: no key with a meaning has more. So a text of one
+/// long key takes no more than its length.
+const KEPT_PARTS: usize = 16;
+
 /// Where the keys and the values of a text stand, by their whole paths.
 #[derive(Drop)]
 pub(crate) struct Places {
@@ -140,7 +144,7 @@ impl Reader {
     /// The path of a key that may have dots. Each part is kept with the offset of the key.
     fn path_of(&mut self, holder: &str, key: &Key, at: &str) -> Result<String, Stop> {
         let mut path = String::from_str(self.alloc, holder)?;
-        for part in &key.path {
+        for part in key.path.iter().take(KEPT_PARTS) {
             path = key_path(self.alloc, path.as_str(), part.as_str())?;
             self.keep(path.as_str(), at)?;
             path = self.last_of(path)?;
@@ -282,16 +286,20 @@ impl Reader {
 }
 
 impl Places {
+    /// The lines of a text alone, and none of its keys.
+    pub(crate) fn of_lines(alloc: Global, text: &str) -> Result<Places, AllocError> {
+        Ok(Places {
+            offsets: BTreeMap::new(alloc),
+            values: BTreeMap::new(alloc),
+            lines: lines_of(alloc, text)?,
+            size: text.len(),
+        })
+    }
+
     /// The places of a text that is TOML. Of another text those up to what is wrong with it.
     pub(crate) fn of(alloc: Global, text: &str) -> Result<Places, AllocError> {
-        let lines = lines_of(alloc, text)?;
         let mut reader = Reader {
-            places: Places {
-                offsets: BTreeMap::new(alloc),
-                values: BTreeMap::new(alloc),
-                lines,
-                size: text.len(),
-            },
+            places: Places::of_lines(alloc, text)?,
             counts: BTreeMap::new(alloc),
             section: String::new(alloc),
             alloc,

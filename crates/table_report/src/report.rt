@@ -190,7 +190,7 @@ fn not_toml(alloc: Global, text: &str, error: TomlError) -> Result<Refusal, Allo
         Some(span) => span.start,
         None => 0,
     };
-    let places = Places::of(alloc, text)?;
+    let places = Places::of_lines(alloc, text)?;
     let (line, column) = places.line_and_column(text, start);
     Ok(Refusal::NotToml(line, column, error))
 }

@@ -5,7 +5,8 @@ ghost use Rattle.std.specs.Prelude.{string_bytes};
 ghost use Rattle.std.specs.Io.KnownBytes.{Appends};
 ghost use Rattle.std.specs.List.{list_all};
 ghost use Rattle.table_report.specs.declared.sql.ReportFault.{ReportFault};
-ghost use Rattle.table_report.specs.SqlText.{has_names_in_line, is_control, is_in_line};
+ghost use Rattle.table_report.specs.SqlText.{begins_control, has_names_in_line, is_control};
+ghost use Rattle.table_report.specs.SqlText.{is_control_end, is_in_line};
 ghost use Rattle.table_report.specs.SqlText.{rows_text, sql_text, tables_text};
 
 mod fields;
@@ -126,12 +127,29 @@ fn is_in_line(name: &str) -> bool
 {
     let mut rest = name.as_bytes();
     while let Some((byte, behind)) = rest.split_first() {
-        if is_control(*byte) {
+        if begins_control(*byte, behind) {
             return false;
         }
         rest = behind;
     }
     true
+}
+
+/// Whether a control character begins with the byte, before these.
+fn begins_control(byte: u8, behind: &[u8]) -> bool
+    ensures { result ≡ begins_control byte behind.now }
+{
+    is_control(byte) || (byte == 194 && is_control_end(behind))
+}
+
+/// Whether the bytes go on with the last one of a control character of two bytes.
+fn is_control_end(bytes: &[u8]) -> bool
+    ensures { result ≡ is_control_end bytes.now }
+{
+    match bytes.split_first() {
+        Some((byte, _rest)) => *byte < 160,
+        None => false,
+    }
 }
 
 /// Whether the byte is a control character.

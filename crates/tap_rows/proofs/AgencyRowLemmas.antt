@@ -10,9 +10,9 @@ use Rattle.csv.specs.Records.{field_at}
 use Rattle.tap_rows.specs.Agencies.{HasNoColumn, IsWanting}
 use Rattle.tap_rows.specs.declared.agency.choice.Choice.{Choice}
 use Rattle.tap_rows.specs.declared.agency.fault.Wanted.TheVariants as wanted
-use Rattle.tap_rows.specs.AgencyMoments.{IsLocalTime}
 use Rattle.tap_rows.specs.AgencyRows.{HasSome, HasValue, IsColumn, IsMet, IsNoDevice, IsNoMoment}
-use Rattle.tap_rows.specs.AgencyRows.{IsNoNumber, IsNoTap, IsTokenText, StandsForValidator}
+use Rattle.tap_rows.specs.AgencyRows.{IsMomentReason, IsNoNumber, IsNoTap, IsTokenText}
+use Rattle.tap_rows.specs.AgencyRows.{StandsForValidator}
 use Rattle.tap_rows.specs.Devices.{devices_of, validator_of}
 use Rattle.tap_rows.specs.Rows.{IsNoValidator, IsValidator}
 use Rattle.tap_rows.specs.declared.devices.table.DeviceTable.{DeviceTable}
@@ -134,35 +134,35 @@ pub wrong_moment : (choice : Choice) (head row : List (List ℕ)) (bytes : List 
     (text : List ℕ) (reason : Reason)
     → HasSome head row choice.token.now (λ text. IsTokenText text bytes)
     → HasSome head row choice.validator.now (λ text. StandsForValidator choice.devices text number)
-    → HasValue head row choice.moment.now text → IsNoMoment text
-    → (reason ≡ why.LocalTime → IsLocalTime text)
-    → (¬ (reason ≡ why.LocalTime) → (reason ≡ why.Moment) × ¬ (IsLocalTime text))
-    → IsNoTap choice head row reason
-wrong_moment choice head row bytes number text why.Fields token validator has none local other =
-    absurd (cc ((other (λ e. cc e)).0))
-wrong_moment choice head row bytes number text why.Token token validator has none local other =
-    absurd (cc ((other (λ e. cc e)).0))
-wrong_moment choice head row bytes number text why.Validator token validator has none local other =
-    absurd (cc ((other (λ e. cc e)).0))
-wrong_moment choice head row bytes number text why.Device token validator has none local other =
-    absurd (cc ((other (λ e. cc e)).0))
-wrong_moment choice head row bytes number text why.LocalTime token validator has none local other =
+    → HasValue head row choice.moment.now text → IsNoMoment choice.unit text
+    → IsMomentReason choice.unit text reason → IsNoTap choice head row reason
+wrong_moment choice head row bytes number text why.Fields token validator has none is = absurd is
+wrong_moment choice head row bytes number text why.Token token validator has none is = absurd is
+wrong_moment choice head row bytes number text why.Validator token validator has none is = absurd is
+wrong_moment choice head row bytes number text why.Device token validator has none is = absurd is
+wrong_moment choice head row bytes number text why.LocalTime token validator has none is =
     record {
       bytes = bytes;
       number = number;
       token = token;
       validator = validator;
-      wrong =
-          (text, has, (none, local refl));
+      wrong = (text, has, (none, is));
     }
-wrong_moment choice head row bytes number text why.Moment token validator has none local other =
+wrong_moment choice head row bytes number text why.Early token validator has none is =
     record {
       bytes = bytes;
       number = number;
       token = token;
       validator = validator;
-      wrong =
-          (text, has, (none, (other (λ e. cc e)).1));
+      wrong = (text, has, (none, is));
+    }
+wrong_moment choice head row bytes number text why.Moment token validator has none is =
+    record {
+      bytes = bytes;
+      number = number;
+      token = token;
+      validator = validator;
+      wrong = (text, has, (none, is));
     }
 
 -- what a validator's field stands for, by the number or by the device
@@ -208,6 +208,7 @@ wrong_validator choice head row bytes text why.Validator token has is =
 wrong_validator choice head row bytes text why.Device token has is =
     record { bytes = bytes; token = token; wrong = (text, has, is) }
 wrong_validator choice head row bytes text why.LocalTime token has is = absurd is
+wrong_validator choice head row bytes text why.Early token has is = absurd is
 wrong_validator choice head row bytes text why.Moment token has is = absurd is
 
 -- ---- no column is wanting if all were found

@@ -8,16 +8,18 @@ use Rattle.csv.specs.declared.parser.Config.{Config}
 use Rattle.csv.specs.declared.parser.State.{State}
 use Rattle.tap_views.specs.declared.encoder.TapFields.{TapFields}
 use Rattle.tap_rows.specs.Agencies.{IsRead}
-use Rattle.tap_rows.specs.AgencyMoments.{IsAgencyMoment, IsLocalTime}
+use Rattle.tap_rows.specs.AgencyMoments.{IsAgencyMoment}
 use Rattle.tap_rows.specs.AgencyRows.{HasSome, IsNoDevice, IsNoNumber, IsNoToken, IsNoMoment}
-use Rattle.tap_rows.specs.AgencyRows.{IsReadingOf, IsTapOf, IsTokenText, StandsForValidator}
+use Rattle.tap_rows.specs.AgencyRows.{IsMomentReason, IsReadingOf, IsTapOf, IsTokenText}
+use Rattle.tap_rows.specs.AgencyRows.{StandsForValidator}
 use Rattle.tap_rows.specs.declared.devices.table.DeviceTable.{DeviceTable}
 use Rattle.tap_rows.specs.declared.agency.choice.Choice.{Choice}
+use Rattle.tap_rows.specs.declared.agency.choice.Unit.{Unit}
 use Rattle.tap_rows.specs.declared.agency.reading.Reading.{Reading}
 use Rattle.tap_rows.specs.declared.agency.reading.Reading.TheVariants as read
 use Rattle.tap_rows.specs.declared.agency.reading.Reason.{Reason}
 use Rattle.tap_rows.specs.declared.agency.reading.Reason.TheVariants as why
-use Rattle.tap_rows.proofs.AgencyMomentLemmas.{one_agency_time}
+use Rattle.tap_rows.proofs.AgencyMomentLemmas.{local_is_not_early, one_agency_time}
 use Rattle.tap_rows.proofs.AgencyRowLemmas.{one_value_there}
 
 -- ---- the records
@@ -106,12 +108,12 @@ no_number_or_device choice head row =
     apart_there head row choice.validator.now (IsNoNumber choice.devices)
     (IsNoDevice choice.devices) (number_or_device choice.devices)
 
-no_moment_twice : (head row : List (List ℕ)) (name : List ℕ) (number : ℕ) (P : List ℕ → Type 0)
-    → HasSome head row name (λ text. IsAgencyMoment text number)
-    → HasSome head row name (λ text. IsNoMoment text × P text) → ⊥
-no_moment_twice head row name number P is none = let (value, a, b) =
-    same_there head row name (λ text. IsAgencyMoment text number) (λ text. IsNoMoment text × P text)
-    is none in b.0 number a
+no_moment_twice : (counted : Unit) (head row : List (List ℕ)) (name : List ℕ) (number : ℕ)
+    (P : List ℕ → Type 0) → HasSome head row name (λ text. IsAgencyMoment counted text number)
+    → HasSome head row name (λ text. IsNoMoment counted text × P text) → ⊥
+no_moment_twice counted head row name number P is none = let (value, a, b) =
+    same_there head row name (λ text. IsAgencyMoment counted text number)
+    (λ text. IsNoMoment counted text × P text) is none in b.0 number a
 
 one_token_there : (head row : List (List ℕ)) (name a b : List ℕ)
     → HasSome head row name (λ text. IsTokenText text a)
@@ -132,13 +134,13 @@ one_validator_there choice head row a b is also =
     (λ text. StandsForValidator choice.devices text b) is also in
     one_number choice.devices value a b x y
 
-one_moment_there : (head row : List (List ℕ)) (name : List ℕ) (a b : ℕ)
-    → HasSome head row name (λ text. IsAgencyMoment text a)
-    → HasSome head row name (λ text. IsAgencyMoment text b) → a ≡ b
-one_moment_there head row name a b is also =
-    let (value, x, y) = same_there head row name (λ text. IsAgencyMoment text a)
-    (λ text. IsAgencyMoment text b) is also in
-    one_agency_time value a b x.0 y.0
+one_moment_there : (counted : Unit) (head row : List (List ℕ)) (name : List ℕ) (a b : ℕ)
+    → HasSome head row name (λ text. IsAgencyMoment counted text a)
+    → HasSome head row name (λ text. IsAgencyMoment counted text b) → a ≡ b
+one_moment_there counted head row name a b is also =
+    let (value, x, y) = same_there head row name (λ text. IsAgencyMoment counted text a)
+    (λ text. IsAgencyMoment counted text b) is also in
+    one_agency_time counted value a b x.0 y.0
 
 abbrev tap_having : List ℕ → ℕ → ℕ → TapFields
 tap_having token validator moment = record { token = token; validator = validator; moment = moment }
@@ -150,8 +152,8 @@ one_tap_there choice head row tap other is also =
     also.token in
     let validator = one_validator_there choice head row tap.validator other.validator is.validator
     also.validator in
-    let moment = one_moment_there head row choice.moment.now tap.moment other.moment is.moment
-    also.moment in
+    let moment = one_moment_there choice.unit head row choice.moment.now tap.moment other.moment
+    is.moment also.moment in
     let first : tap ≡ tap_having other.token tap.validator tap.moment =
     ap (λ t. tap_having t tap.validator tap.moment) token in
     let second : tap_having other.token tap.validator tap.moment
@@ -173,10 +175,14 @@ tap_or_refused choice head row tap why.Validator is also =
 tap_or_refused choice head row tap why.Device is also =
     no_device_twice choice head row tap.validator is.2.validator also.2.wrong
 tap_or_refused choice head row tap why.LocalTime is also =
-    no_moment_twice head row choice.moment.now tap.moment IsLocalTime is.2.moment also.2.wrong
+    no_moment_twice choice.unit head row choice.moment.now tap.moment
+    (λ text. IsMomentReason choice.unit text why.LocalTime) is.2.moment also.2.wrong
+tap_or_refused choice head row tap why.Early is also =
+    no_moment_twice choice.unit head row choice.moment.now tap.moment
+    (λ text. IsMomentReason choice.unit text why.Early) is.2.moment also.2.wrong
 tap_or_refused choice head row tap why.Moment is also =
-    no_moment_twice head row choice.moment.now tap.moment (λ text. ¬ (IsLocalTime text)) is.2.moment
-    also.2.wrong
+    no_moment_twice choice.unit head row choice.moment.now tap.moment
+    (λ text. IsMomentReason choice.unit text why.Moment) is.2.moment also.2.wrong
 
 left_out_or_refused : (choice : Choice) (head row : List (List ℕ)) (reason : Reason)
     → IsReadingOf choice head row read.LeftOut
@@ -186,16 +192,38 @@ left_out_or_refused choice head row why.Token is also = is.1 also.1
 left_out_or_refused choice head row why.Validator is also = is.1 also.1
 left_out_or_refused choice head row why.Device is also = is.1 also.1
 left_out_or_refused choice head row why.LocalTime is also = is.1 also.1
+left_out_or_refused choice head row why.Early is also = is.1 also.1
 left_out_or_refused choice head row why.Moment is also = is.1 also.1
 
+-- a moment's field is wrong in one way
+abbrev HasWrongMoment : Choice → List (List ℕ) → List (List ℕ) → Reason → Type 0
+HasWrongMoment choice head row reason = HasSome head row choice.moment.now
+    (λ text. IsNoMoment choice.unit text × IsMomentReason choice.unit text reason)
+
+wrong_moments_apart : (choice : Choice) (head row : List (List ℕ)) (a b : Reason)
+    → ((text : List ℕ) → IsMomentReason choice.unit text a
+    → ¬ (IsMomentReason choice.unit text b)) → HasWrongMoment choice head row a
+    → ¬ (HasWrongMoment choice head row b)
+wrong_moments_apart choice head row a b apart is also =
+    let (value, x, y) = same_there head row choice.moment.now
+    (λ text. IsNoMoment choice.unit text × IsMomentReason choice.unit text a)
+    (λ text. IsNoMoment choice.unit text × IsMomentReason choice.unit text b) is also in
+    apart value x.1 y.1
+
+local_or_early : (choice : Choice) (head row : List (List ℕ))
+    → HasWrongMoment choice head row why.LocalTime → ¬ (HasWrongMoment choice head row why.Early)
+local_or_early choice head row =
+    wrong_moments_apart choice head row why.LocalTime why.Early (local_is_not_early choice.unit)
+
 local_or_not : (choice : Choice) (head row : List (List ℕ))
-    → IsReadingOf choice head row (read.Refused why.LocalTime)
-    → ¬ (IsReadingOf choice head row (read.Refused why.Moment))
-local_or_not choice head row is also =
-    let (value, a, b) = same_there head row choice.moment.now
-    (λ text. IsNoMoment text × IsLocalTime text) (λ text. IsNoMoment text × ¬ (IsLocalTime text))
-    is.2.wrong also.2.wrong in
-    b.1 a.1
+    → HasWrongMoment choice head row why.LocalTime → ¬ (HasWrongMoment choice head row why.Moment)
+local_or_not choice head row =
+    wrong_moments_apart choice head row why.LocalTime why.Moment (λ text is other. other.0 is)
+
+early_or_not : (choice : Choice) (head row : List (List ℕ))
+    → HasWrongMoment choice head row why.Early → ¬ (HasWrongMoment choice head row why.Moment)
+early_or_not choice head row =
+    wrong_moments_apart choice head row why.Early why.Moment (λ text is other. other.1 is)
 
 one_reason : (choice : Choice) (head row : List (List ℕ)) (a b : Reason)
     → IsReadingOf choice head row (read.Refused a) → IsReadingOf choice head row (read.Refused b)
@@ -205,6 +233,7 @@ one_reason choice head row why.Fields why.Token is also = absurd (is also.0)
 one_reason choice head row why.Fields why.Validator is also = absurd (is also.0)
 one_reason choice head row why.Fields why.Device is also = absurd (is also.0)
 one_reason choice head row why.Fields why.LocalTime is also = absurd (is also.0)
+one_reason choice head row why.Fields why.Early is also = absurd (is also.0)
 one_reason choice head row why.Fields why.Moment is also = absurd (is also.0)
 one_reason choice head row why.Token why.Fields is also = absurd (also is.0)
 one_reason choice head row why.Token why.Token is also = refl
@@ -213,6 +242,8 @@ one_reason choice head row why.Token why.Validator is also =
 one_reason choice head row why.Token why.Device is also =
     absurd (no_token_twice head row choice.token.now also.2.bytes also.2.token is.2)
 one_reason choice head row why.Token why.LocalTime is also =
+    absurd (no_token_twice head row choice.token.now also.2.bytes also.2.token is.2)
+one_reason choice head row why.Token why.Early is also =
     absurd (no_token_twice head row choice.token.now also.2.bytes also.2.token is.2)
 one_reason choice head row why.Token why.Moment is also =
     absurd (no_token_twice head row choice.token.now also.2.bytes also.2.token is.2)
@@ -224,6 +255,8 @@ one_reason choice head row why.Validator why.Device is also =
     absurd (no_number_or_device choice head row is.2.wrong also.2.wrong)
 one_reason choice head row why.Validator why.LocalTime is also =
     absurd (no_number_twice choice head row also.2.number also.2.validator is.2.wrong)
+one_reason choice head row why.Validator why.Early is also =
+    absurd (no_number_twice choice head row also.2.number also.2.validator is.2.wrong)
 one_reason choice head row why.Validator why.Moment is also =
     absurd (no_number_twice choice head row also.2.number also.2.validator is.2.wrong)
 one_reason choice head row why.Device why.Fields is also = absurd (also is.0)
@@ -233,6 +266,8 @@ one_reason choice head row why.Device why.Validator is also =
     absurd (no_number_or_device choice head row also.2.wrong is.2.wrong)
 one_reason choice head row why.Device why.Device is also = refl
 one_reason choice head row why.Device why.LocalTime is also =
+    absurd (no_device_twice choice head row also.2.number also.2.validator is.2.wrong)
+one_reason choice head row why.Device why.Early is also =
     absurd (no_device_twice choice head row also.2.number also.2.validator is.2.wrong)
 one_reason choice head row why.Device why.Moment is also =
     absurd (no_device_twice choice head row also.2.number also.2.validator is.2.wrong)
@@ -244,8 +279,22 @@ one_reason choice head row why.LocalTime why.Validator is also =
 one_reason choice head row why.LocalTime why.Device is also =
     absurd (no_device_twice choice head row is.2.number is.2.validator also.2.wrong)
 one_reason choice head row why.LocalTime why.LocalTime is also = refl
+one_reason choice head row why.LocalTime why.Early is also =
+    absurd (local_or_early choice head row is.2.wrong also.2.wrong)
 one_reason choice head row why.LocalTime why.Moment is also =
-    absurd (local_or_not choice head row is also)
+    absurd (local_or_not choice head row is.2.wrong also.2.wrong)
+one_reason choice head row why.Early why.Fields is also = absurd (also is.0)
+one_reason choice head row why.Early why.Token is also =
+    absurd (no_token_twice head row choice.token.now is.2.bytes is.2.token also.2)
+one_reason choice head row why.Early why.Validator is also =
+    absurd (no_number_twice choice head row is.2.number is.2.validator also.2.wrong)
+one_reason choice head row why.Early why.Device is also =
+    absurd (no_device_twice choice head row is.2.number is.2.validator also.2.wrong)
+one_reason choice head row why.Early why.LocalTime is also =
+    absurd (local_or_early choice head row also.2.wrong is.2.wrong)
+one_reason choice head row why.Early why.Early is also = refl
+one_reason choice head row why.Early why.Moment is also =
+    absurd (early_or_not choice head row is.2.wrong also.2.wrong)
 one_reason choice head row why.Moment why.Fields is also = absurd (also is.0)
 one_reason choice head row why.Moment why.Token is also =
     absurd (no_token_twice head row choice.token.now is.2.bytes is.2.token also.2)
@@ -254,7 +303,9 @@ one_reason choice head row why.Moment why.Validator is also =
 one_reason choice head row why.Moment why.Device is also =
     absurd (no_device_twice choice head row is.2.number is.2.validator also.2.wrong)
 one_reason choice head row why.Moment why.LocalTime is also =
-    absurd (local_or_not choice head row also is)
+    absurd (local_or_not choice head row also.2.wrong is.2.wrong)
+one_reason choice head row why.Moment why.Early is also =
+    absurd (early_or_not choice head row also.2.wrong is.2.wrong)
 one_reason choice head row why.Moment why.Moment is also = refl
 
 pub one_reading_there : (choice : Choice) (head row : List (List ℕ)) (a b : Reading)

@@ -95,6 +95,7 @@ reason_word why.Token = codes "token"
 reason_word why.Validator = codes "validator"
 reason_word why.Device = codes "device"
 reason_word why.LocalTime = codes "local time"
+reason_word why.Early = codes "before 2000"
 reason_word why.Moment = codes "moment"
 
 -- a refused row as it is written: its number, its reason, and its fields

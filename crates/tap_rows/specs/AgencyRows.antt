@@ -5,11 +5,12 @@ use Rattle.std.specs.Borrow.{Bor}
 use Rattle.csv.specs.Records.{field_at}
 use Rattle.uuid.specs.Text.{parsed}
 use Rattle.tap_views.specs.declared.encoder.TapFields.{TapFields}
-use Rattle.tap_rows.specs.AgencyMoments.{IsAgencyMoment, IsLocalTime}
+use Rattle.tap_rows.specs.AgencyMoments.{IsAgencyMoment, IsEarly, IsLocalTime}
 use Rattle.tap_rows.specs.Devices.{devices_of, validator_of}
 use Rattle.tap_rows.specs.Rows.{IsNoValidator, IsValidator}
 use Rattle.tap_rows.specs.declared.agency.choice.Choice.{Choice}
 use Rattle.tap_rows.specs.declared.agency.choice.Condition.{Condition}
+use Rattle.tap_rows.specs.declared.agency.choice.Unit.{Unit}
 use Rattle.tap_rows.specs.declared.agency.reading.Reading.{Reading}
 use Rattle.tap_rows.specs.declared.agency.reading.Reading.TheVariants as read
 use Rattle.tap_rows.specs.declared.agency.reading.Reason.{Reason}
@@ -55,7 +56,8 @@ pub record IsTapOf (choice : Choice) (head row : List (List ℕ)) (tap : TapFiel
   pub token : HasSome head row choice.token.now (λ text. IsTokenText text tap.token)
   pub validator : HasSome head row choice.validator.now
       (λ text. StandsForValidator choice.devices text tap.validator)
-  pub moment : HasSome head row choice.moment.now (λ text. IsAgencyMoment text tap.moment)
+  pub moment : HasSome head row choice.moment.now
+      (λ text. IsAgencyMoment choice.unit text tap.moment)
 
 -- the text is no token
 abbrev pub IsNoToken : List ℕ → Type 0
@@ -72,8 +74,18 @@ IsNoDevice None text = ⊥
 IsNoDevice (Some devices) text = validator_of (devices_of devices.now) text ≡ None
 
 -- the text is no moment
-abbrev pub IsNoMoment : List ℕ → Type 0
-IsNoMoment text = (number : ℕ) → ¬ (IsAgencyMoment text number)
+abbrev pub IsNoMoment : Unit → List ℕ → Type 0
+IsNoMoment counted text = (number : ℕ) → ¬ (IsAgencyMoment counted text number)
+
+-- why a text that is no moment is none: a local time, or a time that is too early, or neither
+abbrev pub IsMomentReason : Unit → List ℕ → Reason → Type 0
+IsMomentReason counted text why.Fields = ⊥
+IsMomentReason counted text why.Token = ⊥
+IsMomentReason counted text why.Validator = ⊥
+IsMomentReason counted text why.Device = ⊥
+IsMomentReason counted text why.LocalTime = IsLocalTime text
+IsMomentReason counted text why.Early = IsEarly counted text
+IsMomentReason counted text why.Moment = ¬ (IsLocalTime text) × ¬ (IsEarly counted text)
 
 -- the row's first field that is wrong is the token's
 abbrev pub HasNoToken : Choice → List (List ℕ) → List (List ℕ) → Type 0
@@ -94,7 +106,8 @@ pub record HasNoMoment (choice : Choice) (head row : List (List ℕ)) (IsWrong :
   pub token : HasSome head row choice.token.now (λ text. IsTokenText text bytes)
   pub validator : HasSome head row choice.validator.now
       (λ text. StandsForValidator choice.devices text number)
-  pub wrong : HasSome head row choice.moment.now (λ text. IsNoMoment text × IsWrong text)
+  pub wrong : HasSome head row choice.moment.now
+      (λ text. IsNoMoment choice.unit text × IsWrong text)
 
 -- why a row that is kept, and has as many fields as the head, is no tap
 abbrev pub IsNoTap : Choice → List (List ℕ) → List (List ℕ) → Reason → Type 0
@@ -102,8 +115,12 @@ IsNoTap choice head row why.Fields = ⊥
 IsNoTap choice head row why.Token = HasNoToken choice head row
 IsNoTap choice head row why.Validator = HasNoValidator choice head row (IsNoNumber choice.devices)
 IsNoTap choice head row why.Device = HasNoValidator choice head row (IsNoDevice choice.devices)
-IsNoTap choice head row why.LocalTime = HasNoMoment choice head row IsLocalTime
-IsNoTap choice head row why.Moment = HasNoMoment choice head row (λ text. ¬ (IsLocalTime text))
+IsNoTap choice head row why.LocalTime =
+    HasNoMoment choice head row (λ text. IsMomentReason choice.unit text why.LocalTime)
+IsNoTap choice head row why.Early =
+    HasNoMoment choice head row (λ text. IsMomentReason choice.unit text why.Early)
+IsNoTap choice head row why.Moment =
+    HasNoMoment choice head row (λ text. IsMomentReason choice.unit text why.Moment)
 
 -- the row has as many fields as the head
 abbrev pub IsAsLong : List (List ℕ) → List (List ℕ) → Type 0
@@ -120,6 +137,8 @@ IsRefused choice head row why.Device =
     IsAsLong head row × IsKept choice head row × IsNoTap choice head row why.Device
 IsRefused choice head row why.LocalTime =
     IsAsLong head row × IsKept choice head row × IsNoTap choice head row why.LocalTime
+IsRefused choice head row why.Early =
+    IsAsLong head row × IsKept choice head row × IsNoTap choice head row why.Early
 IsRefused choice head row why.Moment =
     IsAsLong head row × IsKept choice head row × IsNoTap choice head row why.Moment
 

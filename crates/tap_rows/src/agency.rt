@@ -12,7 +12,7 @@ mod summary;
 mod waiting;
 mod writing;
 
-pub use choice::{Choice, Condition, Separator};
+pub use choice::{Choice, Condition, Separator, Unit};
 pub use fault::{AgencyFault, Wanted};
 pub(crate) use places::has_at;
 pub(crate) use reading::field_in;

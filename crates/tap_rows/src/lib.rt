@@ -15,7 +15,7 @@ mod read;
 mod row;
 
 pub use agency::{
-    AgencyFault, Choice, Condition, Reading, Reason, Separator, Summary, Wanted, encode_rows,
+    AgencyFault, Choice, Condition, Reading, Reason, Separator, Summary, Unit, Wanted, encode_rows,
     encode_some_rows,
 };
 pub use column::Column;

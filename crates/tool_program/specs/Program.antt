@@ -8,14 +8,13 @@ use Rattle.program_manners.specs.TableWords.{date_text}
 use Rattle.world.specs.declared.faults.LoadFault.{LoadFault}
 use Rattle.program_manners.specs.declared.output.WriteEnd.{WriteEnd}
 use Rattle.program_manners.specs.declared.table_words.DateFault.{DateFault}
-use Rattle.tap_rows.specs.declared.agency.summary.Summary.{Summary}
 use Rattle.tool_program.specs.Merge.{GivesUpMerge, MergesReports}
 use Rattle.tool_program.specs.MergeLedgers.{GivesUpLedgers, MergesLedgers}
 use Rattle.tool_tasks.specs.Corrections.{Corrects, GivesUpCorrections, IsWarned}
 use Rattle.tool_tasks.specs.Decode.{AreReported, Decoded, Decodes, DecodesFaulty, GivesUpDecode}
 use Rattle.tool_tasks.specs.Decode.{are_whole}
 use Rattle.tool_tasks.specs.Encode.{EncodesTable, GivesUpEncode}
-use Rattle.tool_tasks.specs.EncodeRows.{EncodesRows, GivesUpRows, IsSummaryReported}
+use Rattle.tool_tasks.specs.EncodeRows.{EncodesWith, GivesUpRows}
 use Rattle.tool_tasks.specs.Fault.{IsFaultReported}
 use Rattle.tool_tasks.specs.GoodPart.{GivesUpGoodPart, KeepsGoodPart}
 use Rattle.tool_tasks.specs.Look.{GivesUpLook, Looks, LooksFaulty}
@@ -26,13 +25,15 @@ use Rattle.tool_tasks.specs.Sort.{GivesUpSort, Sorts, ends_name, refused_lines}
 use Rattle.tool_tasks.specs.Split.{GivesUpSplit, Splits}
 use Rattle.tool_tasks.specs.Table.{EndsIll, EndsWell}
 use Rattle.tool_tasks.specs.Uploads.{GivesUpWith, Listed, ListsFaulty, ListsWith, are_sound}
+use Rattle.tool_tasks.specs.declared.encode_rows.RowsOutcome.{RowsOutcome}
+use Rattle.tool_tasks.specs.declared.encode_rows.RowsOutcome.TheVariants as outcomes
 use Rattle.tool_tasks.specs.declared.fault.Fault.{Fault}
 use Rattle.tool_tasks.specs.declared.fault.Fault.TheVariants.{NoMemory}
 use Rattle.tool_tasks.specs.declared.sink.NewFault.{NewFault}
 use Rattle.tool_tasks.specs.declared.sort.SortWords.{SortWords}
 use Rattle.tool_tasks.specs.declared.split.SplitWords.{SplitWords}
-use Rattle.tool_words.specs.Asked.{Asked, CorrectionsAsked, SortAsked, SplitAsked, corrections}
-use Rattle.tool_words.specs.Asked.{decode, encode, encode_rows, good_part, look, merge}
+use Rattle.tool_words.specs.Asked.{Asked, CorrectionsAsked, RowsAsked, SortAsked, SplitAsked}
+use Rattle.tool_words.specs.Asked.{corrections, decode, encode, encode_rows, good_part, look, merge}
 use Rattle.tool_words.specs.Asked.{merge_ledgers, mistake, sort, split, table, uploads, wrong_date}
 use Rattle.tool_words.specs.Mistakes.{mistake_text}
 use Rattle.tool_words.specs.Tasks.{good_part_of, look_of, rows_words_of, table_of}
@@ -97,16 +98,21 @@ abbrev pub MergesAll : SortAsked → Run → Type 0
 MergesAll asked run = (words : SortWords) × AreSortWords asked words
     × Merges words (known_of run asked.uploads) run.made run.made'
 
+-- the rows of an agency's CSV were encoded, and this came of them
+abbrev pub EncodesSo : RowsOutcome → List ℕ → RowsAsked → Run → Type 0
+EncodesSo outcome word asked run = IfKept run ((words : RowsWords)
+    × (rows_words_of words ≡ asked)
+    × EncodesWith outcome words word run.loaded run.loaded' run.made run.made' run.out run.out'
+    run.said run.said' run.unsaid)
+
 -- What is asked for was done, with status 0. Of a source that keeps what it loads. `Silent` says
 -- that nothing was said.
 abbrev pub IsDone : Asked → Run → Type 0 → Type 0
 IsDone (encode word) run Silent =
     IfKept run (EncodesTable word run.loaded run.loaded' run.out run.out')
     × (run.is_flushed ≡ true) × Silent
-IsDone (encode_rows word asked) run Silent = IfKept run ((words : RowsWords)
-    × (rows_words_of words ≡ asked) × (summary : Summary)
-    × EncodesRows words word run.loaded run.loaded' run.made run.made' run.out run.out' summary
-    × IsSummaryReported summary run.said run.said' run.unsaid) × (run.is_flushed ≡ true)
+IsDone (encode_rows word asked) run Silent =
+    EncodesSo outcomes.Whole word asked run × (run.is_flushed ≡ true)
 IsDone (decode words) run Silent = ((decoded : List Decoded)
     × Decodes words run.loaded run.loaded' run.out run.out' decoded
     × (are_whole decoded ≡ true)) × (run.is_flushed ≡ true) × Silent
@@ -140,8 +146,11 @@ IsDone (corrections ledgers) run Silent = (run.is_flushed ≡ true) × IfKept ru
 IsDone (mistake why) run Silent = ⊥
 IsDone (wrong_date word why) run Silent = ⊥
 
--- It was done, with status 3: an upload has a layout fault, which `sort` reports, or was refused.
+-- It was done, with status 3: an upload has a layout fault, which `sort` reports, or was refused, or
+-- rows were refused.
 abbrev pub IsPartlyDone : Asked → Run → Type 0
+IsPartlyDone (encode_rows word asked) run =
+    EncodesSo outcomes.SomeRefused word asked run × (run.is_flushed ≡ true)
 IsPartlyDone (sort asked) run =
     MatchBool asked.is_merge ⊥ (IfKept run (SortsAll asked run false))
 IsPartlyDone (merge ends reports) run =
@@ -153,11 +162,13 @@ IsPartlyDone asked run = ⊥
 abbrev pub Faults : Run → (Fault → Type 0) → Type 0
 Faults run Why = (fault : Fault) × IsFaultReported fault run.said run.said' run.unsaid × Why fault
 
--- With status 1 the right fault was reported, or the text has the layout fault of an upload.
+-- With status 1 the right fault was reported, or the text has the layout fault of an upload, or no
+-- row is a tap.
 abbrev pub IsGivenUp : Asked → Run → Type 0 → Type 0
 IsGivenUp (encode word) run Silent = Faults run (λ fault. IfKept run
     (GivesUpEncode word run.loaded run.loaded' run.refused run.end fault run.out run.out'))
-IsGivenUp (encode_rows word asked) run Silent = Faults run (λ fault. (words : RowsWords)
+IsGivenUp (encode_rows word asked) run Silent = EncodesSo outcomes.NoTap word asked run
+    ⊎ Faults run (λ fault. (words : RowsWords)
     × (rows_words_of words ≡ asked) × IfKept run (GivesUpRows words word run.loaded run.loaded'
     run.refused run.made run.made' run.unbegun run.unmade run.end fault run.out run.out'))
 IsGivenUp (decode words) run Silent =

@@ -1,7 +1,7 @@
 -- What `encode` of an agency's own CSV does: of the word of its file, and of the words that say how
 -- it is read.
 use Rattle.std.specs.Prelude.{◌≡◌, ◌⊎◌, ⊤, ◌+◌, ℕ, List, [], ◌∷◌, ◌++◌, Bool, Option, None, Some}
-use Rattle.std.specs.Prelude.{codes, decimal, option_map, slice_get}
+use Rattle.std.specs.Prelude.{◌==◌, if◌then◌else◌, codes, decimal, option_map, slice_get}
 use Rattle.std.specs.Borrow.{Bor}
 use Rattle.std.specs.Io.KnownBytes.{Keeps}
 use Rattle.program_manners.specs.LineWritten.{LineWritten}
@@ -25,6 +25,8 @@ use Rattle.tool_tasks.specs.Sink.{IsNewName, IsNotMade, Made, Makes, RefusesNew}
 use Rattle.tool_tasks.specs.Source.{HasOpened}
 use Rattle.tool_tasks.specs.Uploads.{IsMomentOrDash}
 use Rattle.tool_words.specs.declared.task.RowsWords.{RowsWords}
+use Rattle.tool_tasks.specs.declared.encode_rows.RowsOutcome.{RowsOutcome}
+use Rattle.tool_tasks.specs.declared.encode_rows.RowsOutcome.TheVariants as outcomes
 use Rattle.tool_tasks.specs.declared.fault.Fault.{Fault}
 use Rattle.tool_tasks.specs.declared.fault.Fault.TheVariants.{Closed, Devices, Exists, NoMemory}
 use Rattle.tool_tasks.specs.declared.fault.Fault.TheVariants.{Rows, SomeChanged, Unmade, Unread}
@@ -51,6 +53,7 @@ pub record IsChoice (words : RowsWords) (devices : Option (List Device)) (choice
   pub token : choice.token.now ≡ words.token.now
   pub validator : choice.validator.now ≡ words.validator.now
   pub moment : choice.moment.now ≡ words.moment.now
+  pub unit : choice.unit ≡ words.unit
   pub table : option_map (λ table. devices_of table.now) choice.devices ≡ devices
   pub only : choice.only.now ≡ words.only.items
 
@@ -91,6 +94,11 @@ pub record IsSummaryLine (summary : Summary) (line : List ℕ) : Type 0 where
   pub is_first : IsMomentOrDash (option_map (λ span. span.first) summary.span) first
   pub is_last : IsMomentOrDash (option_map (λ span. span.last) summary.span) last
   pub shown : line ≡ rows_counts summary ++ (first ++ (codes " last " ++ last))
+
+-- what came of the rows of a summary
+abbrev pub rows_outcome : Summary → RowsOutcome
+rows_outcome summary = if summary.taps == 0 then outcomes.NoTap
+    else (if summary.refused == 0 then outcomes.Whole else outcomes.SomeRefused)
 
 -- the line of the summary was reported, unless a write of it failed
 pub record IsSummaryReported (summary : Summary) (said said' : Option (List ℕ)) (failed : Bool)
@@ -135,6 +143,14 @@ pub record EncodesRows (words : RowsWords) (word : List ℕ)
   pub of_devices : HasDevices words loaded between devices
   pub encodes : EncodesText (word_in words.refused) word choice between loaded' made made' out out'
       summary
+
+-- the rows were encoded, the line of their summary was reported, and this came of them
+abbrev pub EncodesWith : RowsOutcome → RowsWords → List ℕ → Option (List Loaded)
+    → Option (List Loaded) → Option (List Made) → Option (List Made) → Option (List ℕ)
+    → Option (List ℕ) → Option (List ℕ) → Option (List ℕ) → Bool → Type 0
+EncodesWith outcome words word loaded loaded' made made' out out' said said' failed =
+    (summary : Summary) × EncodesRows words word loaded loaded' made made' out out' summary
+    × IsSummaryReported summary said said' failed × (rows_outcome summary ≡ outcome)
 
 -- ---- a fault
 -- the name is that of the column that is wanted

@@ -38,6 +38,7 @@ reason_text reason.Token = codes "the token is neither 32 hexadecimal digits nor
 reason_text reason.Validator = codes "the validator is no number from 0 to 4294967295"
 reason_text reason.Device = codes "the device is none of --validators"
 reason_text reason.LocalTime = codes "the moment is a local time: it has neither Z nor an offset"
+reason_text reason.Early = codes "the moment is before 2000: say --unit s or --unit ms"
 reason_text reason.Moment = codes "the moment is no time before 2100 in whole milliseconds"
 
 -- what is wrong with an agency's CSV

@@ -1,5 +1,5 @@
 //! `encode` of an agency's own CSV.
-ghost use Rattle.std.specs.Prelude.{◌≡◌, ◌≢◌, ◌≤◌, ℕ, IfErr, IfOk, List, None, Ok, OnOk, Option};
+ghost use Rattle.std.specs.Prelude.{◌≡◌, ◌≢◌, ◌⊎◌, ℕ, IfErr, IfOk, List, None, Ok, OnOk, Option};
 ghost use Rattle.std.specs.Prelude.{Some, option_map, string_bytes, true};
 ghost use Rattle.std.specs.Io.KnownBytes.{Keeps};
 ghost use Rattle.program_manners.specs.Loads.{Loaded, OpensOne};
@@ -8,9 +8,9 @@ ghost use Rattle.program_manners.specs.declared.output.WriteEnd.{WriteEnd as AnE
 ghost use Rattle.tap_rows.specs.Agencies.{IsRowsEncoded};
 ghost use Rattle.tap_rows.specs.Devices.{devices_of};
 ghost use Rattle.tap_rows.specs.declared.agency.summary.Summary.{Summary as ASummary};
-ghost use Rattle.tool_tasks.specs.EncodeRows.{EncodesRows, GivesUpRows};
+ghost use Rattle.tool_tasks.specs.EncodeRows.{EncodesRows, EncodesWith, GivesUpRows};
 ghost use Rattle.tool_tasks.specs.EncodeRows.{HasDevices, IsChoice, IsColumnName};
-ghost use Rattle.tool_tasks.specs.EncodeRows.{IsSummaryLine, IsSummaryReported, StopsDevices};
+ghost use Rattle.tool_tasks.specs.EncodeRows.{IsSummaryLine, StopsDevices, rows_outcome};
 ghost use Rattle.tool_tasks.specs.EncodeRows.{StopsRows, word_in};
 ghost use Rattle.tool_tasks.specs.Fault.{IsFaultReported, IsRefusal};
 ghost use Rattle.tool_tasks.specs.Names.{file_named};
@@ -18,7 +18,8 @@ ghost use Rattle.tool_tasks.specs.declared.fault.Fault.{Fault as AFault};
 ghost use Rattle.tool_tasks.specs.inside.EncodeRows.{EncodesOnce, EndsRows, HasEncoded};
 ghost use Rattle.tool_tasks.specs.inside.EncodeRows.{HasEncodedAll, HasGivenUp, HasGivenUpAll};
 ghost use Rattle.tool_tasks.specs.inside.EncodeRows.{HasLoadedDevices, IsNamedDevicesFault};
-ghost use Rattle.tool_tasks.specs.inside.EncodeRows.{IsNewFault, IsRowsFault, IsUnfinished};
+ghost use Rattle.tool_tasks.specs.inside.EncodeRows.{IsNewFault, IsRowsEnd, IsRowsFault};
+ghost use Rattle.tool_tasks.specs.inside.EncodeRows.{IsUnfinished};
 ghost use Rattle.tool_tasks.specs.inside.EncodeRows.{StopsOnce};
 
 use crate::fault::{Fault, finish, say};
@@ -47,6 +48,7 @@ fn choice<'c>(words: &'c RowsWords<'_>, devices: Option<&'c DeviceTable>) -> Cho
         validator: words.validator.as_bytes(),
         devices,
         moment: words.moment.as_bytes(),
+        unit: words.unit,
         only: &words.only,
     }
 }
@@ -127,6 +129,37 @@ fn devices_in<'a, S: Source>(
     }
 }
 
+/// What came of the rows.
+#[derive(Clone, Copy, Debug, PartialEq, Eq)]
+pub enum RowsOutcome {
+    /// Each row that is kept is a tap, and there is one.
+    Whole,
+    /// A row was refused, and another is a tap.
+    SomeRefused,
+    /// No row is a tap.
+    NoTap,
+}
+
+/// How an encoding ended: the line of its summary, without its line feed, and what came of the rows.
+#[derive(Drop)]
+struct RowsEnd {
+    line: String,
+    outcome: RowsOutcome,
+}
+
+/// What came of the rows of a summary.
+fn outcome_of(summary: &Summary) -> RowsOutcome
+    ensures { result ≡ rows_outcome summary.now }
+{
+    if summary.taps == 0 {
+        RowsOutcome::NoTap
+    } else if summary.refused == 0 {
+        RowsOutcome::Whole
+    } else {
+        RowsOutcome::SomeRefused
+    }
+}
+
 /// The line of how many rows there are of each kind, and of the first and the last moment, without
 /// its line feed.
 fn summary_line(alloc: Global, summary: &Summary) -> Result<String, AllocError>
@@ -179,7 +212,7 @@ fn fault_of<'a>(
     }
 }
 
-/// Lets all that was written go out. Gives the line of the summary, or why the rows were not
+/// Lets all that was written go out. Gives how it ended, or why the rows were not
 /// encoded. The writer of the refused rows remembers `refused_end`.
 fn end_rows<'a, W: Write>(
     alloc: Global,
@@ -188,10 +221,10 @@ fn end_rows<'a, W: Write>(
     encoded: Result<Summary, AgencyFault>,
     refused_end: Option<WriteEnd>,
     out: &mut Output<W>,
-) -> Result<String, Fault<'a>>
+) -> Result<RowsEnd, Fault<'a>>
     ensures kept { Keeps (W.contents out.old.writer) (W.contents out.new.writer) }
-    ensures done { IfOk result (λ line. (summary : ASummary) × (encoded ≡ Ok summary)
-        × IsSummaryLine summary (string_bytes line)) }
+    ensures done { IfOk result (λ end. (summary : ASummary) × (encoded ≡ Ok summary)
+        × IsRowsEnd summary end) }
     ensures fault { IfErr result (EndsRows words.now word.entry.now encoded out.new.end
         refused_end) }
     ensures flushed { OnOk result (out.new.is_flushed ≡ true) }
@@ -200,7 +233,10 @@ fn end_rows<'a, W: Write>(
         Err(unwritten) => Err(unwritten),
         Ok(()) => match encoded {
             Ok(summary) => match summary_line(alloc, &summary) {
-                Ok(line) => Ok(line),
+                Ok(line) => Ok(RowsEnd {
+                    line,
+                    outcome: outcome_of(&summary),
+                }),
                 Err(_) => Err(Fault::NoMemory),
             },
             Err(fault) => Err(fault_of(words, word, fault, out.end(), refused_end)),
@@ -209,7 +245,7 @@ fn end_rows<'a, W: Write>(
 }
 
 /// Writes the upload of rows of which none is refused, and lets it go out: they are read twice.
-/// Gives the line of their summary.
+/// Gives how it ended.
 fn encode_twice<'a, R: Read + Drop, T: Read + Drop, W: Write>(
     alloc: Global,
     choice: &Choice<'_>,
@@ -218,9 +254,9 @@ fn encode_twice<'a, R: Read + Drop, T: Read + Drop, W: Write>(
     text: R,
     again: T,
     out: &mut Output<W>,
-) -> Result<String, Fault<'a>>
-    ensures done { IfOk result (λ line. (bytes : List ℕ) → T.remaining again ≡ Some bytes
-        → (summary : ASummary) × IsSummaryLine summary (string_bytes line)
+) -> Result<RowsEnd, Fault<'a>>
+    ensures done { IfOk result (λ end. (bytes : List ℕ) → T.remaining again ≡ Some bytes
+        → (summary : ASummary) × IsRowsEnd summary end
         × IsRowsEncoded choice.now bytes (W.contents out.old.writer) (W.contents out.new.writer)
         None None summary × (summary.first_refused ≡ None)) }
     ensures stops { IfErr result (λ fault. (bytes later : List ℕ) → R.remaining text ≡ Some bytes
@@ -234,7 +270,7 @@ fn encode_twice<'a, R: Read + Drop, T: Read + Drop, W: Write>(
 }
 
 /// Writes the upload of the rows that are kept, and the refused rows to `refused`, and lets the
-/// upload go out. Gives the line of the summary.
+/// upload go out. Gives how it ended.
 fn encode_once<'a, R: Read + Drop, W: Write, X: Write>(
     alloc: Global,
     choice: &Choice<'_>,
@@ -243,9 +279,9 @@ fn encode_once<'a, R: Read + Drop, W: Write, X: Write>(
     text: R,
     out: &mut Output<W>,
     refused: &mut Output<X>,
-) -> Result<String, Fault<'a>>
-    ensures done { IfOk result (λ line. (bytes : List ℕ) → R.remaining text ≡ Some bytes
-        → (summary : ASummary) × IsSummaryLine summary (string_bytes line)
+) -> Result<RowsEnd, Fault<'a>>
+    ensures done { IfOk result (λ end. (bytes : List ℕ) → R.remaining text ≡ Some bytes
+        → (summary : ASummary) × IsRowsEnd summary end
         × IsRowsEncoded choice.now bytes (W.contents out.old.writer) (W.contents out.new.writer)
         (X.contents refused.old.writer) (X.contents refused.new.writer) summary) }
     ensures stops { IfErr result (λ fault. (bytes name : List ℕ) → R.remaining text ≡ Some bytes
@@ -257,7 +293,7 @@ fn encode_once<'a, R: Read + Drop, W: Write, X: Write>(
     end_rows(alloc, words, word, encoded, refused.end(), out)
 }
 
-/// Encodes a file of this number of bytes, which is opened twice. Gives the line of its summary.
+/// Encodes a file of this number of bytes, which is opened twice. Gives how it ended.
 fn encode_file<'a, S: Source, W: Write>(
     alloc: Global,
     choice: &Choice<'_>,
@@ -266,10 +302,10 @@ fn encode_file<'a, S: Source, W: Write>(
     bytes: u64,
     source: &mut S,
     out: &mut Output<W>,
-) -> Result<String, Fault<'a>>
-    ensures done { IfOk result (λ line. HasEncodedAll word.entry.now choice.now
+) -> Result<RowsEnd, Fault<'a>>
+    ensures done { IfOk result (λ end. HasEncodedAll word.entry.now choice.now
         (S.loaded source.old) (S.loaded source.new) (W.contents out.old.writer)
-        (W.contents out.new.writer) (string_bytes line)) }
+        (W.contents out.new.writer) end) }
     ensures stops { IfErr result (λ fault. HasGivenUpAll words.now word.entry.now choice.now
         (S.loaded source.old) (S.loaded source.new) (S.refused source.new) out.new.end fault
         (W.contents out.old.writer) (W.contents out.new.writer)) }
@@ -291,7 +327,7 @@ fn encode_file<'a, S: Source, W: Write>(
     done
 }
 
-/// Encodes what is loaded first: standard input or a pipe. Gives the line of its summary.
+/// Encodes what is loaded first: standard input or a pipe. Gives how it ended.
 fn encode_loaded<'a, S: Source, W: Write>(
     alloc: Global,
     choice: &Choice<'_>,
@@ -299,10 +335,10 @@ fn encode_loaded<'a, S: Source, W: Write>(
     word: &'a str,
     source: &mut S,
     out: &mut Output<W>,
-) -> Result<String, Fault<'a>>
-    ensures done { IfOk result (λ line. HasEncodedAll word.entry.now choice.now
+) -> Result<RowsEnd, Fault<'a>>
+    ensures done { IfOk result (λ end. HasEncodedAll word.entry.now choice.now
         (S.loaded source.old) (S.loaded source.new) (W.contents out.old.writer)
-        (W.contents out.new.writer) (string_bytes line)) }
+        (W.contents out.new.writer) end) }
     ensures stops { IfErr result (λ fault. HasGivenUpAll words.now word.entry.now choice.now
         (S.loaded source.old) (S.loaded source.new) (S.refused source.new) out.new.end fault
         (W.contents out.old.writer) (W.contents out.new.writer)) }
@@ -314,8 +350,8 @@ fn encode_loaded<'a, S: Source, W: Write>(
     encode_twice(alloc, choice, words, word, checked, encoded, out)
 }
 
-/// Encodes the rows of the file that the word names, of which none is refused. Gives the line of
-/// their summary.
+/// Encodes the rows of the file that the word names, of which none is refused. Gives how it
+/// ended.
 fn encode_all<'a, S: Source, W: Write>(
     alloc: Global,
     choice: &Choice<'_>,
@@ -323,10 +359,10 @@ fn encode_all<'a, S: Source, W: Write>(
     word: &'a str,
     source: &mut S,
     out: &mut Output<W>,
-) -> Result<String, Fault<'a>>
-    ensures done { IfOk result (λ line. HasEncodedAll word.entry.now choice.now
+) -> Result<RowsEnd, Fault<'a>>
+    ensures done { IfOk result (λ end. HasEncodedAll word.entry.now choice.now
         (S.loaded source.old) (S.loaded source.new) (W.contents out.old.writer)
-        (W.contents out.new.writer) (string_bytes line)) }
+        (W.contents out.new.writer) end) }
     ensures stops { IfErr result (λ fault. HasGivenUpAll words.now word.entry.now choice.now
         (S.loaded source.old) (S.loaded source.new) (S.refused source.new) out.new.end fault
         (W.contents out.old.writer) (W.contents out.new.writer)) }
@@ -358,7 +394,7 @@ fn open_once<'a, S: Source>(source: &mut S, word: &'a str) -> Result<S::Text, Fa
 }
 
 /// Encodes the rows of the file that the word names, and writes the refused rows to `refused`.
-/// Gives the line of the summary.
+/// Gives how it ended.
 fn encode_some<'a, S: Source, W: Write, X: Write>(
     alloc: Global,
     choice: &Choice<'_>,
@@ -367,11 +403,11 @@ fn encode_some<'a, S: Source, W: Write, X: Write>(
     source: &mut S,
     out: &mut Output<W>,
     refused: &mut Output<X>,
-) -> Result<String, Fault<'a>>
-    ensures done { IfOk result (λ line. (kept : List Loaded) → S.loaded source.old ≡ Some kept
+) -> Result<RowsEnd, Fault<'a>>
+    ensures done { IfOk result (λ end. (kept : List Loaded) → S.loaded source.old ≡ Some kept
         → EncodesOnce word.entry.now choice.now (S.loaded source.old) (S.loaded source.new)
         (W.contents out.old.writer) (W.contents out.new.writer) (X.contents refused.old.writer)
-        (X.contents refused.new.writer) (string_bytes line)) }
+        (X.contents refused.new.writer) end) }
     ensures stops { IfErr result (λ fault. (kept : List Loaded) (name : List ℕ)
         → S.loaded source.old ≡ Some kept
         → StopsOnce words.now name word.entry.now choice.now (S.loaded source.old)
@@ -407,7 +443,7 @@ pub(crate) fn fault_of_unfinished<'a>(fault: MakeFault) -> Fault<'a>
 }
 
 /// Encodes the rows of the file that the word names, and makes the file of the refused rows. After
-/// a fault there is no such file. Gives the line of the summary.
+/// a fault there is no such file. Gives how it ended.
 fn encode_and_refuse<'a, S: Source, K: Sink, W: Write>(
     alloc: Global,
     choice: &Choice<'_>,
@@ -417,11 +453,11 @@ fn encode_and_refuse<'a, S: Source, K: Sink, W: Write>(
     source: &mut S,
     sink: &mut K,
     out: &mut Output<W>,
-) -> Result<String, Fault<'a>>
-    ensures done { IfOk result (λ line. HasEncoded (Some refused.entry.now) word.entry.now
+) -> Result<RowsEnd, Fault<'a>>
+    ensures done { IfOk result (λ end. HasEncoded (Some refused.entry.now) word.entry.now
         choice.now (S.loaded source.old) (S.loaded source.new) (K.made sink.old)
         (K.made sink.new) (W.contents out.old.writer) (W.contents out.new.writer)
-        (string_bytes line)) }
+        end) }
     ensures kept { IfErr result (λ _. K.made sink.new ≡ K.made sink.old) }
     ensures stops { IfErr result (λ fault. HasGivenUp words.now (Some refused.entry.now)
         word.entry.now choice.now (S.loaded source.old) (S.loaded source.new)
@@ -434,8 +470,8 @@ fn encode_and_refuse<'a, S: Source, K: Sink, W: Write>(
         Err(fault) => return Err(fault_of_new(refused, fault)),
     };
     match encode_some(alloc, choice, words, word, source, out, &mut file) {
-        Ok(line) => match sink.finish(refused, file) {
-            Ok(()) => Ok(line),
+        Ok(end) => match sink.finish(refused, file) {
+            Ok(()) => Ok(end),
             Err(fault) => Err(fault_of_unfinished(fault)),
         },
         Err(fault) => {
@@ -446,7 +482,7 @@ fn encode_and_refuse<'a, S: Source, K: Sink, W: Write>(
 }
 
 /// Encodes the rows of the file that the word names, and makes the file of the refused rows, if it
-/// has a name. Gives the line of the summary.
+/// has a name. Gives how it ended.
 fn encode_text<'a, S: Source, K: Sink, W: Write>(
     alloc: Global,
     choice: &Choice<'_>,
@@ -455,11 +491,11 @@ fn encode_text<'a, S: Source, K: Sink, W: Write>(
     source: &mut S,
     sink: &mut K,
     out: &mut Output<W>,
-) -> Result<String, Fault<'a>>
-    ensures done { IfOk result (λ line. HasEncoded (word_in words.now.refused) word.entry.now
+) -> Result<RowsEnd, Fault<'a>>
+    ensures done { IfOk result (λ end. HasEncoded (word_in words.now.refused) word.entry.now
         choice.now (S.loaded source.old) (S.loaded source.new) (K.made sink.old)
         (K.made sink.new) (W.contents out.old.writer) (W.contents out.new.writer)
-        (string_bytes line)) }
+        end) }
     ensures kept { IfErr result (λ _. K.made sink.new ≡ K.made sink.old) }
     ensures stops { IfErr result (λ fault. HasGivenUp words.now (word_in words.now.refused)
         word.entry.now choice.now (S.loaded source.old) (S.loaded source.new)
@@ -476,7 +512,7 @@ fn encode_text<'a, S: Source, K: Sink, W: Write>(
 }
 
 /// Loads the device table, if the words name one, and encodes the rows of the file that the word
-/// names. Gives the line of their summary.
+/// names. Gives how it ended.
 fn encode<'a, S: Source, K: Sink, W: Write>(
     alloc: Global,
     seed: RandomState,
@@ -485,9 +521,9 @@ fn encode<'a, S: Source, K: Sink, W: Write>(
     source: &mut S,
     sink: &mut K,
     out: &mut Output<W>,
-) -> Result<String, Fault<'a>>
-    ensures done { IfOk result (λ line. (kept : List Loaded) → S.loaded source.old ≡ Some kept
-        → (summary : ASummary) × IsSummaryLine summary (string_bytes line)
+) -> Result<RowsEnd, Fault<'a>>
+    ensures done { IfOk result (λ end. (kept : List Loaded) → S.loaded source.old ≡ Some kept
+        → (summary : ASummary) × IsRowsEnd summary end
         × EncodesRows words.now word.entry.now (S.loaded source.old) (S.loaded source.new)
         (K.made sink.old) (K.made sink.new) (W.contents out.old.writer)
         (W.contents out.new.writer) summary) }
@@ -507,8 +543,8 @@ fn encode<'a, S: Source, K: Sink, W: Write>(
 /// say: loads the device table, if they name one, writes the upload of the rows that are kept to
 /// `out`, makes the file of the refused rows, if they name one, and then says on `err` how many
 /// rows there are of each kind. A fault is said on `err`, too. `seed` is random, so that no file
-/// can choose names of devices that are found slowly. Gives the status: 0 if all is written, 1
-/// after a fault.
+/// can choose names of devices that are found slowly. Gives the status: 0 if all is written, 3 if
+/// it is and rows were refused, 1 after a fault or if no row is a tap.
 pub fn encode_rows_over<S: Source, K: Sink, W: Write, E: Write>(
     alloc: Global,
     seed: RandomState,
@@ -519,30 +555,45 @@ pub fn encode_rows_over<S: Source, K: Sink, W: Write, E: Write>(
     out: &mut Output<W>,
     err: &mut Complaints<E>,
 ) -> u8
-    // Of a source that keeps what it opened: with status 0 the whole upload was written, the file
-    // of the refused rows was made, if it has a name, and the line of the summary was reported.
+    // Of a source that keeps what it opened: with status 0 the whole upload was written, which has
+    // taps, the file of the refused rows was made, if it has a name, and has none, and the line of
+    // the summary was reported.
     ensures done { (kept : List Loaded) → S.loaded source.old ≡ Some kept → result ≡ 0
-        → (summary : ASummary) × EncodesRows words.now word.entry.now (S.loaded source.old)
+        → EncodesWith RowsOutcome.Whole words.now word.entry.now (S.loaded source.old)
         (S.loaded source.new) (K.made sink.old) (K.made sink.new) (W.contents out.old.writer)
-        (W.contents out.new.writer) summary
-        × IsSummaryReported summary (E.contents err.old.writer) (E.contents err.new.writer)
+        (W.contents out.new.writer) (E.contents err.old.writer) (E.contents err.new.writer)
+        err.new.failed }
+    // With status 3 likewise, and rows were refused.
+    ensures partly { (kept : List Loaded) → S.loaded source.old ≡ Some kept → result ≡ 3
+        → EncodesWith RowsOutcome.SomeRefused words.now word.entry.now (S.loaded source.old)
+        (S.loaded source.new) (K.made sink.old) (K.made sink.new) (W.contents out.old.writer)
+        (W.contents out.new.writer) (E.contents err.old.writer) (E.contents err.new.writer)
         err.new.failed }
     // And all that was written was flushed.
-    ensures flushed { result ≡ 0 → out.new.is_flushed ≡ true }
-    // With status 1 the line of a fault was reported, which is the right one, and no file was made.
-    ensures faults { result ≡ 1 → (fault : AFault) × IsFaultReported fault
+    ensures flushed { result ≢ 1 → out.new.is_flushed ≡ true }
+    // With status 1 no row is a tap, and all was written so. Or the line of a fault was reported,
+    // which is the right one, and no file was made.
+    ensures faults { result ≡ 1 → ((kept : List Loaded) → S.loaded source.old ≡ Some kept
+        → EncodesWith RowsOutcome.NoTap words.now word.entry.now (S.loaded source.old)
+        (S.loaded source.new) (K.made sink.old) (K.made sink.new) (W.contents out.old.writer)
+        (W.contents out.new.writer) (E.contents err.old.writer) (E.contents err.new.writer)
+        err.new.failed) ⊎ ((fault : AFault) × IsFaultReported fault
         (E.contents err.old.writer) (E.contents err.new.writer) err.new.failed
         × ((kept : List Loaded) → S.loaded source.old ≡ Some kept
         → GivesUpRows words.now word.entry.now (S.loaded source.old) (S.loaded source.new)
         (S.refused source.new) (K.made sink.old) (K.made sink.new) (K.unbegun sink.new)
         (K.failed sink.new) out.new.end fault (W.contents out.old.writer)
-        (W.contents out.new.writer)) }
-    ensures status { result ≤ 1 }
+        (W.contents out.new.writer))) }
+    ensures status { (result ≡ 0) ⊎ ((result ≡ 1) ⊎ (result ≡ 3)) }
 {
     match encode(alloc, seed, words, word, source, sink, out) {
-        Ok(line) => {
-            err.report_line(line.as_str());
-            0
+        Ok(end) => {
+            err.report_line(end.line.as_str());
+            match end.outcome {
+                RowsOutcome::Whole => 0,
+                RowsOutcome::NoTap => 1,
+                RowsOutcome::SomeRefused => 3,
+            }
         }
         Err(fault) => {
             say(err, &fault);

@@ -53,7 +53,7 @@ pub enum NewFault {
 }
 
 /// Where files are made. A file is written under another name, and has its own name once it is
-/// whole. A new file has its own name from the beginning, so that no other run takes it.
+/// whole. A new file gets it only if no file has it then.
 pub trait Sink {
     ghost use Rattle.std.specs.Prelude.{◌≡◌, ◌≢◌, ℕ, List, IfErr, IfOk, OnOk, Option, None};
     ghost use Rattle.tool_tasks.specs.Sink.{IsEmptyFile, IsNewName, IsNotMade, Made, MakesOne};

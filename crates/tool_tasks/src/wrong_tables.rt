@@ -62,6 +62,7 @@ fn reason_text(reason: Reason) -> &'static str
         Reason::Validator => "the validator is no number from 0 to 4294967295",
         Reason::Device => "the device is none of --validators",
         Reason::LocalTime => "the moment is a local time: it has neither Z nor an offset",
+        Reason::Early => "the moment is before 2000: say --unit s or --unit ms",
         Reason::Moment => "the moment is no time before 2100 in whole milliseconds",
     }
 }

@@ -13,7 +13,8 @@ use Rattle.program_manners.specs.TableWords.{file_named, wrong_later}
 use Rattle.program_manners.specs.Words.{is_given}
 use Rattle.program_manners.specs.declared.table_words.DateFault.{DateFault}
 use Rattle.tap_rows.specs.declared.agency.choice.Separator.{Separator}
-use Rattle.tool_words.specs.Columns.{ColumnNames, columns_in, conditions_in, separator_in}
+use Rattle.tap_rows.specs.declared.agency.choice.Unit.{Unit}
+use Rattle.tool_words.specs.Columns.{ColumnNames, columns_in, conditions_in, separator_in, unit_in}
 use Rattle.tool_words.specs.Moments.{is_no_moment, last_given, milliseconds_given, moment_given}
 use Rattle.tool_words.specs.Moments.{span_mistake}
 use Rattle.tool_words.specs.ToolLine.{breaks_rule, has_value, looks, program}
@@ -26,6 +27,8 @@ pub record RowsAsked : Type 0 where
   -- the file of devices and their validators, if the rows have no validators' numbers
   pub devices : Option Text
   pub separator : Separator
+  -- what a plain number of the column of moments counts
+  pub unit : Unit
   -- the column and the value of each condition
   pub only : List (Text × Text)
   -- the file of the rows that are no taps, if one is made
@@ -164,19 +167,21 @@ abbrev pub has_devices_twice : List Row → Bool
 has_devices_twice rows = is_input (encoded_file rows)
     && option_map_or is_input (first_of (codes "validators") rows) false
 
--- The rows of an agency's CSV, by these columns, with this separator, under these conditions; or
--- which of them is wrong.
-abbrev pub rows_by : Option ColumnNames → Option Separator → Option (List (Text × Text)) → List Row
-    → Asked
-rows_by None separator only rows = mistake wrong.Columns
-rows_by (Some columns) None only rows = mistake wrong.Separator
-rows_by (Some columns) (Some separator) None rows = mistake wrong.Condition
-rows_by (Some columns) (Some separator) (Some only) rows =
+-- The rows of an agency's CSV, by these columns, with this separator and this unit, under these
+-- conditions; or which of them is wrong.
+abbrev pub rows_by : Option ColumnNames → Option Separator → Option Unit
+    → Option (List (Text × Text)) → List Row → Asked
+rows_by None separator unit only rows = mistake wrong.Columns
+rows_by (Some columns) None unit only rows = mistake wrong.Separator
+rows_by (Some columns) (Some separator) None only rows = mistake wrong.Unit
+rows_by (Some columns) (Some separator) (Some unit) None rows = mistake wrong.Condition
+rows_by (Some columns) (Some separator) (Some unit) (Some only) rows =
     if has_devices_twice rows then mistake wrong.InputTwice
     else encode_rows (encoded_file rows) (record {
       columns = columns;
       devices = first_of (codes "validators") rows;
       separator = separator;
+      unit = unit;
       only = only;
       refused = first_of (codes "refused") rows;
     })
@@ -184,8 +189,8 @@ rows_by (Some columns) (Some separator) (Some only) rows =
 -- the rows of an agency's CSV
 abbrev pub rows_asked : List Row → Asked
 rows_asked rows = rows_by (columns_in (unwrap_or (first_of (codes "columns") rows) []))
-    (separator_in (first_of (codes "separator") rows)) (conditions_in (named (codes "only") rows))
-    rows
+    (separator_in (first_of (codes "separator") rows)) (unit_in (first_of (codes "unit") rows))
+    (conditions_in (named (codes "only") rows)) rows
 
 -- a tap table; else the rows of an agency's CSV, or what the words lack
 abbrev pub encode_asked : List Row → Asked
@@ -194,7 +199,8 @@ encode_asked rows =
     else (if has_value (codes "only") rows || (has_value (codes "separator") rows
     || has_value (codes "refused") rows) then mistake wrong.NoColumns
     else (if has_value (codes "validators") rows then mistake wrong.NoColumnsForValidators
-    else encode (encoded_file rows)))
+    else (if has_value (codes "unit") rows then mistake wrong.NoColumnsForUnit
+    else encode (encoded_file rows))))
 
 -- the good part of one upload
 abbrev pub good_part_asked : Text → Bool → List Text → Asked

@@ -1,4 +1,5 @@
--- How an agency's CSV is read: what the values of `--columns`, `--separator` and `--only` say.
+-- How an agency's CSV is read: what the values of `--columns`, `--separator`, `--unit` and `--only`
+-- say.
 use Rattle.std.specs.Prelude.{◌==◌, ◌||◌, if◌then◌else◌, nat_lt, ℕ, Bool, List, [], ◌∷◌, Option}
 use Rattle.std.specs.Prelude.{None, Some, codes, filter_map, is_some, length}
 use Rattle.std.specs.List.{after_first, before_first, list_all, position_or_len, slice_split}
@@ -7,6 +8,8 @@ use Rattle.std.specs.Str.{bytes_eq}
 use Rattle.clap.specs.Words.{Text}
 use Rattle.tap_rows.specs.declared.agency.choice.Separator.{Separator}
 use Rattle.tap_rows.specs.declared.agency.choice.Separator.TheVariants as separators
+use Rattle.tap_rows.specs.declared.agency.choice.Unit.{Unit}
+use Rattle.tap_rows.specs.declared.agency.choice.Unit.TheVariants as units
 
 -- the names of the columns of tokens, validators and moments
 pub record ColumnNames : Type 0 where
@@ -71,6 +74,12 @@ separator_in (Some word) = if bytes_eq word (codes ",") then Some separators.Com
     else (if bytes_eq word (codes ";") then Some separators.Semicolon
     else (if bytes_eq word (9 ∷ []) || bytes_eq word (codes "tab") then Some separators.Tab
     else None))
+
+-- what a plain number counts, and none if the words say it wrong
+abbrev pub unit_in : Option Text → Option Unit
+unit_in None = Some units.Unsaid
+unit_in (Some word) = if bytes_eq word (codes "s") then Some units.Seconds
+    else (if bytes_eq word (codes "ms") then Some units.Milliseconds else None)
 
 -- each word is COLUMN=VALUE
 abbrev pub have_parts : List Text → Bool

@@ -13,6 +13,8 @@ mistake_text wrong.NoColumnsForValidators = codes "error: --validators needs --c
 mistake_text wrong.Columns =
     codes "error: --columns needs token=NAME,validator=NAME,moment=NAME, each once"
 mistake_text wrong.Separator = codes "error: --separator is one of , ; tab"
+mistake_text wrong.NoColumnsForUnit = codes "error: --unit needs --columns"
+mistake_text wrong.Unit = codes "error: --unit is s or ms"
 mistake_text wrong.Condition = codes "error: --only needs COLUMN=VALUE"
 mistake_text wrong.NotOneUpload = codes "error: --good-part needs one FILE"
 mistake_text wrong.From = codes "error: --from needs a moment, as 2026-03-01T00:00:00Z"

@@ -38,6 +38,7 @@ rows_words_of words = record {
   };
   devices = text_in words.devices;
   separator = words.separator;
+  unit = words.unit;
   only = map condition_of words.only.items;
   refused = text_in words.refused;
 }

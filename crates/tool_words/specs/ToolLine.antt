@@ -33,11 +33,11 @@ abbrev pub words_rule : Text → Rule
 words_rule name = positional_rule name Append
 
 -- `encode [--columns NAMES] [--validators DEVICES] [--only COLUMN=VALUE].. [--separator S]
--- [--refused OUT] [FILE]`
+-- [--unit UNIT] [--refused OUT] [FILE]`
 abbrev pub encode_rules : List Rule
 encode_rules = option_rule (codes "columns") ∷ option_rule (codes "validators")
     ∷ repeated_rule (codes "only") ∷ option_rule (codes "separator")
-    ∷ option_rule (codes "refused") ∷ word_rule (codes "FILE") ∷ []
+    ∷ option_rule (codes "unit") ∷ option_rule (codes "refused") ∷ word_rule (codes "FILE") ∷ []
 
 -- `decode [--files-from LIST [-0]] [FILE]..`
 abbrev pub decode_rules : List Rule

@@ -10,10 +10,11 @@ use std::alloc::{AllocError, Global};
 
 /// What the exit status of `encode` says.
 const ENCODE_STATUS: &str = "Exit status:
-  0  the upload is written; with --refused also where rows were refused
+  0  the upload is written
   1  a file has a fault, or could not be read or written, as a line `fault: ..` on the standard
-     error says
-  2  the command line is wrong";
+     error says; with --columns also if no row is a tap
+  2  the command line is wrong, or standard output is a terminal
+  3  with --refused: the upload is written, and rows were refused";
 
 /// What `encode` does.
 const ENCODE_ABOUT: &str = "Writes the upload of a tap table to standard output.
@@ -31,6 +32,9 @@ With --columns the file is any CSV with a head, as an agency has it: fields in q
 byte order mark or none. A token may be a UUID, too, and a moment may have an offset, as
 2024-03-08 12:00:00-05:00. The last line on the standard error reports how many rows were read, how
 many are taps, left out and refused, and the first and the last moment. The head is row 1.
+
+With --columns a plain number is a moment in milliseconds. Moments before 2000 are refused, since
+they may be seconds: --unit s reads plain numbers as seconds, --unit ms as milliseconds of any year.
 
 With --validators the column of validators has the names of devices. DEVICES is CSV with the head
 device,validator and a row for each device, which gives it its number. A row of another device is no
@@ -54,13 +58,17 @@ const VALIDATORS_HELP: &str =
 /// The help of `--separator`.
 const SEPARATOR_HELP: &str = "What stands between two fields: , or ; or tab [default: ,]";
 
+/// The help of `--unit`.
+const UNIT_HELP: &str =
+    "Plain numbers are seconds (s) or milliseconds (ms), also before 2000 [default: ms, from 2000 on]";
+
 /// The help of `--refused`.
 const REFUSED_HELP: &str =
     "Make the file OUT of the rows that are no taps, with their numbers and reasons, and go on; it must
 not be there";
 
 /// `encode [--columns NAMES [--validators DEVICES] [--only COLUMN=VALUE]... [--separator S]
-/// [--refused OUT]] [FILE]`
+/// [--unit UNIT] [--refused OUT]] [FILE]`
 pub(crate) fn encode_command<'a>(alloc: Global, is_whole: bool) -> Result<Command<'a>, AllocError>
     ensures { is_whole ≡ false → IfOk result
         (λ command. app_of command ≡ leaf (codes "encode") encode_rules) }
@@ -79,6 +87,7 @@ pub(crate) fn encode_command<'a>(alloc: Global, is_whole: bool) -> Result<Comman
             Takes::Value("separator", "SEPARATOR", SEPARATOR_HELP),
             Need::Never,
         ),
+        Row::One(Takes::Value("unit", "UNIT", UNIT_HELP), Need::Never),
         Row::One(Takes::Value("refused", "OUT", REFUSED_HELP), Need::Never),
         Row::One(Takes::Word("FILE", ENCODE_HELP), Need::Never),
     ];

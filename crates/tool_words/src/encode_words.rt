@@ -5,7 +5,7 @@ ghost use Rattle.tool_words.specs.Asked.{encoded_file, has_devices_twice, rows_a
 ghost use Rattle.tool_words.specs.Columns.{between_commas, columns_among, columns_in};
 ghost use Rattle.tool_words.specs.Columns.{conditions_in, name_given, names_of, only_name};
 ghost use Rattle.tool_words.specs.Columns.{parts_of};
-ghost use Rattle.tool_words.specs.Columns.{separator_in};
+ghost use Rattle.tool_words.specs.Columns.{separator_in, unit_in};
 ghost use Rattle.tool_words.specs.Tasks.{asked_of, condition_of, text_in, texts_of};
 ghost use Rattle.tool_words.specs.inside.Columns.{columns_of};
 
@@ -15,7 +15,7 @@ use crate::task::{RowsWords, Task};
 use clap::ArgMatches;
 use program_manners::names_in;
 use std::alloc::{AllocError, Global};
-use tap_rows::{Condition, Separator};
+use tap_rows::{Condition, Separator, Unit};
 
 /// The names of the columns.
 #[derive(Clone, Copy)]
@@ -136,6 +136,18 @@ fn separator_in(word: Option<&str>) -> Option<Separator>
     }
 }
 
+/// What a word of `--unit` says.
+fn unit_in(word: Option<&str>) -> Option<Unit>
+    ensures { result ≡ unit_in (text_in word.entry) }
+{
+    match word {
+        None => Some(Unit::Unsaid),
+        Some(word) if word == "s" => Some(Unit::Seconds),
+        Some(word) if word == "ms" => Some(Unit::Milliseconds),
+        Some(_) => None,
+    }
+}
+
 /// The conditions of words of `--only`, if each is COLUMN=VALUE.
 fn conditions_in<'a>(
     alloc: Global,
@@ -181,6 +193,9 @@ pub(crate) fn rows_task<'a>(alloc: Global, matches: &ArgMatches<'a>) -> Result<T
     let Some(separator) = separator_in(value_in(matches, "separator")) else {
         return Ok(Task::Mistake(Mistake::Separator));
     };
+    let Some(unit) = unit_in(value_in(matches, "unit")) else {
+        return Ok(Task::Mistake(Mistake::Unit));
+    };
     let Some(only) = only else {
         return Ok(Task::Mistake(Mistake::Condition));
     };
@@ -193,6 +208,7 @@ pub(crate) fn rows_task<'a>(alloc: Global, matches: &ArgMatches<'a>) -> Result<T
         moment: columns.moment,
         devices: value_in(matches, "validators"),
         separator,
+        unit,
         only,
         refused: value_in(matches, "refused"),
     };

@@ -16,6 +16,10 @@ pub enum Mistake {
     NoColumns,
     /// `--validators` needs `--columns`.
     NoColumnsForValidators,
+    /// `--unit` needs `--columns`.
+    NoColumnsForUnit,
+    /// `--unit` is none.
+    Unit,
     /// `--columns` does not name each column once.
     Columns,
     /// `--separator` is none.
@@ -59,6 +63,8 @@ impl fmt::Display for Mistake {
                 "error: --columns needs token=NAME,validator=NAME,moment=NAME, each once",
             ),
             Mistake::Separator => f.write_str("error: --separator is one of , ; tab"),
+            Mistake::NoColumnsForUnit => f.write_str("error: --unit needs --columns"),
+            Mistake::Unit => f.write_str("error: --unit is s or ms"),
             Mistake::Condition => f.write_str("error: --only needs COLUMN=VALUE"),
             Mistake::NotOneUpload => f.write_str("error: --good-part needs one FILE"),
             Mistake::From => {

@@ -5,7 +5,7 @@ use crate::later_table::LaterTable;
 use crate::mistake::Mistake;
 use jiff::Timestamp;
 use program_manners::WrongWord;
-use tap_rows::{Condition, Separator};
+use tap_rows::{Condition, Separator, Unit};
 
 /// How an agency's CSV is read, and what is done with the rows that are no taps.
 #[derive(Drop)]
@@ -20,6 +20,8 @@ pub struct RowsWords<'a> {
     pub devices: Option<&'a str>,
     /// What stands between two fields.
     pub separator: Separator,
+    /// What a plain number of the column of moments counts.
+    pub unit: Unit,
     /// Which rows are kept.
     pub only: Vec<Condition<'a>>,
     /// The file of the rows that are no taps; none if the first of them ends the encoding.

@@ -43,6 +43,9 @@ fn encode_task<'a>(alloc: Global, matches: &ArgMatches<'a>) -> Result<Task<'a>, 
     if has_value(matches, "validators") {
         return Ok(Task::Mistake(Mistake::NoColumnsForValidators));
     }
+    if has_value(matches, "unit") {
+        return Ok(Task::Mistake(Mistake::NoColumnsForUnit));
+    }
     Ok(Task::Encode(encoded_file(matches)))
 }
 

@@ -13,4 +13,5 @@ IsWrongValidator devices text why.Token = ⊥
 IsWrongValidator devices text why.Validator = IsNoNumber devices text
 IsWrongValidator devices text why.Device = IsNoDevice devices text
 IsWrongValidator devices text why.LocalTime = ⊥
+IsWrongValidator devices text why.Early = ⊥
 IsWrongValidator devices text why.Moment = ⊥

@@ -25,6 +25,16 @@ impl Separator {
     }
 }
 
+/// What a plain number of the column of moments counts from 1970-01-01T00:00Z.
+#[derive(Clone, Copy, Debug, PartialEq, Eq)]
+pub enum Unit {
+    /// Milliseconds; nobody said so. Then a moment before 2000 may be one of seconds, and is
+    /// refused.
+    Unsaid,
+    Seconds,
+    Milliseconds,
+}
+
 /// What a row's field must be, so that the row is kept.
 #[derive(Clone, Copy, Debug)]
 pub struct Condition<'a> {
@@ -44,6 +54,8 @@ pub struct Choice<'a> {
     pub devices: Option<&'a DeviceTable>,
     /// The name of the column of moments.
     pub moment: &'a [u8],
+    /// What a plain number in that column counts.
+    pub unit: Unit,
     /// What a row must meet, so that it is kept: all of them.
     pub only: &'a [Condition<'a>],
 }

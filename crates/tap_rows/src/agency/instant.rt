@@ -1,13 +1,21 @@
-//! The moment that a field of an agency's row gives: in milliseconds, or by RFC 3339 with `Z` or an
+//! The moment that a field of an agency's row gives: by a plain number, or by RFC 3339 with `Z` or an
 //! offset.
 
 ghost use Rattle.std.specs.Prelude.{◌≡◌, ◌<◌, ◌^◌, ◌↔◌, ◌*◌, ℕ, Ok, pos, IsTrue, MatchOption};
 ghost use Rattle.tap_rows.specs.AgencyMoments.{HasClock, HasOffset, IsAgencyMoment, IsAgencyTime};
-ghost use Rattle.tap_rows.specs.AgencyMoments.{IsLocalTime};
+ghost use Rattle.tap_rows.specs.AgencyMoments.{IsEarly, IsLocalTime, IsPlainTime, KeepsToRfc};
+ghost use Rattle.tap_rows.specs.AgencyMoments.{earliest_ms};
 ghost use Rattle.jiff_fmt.specs.Temporal.{parse_timestamp};
 
+use crate::agency::choice::Unit;
 use crate::moment::{instant_of, number_of};
 use tap_views::MOMENT_LIMIT_MS;
+
+/// A second in milliseconds.
+const SECOND_MS: u64 = 1_000;
+
+/// 2000-01-01T00:00Z.
+const YEAR_2000_MS: u64 = 946_684_800_000;
 
 /// Whether a text has the marks of `2024-03-08T17:00:00`, or with a blank for the `T`, in their
 /// places.
@@ -39,31 +47,79 @@ pub(crate) fn is_local_time(text: &[u8]) -> bool
     has_clock(text) && !has_offset(text)
 }
 
-/// The milliseconds that a field gives in one of the two ways.
-fn time_of(field: &[u8]) -> Option<u64>
+/// Whether a time with an offset has no comma before its fraction, and an offset below 24 hours.
+fn keeps_to_rfc(text: &[u8]) -> bool
+    ensures { IsTrue result ↔ KeepsToRfc text.now }
+{
+    text.len() >= 20
+        && text[19] != b','
+        && (text[text.len() - 1] == b'Z'
+            || text[text.len() - 5] < b'2'
+            || text[text.len() - 5] == b'2' && text[text.len() - 4] < b'4')
+}
+
+/// The milliseconds that a plain number gives.
+fn plain_time_of(unit: Unit, field: &[u8]) -> Option<u64>
     ensures { MatchOption result ((number : ℕ) → number < 2 ^ 64
-        → ¬ (IsAgencyTime field.now number)) (λ number. IsAgencyTime field.now number) }
+        → ¬ (IsPlainTime unit field.now number)) (λ number. IsPlainTime unit field.now number) }
+{
+    let Some(count) = number_of(field) else {
+        return None;
+    };
+    match unit {
+        Unit::Seconds => count.checked_mul(SECOND_MS),
+        Unit::Unsaid | Unit::Milliseconds => Some(count),
+    }
+}
+
+/// The milliseconds that a field gives in one of the two ways.
+fn time_of(unit: Unit, field: &[u8]) -> Option<u64>
+    ensures { MatchOption result ((number : ℕ) → number < 2 ^ 64
+        → ¬ (IsAgencyTime unit field.now number)) (λ number. IsAgencyTime unit field.now number) }
 {
     if has_clock(field) {
-        if has_offset(field) {
+        if has_offset(field) && keeps_to_rfc(field) {
             instant_of(field)
         } else {
             None
         }
     } else {
-        number_of(field)
+        plain_time_of(unit, field)
     }
 }
 
-/// The moment that a field gives, in milliseconds since 1970-01-01T00:00Z.
-pub(crate) fn agency_moment_in(field: &[u8]) -> Option<u64>
-    ensures { MatchOption result ((number : ℕ) → ¬ (IsAgencyMoment field.now number))
-        (λ number. IsAgencyMoment field.now number) }
+/// The earliest moment that is read, in milliseconds since 1970-01-01T00:00Z.
+fn earliest_ms(unit: Unit) -> u64
+    ensures { result ≡ earliest_ms unit }
 {
-    let Some(number) = time_of(field) else {
+    match unit {
+        Unit::Unsaid => YEAR_2000_MS,
+        Unit::Seconds | Unit::Milliseconds => 0,
+    }
+}
+
+/// Whether a field gives a time before the earliest moment that is read.
+pub(crate) fn is_early(unit: Unit, field: &[u8]) -> bool
+    ensures { IsTrue result ↔ IsEarly unit field.now }
+{
+    let Some(number) = time_of(unit, field) else {
+        return false;
+    };
+    if number < earliest_ms(unit) {
+        return true;
+    }
+    false
+}
+
+/// The moment that a field gives, in milliseconds since 1970-01-01T00:00Z.
+pub(crate) fn agency_moment_in(unit: Unit, field: &[u8]) -> Option<u64>
+    ensures { MatchOption result ((number : ℕ) → ¬ (IsAgencyMoment unit field.now number))
+        (λ number. IsAgencyMoment unit field.now number) }
+{
+    let Some(number) = time_of(unit, field) else {
         return None;
     };
-    if number < MOMENT_LIMIT_MS {
+    if number >= earliest_ms(unit) && number < MOMENT_LIMIT_MS {
         Some(number)
     } else {
         None

@@ -5,8 +5,8 @@ ghost use Rattle.std.specs.Prelude.{MatchOption, length};
 ghost use Rattle.std.specs.List.{AllZip};
 ghost use Rattle.csv.specs.Records.{field_at, fields_of};
 ghost use Rattle.tap_rows.specs.Agencies as Spec;
-ghost use Rattle.tap_rows.specs.AgencyMoments.{IsLocalTime};
-ghost use Rattle.tap_rows.specs.AgencyRows.{IsAsLong, IsMet, IsNoTap, IsReadingOf, IsTapOf};
+ghost use Rattle.tap_rows.specs.AgencyRows.{IsAsLong, IsMet, IsMomentReason, IsNoTap, IsReadingOf};
+ghost use Rattle.tap_rows.specs.AgencyRows.{IsTapOf};
 ghost use Rattle.tap_rows.specs.AgencyRows.{IsTokenText, StandsForValidator};
 ghost use Rattle.tap_rows.specs.Devices.{devices_of, validator_of};
 ghost use Rattle.tap_rows.specs.Rows.{IsNoValidator, IsValidator};
@@ -14,8 +14,8 @@ ghost use Rattle.tap_rows.specs.inside.Validators.{IsWrongValidator};
 ghost use Rattle.tap_rows.specs.inside.Places.{ArePlaces, IsPlaceOf};
 ghost use Rattle.tap_views.specs.Layout.{moment_limit};
 
-use crate::agency::choice::{Choice, Condition};
-use crate::agency::instant::{agency_moment_in, is_local_time};
+use crate::agency::choice::{Choice, Condition, Unit};
+use crate::agency::instant::{agency_moment_in, is_early, is_local_time};
 use crate::agency::places::{Places, has_at};
 use crate::devices::DeviceTable;
 use crate::row::validator_in;
@@ -36,6 +36,8 @@ pub enum Reason {
     Device,
     /// The moment's field is a time without an offset.
     LocalTime,
+    /// The moment's field gives a moment before 2000-01-01T00:00Z, and no unit was said.
+    Early,
     /// The moment's field gives no moment below 2100-01-01T00:00Z.
     Moment,
 }
@@ -124,13 +126,13 @@ fn validator_for(choice: &Choice<'_>, field: &[u8]) -> Result<u32, Reason>
 }
 
 /// What the moment's field of a row is, if it gives no moment.
-fn moment_reason(field: &[u8]) -> Reason
-    ensures local { result ≡ Reason.LocalTime → IsLocalTime field.now }
-    ensures other { ¬ (result ≡ Reason.LocalTime) → (result ≡ Reason.Moment)
-        × ¬ (IsLocalTime field.now) }
+fn moment_reason(unit: Unit, field: &[u8]) -> Reason
+    ensures { IsMomentReason unit field.now result }
 {
     if is_local_time(field) {
         Reason::LocalTime
+    } else if is_early(unit, field) {
+        Reason::Early
     } else {
         Reason::Moment
     }
@@ -154,8 +156,8 @@ fn tap_of(choice: &Choice<'_>, places: &Places, row: &ByteRecord) -> Result<TapF
         Err(reason) => return Err(reason),
     };
     let field = field_in(row, places.moment);
-    let Some(moment) = agency_moment_in(field) else {
-        return Err(moment_reason(field));
+    let Some(moment) = agency_moment_in(choice.unit, field) else {
+        return Err(moment_reason(choice.unit, field));
     };
     Ok(TapFields {
         token,

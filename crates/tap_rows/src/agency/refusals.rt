@@ -24,6 +24,7 @@ fn word_of(reason: Reason) -> &'static str
         Reason::Validator => "validator",
         Reason::Device => "device",
         Reason::LocalTime => "local time",
+        Reason::Early => "before 2000",
         Reason::Moment => "moment",
     }
 }

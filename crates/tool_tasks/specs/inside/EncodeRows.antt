@@ -1,5 +1,6 @@
 -- `encode` of an agency's own CSV: what private functions alone cite.
 use Rattle.std.specs.Prelude.{◌≡◌, ◌≢◌, ◌⊎◌, ⊤, ℕ, List, [], ◌∷◌, Err, None, Option, Result, Some}
+use Rattle.std.specs.Prelude.{string_bytes}
 use Rattle.std.specs.Io.KnownBytes.{Keeps}
 use Rattle.program_manners.specs.Loads.{Loaded}
 use Rattle.world.specs.declared.faults.LoadFault.{LoadFault}
@@ -14,11 +15,12 @@ use Rattle.tap_rows.specs.declared.agency.summary.Summary.{Summary}
 use Rattle.tap_rows.specs.declared.devices.fault.DevicesFault.{DevicesFault}
 use Rattle.tap_rows.specs.declared.devices.fault.DevicesFault.TheVariants as devices
 use Rattle.tool_tasks.specs.EncodeRows.{EncodesText, GivesUpText, IsColumnName, IsSummaryLine}
-use Rattle.tool_tasks.specs.EncodeRows.{StopsRows}
+use Rattle.tool_tasks.specs.EncodeRows.{StopsRows, rows_outcome}
 use Rattle.tool_tasks.specs.Fault.{IsRefusal, failed_as}
 use Rattle.tool_tasks.specs.Sink.{Made}
 use Rattle.tool_tasks.specs.Source.{HasOpened}
 use Rattle.tool_words.specs.declared.task.RowsWords.{RowsWords}
+use Rattle.tool_tasks.specs.declared.encode_rows.RowsEnd.{RowsEnd}
 use Rattle.tool_tasks.specs.declared.fault.Fault.{Fault}
 use Rattle.tool_tasks.specs.declared.fault.Fault.TheVariants.{Devices, Exists, NoMemory, Rows}
 use Rattle.tool_tasks.specs.declared.fault.Fault.TheVariants.{SomeChanged, Unmade, Unread, Write}
@@ -69,13 +71,18 @@ EndsRows words word encoded end refused_end fault =
     (fault ≡ failed_as end) ⊎ ((fault ≡ NoMemory) ⊎ ((why : AgencyFault) × (encoded ≡ Err why)
     × IsRowsFault words word end refused_end why fault))
 
+-- the line is that of the summary, and this came of its rows
+abbrev pub IsRowsEnd : Summary → RowsEnd → Type 0
+IsRowsEnd summary end =
+    IsSummaryLine summary (string_bytes end.line) × (end.outcome ≡ rows_outcome summary)
+
 -- the text was read once, and what was written are the upload of its rows and its refused rows
 pub record EncodesOnce (word : List ℕ) (choice : Choice) (loaded loaded' : Option (List Loaded))
-    (out out' old_refused new_refused : Option (List ℕ)) (line : List ℕ) : Type 0 where
+    (out out' old_refused new_refused : Option (List ℕ)) (end : RowsEnd) : Type 0 where
   pub text : List ℕ
   pub opened : HasOpened (word ∷ []) loaded loaded' (text ∷ [])
   pub summary : Summary
-  pub is_line : IsSummaryLine summary line
+  pub is_end : IsRowsEnd summary end
   pub encoded : IsRowsEncoded choice text out out' old_refused new_refused summary
 
 -- the text was read once, and the encoding was broken off
@@ -95,21 +102,20 @@ StopsOnce words name word choice loaded loaded' unread end refused_end fault out
     (IsRefusal unread (word ∷ []) fault × Keeps out out')
     ⊎ BreaksOffOnce words name word choice loaded loaded' end refused_end fault out out'
 
--- Of a source that keeps what it opened: the text was encoded whole, and this is the line of its
--- summary.
+-- Of a source that keeps what it opened: the text was encoded whole, and ended so.
 abbrev pub HasEncoded : Option (List ℕ) → List ℕ → Choice → Option (List Loaded)
     → Option (List Loaded) → Option (List Made) → Option (List Made) → Option (List ℕ)
-    → Option (List ℕ) → List ℕ → Type 0
-HasEncoded refused word choice loaded loaded' made made' out out' line = (kept : List Loaded)
-    → loaded ≡ Some kept → (summary : Summary) × IsSummaryLine summary line
+    → Option (List ℕ) → RowsEnd → Type 0
+HasEncoded refused word choice loaded loaded' made made' out out' end = (kept : List Loaded)
+    → loaded ≡ Some kept → (summary : Summary) × IsRowsEnd summary end
     × EncodesText refused word choice loaded loaded' made made' out out' summary
 
 -- the same of a text of which no row is refused, so that no file is made
 abbrev pub HasEncodedAll : List ℕ → Choice → Option (List Loaded) → Option (List Loaded)
-    → Option (List ℕ) → Option (List ℕ) → List ℕ → Type 0
-HasEncodedAll word choice loaded loaded' out out' line = (kept : List Loaded)
+    → Option (List ℕ) → Option (List ℕ) → RowsEnd → Type 0
+HasEncodedAll word choice loaded loaded' out out' end = (kept : List Loaded)
     (made : Option (List Made)) → loaded ≡ Some kept → (summary : Summary)
-    × IsSummaryLine summary line
+    × IsRowsEnd summary end
     × EncodesText None word choice loaded loaded' made made out out' summary
 
 -- of a source that keeps what it opened: the encoding was given up

@@ -1,4 +1,4 @@
-use Rattle.std.proofs.Common.{rules, ◌≡◌, ◌∷◌, ◌∙◌, [], ℕ, List, ap, true}
+use Rattle.std.proofs.Common.{rules, ◌≡◌, ◌∷◌, ◌∙◌, [], ℕ, List, ap, arith, true}
 use Rattle.std.specs.Fmt.{decimal}
 use Rattle.ledger_fields.proofs.form.row_fields.Goals as goal
 
@@ -9,7 +9,9 @@ returns c =
     f.token.now ∷ f.number.now ∷ f.moment.now ∷ v ∷ f.mode.now ∷ f.answer.now ∷ k ∷ f.start.now
     ∷ f.until.now ∷ f.ride.now ∷ f.reason.now ∷ f.points_at.now ∷ [] in
     let is : c.is_token.result ≡ true = search rules in
+    let plain : c.has_line_bytes.result ≡ true = search rules in
     record {
+      short = omega (arith, c.if-line-gt-MAX_LINE_BYTES.false);
       token = c.is_token.ensures.0 is;
       validator = c.in_ok-validator.ensures.0;
       cents = c.in_ok-cents.ensures.0;
@@ -21,6 +23,7 @@ returns c =
       points_at = f.points_at.now;
       text = c.in_ok-text.text.now;
       shown = c.in_ok-text.ensures;
+      bytes = c.has_line_bytes.ensures.0 plain;
       fields = c.in_ok-fields.ensures ∙ ap (λ v. list v f.cents.now) c.in_ok-validator.ensures.1
           ∙ ap (λ k. list (decimal c.in_ok-validator.validator) k) c.in_ok-cents.ensures.1;
     }

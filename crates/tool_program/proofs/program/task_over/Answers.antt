@@ -1,5 +1,5 @@
-use Rattle.std.proofs.Common.{◌≡◌, ◌∙◌, Bor, List, None, ap, false, inl, inr, map, refl, subst}
-use Rattle.std.proofs.Common.{sym, ℕ}
+use Rattle.std.proofs.Common.{◌≡◌, ◌∙◌, Bor, List, None, ap, arith, false, inl, inr, map, refl}
+use Rattle.std.proofs.Common.{subst, sym, ℕ}
 use Rattle.program_manners.specs.LineWritten.{LineWritten}
 use Rattle.tool_words.specs.Mistakes.{mistake_text}
 use Rattle.tool_words.specs.Tasks.{asked_of}
@@ -93,15 +93,25 @@ returns-in-MergeLedgers-clause-given_up g c = λ one.
 
 pub returns-in-EncodeRows-clause-done : goal.returns-in-EncodeRows-clause-done
 returns-in-EncodeRows-clause-done g c = λ zero. rw c.in-EncodeRows.is (
-  (λ kept keeps. let done = c.encode_rows_over.ensures.done kept keeps zero in
-      (c.in-EncodeRows.words, refl, done.0, done.1, done.2)),
-  c.encode_rows_over.ensures.flushed zero,
+  (λ kept keeps.
+      (c.in-EncodeRows.words, refl, c.encode_rows_over.ensures.done kept keeps zero)),
+  c.encode_rows_over.ensures.flushed (λ one. absurd (omega (arith, zero, one))),
+)
+
+pub returns-in-EncodeRows-clause-partly : goal.returns-in-EncodeRows-clause-partly
+returns-in-EncodeRows-clause-partly g c = λ three. rw c.in-EncodeRows.is (
+  (λ kept keeps.
+      (c.in-EncodeRows.words, refl, c.encode_rows_over.ensures.partly kept keeps three)),
+  c.encode_rows_over.ensures.flushed (λ one. absurd (omega (arith, three, one))),
 )
 
 pub returns-in-EncodeRows-clause-given_up : goal.returns-in-EncodeRows-clause-given_up
-returns-in-EncodeRows-clause-given_up g c = λ one.
-    let (fault, reported, gives) = c.encode_rows_over.ensures.faults one in
-    rw c.in-EncodeRows.is (fault, reported, (c.in-EncodeRows.words, refl, gives))
+returns-in-EncodeRows-clause-given_up g c = λ one. rw c.in-EncodeRows.is (
+    elim (c.encode_rows_over.ensures.faults one) [
+      | inl empty ↦ inl (λ kept keeps. (c.in-EncodeRows.words, refl, empty kept keeps))
+      | inr stopped ↦ inr (stopped.0, stopped.1, (c.in-EncodeRows.words, refl, stopped.2))
+    ]
+    )
 
 pub returns-in-GoodPart-clause-done : goal.returns-in-GoodPart-clause-done
 returns-in-GoodPart-clause-done g c = λ zero.

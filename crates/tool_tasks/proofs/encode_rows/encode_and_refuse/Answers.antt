@@ -26,7 +26,7 @@ returns-in-Ok-finish-clause-done g c = λ kept is.
     (made c.begin_new.new.self) (made c.finish.new.self) name once.encoded
     c.in-Ok.ensures.empty c.begin_new.ensures.made c.in-Ok-finish.ensures.made in (
       once.summary,
-      once.is_line,
+      once.is_end,
       record {
         text = once.text;
         again = once.text;

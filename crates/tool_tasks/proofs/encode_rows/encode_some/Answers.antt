@@ -29,7 +29,7 @@ returns-clause-done g c =
       opened = subst (λ (now : Option (List Loaded)). HasOpened (word ∷ []) loaded now
           (opened.0 ∷ [])) (sym c.end_shown.ensures.loaded) opened.2;
       summary = whole.0;
-      is_line = whole.1;
+      is_end = whole.1;
       encoded = whole.2;
     }) c.encode_once-done.ensures.done
 

@@ -49,8 +49,7 @@ returns-in_default-agency_moment_in-clause-wrong c = λ head are long.
     wrong_moment choice head row c.in-Some.token c.in-Ok.validator c.field_in-field.result.now
     c.moment_reason.result token validator
     (record { place = places.moment; column = are.moment; field = field })
-    c.in_default-agency_moment_in.ensures c.moment_reason.ensures.local
-    c.moment_reason.ensures.other
+    c.in_default-agency_moment_in.ensures c.moment_reason.ensures
 
 pub returns-clause-tap : goal.returns-clause-tap
 returns-clause-tap c = λ head are long.
@@ -68,7 +67,7 @@ returns-clause-tap c = λ head are long.
           (column_within head row choice.validator.now places.validator are.validator long))
           c.in-Ok.ensures.validator;
       moment = has_some head row choice.moment.now c.field_in-field.result.now places.moment
-          (λ text. IsAgencyMoment text c.in-Some-agency_moment_in.moment) are.moment
+          (λ text. IsAgencyMoment choice.unit text c.in-Some-agency_moment_in.moment) are.moment
           (c.field_in-field.ensures
           (column_within head row choice.moment.now places.moment are.moment long))
           c.in-Some-agency_moment_in.ensures;

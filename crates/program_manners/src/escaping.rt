@@ -13,7 +13,7 @@ const LEAD: u8 = 0xc2;
 /// comes out as `\xHH`, so that it does nothing to a terminal. A line feed does too within a line
 /// `fault: ..`, so that no name looks like a line of its own.
 #[derive(Drop)]
-pub(crate) struct Escaping<W: Write + Drop> {
+pub struct Escaping<W: Write + Drop> {
     /// Where the bytes go.
     to: W,
     /// Those that wait to go out.
@@ -40,7 +40,7 @@ fn digit(number: u8) -> u8 {
 
 impl<W: Write + Drop> Escaping<W> {
     /// Nothing is written yet.
-    pub(crate) fn new(to: W) -> Escaping<W> {
+    pub fn new(to: W) -> Escaping<W> {
         Escaping {
             to,
             piece: [0; PIECE_BYTES],
@@ -112,7 +112,7 @@ impl<W: Write + Drop> Escaping<W> {
     }
 
     /// Lets all bytes go out. If that fails, it cannot be reported.
-    pub(crate) fn finish(mut self) {
+    pub fn finish(mut self) {
         if self.has_feed {
             let _ = self.push(b'\n');
         }

@@ -1,0 +1,100 @@
+//! What the words ask for, as far as the system matters: what is refused before anything is read or
+//! made, by what standard output is or by what files the words name, and how a CSV is read.
+
+use std::fs;
+use std::io::IsTerminal;
+use std::os::unix::fs::MetadataExt;
+use tap_rows::Separator;
+use tool_words::{SortingWords, Task, read};
+
+/// An upload is not written to a terminal.
+const TO_TERMINAL: &str =
+    "error: standard output is a terminal: write the upload to a file, as > day.tap";
+
+/// The ends are not made in place of the taps, or of an upload that is read.
+const ENDS_IN_PLACE: &str = "error: --ends names OUT or an upload";
+
+/// The folder of a file.
+pub(crate) fn folder_of(name: &str) -> &str {
+    match name.rsplit_once('/') {
+        None => ".",
+        Some((folder, _)) if folder.is_empty() => "/",
+        Some((folder, _)) => folder,
+    }
+}
+
+/// The name of a file in its folder.
+fn name_in_folder(name: &str) -> &str {
+    match name.rsplit_once('/') {
+        None => name,
+        Some((_, name)) => name,
+    }
+}
+
+/// Whether two names are of one file, or would be.
+fn are_of_one(rt: &HostRuntime, one: &str, other: &str) -> bool {
+    match (fs::metadata(rt, one), fs::metadata(rt, other)) {
+        (Ok(one), Ok(other)) => one.dev() == other.dev() && one.ino() == other.ino(),
+        (Err(_), Err(_)) => {
+            name_in_folder(one) == name_in_folder(other)
+                && match (
+                    fs::metadata(rt, folder_of(one)),
+                    fs::metadata(rt, folder_of(other)),
+                ) {
+                    (Ok(one), Ok(other)) => one.dev() == other.dev() && one.ino() == other.ino(),
+                    _ => false,
+                }
+        }
+        _ => false,
+    }
+}
+
+/// Whether the file of the ends would take the place of another that the words name.
+fn has_ends_in_place(rt: &HostRuntime, words: &SortingWords<'_>) -> bool {
+    let Some(ends) = words.ends else {
+        return false;
+    };
+    if are_of_one(rt, ends, words.out) {
+        return true;
+    }
+    for upload in &words.uploads {
+        if are_of_one(rt, ends, upload) {
+            return true;
+        }
+    }
+    false
+}
+
+/// What the words ask for, as far as the system matters.
+#[derive(Clone, Copy)]
+pub(crate) enum Manner {
+    /// It is refused, as this line says.
+    Refused(&'static str),
+    /// An agency's CSV is read, with this byte between two fields.
+    Rows(u8),
+    Other,
+}
+
+/// The byte of a separator.
+fn byte_of(separator: Separator) -> u8 {
+    match separator {
+        Separator::Comma => b',',
+        Separator::Semicolon => b';',
+        Separator::Tab => b'\t',
+    }
+}
+
+/// What the words ask for.
+pub(crate) fn manner_of(rt: &HostRuntime, words: &[String]) -> Manner {
+    let Ok(task) = read(rt.alloc(), words) else {
+        return Manner::Other;
+    };
+    match &task {
+        Task::Encode(_) | Task::EncodeRows(..) if rt.stdout().is_terminal() => {
+            Manner::Refused(TO_TERMINAL)
+        }
+        Task::Sort(words) if has_ends_in_place(rt, words) => Manner::Refused(ENDS_IN_PLACE),
+        Task::EncodeRows(_, words) => Manner::Rows(byte_of(words.separator)),
+        _ => Manner::Other,
+    }
+}

@@ -1,0 +1,101 @@
+//! An agency's CSV, in which each quote is to be closed.
+
+use program_manners::Complaints;
+use std::io;
+use std::io::{ErrorKind, Read};
+use tool_program::Name;
+
+/// Where the bytes of a CSV text are.
+#[derive(Clone, Copy, Debug, PartialEq, Eq)]
+enum Place {
+    /// At the first byte of a field.
+    Begin,
+    /// In a field without quotes, or after its closing quote.
+    Plain,
+    /// Between the quotes of a field.
+    Quoted,
+    /// After a quote within quotes, which closes them or stands for one.
+    Quote,
+}
+
+/// A reader that fails at the end of a text whose last quote is not closed, since it takes all rows
+/// after it into its field. Then it says in which line that quote is.
+#[derive(Drop)]
+pub(crate) struct Quotes<'r, R: Read + Drop> {
+    rt: &'r HostRuntime,
+    /// What is read.
+    from: R,
+    /// The word that names it.
+    word: String,
+    /// What stands between two fields; none if nothing is looked at.
+    separator: Option<u8>,
+    place: Place,
+    /// The number of the line that is read, from 1.
+    line: u64,
+    /// That of the last quote that opened a field.
+    opened: u64,
+}
+
+impl<'r, R: Read + Drop> Quotes<'r, R> {
+    /// A reader of which nothing was read.
+    pub(crate) fn new(
+        rt: &'r HostRuntime,
+        from: R,
+        word: String,
+        separator: Option<u8>,
+    ) -> Quotes<'r, R> {
+        Quotes {
+            rt,
+            from,
+            word,
+            separator,
+            place: Place::Begin,
+            line: 1,
+            opened: 1,
+        }
+    }
+
+    /// Goes over a byte.
+    fn pass(&mut self, byte: u8, separator: u8) {
+        let is_end = byte == separator || byte == b'\n' || byte == b'\r';
+        self.place = match self.place {
+            Place::Begin if byte == b'"' => {
+                self.opened = self.line;
+                Place::Quoted
+            }
+            // a byte order mark is before the first field
+            Place::Begin if self.line == 1 && (byte == 0xef || byte == 0xbb || byte == 0xbf) => {
+                Place::Begin
+            }
+            Place::Quoted if byte == b'"' => Place::Quote,
+            Place::Quote if byte == b'"' => Place::Quoted,
+            Place::Quoted => Place::Quoted,
+            _ if is_end => Place::Begin,
+            _ => Place::Plain,
+        };
+        if byte == b'\n' {
+            self.line = self.line.saturating_add(1);
+        }
+    }
+}
+
+impl<'r, R: Read + Drop> Read for Quotes<'r, R> {
+    fn read(&mut self, buf: &mut [u8]) -> io::Result<usize> {
+        let count = self.from.read(buf)?;
+        let Some(separator) = self.separator else {
+            return Ok(count);
+        };
+        if count == 0 && !buf.is_empty() && self.place == Place::Quoted {
+            let (name, line) = (Name(&self.word), self.opened);
+            let mut err = Complaints::new(self.rt.stderr());
+            err.report_line(format_args!("fault: {name} line {line}: a quote is not closed"));
+            return Err(io::Error::from(ErrorKind::InvalidData));
+        }
+        if let Some(bytes) = buf.get(..count) {
+            for byte in bytes {
+                self.pass(*byte, separator);
+            }
+        }
+        Ok(count)
+    }
+}
