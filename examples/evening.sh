@@ -33,8 +33,11 @@ rm -rf "$made"
 mkdir "$made"
 omny_cli --table "$table" --settle --sorted sorted/*.tap > "$made/bill.txt"
 omny_cli --table "$table" --settle --sorted --ledger sorted/*.tap > "$made/bill.csv"
-omny_audit --table "$table" "$made/bill.csv" --report "$made/bill.txt" --uploads archive/*.tap \
-    > "$made/audit.txt" || { cat "$made/audit.txt" >&2; exit 1; }
+# the ledger has the taps of all uploads, and the report is that of the sorted files
+{
+    omny_audit --table "$table" "$made/bill.csv" --uploads archive/*.tap
+    omny_audit --table "$table" "$made/bill.csv" --uploads sorted/*.tap --report "$made/bill.txt"
+} > "$made/audit.txt" || { cat "$made/audit.txt" >&2; exit 1; }
 last=
 for bill in bills/*/; do
     [[ ${bill#bills/} < $day/ ]] && [ -e "$bill/bill.csv" ] && last=$bill
