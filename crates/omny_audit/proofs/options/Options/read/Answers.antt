@@ -24,8 +24,7 @@ returns-clause-asked c =
     let ledger = c.ledger_in.ensures ∙ ap (option_and_then not_dash) named in
     let uploads = c.in_ok-names_in.ensures
     ∙ ap (λ r. unwrap_or (all_of (codes "uploads") r) []) rows in
-    λ i. record
-{
+    λ i. record {
       table = table i;
       all = all i;
       live = live i;
