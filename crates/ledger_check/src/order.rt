@@ -1,6 +1,8 @@
 //! The order in which a ledger's taps come.
 
 ghost use Rattle.std.specs.Prelude.{◌≡◌, ◌++◌, ◌∷◌, [], List, IfOk, None, Some, if◌then◌else◌};
+ghost use Rattle.std.specs.Ordering.{is_lt};
+ghost use Rattle.tap_views.specs.TapOrder.{tap_cmp};
 ghost use Rattle.tap_views.specs.declared.encoder.TapFields.{TapFields as ATap};
 ghost use Rattle.ledger_check.specs.Orders.{IsOrderOf, comes_before};
 
@@ -18,12 +20,19 @@ pub(crate) struct TapOrder {
     pub(crate) early: Option<u64>,
 }
 
+/// Whether the tap is less than the other.
+fn is_less(tap: &TapFields, other: &TapFields) -> bool
+    ensures { result ≡ is_lt (tap_cmp tap.now other.now) }
+{
+    tap.cmp(other).is_lt()
+}
+
 /// Whether the tap comes before the last one in canonical order.
 fn comes_before(tap: &TapFields, last: &Option<TapFields>) -> bool
     ensures { result ≡ comes_before tap.now last.now }
 {
     match last {
-        Some(last) => tap.cmp(last).is_lt(),
+        Some(last) => is_less(tap, last),
         None => false,
     }
 }
