@@ -1,18 +1,20 @@
 #!/usr/bin/env python3
 """Checks a ledger under a fare table, and a report against it (`-`: standard input):
 
-    check_ledger.py [--all] [--report REPORT] --table TABLE... LEDGER [--uploads FILE...]
+    check_ledger.py [--all] [--live] [--report REPORT] --table TABLE... LEDGER [--uploads FILE...]
 
-Prints `legal N lines` with status 0. Else status 1 and the first wrong line: `line N wants LINE`,
+Prints `legal N lines, settled` with status 0, or `legal N lines, not settled: line L is earlier than
+the line before`, with status 0 only after `--live`. Else status 1 and the first wrong line: `line N wants LINE`,
 the line that the fare rules give that tap there, or `line N is no ledger line`; the standard error
 says why it is none. Line 1 is the head line. Status 2 is a fault of the command line. With `--all`
 it goes on after a wrong line, and ends with `wrong N of M lines, of K tokens; cents C, wanted D`.
-With `--report` a second line follows `legal N lines`: `report of the ledger`, or status 1 and the
+With `--report` a second line follows `legal N lines, ..`: `report of the ledger`, or status 1 and the
 report's first line that is not that of the ledger's sums, `wrong report line N: wants LINE` or
 `wrong report line N: no report has it`. Of the uploads' lines only the form is known, and that their
 taps are as many as the ledger's: else `wrong report line N: the uploads have A taps, the ledger B`.
+So `upload lines not compared` is the next line: `omny_audit --uploads` compares them.
 A traced ledger, known by its head line, is checked without its last three columns. A line whose
-columns have not their form is no ledger line. Behind `legal N lines`, or their end with `--all`,
+columns have not their form is no ledger line. After `legal N lines, ..`, or their end with `--all`,
 comes `all classes of the table` or, with status 1, `line N has another class than CLASS` for the
 first such line. With `--uploads` comes also `all places of the uploads`, or with status 1 the first
 of `line N has another tap than upload U has at place P`, `line N has upload U place P again` and
@@ -393,9 +395,27 @@ def tap_of(line):
         raise ValueError("a number or a moment is past its range")
     return token, moments[0], text, int(validator)
 
-def first_wrong(tables, file, sums, trace):
+class Order:
+    """Which line of a ledger is the first that is earlier than the line before it."""
+
+    def __init__(self):
+        self.last, self.early = ("", 0, 0), None
+
+    def add(self, number, token, moment, validator):
+        tap = token, moment, validator
+        if tap < self.last and self.early is None:
+            self.early = number
+        self.last = tap
+
+    def legal(self, count):
+        if self.early is None:
+            return f"legal {count} lines, settled"
+        return f"legal {count} lines, not settled: line {self.early} is earlier than the line before"
+
+def first_wrong(tables, file, sums, trace, order):
     """How many lines are right, what is wrong with the next, and why it is no ledger line. The lines
-    that are right are added to the sums, if there are any, and their columns to the trace."""
+    that are right are added to the sums, if there are any, their columns to the trace, and their taps
+    to the order."""
     read = lambda: file.readline(256).decode("latin-1")  # no ledger line has as many bytes
     if read() != HEAD:
         return 0, "line 1 is no ledger line", "it is not the head line"
@@ -415,6 +435,7 @@ def first_wrong(tables, file, sums, trace):
         if sums:
             sums.add(line)
         count += 1
+        order.add(count + 1, token, moment, validator)
         if file.is_traced:
             trace.add(count + 1, line, file.columns)
     return count, None, None
@@ -442,9 +463,9 @@ def tap_in(line):
     cents = int(cents[1]) if cents else 0
     return token, moment, text, int(validator), cents if cents < 2 ** 32 else 0
 
-def all_wrong(tables, file, sums, trace):
+def all_wrong(tables, file, sums, trace, order):
     """Prints each wrong line and the end. Gives whether no line is wrong. Each line that tells a tap
-    is added to the sums as it should be, if there are any."""
+    is added to the sums as it should be, if there are any, and its tap to the order."""
     account, last, wrong, tokens, last_wrong, cents, wanted_cents = None, "", 0, 0, None, 0, 0
     number = 0
     for number, line in enumerate(lines_in(file), 1):
@@ -460,6 +481,7 @@ def all_wrong(tables, file, sums, trace):
         wanted = f"{token},{account.post(moment, text, validator)}"
         cents += asked
         wanted_cents += int(wanted.split(",")[6])
+        order.add(number, token, moment, validator)
         if sums:
             sums.add(wanted)
         if file.is_traced:
@@ -471,7 +493,7 @@ def all_wrong(tables, file, sums, trace):
         number, wrong = 1, 1
         print("line 1 is no ledger line")
     print(f"wrong {wrong} of {number - 1} lines, of {tokens} tokens; cents {cents}, wanted "
-          f"{wanted_cents}" if wrong else f"legal {number - 1} lines")
+          f"{wanted_cents}" if wrong else order.legal(number - 1))
     return not wrong
 
 def read(name):
@@ -481,6 +503,8 @@ def read(name):
 
 def main():
     words = sys.argv[1:]
+    is_live = "--live" in words
+    words = [word for word in words if word != "--live"]
     goes_on = words[:1] == ["--all"]
     words = words[goes_on:]
     report = words[1] if words[:1] == ["--report"] and len(words) > 1 else None
@@ -493,12 +517,13 @@ def main():
         tables, sums = tables_of(named), None if report is None else Sums()
         with open(0 if words[0] == "-" else words[0], "rb") as file, \
                 open(os.devnull if report is None else report, "rb") as reported:
+            order = Order()
             ledger, trace = Untraced(file), Trace(tables, names and [read(name) for name in names])
             if goes_on:
-                wrong, why = "" if all_wrong(tables, ledger, sums, trace) else "wrong", None
+                wrong, why = "" if all_wrong(tables, ledger, sums, trace, order) else "wrong", None
             else:
-                count, wrong, why = first_wrong(tables, ledger, sums, trace)
-                print(wrong or f"legal {count} lines")
+                count, wrong, why = first_wrong(tables, ledger, sums, trace, order)
+                print(wrong or order.legal(count))
             if names and not ledger.is_traced:
                 raise ValueError("--uploads needs a traced ledger")
             if ledger.is_traced and (goes_on or not wrong):
@@ -506,6 +531,9 @@ def main():
             if sums and not wrong:
                 wrong = wrong_in_report(sums, reported)
                 print(wrong or "report of the ledger")
+                print("upload lines not compared")
+            if order.early and not is_live:
+                wrong = wrong or "not settled"
     except Refused as why:
         sys.exit(print(f"fault: {why}", file=sys.stderr) or why.status)
     except (OSError, ValueError, LookupError, TypeError, AttributeError) as why:

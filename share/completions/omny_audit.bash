@@ -2,7 +2,7 @@
 
 _omny_audit() {
     local word=${COMP_WORDS[COMP_CWORD]} before=${COMP_WORDS[COMP_CWORD - 1]} given ending=csv
-    local options=(--all --table --uploads --report --files-from -0 --null -h --help -V --version)
+    local options=(--all --live --table --uploads --report --files-from -0 --null -h --help -V --version)
     # bash splits a word at `=`, so that `--table=F` is the words `--table`, `=` and `F`
     if [[ $word == = ]]; then
         word=

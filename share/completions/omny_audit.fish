@@ -15,6 +15,7 @@ end
 set -l uploads __omny_audit_in_uploads
 complete -c omny_audit -f
 complete -c omny_audit -l all -d 'Print each wrong line, each missing and each surplus tap'
+complete -c omny_audit -l live -d 'Take a ledger that is not settled'
 complete -c omny_audit -l table -x -k -d 'The fare table, and those from a date on' -a '(__omny_audit_files .toml)'
 complete -c omny_audit -l uploads -x -k -d 'Uploads whose taps the ledger should have' \
     -a '(__omny_audit_files .tap)'

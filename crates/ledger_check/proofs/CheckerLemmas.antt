@@ -2,13 +2,14 @@
 use Rattle.std.proofs.Common.{◌≡◌, ◌≢◌, ℕ, ◌+◌, ◌<◌, ◌≤◌, Bool, true, false, cond, List, [], ◌∷◌}
 use Rattle.std.proofs.Common.{◌++◌, length, Option, Some, None, is_some, codes, refl, sym, ap}
 use Rattle.std.proofs.Common.{subst, ◌∙◌, arith, append_assoc, append-nil, length-append, inl, inr}
-use Rattle.std.proofs.Common.{⊎_elim}
+use Rattle.std.proofs.Common.{⊎_elim, map}
 use Rattle.std.proofs.lemmas.Bool.{cases_lt}
 use Rattle.tariffs.specs.Fares.{Fares}
 use Rattle.histories.specs.declared.entry.Entry.{Entry}
 use Rattle.fare_texts.specs.LedgerLines.{head_text, line_head, entry_fields}
 use Rattle.ledger_check.specs.Ledger.{IsNext}
 use Rattle.ledger_check.specs.Lines.{IsLine, Lacks, lines_of}
+use Rattle.ledger_check.specs.Orders.{early_line, tap_of_entry}
 use Rattle.ledger_check.specs.Replays.{HasRead, IsWrongAfter}
 use Rattle.ledger_check.specs.Verdicts.{HasFed, HasTaken, IsFed, IsFirstWrong, IsTrueOf, IsVerdict}
 use Rattle.ledger_check.specs.inside.Verdicts.{IsTaken, number_after}
@@ -260,7 +261,8 @@ ended_headless fares checker text fed empty none =
 
 pub ended_well : (fares : Fares) (checker : Checker) (text : List ℕ) → HasFed fares checker text
     → checker.begun.items ≡ []
-    → checker.so_far.has_head ≡ true → IsVerdict fares text (Legal checker.so_far.replay.lines)
+    → checker.so_far.has_head ≡ true → IsVerdict fares text
+    (Legal checker.so_far.replay.lines checker.so_far.replay.order.early)
 ended_well fares checker text fed empty some =
     let head = headed fares checker.so_far fed.lines some fed.taken in
     record {
@@ -269,6 +271,8 @@ ended_well fares checker text fed empty some =
       entries = head.read.entries;
       are = head.read.are;
       counted = head.read.counted;
+      order = λ of are. head.read.order.early
+          ∙ ap (λ (es : List Entry). early_line (map tap_of_entry es)) (sym (head.read.only of are));
     }
 
 -- a piece after a piece

@@ -10,6 +10,7 @@ pub mod FrontLemmas
 mod FullyBalanced
 pub mod LineLemmas
 pub mod MomentLemmas
+pub mod Orders
 pub mod PlaceLemmas
 pub mod RecountLaw
 pub mod RecountLemmas

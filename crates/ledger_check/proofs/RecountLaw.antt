@@ -14,7 +14,7 @@ use Rattle.fare_texts.specs.LedgerLines.{head_text, IsLedgerLineAfter, line_head
 use Rattle.fare_texts.specs.Explainers.{next_entry}
 use Rattle.ledger_check.specs.Ledger.{AreNext, IsNext, IsNextLine, token_number}
 use Rattle.ledger_check.specs.Lines.{lines_of}
-use Rattle.ledger_check.specs.Struck.{tap_of_entry}
+use Rattle.ledger_check.specs.Orders.{tap_of_entry}
 use Rattle.ledger_check.specs.Recounts.{AreTaken, IsCounted, IsJudged, IsLineOfTap, RecountsDecide}
 use Rattle.ledger_check.specs.Recounts.{TakenLine, falls_after, lines_from, one_wrong, run_of}
 use Rattle.ledger_check.specs.Recounts.{run_with, taps_from, taps_with, remark_for, with_first}

@@ -1,23 +1,31 @@
 -- What a check of the next line finds, by what its parts found.
 use Rattle.std.proofs.Common.{◌≡◌, ℕ, ◌+◌, ◌^◌, ◌<◌, ◌≤◌, List, [], ◌∷◌, ◌++◌, length, All, Option}
-use Rattle.std.proofs.Common.{Some, sym, ap, subst, ◌∙◌, arith, length-append}
+use Rattle.std.proofs.Common.{Some, sym, ap, subst, ◌∙◌, arith, length-append, map}
+use Rattle.std.proofs.lemmas.List.{map-append}
 use Rattle.tariffs.specs.Fares.{Fares}
 use Rattle.account_rule.specs.declared.reason.Reason.{Reason}
 use Rattle.histories.specs.Entry.{own}
-use Rattle.tap_views.specs.Token.{Fits}
+use Rattle.tap_views.specs.Token.{Fits, bytes_of}
+use Rattle.tap_views.specs.declared.encoder.TapFields.{TapFields}
 use Rattle.histories.specs.declared.entry.Entry.{Entry}
 use Rattle.tap_views.specs.declared.token.Token.{Token}
 use Rattle.fare_texts.specs.LedgerLines.{IsLedgerLine}
 use Rattle.fare_texts.specs.declared.explainer.Explainer.{Explainer}
 use Rattle.ledger_check.specs.Ledger.{AreNext, IsNext, IsPostable, token_number}
+use Rattle.ledger_check.specs.Orders.{IsOrderOf, tap_of_entry}
 use Rattle.ledger_check.specs.Replays.{HasRead, HasExplainer, IsWanted, IsWrongAfter, StandsForOwn}
 use Rattle.ledger_check.specs.inside.Replays.{GoesOn}
-use Rattle.ledger_check.specs.inside.Taps.{IsEntryOfTap, NamesTap}
+use Rattle.ledger_check.specs.inside.Taps.{IsEntryOfTap, NamesTap, tap_fields}
 use Rattle.ledger_check.specs.declared.replay.Replay.{Replay}
 use Rattle.ledger_check.specs.declared.tap.Tap.{Tap}
 use Rattle.ledger_check.proofs.EntryLists.{next-parts, next-push, none_left}
 use Rattle.ledger_check.proofs.SameLines.{next_same}
 use Rattle.ledger_check.proofs.TokenOrder.{own-few}
+
+pub tap_same : (tap : Tap) (entry : Entry) → IsEntryOfTap tap entry
+    → tap_of_entry entry ≡ tap_fields tap
+tap_same tap entry is =
+    λ i. record { token = bytes_of (is.token i); validator = is.validator i; moment = is.moment i }
 
 -- the entry of a further line follows the entries that were read
 last_of : (fares : Fares) (replay : Replay) (lines : List (List ℕ)) (line : List ℕ)
@@ -158,10 +166,12 @@ pub read_more : (fares : Fares) (replay next : Replay) (lines : List (List ℕ))
     → explainer.token ≡ tap.token → NamesTap fares line tap → wanted ≡ line → length line ≤ 255
     → replay.lines < 4_611_686_018_427_387_904 → next.lines ≡ replay.lines + 1
     → next.explainer ≡ Some after
+    → ((taps : List TapFields) → IsOrderOf taps replay.order
+    → IsOrderOf (taps ++ tap_fields tap ∷ []) next.order)
     → HasRead fares next (lines ++ line ∷ [])
 read_more fares replay next lines line wanted explainer after tap read goes stands can token reports
     same
-    short room counted is_explainer =
+    short room counted is_explainer orders =
     let few : length read.entries < 2 ^ 62 = omega (arith, read.counted) in
     let is : IsNext fares read.entries goes.entry line =
     subst (λ (l : List ℕ). IsNext fares read.entries goes.entry l) same
@@ -181,6 +191,15 @@ read_more fares replay next lines line wanted explainer after tap read goes stan
       explainer = subst
           (λ (t : Option Explainer). HasExplainer fares t (read.entries ++ goes.entry ∷ []))
           (sym is_explainer) (goes.stands, goes.some);
+      order = subst (λ (ts : List TapFields). IsOrderOf ts next.order)
+          (ap (λ (t : TapFields). map tap_of_entry read.entries ++ t ∷ [])
+          (sym (tap_same tap goes.entry (record {
+            token = goes.token ∙ token;
+            validator = goes.of_validator;
+            moment = goes.of_moment;
+          })))
+          ∙ sym (map-append tap_of_entry read.entries (goes.entry ∷ [])))
+          (orders (map tap_of_entry read.entries) read.order);
     }
 
 pub wanted_next : (fares : Fares) (replay : Replay) (lines : List (List ℕ)) (wanted : List ℕ)

@@ -14,7 +14,7 @@ use Rattle.fare_texts.specs.Explainers.{next_entry}
 use Rattle.fare_texts.specs.LedgerLines.{IsLedgerLineAfter, head_text, reason_after}
 use Rattle.ledger_check.specs.FirstLines.{RecountsGoOn}
 use Rattle.ledger_check.specs.Lines.{lines_of}
-use Rattle.ledger_check.specs.Struck.{tap_of_entry}
+use Rattle.ledger_check.specs.Orders.{tap_of_entry}
 use Rattle.ledger_check.specs.Recounts.{AreTaken, IsCounted, IsJudged, IsTaken, TakenLine}
 use Rattle.ledger_check.specs.Recounts.{end_text, falls_after, lines_from, one_wrong, remark_for}
 use Rattle.ledger_check.specs.Recounts.{remark_lines}

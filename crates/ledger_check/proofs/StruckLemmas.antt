@@ -11,7 +11,7 @@ use Rattle.ledger_check.specs.declared.balance.Balance.{Balance}
 use Rattle.tap_views.specs.declared.encoder.TapFields.{TapFields}
 use Rattle.ledger_check.specs.Ledger.{IsLedgerOf}
 use Rattle.ledger_check.specs.Struck.{AreStruck, AreTapsOfLines, HasStruck, IfUndecided}
-use Rattle.ledger_check.specs.Struck.{tap_of_entry}
+use Rattle.ledger_check.specs.Orders.{tap_of_entry}
 use Rattle.ledger_check.specs.Lines.{IsLine}
 use Rattle.ledger_check.specs.inside.Taps.{IsEntryOfTap, NamesTap, tap_fields}
 use Rattle.ledger_check.specs.inside.Verdicts.{IsTaken}
@@ -20,12 +20,7 @@ use Rattle.ledger_check.specs.declared.checker.Verdict.{Verdict}
 use Rattle.ledger_check.specs.declared.tap.Tap.{Tap}
 use Rattle.ledger_check.proofs.CheckerLemmas.{ended_at_line, took_whole}
 use Rattle.ledger_check.proofs.EntryLists.{next-parts, none_left}
-use Rattle.ledger_check.proofs.ReplayLemmas.{tap_of_next}
-
-tap_same : (tap : Tap) (entry : Entry) → IsEntryOfTap tap entry
-    → tap_of_entry entry ≡ tap_fields tap
-tap_same tap entry is =
-    λ i. record { token = bytes_of (is.token i); validator = is.validator i; moment = is.moment i }
+use Rattle.ledger_check.proofs.ReplayLemmas.{tap_of_next, tap_same}
 
 -- the head line has no tap
 pub struck_head : (fares : Fares) (lines : List (List ℕ)) (line : List ℕ) (balance : Balance)

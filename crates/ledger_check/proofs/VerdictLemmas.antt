@@ -31,7 +31,7 @@ headless_refutes : (fares : Fares) (text : List ℕ) → IsHeadless (lines_of te
 headless_refutes fares text headless ledger = headless ledger.1.lines ledger.1.split
 
 pub decide : VerdictsDecide
-decide fares text (Legal number) is =
+decide fares text (Legal number early) is =
     (λ _. (is.entries, record { lines = is.others; split = is.split; are = is.are }), λ _. refl)
 decide fares text (Wants number wanted) is =
     (λ h. absurd (false_true h), λ ledger. absurd (wrong_refutes fares text number is.first ledger))

@@ -4,6 +4,7 @@ pub mod FirstLines
 pub mod FullBalances
 pub mod Ledger
 pub mod Lines
+pub mod Orders
 pub mod Places
 pub mod RecountStates
 pub mod Recounts

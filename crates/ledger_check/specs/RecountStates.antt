@@ -11,6 +11,7 @@ use Rattle.tap_views.specs.declared.encoder.TapFields.{TapFields}
 use Rattle.fare_texts.specs.Explainers.{HasExplained}
 use Rattle.fare_texts.specs.declared.explainer.Explainer.{Explainer}
 use Rattle.ledger_check.specs.Lines.{Lacks, lines_of}
+use Rattle.ledger_check.specs.Orders.{IsOrderOf}
 use Rattle.ledger_check.specs.Recounts.{AreTaken, TakenLine, cents_from, last_wrong_token}
 use Rattle.ledger_check.specs.Recounts.{lines_from, run_of, taps_from, token_count, remark_lines}
 use Rattle.ledger_check.specs.Recounts.{wanted_cents_from, wrong_count}
@@ -39,6 +40,7 @@ pub record AreSums (sums : RecountSums) (taken : List TakenLine) : Type 0 where
   pub tokens : sums.tokens ≡ token_count taken
   pub cents : sums.cents ≡ cents_from taken
   pub wanted : sums.wanted ≡ wanted_cents_from taken
+  pub order : IsOrderOf (taps_from taken) sums.order
 
 -- these lines were taken
 pub record HasTakenLines (fares : Fares) (so_far : LinesTaken) (taken : List TakenLine)

@@ -19,7 +19,7 @@ use Rattle.fare_texts.specs.LedgerLines.{IsLedgerLineAfter, head_text}
 use Rattle.fare_texts.specs.Explainers.{next_entry}
 use Rattle.ledger_check.specs.Ledger.{IsLedger, IsLedgerOf, token_number}
 use Rattle.ledger_check.specs.Lines.{Lacks, lines_of}
-use Rattle.ledger_check.specs.Struck.{tap_of_entry}
+use Rattle.ledger_check.specs.Orders.{early_line, tap_of_entry}
 use Rattle.ledger_check.specs.declared.walk.CountedTap.{CountedTap}
 use Rattle.ledger_check.specs.declared.walk.LineFinding.{LineFinding}
 use Rattle.ledger_check.specs.declared.walk.Remark.{Remark}
@@ -206,9 +206,17 @@ wanted_cents_from [] = 0
 wanted_cents_from (taken ∷ earlier) =
     wanted_cents_from earlier + ruled_cents taken.finding.tap
 
--- `legal 6 lines`
-unfoldable pub legal_text : ℕ → List ℕ
-legal_text entries = codes "legal " ++ (decimal entries ++ codes " lines\n")
+-- how a line `legal 6 lines` goes on, by the number of the first line that is earlier than the line
+-- before it, if there is one
+unfoldable pub order_text : Option ℕ → List ℕ
+order_text None = codes ", settled\n"
+order_text (Some line) = codes ", not settled: line "
+    ++ (decimal line ++ codes " is earlier than the line before\n")
+
+-- `legal 6 lines, settled` or `legal 6 lines, not settled: line 4 is earlier than the line before`
+unfoldable pub legal_text : ℕ → Option ℕ → List ℕ
+legal_text entries early =
+    codes "legal " ++ (decimal entries ++ (codes " lines" ++ order_text early))
 
 -- `wrong 7 of 175098 lines, of 6 tokens; cents 34876671, wanted 34876380`
 unfoldable pub wrong_text : ℕ → ℕ → ℕ → ℕ → ℕ → List ℕ
@@ -220,7 +228,8 @@ wrong_text wrong entries tokens cents wanted =
 -- the line behind the remarks; the head line is not counted among them
 abbrev pub end_text : List TakenLine → List ℕ
 end_text taken =
-    if nat_eq (wrong_count taken) 0 then legal_text (length taken - 1)
+    if nat_eq (wrong_count taken) 0
+    then legal_text (length taken - 1) (early_line (taps_from taken))
     else wrong_text (wrong_count taken) (length taken - 1) (token_count taken) (cents_from taken)
     (wanted_cents_from taken)
 

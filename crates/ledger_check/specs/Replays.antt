@@ -1,6 +1,6 @@
 -- What a check knows of the lines that it has read.
 use Rattle.std.specs.Prelude.{◌≡◌, ℕ, ◌^◌, ◌<◌, ◌≤◌, List, [], ◌∷◌, ◌++◌, length, All, Option}
-use Rattle.std.specs.Prelude.{Some, None}
+use Rattle.std.specs.Prelude.{Some, None, map}
 use Rattle.tariffs.specs.Fares.{Fares}
 use Rattle.histories.specs.Entry.{own}
 use Rattle.tap_views.specs.Token.{Fits}
@@ -8,6 +8,7 @@ use Rattle.histories.specs.declared.entry.Entry.{Entry}
 use Rattle.fare_texts.specs.Explainers.{HasExplained}
 use Rattle.fare_texts.specs.declared.explainer.Explainer.{Explainer}
 use Rattle.ledger_check.specs.Ledger.{AreNext, IsNext, token_number}
+use Rattle.ledger_check.specs.Orders.{IsOrderOf, tap_of_entry}
 use Rattle.ledger_check.specs.declared.replay.Replay.{Replay}
 
 -- the explainer stands for its token's entries among these, which are of no greater token
@@ -31,6 +32,7 @@ pub record HasRead (fares : Fares) (replay : Replay) (lines : List (List ℕ)) :
   pub counted : replay.lines ≡ length entries
   pub few : length entries ≤ 2 ^ 62
   pub explainer : HasExplainer fares replay.explainer entries
+  pub order : IsOrderOf (map tap_of_entry entries) replay.order
 
 -- no ledger has this line after these
 abbrev pub IsWrongAfter : Fares → List (List ℕ) → List ℕ → Type 0

@@ -4,17 +4,12 @@ use Rattle.ledger_check.specs.Balances.{IsBalance}
 use Rattle.ledger_check.specs.declared.balance.Balance.{Balance}
 use Rattle.tap_views.specs.declared.encoder.TapFields.{TapFields}
 use Rattle.tariffs.specs.Fares.{Fares}
-use Rattle.tap_views.specs.Token.{bytes_of}
 use Rattle.histories.specs.declared.entry.Entry.{Entry}
 use Rattle.ledger_check.specs.Ledger.{AreNext}
+use Rattle.ledger_check.specs.Orders.{tap_of_entry}
 use Rattle.ledger_check.specs.Verdicts.{HasFed, is_legal}
 use Rattle.ledger_check.specs.declared.checker.Checker.{Checker}
 use Rattle.ledger_check.specs.declared.checker.Verdict.{Verdict}
-
--- the tap of an entry, as an upload has it
-abbrev pub tap_of_entry : Entry → TapFields
-tap_of_entry entry =
-    record { token = bytes_of entry.token; validator = entry.validator; moment = entry.moment }
 
 -- whatever ledger begins with these lines, the head line first, these are the taps of their entries
 abbrev pub AreTapsOfLines : Fares → List (List ℕ) → List TapFields → Type 0

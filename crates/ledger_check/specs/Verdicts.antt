@@ -1,11 +1,12 @@
 -- What a check finds of a ledger's text.
 use Rattle.std.specs.Prelude.{◌≡◌, ◌↔◌, ℕ, ◌+◌, ◌≤◌, Bool, true, false, List, [], ◌∷◌, ◌++◌, length}
-use Rattle.std.specs.Prelude.{Option, Some, None, IsTrue, string_bytes, ◌⊎◌}
+use Rattle.std.specs.Prelude.{Option, Some, None, IsTrue, map, string_bytes, ◌⊎◌}
 use Rattle.tariffs.specs.Fares.{Fares}
 use Rattle.histories.specs.declared.entry.Entry.{Entry}
 use Rattle.fare_texts.specs.LedgerLines.{head_text}
 use Rattle.ledger_check.specs.Ledger.{AreNext, IsLedger}
 use Rattle.ledger_check.specs.Lines.{Lacks, lines_of}
+use Rattle.ledger_check.specs.Orders.{early_line, tap_of_entry}
 use Rattle.ledger_check.specs.Replays.{HasRead, IsWanted, IsWrongAfter}
 use Rattle.ledger_check.specs.declared.checker.Checker.{Checker}
 use Rattle.ledger_check.specs.declared.checker.LinesSoFar.{LinesSoFar}
@@ -28,13 +29,17 @@ pub record IsFirstWrong (fares : Fares) (lines : List (List ℕ)) (number : ℕ)
 abbrev pub IsHeadless : List (List ℕ) → Type 0
 IsHeadless lines = (others : List (List ℕ)) → lines ≡ head_text ∷ others → ⊥
 
--- the lines are a ledger's, of this number of entries
-pub record IsWholeLedger (fares : Fares) (lines : List (List ℕ)) (number : ℕ) : Type 0 where
+-- the lines are a ledger's, of this number of entries, and the first line that is earlier than the
+-- line before it has this number, if there is one
+pub record IsWholeLedger (fares : Fares) (lines : List (List ℕ)) (number : ℕ) (early : Option ℕ)
+    : Type 0 where
   pub others : List (List ℕ)
   pub split : lines ≡ head_text ∷ others
   pub entries : List Entry
   pub are : AreNext fares [] entries others
   pub counted : number ≡ length entries
+  pub order : (of : List Entry) → AreNext fares [] of others
+      → early ≡ early_line (map tap_of_entry of)
 
 -- the first wrong line, and the line that a ledger can have in its place
 pub record IsFirstWanted (fares : Fares) (lines : List (List ℕ)) (number : ℕ) (wanted : List ℕ)
@@ -44,7 +49,7 @@ pub record IsFirstWanted (fares : Fares) (lines : List (List ℕ)) (number : ℕ
 
 -- the verdict is true of the lines
 abbrev pub IsTrueOf : Fares → List (List ℕ) → Verdict → Type 0
-IsTrueOf fares lines (Legal number) = IsWholeLedger fares lines number
+IsTrueOf fares lines (Legal number early) = IsWholeLedger fares lines number early
 IsTrueOf fares lines (Wants number wanted) = IsFirstWanted fares lines number (string_bytes wanted)
 IsTrueOf fares lines (NoLine number) =
     ((number ≡ 1) × IsHeadless lines) ⊎ IsFirstWrong fares lines number
@@ -55,9 +60,15 @@ IsVerdict fares text verdict = IsTrueOf fares (lines_of text) verdict
 
 -- whether the verdict is that the ledger is legal
 abbrev pub is_legal : Verdict → Bool
-is_legal (Legal number) = true
+is_legal (Legal number early) = true
 is_legal (Wants number wanted) = false
 is_legal (NoLine number) = false
+
+-- the number of the first line of a legal ledger that is earlier than the line before it
+abbrev pub early_in : Verdict → Option ℕ
+early_in (Legal number early) = early
+early_in (Wants number wanted) = None
+early_in (NoLine number) = None
 
 -- a true verdict says `legal` exactly if the text is a ledger
 abbrev pub VerdictsDecide : Type 0

@@ -9,7 +9,8 @@ ghost use Rattle.ledger_check.specs.declared.balance.Balance.{Balance};
 ghost use Rattle.tap_views.specs.declared.encoder.TapFields.{TapFields};
 ghost use Rattle.ledger_check.specs.Ledger.{IsLedgerOf};
 ghost use Rattle.ledger_check.specs.Lines.{IsLine, Lacks};
-ghost use Rattle.ledger_check.specs.Struck.{AreStruck, HasStruck, IfUndecided, tap_of_entry};
+ghost use Rattle.ledger_check.specs.Orders.{tap_of_entry};
+ghost use Rattle.ledger_check.specs.Struck.{AreStruck, HasStruck, IfUndecided};
 ghost use Rattle.ledger_check.specs.Verdicts.{HasFed, HasTaken, IsFed, IsVerdict, is_legal};
 ghost use Rattle.ledger_check.specs.inside.Verdicts.{IsTaken, number_after};
 ghost use Rattle.ledger_check.specs.declared.checker.Verdict.TheVariants.{NoLine};
@@ -25,8 +26,9 @@ use tariffs::{Clock, FareTable};
 /// What a check finds of a text. Lines count from 1, the head line.
 #[derive(Drop)]
 pub enum Verdict {
-    /// The text is a ledger of this number of entries.
-    Legal(u64),
+    /// The text is a ledger of this number of entries. It is settled, or the line of the second
+    /// number is the first that is earlier than the line before it.
+    Legal(u64, Option<u64>),
     /// The line of this number is the first that no ledger has there. Its tap should have this
     /// line, with the newline.
     Wants(u64, String),
@@ -222,6 +224,6 @@ impl Checker {
         if !self.so_far.has_head || !self.begun.is_empty() {
             return self.so_far.no_line();
         }
-        Verdict::Legal(self.so_far.replay.lines)
+        Verdict::Legal(self.so_far.replay.lines, self.so_far.replay.order.early)
     }
 }

@@ -6,6 +6,7 @@ ghost use Rattle.tariffs.specs.Fares.{Fares};
 ghost use Rattle.ledger_check.specs.FullBalances.{IsFullBalance};
 ghost use Rattle.ledger_check.specs.declared.full_balance.FullBalance.{FullBalance as AFullBalance};
 ghost use Rattle.tap_views.specs.declared.encoder.TapFields.{TapFields};
+ghost use Rattle.ledger_check.specs.Orders.{are_settled};
 ghost use Rattle.ledger_check.specs.Recounts.{IsRecount, TakenLine, recount_text, taps_from};
 ghost use Rattle.ledger_check.specs.Recounts.{taps_with, wrong_count};
 ghost use Rattle.ledger_check.specs.RecountStates.{HasRecounted, HasTakenLines, IsKept};
@@ -20,7 +21,7 @@ use crate::replay::MAX_LINE_BYTES;
 use crate::walk::{LineFinding, Remark, Walk, write_remark};
 use fare_texts::head_line;
 use std::alloc::{AllocError, Global};
-use tap_views::{NoMemory, TapFields};
+use tap_views::NoMemory;
 use tariffs::{Clock, FareTable};
 
 /// A line that names no tap.
@@ -54,11 +55,7 @@ fn strike_tap(strikes: bool, full: &mut FullBalance, finding: LineFinding) -> Re
     }
     match finding.tap {
         None => Ok(()),
-        Some(tap) => full.strike(&TapFields {
-            token: tap.entry.token.bytes(),
-            validator: tap.entry.validator,
-            moment: tap.entry.moment,
-        }),
+        Some(tap) => full.strike(&tap.fields()),
     }
 }
 
@@ -143,6 +140,15 @@ fn keep(kept: &mut Vec<u8>, text: &[u8]) -> Result<(), AllocError>
     } else {
         kept.extend_from_slice(&text[..room])
     }
+}
+
+/// What a recount finds of a whole text.
+#[derive(Clone, Copy)]
+pub struct Recounted {
+    /// Whether no line is wrong.
+    pub is_legal: bool,
+    /// Whether no line is earlier than the line before it.
+    pub is_settled: bool,
 }
 
 /// A check under one fare table of a text that comes in pieces. It goes on after a wrong line, and
@@ -264,20 +270,23 @@ impl Recount {
         Ok(ended)
     }
 
-    /// Ends the text that was read, and appends the rest of the report. Says whether no line is
-    /// wrong.
-    pub fn finish(&self, reported: &mut String) -> Result<bool, AllocError>
-        ensures { IfOk result (λ legal. (fares : Fares) (strikes : Bool) (full : AFullBalance)
+    /// Ends the text that was read, and appends the rest of the report.
+    pub fn finish(&self, reported: &mut String) -> Result<Recounted, AllocError>
+        ensures { IfOk result (λ recounted. (fares : Fares) (strikes : Bool) (full : AFullBalance)
             (text written : List ℕ) (good : List TapFields)
             → HasRecounted fares self.now strikes full text written good
             → (taken : List TakenLine) × IsRecount fares text taken
-            × (legal ≡ nat_eq (wrong_count taken) 0)
+            × (recounted.is_legal ≡ nat_eq (wrong_count taken) 0)
+            × (recounted.is_settled ≡ are_settled (taps_from taken))
             × (strikes ≡ true → IsFullBalance full good (taps_from taken))
             × (more : List ℕ) × (string_bytes reported.new ≡ string_bytes reported.old ++ more)
             × (written ++ more ≡ recount_text taken)) }
     {
         let sums = self.end_text(reported)?;
         sums.write_end(reported)?;
-        Ok(sums.wrong == 0)
+        Ok(Recounted {
+            is_legal: sums.wrong == 0,
+            is_settled: sums.order.early.is_none(),
+        })
     }
 }

@@ -2,11 +2,15 @@
 
 ghost use Rattle.std.specs.Prelude.{◌≡◌, ◌+◌, ◌-◌, ◌++◌, ◌∷◌, [], ℕ, List, IfOk, OnOk};
 ghost use Rattle.std.specs.Prelude.{if◌then◌else◌, nat_eq, string_bytes};
-ghost use Rattle.ledger_check.specs.Recounts.{TakenLine, asked_cents, end_text, legal_text};
+ghost use Rattle.ledger_check.specs.Orders.{IsOrderOf};
+ghost use Rattle.ledger_check.specs.Recounts.{TakenLine, asked_cents, end_text, taps_with};
 ghost use Rattle.ledger_check.specs.Recounts.{one_other, one_wrong, ruled_cents, wrong_text};
 ghost use Rattle.ledger_check.specs.Recounts.{wrong_token_of};
 ghost use Rattle.ledger_check.specs.RecountStates.{AreSums};
+ghost use Rattle.tap_views.specs.declared.encoder.TapFields.{TapFields};
 
+use crate::legal::write_legal;
+use crate::order::TapOrder;
 use crate::walk::{CountedTap, LineFinding, Remark};
 use std::alloc::AllocError;
 use tap_views::Token;
@@ -29,6 +33,8 @@ pub(crate) struct RecountSums {
     cents: u64,
     /// The cents that the rules give their taps.
     wanted: u64,
+    /// The order of their taps.
+    pub(crate) order: TapOrder,
 }
 
 /// The sum. What does not fit 64 bits is taken for want of memory.
@@ -94,12 +100,15 @@ fn ruled_cents(tap: Option<CountedTap>) -> u64
     }
 }
 
-/// Appends `legal 6 lines`.
-#[tactic(auto, unfolding(crate::specs::Recounts::legal_text))]
-fn write_legal(text: &mut String, entries: u64) -> Result<(), AllocError>
-    ensures { OnOk result (string_bytes text.new ≡ string_bytes text.old ++ legal_text entries) }
+/// The order of the taps with that of a line, if it names one.
+fn order_with(order: TapOrder, tap: Option<CountedTap>) -> Result<TapOrder, AllocError>
+    ensures { IfOk result (λ after. (taps : List TapFields) → IsOrderOf taps order
+        → IsOrderOf (taps_with taps tap) after) }
 {
-    write!(text, "legal {entries} lines\n")
+    match tap {
+        None => Ok(order),
+        Some(tap) => order.with(&tap.fields()),
+    }
 }
 
 impl RecountSums {
@@ -114,6 +123,7 @@ impl RecountSums {
             tokens: 0,
             cents: 0,
             wanted: 0,
+            order: TapOrder::new(),
         }
     }
 
@@ -130,6 +140,7 @@ impl RecountSums {
         let tokens = sum(self.tokens, one_other(self.last_wrong, last_wrong))?;
         let cents = sum(self.cents, asked_cents(finding.tap))?;
         let wanted = sum(self.wanted, ruled_cents(finding.tap))?;
+        let order = order_with(self.order, finding.tap)?;
         Ok(RecountSums {
             lines: self.lines + 1,
             wrong,
@@ -137,6 +148,7 @@ impl RecountSums {
             tokens,
             cents,
             wanted,
+            order,
         })
     }
 
@@ -163,7 +175,7 @@ impl RecountSums {
     {
         let entries = self.lines.saturating_sub(1);
         if self.wrong == 0 {
-            write_legal(text, entries)
+            write_legal(text, entries, self.order.early)
         } else {
             self.write_wrong(text, entries)
         }

@@ -12,6 +12,7 @@ ghost use Rattle.ledger_check.specs.inside.Replays.{IsStep};
 
 use crate::bytes::same_bytes;
 use crate::form::has_form;
+use crate::order::TapOrder;
 use crate::tap::{Tap, read_tap};
 use crate::wanted::write_wanted;
 use fare_texts::Explainer;
@@ -36,13 +37,15 @@ pub(crate) enum Step {
     NoLine,
 }
 
-/// The lines read so far: how many there are, and the explainer of the last one's token.
+/// The lines read so far: how many there are, the explainer of the last one's token, and their order.
 #[derive(Clone, Copy)]
 pub(crate) struct Replay {
     /// How many lines were read.
     pub(crate) lines: u64,
     /// The explainer of the last line's token; none if no line was read.
     explainer: Option<Explainer>,
+    /// The order of their taps.
+    pub(crate) order: TapOrder,
 }
 
 impl Replay {
@@ -53,6 +56,7 @@ impl Replay {
         Replay {
             lines: 0,
             explainer: None,
+            order: TapOrder::new(),
         }
     }
 
@@ -111,6 +115,8 @@ impl Replay {
             wanted,
         )?;
         if same_bytes(wanted.as_bytes(), line) {
+            let order = self.order.with(&tap.fields())?;
+            self.order = order;
             self.lines += 1;
             self.explainer = Some(explainer);
             return Ok(Step::Legal(tap));

@@ -7,6 +7,7 @@ ghost use Rattle.histories.specs.Entry.{own};
 ghost use Rattle.histories.specs.declared.entry.Entry.{Entry as AnEntry};
 ghost use Rattle.tap_views.specs.Token.{Fits};
 ghost use Rattle.fare_texts.specs.Explainers.{HasExplained};
+ghost use Rattle.ledger_check.specs.Orders.{tap_of_entry};
 ghost use Rattle.ledger_check.specs.Recounts.{falls_after, remark_for, remark_text, no_line_text};
 ghost use Rattle.ledger_check.specs.Recounts.{wants_text};
 ghost use Rattle.ledger_check.specs.RecountStates.{HasRunExplainer};
@@ -20,7 +21,7 @@ use fare_texts::{Explainer, write_line};
 use histories::Entry;
 use std::alloc::{AllocError, Global};
 use std::cmp::Ordering;
-use tap_views::{NoMemory, Token};
+use tap_views::{NoMemory, TapFields, Token};
 use tariffs::{Clock, FareTable};
 
 /// A tap that a line names.
@@ -30,6 +31,19 @@ pub(crate) struct CountedTap {
     pub(crate) entry: Entry,
     /// The cents that the line asks for; 0 if its cents are no number.
     pub(crate) cents: u32,
+}
+
+impl CountedTap {
+    /// The tap, as an upload has it.
+    pub(crate) fn fields(self) -> TapFields
+        ensures { result ≡ tap_of_entry self.entry }
+    {
+        TapFields {
+            token: self.entry.token.bytes(),
+            validator: self.entry.validator,
+            moment: self.entry.moment,
+        }
+    }
 }
 
 /// The remark on a line.

@@ -10,7 +10,8 @@ use Rattle.ledger_check.specs.Columns.{read_as}
 use Rattle.ledger_check.specs.Ledger.{IsLedgerOf}
 use Rattle.omny_audit.specs.Findings.{FindingsDecide, FullFindingsDecide, IsFindingOf}
 use Rattle.omny_audit.specs.Findings.{IsRightLedger}
-use Rattle.omny_audit.specs.Reports.{HasOwnReport, IsAudit, IsReportLine, IsRightAudit}
+use Rattle.omny_audit.specs.Reports.{AuditsDecide, HasOwnReport, IsReportLine, are_whole}
+use Rattle.tap_views.specs.declared.upload_end.UploadEnd.{UploadEnd}
 use Rattle.omny_audit.specs.Traced.{AreColumnsReported, HasRightColumns, HasRightPlaces}
 use Rattle.omny_audit.specs.Traced.{IsFaultBehind}
 use Rattle.omny_audit.specs.Traced.{IsPlaceFault, ReadLine, Wanted, have_place, wrong_class}
@@ -24,34 +25,36 @@ false_true : false ≡ true → ⊥
 false_true h = cc
 
 -- of all lines, or up to the first wrong one
-sound_is : FindingsDecide → FullFindingsDecide → (all : Bool) (fares : Fares) (ledger : List ℕ)
-    (good : Option (List TapFields)) (found : List ℕ) (sound : Bool)
-    → IsFindingOf all fares ledger good found sound
-    → (sound ≡ true) ↔ IsRightLedger fares ledger good
-sound_is some full true fares ledger good found sound is = full fares ledger good found sound is
-sound_is some full false fares ledger good found sound is = some fares ledger good found sound is
+sound_is : FindingsDecide → FullFindingsDecide → (all live : Bool) (fares : Fares)
+    (ledger : List ℕ) (good : Option (List TapFields)) (found : List ℕ) (sound : Bool)
+    → IsFindingOf all live fares ledger good found sound
+    → (sound ≡ true) ↔ IsRightLedger live fares ledger good
+sound_is some full true live fares ledger good found sound is =
+    full live fares ledger good found sound is
+sound_is some full false live fares ledger good found sound is =
+    some live fares ledger good found sound is
 
 -- a report that is right is that of the ledger's entries
-own_of : ReportVerdictsDecide → (fares : Fares) (ledger : List ℕ) (report : Option (List ℕ))
+own_of : ReportVerdictsDecide → (ends : Option (List UploadEnd)) (fares : Fares) (ledger : List ℕ) (report : Option (List ℕ))
     (legal : Bool) (rest : List ℕ) (fits : Bool) (entries : List Entry)
-    → IsReportLine fares ledger report legal rest fits → fits ≡ true
-    → IsLedgerOf fares entries ledger → HasOwnReport report entries
-own_of verdicts fares ledger None legal rest fits entries line is of = tt
-own_of verdicts fares ledger (Some report) false rest fits entries line is of =
+    → IsReportLine ends fares ledger report legal rest fits → fits ≡ true
+    → IsLedgerOf fares entries ledger → HasOwnReport ends report entries
+own_of verdicts ends fares ledger None legal rest fits entries line is of = tt
+own_of verdicts ends fares ledger (Some report) false rest fits entries line is of =
     absurd (false_true (sym line.1 ∙ is))
-own_of verdicts fares ledger (Some report) true rest fits entries line is of =
-    (verdicts entries report line.verdict (line.true_of entries of)).0 (sym line.reported ∙ is)
+own_of verdicts ends fares ledger (Some report) true rest fits entries line is of =
+    (verdicts ends entries report line.verdict (line.true_of entries of)).0 (sym line.reported ∙ is)
 
 -- and that of the ledger's entries is right
-fits_of : ReportVerdictsDecide → (fares : Fares) (ledger : List ℕ) (report : Option (List ℕ))
+fits_of : ReportVerdictsDecide → (ends : Option (List UploadEnd)) (fares : Fares) (ledger : List ℕ) (report : Option (List ℕ))
     (legal : Bool) (rest : List ℕ) (fits : Bool) (entries : List Entry) → legal ≡ true
-    → IsReportLine fares ledger report legal rest fits → IsLedgerOf fares entries ledger
-    → HasOwnReport report entries → fits ≡ true
-fits_of verdicts fares ledger None legal rest fits entries reported line of own = line.1
-fits_of verdicts fares ledger (Some report) false rest fits entries reported line of own =
+    → IsReportLine ends fares ledger report legal rest fits → IsLedgerOf fares entries ledger
+    → HasOwnReport ends report entries → fits ≡ true
+fits_of verdicts ends fares ledger None legal rest fits entries reported line of own = line.1
+fits_of verdicts ends fares ledger (Some report) false rest fits entries reported line of own =
     absurd (false_true reported)
-fits_of verdicts fares ledger (Some report) true rest fits entries reported line of own =
-    line.reported ∙ (verdicts entries report line.verdict (line.true_of entries of)).1 own
+fits_of verdicts ends fares ledger (Some report) true rest fits entries reported line of own =
+    line.reported ∙ (verdicts ends entries report line.verdict (line.true_of entries of)).1 own
 
 -- columns that are right
 none_of : {A : Type 0} (wrong : Option A) → not (is_some wrong) ≡ true → wrong ≡ None
@@ -116,37 +119,38 @@ looked_at : (all legal : Bool) → legal ≡ true → (all || legal) ≡ true
 looked_at true legal is = refl
 looked_at false legal is = is
 
-pub decides : FindingsDecide → FullFindingsDecide → ReportVerdictsDecide
-    → (all : Bool) (fares : Fares)
-    (wanted : Option Wanted) (file : List ℕ) (read : List ReadLine)
-    (good : Option (List TapFields)) (report : Option (List ℕ)) (text : List ℕ)
-    (well : Bool) → IsAudit all fares wanted file read good report text well
-    → (well ≡ true) ↔ IsRightAudit fares wanted file read good report
-decides some full verdicts all fares wanted file read good report text well audit =
+pub decides : FindingsDecide → FullFindingsDecide → ReportVerdictsDecide → AuditsDecide
+decides some full verdicts how fares wanted file read good report text well audit =
     let ledger = read_as (is_some wanted) file in
-    let sound = sound_is some full all fares ledger good audit.found audit.sound audit.finding in
-    let looked = all || audit.legal in (
+    let sound = sound_is some full how.all how.live fares ledger good audit.found audit.sound
+    audit.finding in
+    let looked = how.all || audit.legal in
+    let last = audit.last in (
       λ is.
           let parts = and_parts audit.sound (audit.right && audit.fits) (sym audit.both ∙ is) in
           let ends = and_parts audit.right audit.fits parts.1 in
+          let lasts = and_parts last.fits (are_whole how.ends) (sym last.both ∙ ends.1) in
           let right = sound.0 parts.0 in (
             right.0,
             right.1,
             right.2,
+            right.3,
             columns_right wanted looked file read audit.columns audit.right audit.are_columns
                 ends.0,
-            own_of verdicts fares ledger report (audit.legal && audit.right) audit.rest audit.fits
-                right.0 audit.report_line ends.1 right.1,
+            own_of verdicts how.ends fares ledger report (audit.legal && audit.right) last.line
+                last.fits right.0 last.report_line lasts.0 right.1,
+            lasts.1,
           ),
       λ right.
           let legal = audit.is_legal.1 (right.0, right.1) in
           let columns = right_columns wanted looked file read audit.columns audit.right
-          (looked_at all audit.legal legal) audit.are_columns right.3 in
+          (looked_at how.all audit.legal legal) audit.are_columns right.4 in
           let both : (audit.legal && audit.right) ≡ true = ap (λ (x : Bool). x && audit.right) legal
           ∙ columns in
+          let fits = fits_of verdicts how.ends fares ledger report (audit.legal && audit.right)
+          last.line last.fits right.0 both last.report_line right.1 right.5 in
           audit.both ∙ ap (λ (x : Bool). x && (audit.right && audit.fits))
-          (sound.1 (right.0, right.1, right.2))
+          (sound.1 (right.0, right.1, right.2, right.3))
           ∙ ap (λ (x : Bool). x && audit.fits) columns
-          ∙ (fits_of verdicts fares ledger report (audit.legal && audit.right) audit.rest audit.fits
-          right.0 both audit.report_line right.1 right.4),
+          ∙ last.both ∙ ap (λ (x : Bool). x && are_whole how.ends) fits ∙ right.6,
     )

@@ -1,8 +1,8 @@
 -- What was written when an audit of all lines is broken off is a beginning of what is found of
 -- them.
-use Rattle.std.proofs.Common.{◌≡◌, ◌∙◌, ◌++◌, ℕ, Bool, true, List, Option, inl, refl}
+use Rattle.std.proofs.Common.{◌≡◌, ◌∙◌, ◌++◌, ℕ, Bool, true, false, List, Option, inl, refl}
 use Rattle.std.proofs.Common.{sym, ap, subst, append_assoc, ⊎_elim}
-use Rattle.std.specs.Prelude.{◌↔◌, ◌&&◌, is_some, nat_eq}
+use Rattle.std.specs.Prelude.{◌↔◌, ◌&&◌, ◌||◌, is_some, nat_eq}
 use Rattle.std.specs.Io.KnownBytes.{Consumes}
 use Rattle.tariffs.specs.Fares.{Fares}
 use Rattle.fare_texts.specs.WrittenOut.{Begins}
@@ -11,15 +11,18 @@ use Rattle.ledger_check.specs.Columns.{read_as}
 use Rattle.ledger_check.specs.FirstLines.{AreFirstTaken, RecountsGoOn}
 use Rattle.ledger_check.specs.Ledger.{IsLedger}
 use Rattle.ledger_check.specs.Lines.{lines_of}
+use Rattle.ledger_check.specs.Orders.{are_settled}
 use Rattle.ledger_check.specs.Recounts.{IsRecount, RecountsDecide, TakenLine, recount_text}
 use Rattle.ledger_check.specs.Recounts.{remark_lines, taps_from, wrong_count}
 use Rattle.ledger_check.specs.RecountStates.{HasRecounted}
 use Rattle.ledger_check.specs.declared.full_balance.FullBalance.{FullBalance}
 use Rattle.ledger_check.specs.declared.recount.Recount.{Recount}
+use Rattle.ledger_check.specs.declared.recount.Recounted.{Recounted}
 use Rattle.ledger_check.proofs.SameTaken.{same_taken}
 use Rattle.tap_views.specs.declared.encoder.TapFields.{TapFields}
 use Rattle.omny_audit.specs.Findings.{IsDifferencesEnd}
-use Rattle.omny_audit.specs.Reports.{HasBegunAudit, IsAudit, IsReportLine}
+use Rattle.omny_audit.specs.Reports.{AreLastLines, HasBegunAudit, IsAudit, manner}
+use Rattle.tap_views.specs.declared.upload_end.UploadEnd.{UploadEnd}
 use Rattle.omny_audit.specs.Traced.{AreColumnsReported, ReadLine, Wanted}
 use Rattle.omny_audit.specs.declared.traced.TracedPieces.{TracedPieces}
 use Rattle.omny_audit.specs.inside.Findings.{HasBegunRecount}
@@ -65,31 +68,50 @@ begun_so_far trace wanted fares recount strikes full file text written good left
       subst (λ (t : List ℕ). Begins out out' t) has.reported begun,
     ))
 
+-- all is well if the taps, the columns and the last lines are, and the order
+in_order_too : (even rest order : Bool) → ((even && rest) && order) ≡ ((even && order) && rest)
+in_order_too true true order = and_true order
+  where
+    and_true : (b : Bool) → b ≡ (b && true)
+    and_true true = refl
+    and_true false = refl
+in_order_too true false true = refl
+in_order_too true false false = refl
+in_order_too false rest order = refl
+
 -- what is found of all lines, by its parts
-pub full_audit_of : RecountsDecide → (fares : Fares) (wanted : Option Wanted) (file : List ℕ)
+pub full_audit_of : RecountsDecide → (live : Bool) (ends : Option (List UploadEnd)) (fares : Fares)
+    (wanted : Option Wanted) (file : List ℕ)
     (good : Option (List TapFields)) (report : Option (List ℕ)) (taken : List TakenLine)
-    (legal : Bool) (ending columns rest last : List ℕ) (sound right fits well : Bool)
+    (recounted : Recounted) (ending columns rest last : List ℕ) (even right fits behind well : Bool)
     (read : List ReadLine)
     → IsRecount fares (read_as (is_some wanted) file) taken
-    → legal ≡ nat_eq (wrong_count taken) 0
-    → IsDifferencesEnd good (taps_from taken) legal ending sound
+    → recounted.is_legal ≡ nat_eq (wrong_count taken) 0
+    → recounted.is_settled ≡ are_settled (taps_from taken)
+    → IsDifferencesEnd good (taps_from taken) recounted.is_legal ending even
     → AreColumnsReported wanted true file read columns right
-    → IsReportLine fares (read_as (is_some wanted) file) report (legal && right) rest fits
-    → last ≡ (ending ++ columns) ++ rest → well ≡ (sound && (right && fits))
-    → IsAudit true fares wanted file read good report (recount_text taken ++ last) well
-full_audit_of decide fares wanted file good report taken legal ending columns rest last sound right
-    fits well read recount is end are line shown both = record {
+    → AreLastLines ends fares (read_as (is_some wanted) file) report (recounted.is_legal && right)
+    rest fits
+    → last ≡ (ending ++ columns) ++ rest → behind ≡ (even && (right && fits))
+    → well ≡ (behind && (live || recounted.is_settled))
+    → IsAudit (manner true live ends) fares wanted file read good report
+    (recount_text taken ++ last) well
+full_audit_of decide live ends fares wanted file good report taken recounted ending columns rest last
+    even right fits behind well read recount is settled end are line shown both ordered =
+    let order = live || are_settled (taps_from taken) in record {
       found = recount_text taken ++ ending;
-      sound = sound;
+      sound = even && order;
       finding = record {
         taken = taken;
         recount = recount;
         rest = ending;
         shown = refl;
-        second = subst (λ (b : Bool). IsDifferencesEnd good (taps_from taken) b ending sound) is
+        even = even;
+        second = subst (λ (b : Bool). IsDifferencesEnd good (taps_from taken) b ending even) is
             end;
+        both = refl;
       };
-      legal = legal;
+      legal = recounted.is_legal;
       is_legal = subst (λ (b : Bool). (b ≡ true) ↔ IsLedger fares (read_as (is_some wanted) file))
           (sym is)
           (recount_legal decide fares (read_as (is_some wanted) file) taken recount);
@@ -98,23 +120,25 @@ full_audit_of decide fares wanted file good report taken legal ending columns re
       are_columns = are;
       rest = rest;
       fits = fits;
-      report_line = line;
+      last = line;
       shown = ap (λ (t : List ℕ). recount_text taken ++ t)
           (shown ∙ append_assoc ending columns rest)
           ∙ sym (append_assoc (recount_text taken) ending (columns ++ rest));
-      both = both;
+      both = ordered ∙ ap (λ (b : Bool). b && (live || recounted.is_settled)) both
+          ∙ ap (λ (b : Bool). (even && (right && fits)) && (live || b)) settled
+          ∙ in_order_too even (right && fits) order;
     }
 
 -- What is found of all lines, with another recount of them. Both have the same taps, and as many
 -- wrong lines.
-other_recount : (fares : Fares) (wanted : Option Wanted) (file : List ℕ)
+other_recount : (live : Bool) (ends : Option (List UploadEnd)) (fares : Fares) (wanted : Option Wanted) (file : List ℕ)
     (good : Option (List TapFields)) (report : Option (List ℕ)) (some : List ℕ) (well : Bool)
     (read : List ReadLine) (taken : List TakenLine)
     → IsRecount fares (read_as (is_some wanted) file) taken
-    → (audit : IsAudit true fares wanted file read good report some well)
-    → IsAudit true fares wanted file read good report
+    → (audit : IsAudit (manner true live ends) fares wanted file read good report some well)
+    → IsAudit (manner true live ends) fares wanted file read good report
     (recount_text taken ++ (audit.finding.rest ++ (audit.columns ++ audit.rest))) well
-other_recount fares wanted file good report some well read taken recount audit =
+other_recount live ends fares wanted file good report some well read taken recount audit =
     let finding = audit.finding in
     let same = same_taken fares finding.taken taken finding.recount.are recount.are
     (sym finding.recount.split ∙ recount.split) in
@@ -126,11 +150,14 @@ other_recount fares wanted file good report some well read taken recount audit =
         recount = recount;
         rest = finding.rest;
         shown = refl;
+        even = finding.even;
         second = subst (λ (n : ℕ). IsDifferencesEnd good (taps_from taken) (nat_eq n 0) finding.rest
-            audit.sound) same.wrong
+            finding.even) same.wrong
             (subst (λ (ts : List TapFields). IsDifferencesEnd good ts
-            (nat_eq (wrong_count finding.taken) 0) finding.rest audit.sound) same.taps
+            (nat_eq (wrong_count finding.taken) 0) finding.rest finding.even) same.taps
             finding.second);
+        both = finding.both
+            ∙ ap (λ (ts : List TapFields). finding.even && (live || are_settled ts)) same.taps;
       };
       legal = audit.legal;
       is_legal = audit.is_legal;
@@ -139,19 +166,19 @@ other_recount fares wanted file good report some well read taken recount audit =
       are_columns = audit.are_columns;
       rest = audit.rest;
       fits = audit.fits;
-      report_line = audit.report_line;
+      last = audit.last;
       shown = sym (append_assoc (recount_text taken) finding.rest (audit.columns ++ audit.rest));
       both = audit.both;
     }
 
 -- the text of what is found of all lines goes on behind the remarks on the first ones
-goes_on : (fares : Fares) (wanted : Option Wanted) (file : List ℕ)
+goes_on : (live : Bool) (ends : Option (List UploadEnd)) (fares : Fares) (wanted : Option Wanted) (file : List ℕ)
     (good : Option (List TapFields)) (report : Option (List ℕ)) (some : List ℕ) (well : Bool)
     (read : List ReadLine) (first : List TakenLine) → RecountsGoOn
     → AreFirstTaken fares (read_as (is_some wanted) file) first
-    → IsAudit true fares wanted file read good report some well
+    → IsAudit (manner true live ends) fares wanted file read good report some well
     → (more : List ℕ) × (some ≡ remark_lines first ++ more)
-goes_on fares wanted file good report some well read first go_on begins audit =
+goes_on live ends fares wanted file good report some well read first go_on begins audit =
     let finding = audit.finding in
     let behind = audit.columns ++ audit.rest in
     let more = go_on fares (read_as (is_some wanted) file) first finding.taken begins
@@ -164,14 +191,14 @@ goes_on fares wanted file good report some well read first go_on begins audit =
     )
 
 -- what was written of the lines is a beginning of what is found
-pub begun_audit : (fares : Fares) (wanted : Option Wanted) (file : List ℕ)
+pub begun_audit : (live : Bool) (ends : Option (List UploadEnd)) (fares : Fares) (wanted : Option Wanted) (file : List ℕ)
     (good : Option (List TapFields)) (report : Option (List ℕ)) (out out' : Option (List ℕ))
     → RecountsGoOn → HasBegunRecount fares (read_as (is_some wanted) file) out out'
-    → HasBegunAudit true fares wanted file good report out out'
-begun_audit fares wanted file good report out out' go_on begun = λ some well audit. ⊎_elim
+    → HasBegunAudit (manner true live ends) fares wanted file good report out out'
+begun_audit live ends fares wanted file good report out out' go_on begun = λ some well audit. ⊎_elim
     (λ front.
-    let more = goes_on fares wanted file good report some well audit.0 front.0 go_on front.1 audit.1
-    in (
+    let more = goes_on live ends fares wanted file good report some well audit.0 front.0 go_on
+    front.1 audit.1 in (
       some,
       well,
       audit,
@@ -184,7 +211,7 @@ begun_audit fares wanted file good report out out' go_on begun = λ some well au
       well,
       (
         audit.0,
-        other_recount fares wanted file good report some well audit.0 all.0 all.1 audit.1,
+        other_recount live ends fares wanted file good report some well audit.0 all.0 all.1 audit.1,
       ),
       begins_front out out' (recount_text all.0) rest all.2,
     ))

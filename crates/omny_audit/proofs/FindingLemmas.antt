@@ -1,15 +1,22 @@
 -- What is found, by its parts.
 use Rattle.std.proofs.Common.{◌≡◌, ℕ, Bool, true, false, List, [], map, Option, Some, None}
-use Rattle.std.proofs.Common.{if◌then◌else◌, refl, sym, ◌∙◌}
-use Rattle.std.specs.Prelude.{◌↔◌}
+use Rattle.std.proofs.Common.{◌∷◌, ap, if◌then◌else◌, refl, subst, sym, ◌∙◌}
+use Rattle.std.specs.Prelude.{◌↔◌, ◌&&◌, ◌||◌, is_some, not}
+use Rattle.std.proofs.lemmas.Bool.{and_parts}
 use Rattle.std.specs.List.Sorted.{IsPermutation}
 use Rattle.tariffs.specs.Fares.{Fares}
-use Rattle.ledger_check.specs.Ledger.{IsLedger}
-use Rattle.ledger_check.specs.Struck.{tap_of_entry}
+use Rattle.histories.specs.declared.entry.Entry.{Entry}
+use Rattle.fare_texts.specs.LedgerLines.{head_text}
+use Rattle.ledger_check.specs.Ledger.{AreNext, IsLedger, IsLedgerOf}
+use Rattle.ledger_check.specs.Orders.{early_line, tap_of_entry}
+use Rattle.ledger_check.specs.Verdicts.{IsVerdict, VerdictsDecide, early_in, is_legal}
+use Rattle.ledger_check.specs.declared.checker.Verdict.{Verdict}
+use Rattle.ledger_check.specs.declared.checker.Verdict.TheVariants.{Legal, NoLine, Wants}
 use Rattle.ledger_check.specs.Balances.{IsDifference}
 use Rattle.ledger_check.specs.declared.balance.Difference.{Difference}
 use Rattle.tap_views.specs.declared.encoder.TapFields.{TapFields}
-use Rattle.omny_audit.specs.Findings.{agrees, IsDifferenceOf, IsRightLedger, IsDifferenceLine}
+use Rattle.omny_audit.specs.Findings.{agrees, HasGoodTaps, HasOrder, IsDifferenceOf, IsFinding}
+use Rattle.omny_audit.specs.Findings.{IsDifferenceLine, IsRightLedger}
 use Rattle.omny_audit.specs.Text.{IsDifferenceText}
 
 pub not_legal : (fares : Fares) (text : List ℕ) (good : Option (List TapFields)) (legal : Bool)
@@ -42,21 +49,63 @@ abbrev Differ : Type 0
 Differ = (good others : List TapFields) (difference : Difference)
     → IsDifference good others (Some difference) → IsPermutation good others → ⊥
 
-pub decides : Differ
+-- the text is a ledger, and has the taps of the uploads
+abbrev IsEvenLedger : Fares → List ℕ → Option (List TapFields) → Type 0
+IsEvenLedger fares text good =
+    (entries : List Entry) × IsLedgerOf fares entries text × HasGoodTaps good entries
+
+even_decides : Differ
     → (fares : Fares) (text : List ℕ) (good : Option (List TapFields)) (legal : Bool)
     (rest : List ℕ) (well : Bool)
     → ((legal ≡ true) ↔ IsLedger fares text) → IsDifferenceLine fares text good legal rest well
-    → (well ≡ true) ↔ IsRightLedger fares text good
-decides differ fares text good false rest well decide second = (
+    → (well ≡ true) ↔ IsEvenLedger fares text good
+even_decides differ fares text good false rest well decide second = (
   λ is. absurd (false_true (sym second.1 ∙ is)),
   λ right. absurd (false_true (decide.1 (right.0, right.1))),
 )
-decides differ fares text None true rest well decide second =
+even_decides differ fares text None true rest well decide second =
     (λ is. let ledger = decide.0 refl in (ledger.0, ledger.1, tt), λ right. second.1)
-decides differ fares text (Some good) true rest well decide (None, shown, even, of) =
+even_decides differ fares text (Some good) true rest well decide (None, shown, even, of) =
     (λ is. let ledger = decide.0 refl in (ledger.0, ledger.1, of ledger.0 ledger.1), λ right. even)
-decides differ fares text (Some good) true rest well decide (Some difference, shown, even, of) = (
+even_decides differ fares text (Some good) true rest well decide (Some difference, shown, even, of) = (
   λ is. absurd (false_true (sym even ∙ is)),
   λ right. absurd
       (differ good (map tap_of_entry right.0) difference (of right.0 right.1) right.2),
 )
+
+tail_same : (a b : List ℕ) (xs ys : List (List ℕ)) → a ∷ xs ≡ b ∷ ys → xs ≡ ys
+tail_same a b xs ys is = cc
+
+-- which line a true verdict reports as earlier than the one before it
+early_is : (fares : Fares) (text : List ℕ) (verdict : Verdict) (entries : List Entry)
+    → IsVerdict fares text verdict → is_legal verdict ≡ true → IsLedgerOf fares entries text
+    → early_in verdict ≡ early_line (map tap_of_entry entries)
+early_is fares text (Legal number early) entries is legal of =
+    is.order entries (subst (λ (ls : List (List ℕ)). AreNext fares [] entries ls)
+    (tail_same head_text head_text of.lines is.others (sym of.split ∙ is.split)) of.are)
+early_is fares text (Wants number wanted) entries is legal of = absurd (false_true legal)
+early_is fares text (NoLine number) entries is legal of = absurd (false_true legal)
+
+pub decides : Differ → VerdictsDecide
+    → (live : Bool) (fares : Fares) (text : List ℕ) (good : Option (List TapFields))
+    (reported : List ℕ) (well : Bool) → IsFinding live fares text good reported well
+    → (well ≡ true) ↔ IsRightLedger live fares text good
+decides differ verdicts live fares text good reported well finding =
+    let verdict = finding.verdict in
+    let decide = verdicts fares text verdict finding.is_verdict in
+    let even = even_decides differ fares text good (is_legal verdict) finding.rest finding.even decide
+    finding.second in
+    let order : (entries : List Entry) → IsLedgerOf fares entries text
+    → (live || not (is_some (early_in verdict)))
+    ≡ (live || not (is_some (early_line (map tap_of_entry entries)))) =
+    λ entries of. ap (λ (e : Option ℕ). live || not (is_some e))
+    (early_is fares text verdict entries finding.is_verdict (decide.1 (entries, of)) of) in (
+      λ is.
+          let parts = and_parts finding.even (live || not (is_some (early_in verdict)))
+          (sym finding.both ∙ is) in
+          let right = even.0 parts.0 in
+          (right.0, right.1, right.2, sym (order right.0 right.1) ∙ parts.1),
+      λ right.
+          finding.both ∙ ap (λ (b : Bool). b && (live || not (is_some (early_in verdict))))
+          (even.1 (right.0, right.1, right.2)) ∙ order right.0 right.1 ∙ right.3,
+    )

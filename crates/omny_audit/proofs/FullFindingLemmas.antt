@@ -1,7 +1,7 @@
 -- What is found of all lines, by its parts.
 use Rattle.std.proofs.Common.{◌≡◌, ℕ, suc, length, Bool, true, false, List, [], ◌∷◌, map, Option}
 use Rattle.std.proofs.Common.{Some, None, if◌then◌else◌, refl, sym, ap, subst, ◌∙◌, arith}
-use Rattle.std.specs.Prelude.{◌↔◌, ◌&&◌, nat_eq}
+use Rattle.std.specs.Prelude.{◌↔◌, ◌&&◌, ◌||◌, nat_eq}
 use Rattle.std.specs.List.Sorted.{IsPermutation}
 use Rattle.std.proofs.lemmas.Bool.{and_parts}
 use Rattle.std.proofs.lemmas.Bool.Decides.{nat_tests}
@@ -12,7 +12,7 @@ use Rattle.tap_views.specs.declared.encoder.TapFields.{TapFields}
 use Rattle.ledger_check.specs.Ledger.{IsLedger}
 use Rattle.ledger_check.specs.Recounts.{IsRecount, RecountsDecide, TakenLine, taps_from}
 use Rattle.ledger_check.specs.Recounts.{wrong_count}
-use Rattle.ledger_check.specs.Struck.{tap_of_entry}
+use Rattle.ledger_check.specs.Orders.{are_settled, tap_of_entry}
 use Rattle.omny_audit.specs.Findings.{HasGoodTaps, IsDifferencesEnd, IsFullFinding, IsRightLedger}
 use Rattle.omny_audit.specs.Text.{IsDifferencesText, are_none}
 
@@ -78,27 +78,33 @@ end_well (Some good) taps legal rest well entries even is
     ∙ ap (λ (s : List TapFields). are_none [] s) none.1
 
 pub decides : RecountsDecide → ((good taps : List TapFields) → Even good taps)
-    → (fares : Fares) (text : List ℕ) (good : Option (List TapFields)) (reported : List ℕ)
-    (well : Bool)
-    → IsFullFinding fares text good reported well → (well ≡ true) ↔ IsRightLedger fares text good
-decides recounts even fares text good reported well finding =
+    → (live : Bool) (fares : Fares) (text : List ℕ) (good : Option (List TapFields))
+    (reported : List ℕ) (well : Bool)
+    → IsFullFinding live fares text good reported well
+    → (well ≡ true) ↔ IsRightLedger live fares text good
+decides recounts even live fares text good reported well finding =
     let taken = finding.taken in
     let taps = taps_from taken in
     let all = recounts fares text taken finding.recount in
-    let legal = nat_eq (wrong_count taken) 0 in (
+    let legal = nat_eq (wrong_count taken) 0 in
+    let order = λ (ts : List TapFields). live || are_settled ts in (
       λ right.
+          let parts = and_parts finding.even (order taps) (sym finding.both ∙ right) in
           let ledger = all.right
           (zero_of (wrong_count taken)
-          (end_legal good taps legal finding.rest well finding.second right)) in (
+          (end_legal good taps legal finding.rest finding.even finding.second parts.0)) in (
             ledger.0,
             ledger.1,
-            end_right good taps legal finding.rest well ledger.0 (λ g. even g taps)
-                (all.taps ledger.0 ledger.1) finding.second right,
+            end_right good taps legal finding.rest finding.even ledger.0 (λ g. even g taps)
+                (all.taps ledger.0 ledger.1) finding.second parts.0,
+            sym (ap order (all.taps ledger.0 ledger.1)) ∙ parts.1,
           ),
       λ ledger.
-          end_well good taps legal finding.rest well ledger.0 (λ g. even g taps)
+          finding.both ∙ ap (λ (b : Bool). b && order taps)
+          (end_well good taps legal finding.rest finding.even ledger.0 (λ g. even g taps)
           (all.taps ledger.0 ledger.1) finding.second
-          (of_zero (wrong_count taken) (all.all_right (ledger.0, ledger.1))) ledger.2,
+          (of_zero (wrong_count taken) (all.all_right (ledger.0, ledger.1))) ledger.2)
+          ∙ ap order (all.taps ledger.0 ledger.1) ∙ ledger.3,
     )
 
 -- no line is wrong exactly if the text is a ledger

@@ -1,5 +1,6 @@
 pub mod AuditLemmas
 pub mod BegunAudits
+pub mod Damage
 pub mod FindingLemmas
 pub mod Finished
 pub mod FullFindingLemmas

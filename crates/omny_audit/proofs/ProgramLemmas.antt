@@ -12,6 +12,8 @@ use Rattle.std.proofs.lemmas.Bool.Decides.{nat_tests}
 use Rattle.std.proofs.lemmas.List.{map-append, take-append-le}
 use Rattle.clap.specs.Words.{Text}
 use Rattle.ledger_check.specs.Balances.{AreGoodFields}
+use Rattle.tap_views.specs.UploadEnds.{ArePlainEnds, IsPlainEnd}
+use Rattle.tap_views.specs.declared.upload_end.UploadEnd.{UploadEnd}
 use Rattle.tap_views.specs.declared.encoder.TapFields.{TapFields}
 use Rattle.omny_audit.specs.Fault.{IsRightFault, IsTold, NamesOneOf, is_unwritten, named_by}
 use Rattle.omny_audit.specs.Options.{AuditAsked, files_of, named_file}
@@ -313,21 +315,31 @@ reads_ledger before opened_to after name left left' head begun fares texts file 
           named);
     }
 
+pub ends_push : (files : List (List ℕ)) (ends : List UploadEnd) (file : List ℕ) (end : UploadEnd)
+    → ArePlainEnds files ends → IsPlainEnd file end
+    → ArePlainEnds (files ++ file ∷ []) (ends ++ end ∷ [])
+ends_push [] [] file end are is = (is, tt)
+ends_push [] (e ∷ ends) file end are is = absurd are
+ends_push (f ∷ files) [] file end are is = absurd are
+ends_push (f ∷ files) (e ∷ ends) file end are is = (are.0, ends_push files ends file end are.1 is)
+
 -- the files that were loaded, one kind after another
 abbrev pub has_loaded : (asked : AuditAsked)
     (loaded after_table after_uploads after_report loaded' : Option (List Loaded)) (fares : Fares)
     (texts uploads : List (List ℕ)) (good : List TapFields) (lists : List (List TapFields))
+    (ends : List UploadEnd)
     (report : Option (List ℕ)) (wanted : Option Wanted) (ledger : List ℕ)
     → LoadsTables asked.table loaded after_table texts fares
     → LoadsNamedFiles asked.uploads after_table after_uploads uploads
     → AreGoodFieldsOfAll uploads good → AreGoodFieldsOfEach uploads lists
+    → ArePlainEnds uploads ends
     → LoadsReport asked.report after_uploads after_report report
     → ReadsLedger after_report loaded' asked.ledger fares texts (compared asked.uploads lists)
     wanted
     ledger → HasLoaded asked loaded loaded'
 has_loaded asked loaded after_table after_uploads after_report loaded' fares texts uploads good
-    lists
-    report wanted ledger tables each are_good are_lists of_report reads = record {
+    lists ends
+    report wanted ledger tables each are_good are_lists are_ends of_report reads = record {
       after_table = after_table;
       after_uploads = after_uploads;
       after_report = after_report;
@@ -342,6 +354,8 @@ has_loaded asked loaded after_table after_uploads after_report loaded' fares tex
       are_lists = are_lists;
       report = report;
       loads_report = of_report;
+      ends = ends;
+      are_ends = are_ends;
       ledger = ledger;
       loads_ledger = reads.is_loaded;
       traced = reads.traced;

@@ -10,9 +10,9 @@ use Rattle.program_manners.specs.declared.output.WriteEnd.{WriteEnd}
 use Rattle.omny_audit.specs.Fault.{IsOfWriteEnd, IsRightFault, IsTold, is_unwritten}
 use Rattle.omny_audit.specs.declared.fault.Fault.{Fault}
 use Rattle.omny_audit.specs.declared.fault.Fault.TheVariants.{ClassName, Closed, Date, File, Follow}
-use Rattle.omny_audit.specs.declared.fault.Fault.TheVariants.{Ledger, NamedClass, NamedTable}
+use Rattle.omny_audit.specs.declared.fault.Fault.TheVariants.{GivenLedger, Ledger, NamedClass, NamedTable}
 use Rattle.omny_audit.specs.declared.fault.Fault.TheVariants.{NoMemory, Table, Write}
-use Rattle.omny_audit.specs.inside.Fault.{IsLedgerFault, IsRefusal, is_of_source}
+use Rattle.omny_audit.specs.inside.Fault.{IsLedgerFault, IsRefusal, IsUploadFault, is_of_source}
 
 -- no write failed
 pub written_end : (remembered : Option WriteEnd) (fault : Fault) → is_unwritten fault ≡ false
@@ -25,6 +25,7 @@ written_end remembered (NamedTable line) written = tt
 written_end remembered (Follow line) written = tt
 written_end remembered ClassName written = tt
 written_end remembered (NamedClass line) written = tt
+written_end remembered (GivenLedger name) written = tt
 written_end remembered Write written = absurd (true≢false written)
 written_end remembered Closed written = absurd (true≢false written)
 written_end remembered NoMemory written = tt
@@ -54,6 +55,14 @@ module _ (tables : TableNames) (ledger : Option (List ℕ)) (before after : Opti
   right_refusal NoMemory is = tt
   right_refusal _ is = absurd is
 
+  -- or an upload that is a ledger
+  pub right_upload : (fault : Fault) → IsUploadFault after refused fault
+      → IsRightFault tables ledger before after refused remembered fault
+  right_upload (File file) is = is
+  right_upload NoMemory is = tt
+  right_upload (GivenLedger name) is = is
+  right_upload _ is = absurd is
+
   -- a fault that comes after all files were loaded and read
   pub right_later : (fault : Fault) → is_of_source fault ≡ false → IsOfWriteEnd remembered fault
       → IsRightFault tables ledger before after refused remembered fault
@@ -65,6 +74,7 @@ module _ (tables : TableNames) (ledger : Option (List ℕ)) (before after : Opti
   right_later (Follow line) later end = absurd (true≢false later)
   right_later ClassName later end = absurd (true≢false later)
   right_later (NamedClass line) later end = absurd (true≢false later)
+  right_later (GivenLedger name) later end = absurd (true≢false later)
   right_later Write later end = end
   right_later Closed later end = end
   right_later NoMemory later end = tt
@@ -81,9 +91,22 @@ module _ (tables : TableNames) (ledger : Option (List ℕ)) (before after : Opti
   right_of_ledger refused_before (Follow line) is end = right_later (Follow line) is.0 end
   right_of_ledger refused_before ClassName is end = right_later ClassName is.0 end
   right_of_ledger refused_before (NamedClass line) is end = right_later (NamedClass line) is.0 end
+  right_of_ledger refused_before (GivenLedger name) is end = right_later (GivenLedger name) is.0 end
   right_of_ledger refused_before Write is end = end
   right_of_ledger refused_before Closed is end = end
   right_of_ledger refused_before NoMemory is end = tt
+
+module _ (loaded : Option (List Loaded)) (refused : Option (Option (List ℕ) × LoadFault)) where
+  -- a refused file, or want of memory, is a fault of uploads
+  pub upload_refused : (fault : Fault) → IsRefusal refused fault → IsUploadFault loaded refused fault
+  upload_refused (File file) is = is
+  upload_refused NoMemory is = is
+  upload_refused _ is = absurd is
+
+  -- such a fault that is handed on
+  pub upload_on : {A : Type 0} (r : Result A Fault) (fault : Fault) → IsErrAnd r (λ e. e ≡ fault)
+      → IsUploadFault loaded refused fault → IfErr r (IsUploadFault loaded refused)
+  upload_on r fault is right = IfErr_handed_on r fault (IsUploadFault loaded refused) is right
 
 module _ (refused refused' : Option (Option (List ℕ) × LoadFault)) where
   -- nothing was refused
@@ -110,6 +133,7 @@ module _ (refused refused' : Option (Option (List ℕ) × LoadFault)) where
   told_of_ledger name (Follow line) is = λ no. is.1
   told_of_ledger name ClassName is = λ no. is.1
   told_of_ledger name (NamedClass line) is = λ no. is.1
+  told_of_ledger name (GivenLedger given) is = λ no. is.1
   told_of_ledger name Write is = λ no. is.1
   told_of_ledger name Closed is = λ no. is.1
   told_of_ledger name NoMemory is = λ no. is.1
@@ -126,6 +150,7 @@ module _ (refused refused' : Option (Option (List ℕ) × LoadFault)) (name : Op
   later_fault (Follow line) later same = (later, same)
   later_fault ClassName later same = (later, same)
   later_fault (NamedClass line) later same = (later, same)
+  later_fault (GivenLedger given) later same = (later, same)
   later_fault Write later same = (later, same)
   later_fault Closed later same = (later, same)
   later_fault NoMemory later same = (later, same)

@@ -9,7 +9,8 @@ use Rattle.program_manners.specs.Lines.{table_text}
 use Rattle.program_manners.specs.TableLoads.{LoadsTables}
 use Rattle.program_manners.specs.TableRefusals.{RefusesNamed, RefusesOnly, RefusesToFollow}
 use Rattle.program_manners.specs.TableWords.{TableNames, date_text, table_files}
-use Rattle.program_manners.specs.Loads.{Loaded, LoadsAll}
+use Rattle.program_manners.specs.Loads.{Loaded, LoadsAll, LoadsOne}
+use Rattle.ledger_check.specs.Columns.{has_ledger_head}
 use Rattle.world.specs.declared.faults.LoadFault.{LoadFault}
 use Rattle.world.specs.declared.faults.LoadFault.TheVariants as load
 use Rattle.program_manners.specs.declared.output.WriteEnd.{WriteEnd}
@@ -18,7 +19,7 @@ use Rattle.program_manners.specs.Refusals.{IsOneOf, HasRefused, Refuses}
 use Rattle.class_names.specs.Classes.{has_plain_classes}
 use Rattle.omny_audit.specs.declared.fault.Fault.{Fault}
 use Rattle.omny_audit.specs.declared.fault.Fault.TheVariants.{ClassName, Date, File, Follow, Ledger}
-use Rattle.omny_audit.specs.declared.fault.Fault.TheVariants.{Table}
+use Rattle.omny_audit.specs.declared.fault.Fault.TheVariants.{GivenLedger, Table}
 use Rattle.omny_audit.specs.declared.fault.Fault.TheVariants.{Write, Closed, NamedClass, NamedTable}
 use Rattle.omny_audit.specs.declared.fault.Fault.TheVariants.{NoMemory}
 
@@ -30,6 +31,8 @@ audit_fault_text (Date wrong) = codes "fault: " ++ date_text wrong.word.now wron
 audit_fault_text (Table fault) = table_text fault
 audit_fault_text (NamedTable line) = named_table_text line.name.now line.fault
 audit_fault_text (Follow line) = follow_text line.word.now line.fault
+audit_fault_text (GivenLedger name) = codes "fault: " ++ (name.now
+    ++ codes " is a ledger and no upload: write it before --uploads, or after --")
 audit_fault_text (NamedClass line) = named_class_text line.0.now
 audit_fault_text ClassName = codes "fault: table has a class name that no ledger can have"
 audit_fault_text Write = codes "fault: cannot write"
@@ -67,6 +70,7 @@ abbrev pub named_by : Fault → Option (List ℕ)
 named_by (File file) = Some file.name.now
 named_by (NamedTable line) = Some line.name.now
 named_by (NamedClass line) = Some line.0.now
+named_by (GivenLedger name) = Some name.now
 named_by _ = None
 
 -- whether the source refused a file, or a read of the ledger
@@ -105,11 +109,18 @@ pub record LoadsUnplainClass (tables : TableNames) (loaded loaded' : Option (Lis
   pub names : NamesUnplainClass text
   pub before : All (λ earlier. ¬ NamesUnplainClass earlier) (take place texts)
 
+-- the file of this name was loaded last, and is a ledger by its head line
+pub record LoadsGivenLedger (loaded' : Option (List Loaded)) (name : List ℕ) : Type 0 where
+  pub loaded : Option (List Loaded)
+  pub text : List ℕ
+  pub loads : LoadsOne loaded loaded' (Some name) text
+  pub begins : has_ledger_head text ≡ true
+
 -- The fault is the right one: a file that is named is one that the source refused so, and the
 -- ledger of this name cannot be read only if the source refused it so. A table fault is the first
 -- one of the text that was loaded under the table's name, behind the tables before it, and that of
--- a class's name comes only if a table's text names one that cannot stand in a ledger. That a write
--- failed is told only if the output remembers one that failed so.
+-- a class's name comes only if a table's text names one that cannot stand in a ledger. A ledger among
+-- the uploads was loaded last. That a write failed is told only if the output remembers one that failed so.
 abbrev pub IsRightFault : TableNames → Option (List ℕ) → Option (List Loaded)
     → Option (List Loaded) → Option (Option (List ℕ) × LoadFault) → Option WriteEnd → Fault
     → Type 0
@@ -124,6 +135,8 @@ IsRightFault tables ledger loaded loaded' refused remembered (NamedTable line) =
     RefusesNamed tables loaded loaded' line.name.now line.fault
 IsRightFault tables ledger loaded loaded' refused remembered (Follow line) =
     RefusesToFollow tables loaded loaded' line.word.now line.fault
+IsRightFault tables ledger loaded loaded' refused remembered (GivenLedger name) =
+    LoadsGivenLedger loaded' name.now
 IsRightFault tables ledger loaded loaded' refused remembered ClassName =
     (tables.later ≡ []) × (place : ℕ) × LoadsUnplainClass tables loaded loaded' place
 IsRightFault tables ledger loaded loaded' refused remembered (NamedClass line) = (tables.later ≢ [])

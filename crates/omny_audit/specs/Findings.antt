@@ -1,13 +1,13 @@
 -- What is found of a ledger's text.
 use Rattle.std.specs.Prelude.{◌≡◌, ◌↔◌, ℕ, Bool, true, false, List, [], ◌++◌, map, Option, None}
-use Rattle.std.specs.Prelude.{Some, ◌&&◌, nat_eq}
+use Rattle.std.specs.Prelude.{Some, ◌&&◌, ◌||◌, is_some, nat_eq, not}
 use Rattle.std.specs.List.Sorted.{IsPermutation}
 use Rattle.tariffs.specs.Fares.{Fares}
 use Rattle.histories.specs.declared.entry.Entry.{Entry}
 use Rattle.ledger_check.specs.Ledger.{IsLedgerOf}
 use Rattle.ledger_check.specs.Recounts.{IsRecount, TakenLine, recount_text, taps_from, wrong_count}
-use Rattle.ledger_check.specs.Struck.{tap_of_entry}
-use Rattle.ledger_check.specs.Verdicts.{IsVerdict, is_legal}
+use Rattle.ledger_check.specs.Orders.{are_settled, tap_of_entry}
+use Rattle.ledger_check.specs.Verdicts.{IsVerdict, early_in, is_legal}
 use Rattle.ledger_check.specs.declared.checker.Verdict.{Verdict}
 use Rattle.ledger_check.specs.Balances.{IsDifference}
 use Rattle.ledger_check.specs.FullBalances.{AreLacking}
@@ -38,31 +38,38 @@ IsDifferenceLine fares text (Some good) true rest well =
     × (well ≡ agrees difference) × IsDifferenceOf fares text good difference
 
 -- what is found of the text, beside the good taps of the uploads, if there are uploads: a true
--- verdict, and the difference
-pub record IsFinding (fares : Fares) (text : List ℕ) (good : Option (List TapFields))
+-- verdict, and the difference; a ledger that is not settled is well only if a live one is
+pub record IsFinding (live : Bool) (fares : Fares) (text : List ℕ) (good : Option (List TapFields))
     (reported : List ℕ) (well : Bool) : Type 0 where
   pub verdict : Verdict
   pub is_verdict : IsVerdict fares text verdict
   pub rest : List ℕ
   pub shown : reported ≡ verdict_text verdict ++ rest
-  pub second : IsDifferenceLine fares text good (is_legal verdict) rest well
+  pub even : Bool
+  pub second : IsDifferenceLine fares text good (is_legal verdict) rest even
+  pub both : well ≡ (even && (live || not (is_some (early_in verdict))))
 
 -- the ledger's taps are those of the uploads in some order, if there are uploads
 abbrev pub HasGoodTaps : Option (List TapFields) → List Entry → Type 0
 HasGoodTaps None entries = Unit {0}
 HasGoodTaps (Some good) entries = IsPermutation good (map tap_of_entry entries)
 
--- the text is, whole, a ledger of legal histories, and has the taps of the uploads
-abbrev pub IsRightLedger : Fares → List ℕ → Option (List TapFields) → Type 0
-IsRightLedger fares text good =
-    (entries : List Entry) × IsLedgerOf fares entries text × HasGoodTaps good entries
+-- the ledger is settled, unless a live one is well
+abbrev pub HasOrder : Bool → List Entry → Type 0
+HasOrder live entries = (live || are_settled (map tap_of_entry entries)) ≡ true
+
+-- the text is, whole, a ledger of legal histories, settled if a live one is not well, and has the
+-- taps of the uploads
+abbrev pub IsRightLedger : Bool → Fares → List ℕ → Option (List TapFields) → Type 0
+IsRightLedger live fares text good = (entries : List Entry) × IsLedgerOf fares entries text
+    × HasGoodTaps good entries × HasOrder live entries
 
 -- what is found is well exactly if the text is right
 abbrev pub FindingsDecide : Type 0
 FindingsDecide =
-    (fares : Fares) (text : List ℕ) (good : Option (List TapFields)) (reported : List ℕ)
-    (well : Bool) → IsFinding fares text good reported well
-    → (well ≡ true) ↔ IsRightLedger fares text good
+    (live : Bool) (fares : Fares) (text : List ℕ) (good : Option (List TapFields))
+    (reported : List ℕ) (well : Bool) → IsFinding live fares text good reported well
+    → (well ≡ true) ↔ IsRightLedger live fares text good
 
 -- What follows a recount, which found the ledger legal or not: nothing, or, if there are uploads,
 -- how the taps that its lines name differ from theirs. It is well if the ledger is legal and there
@@ -77,22 +84,26 @@ IsDifferencesEnd (Some good) taps legal rest well =
 
 -- what is found of all lines of the text, beside the good taps of the uploads, if there are
 -- uploads: a recount, and the differences
-pub record IsFullFinding (fares : Fares) (text : List ℕ) (good : Option (List TapFields))
-    (reported : List ℕ) (well : Bool) : Type 0 where
+pub record IsFullFinding (live : Bool) (fares : Fares) (text : List ℕ)
+    (good : Option (List TapFields)) (reported : List ℕ) (well : Bool) : Type 0 where
   pub taken : List TakenLine
   pub recount : IsRecount fares text taken
   pub rest : List ℕ
   pub shown : reported ≡ recount_text taken ++ rest
-  pub second : IsDifferencesEnd good (taps_from taken) (nat_eq (wrong_count taken) 0) rest well
+  pub even : Bool
+  pub second : IsDifferencesEnd good (taps_from taken) (nat_eq (wrong_count taken) 0) rest even
+  pub both : well ≡ (even && (live || are_settled (taps_from taken)))
 
 -- the finding, of all lines or up to the first wrong one
-abbrev pub IsFindingOf : Bool → Fares → List ℕ → Option (List TapFields) → List ℕ → Bool → Type 0
-IsFindingOf true fares text good reported well = IsFullFinding fares text good reported well
-IsFindingOf false fares text good reported well = IsFinding fares text good reported well
+abbrev pub IsFindingOf : Bool → Bool → Fares → List ℕ → Option (List TapFields) → List ℕ → Bool
+    → Type 0
+IsFindingOf true live fares text good reported well =
+    IsFullFinding live fares text good reported well
+IsFindingOf false live fares text good reported well = IsFinding live fares text good reported well
 
 -- what is found of all lines is well exactly if the text is right
 abbrev pub FullFindingsDecide : Type 0
 FullFindingsDecide =
-    (fares : Fares) (text : List ℕ) (good : Option (List TapFields)) (reported : List ℕ)
-    (well : Bool) → IsFullFinding fares text good reported well
-    → (well ≡ true) ↔ IsRightLedger fares text good
+    (live : Bool) (fares : Fares) (text : List ℕ) (good : Option (List TapFields))
+    (reported : List ℕ) (well : Bool) → IsFullFinding live fares text good reported well
+    → (well ≡ true) ↔ IsRightLedger live fares text good

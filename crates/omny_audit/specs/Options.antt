@@ -18,6 +18,10 @@ required_table_option = record (repeated_rule (codes "table")) { required = true
 abbrev pub all_flag : Rule
 all_flag = flag_rule (codes "all")
 
+-- `--live`
+abbrev pub live_flag : Rule
+live_flag = flag_rule (codes "live")
+
 -- `--uploads FILE..`, as often as wanted
 abbrev pub uploads_option : Rule
 uploads_option = files_rule (codes "uploads")
@@ -33,8 +37,8 @@ ledger_argument = positional_rule (codes "LEDGER") Set
 -- all words that the program takes
 unfoldable pub audit_program : App
 audit_program =
-    with_rule (with_rule (with_rule (with_rule (with_rule (with_rule (with_rule
-    (named_app (codes "omny_audit")) required_table_option) all_flag) uploads_option)
+    with_rule (with_rule (with_rule (with_rule (with_rule (with_rule (with_rule (with_rule
+    (named_app (codes "omny_audit")) required_table_option) all_flag) live_flag) uploads_option)
     report_option) list_option) null_flag) ledger_argument
 
 -- the words after the program's name are a command line of the program
@@ -63,17 +67,19 @@ tables_or_none words = unwrap_or (tables_in words) no_tables
 pub record AuditAsked : Type 0 where
   pub table : TableNames
   pub all : Bool
+  pub live : Bool
   pub uploads : List Text
   pub report : Option Text
   pub ledger : Option Text
 
--- the words' tables, without which no command line is; whether all wrong lines are asked for; their
--- uploads, in order; the file of the report, if one is named; and that of the ledger, if one is
+-- the words' tables, without which no command line is; whether all wrong lines are asked for, and
+-- whether a ledger that is not settled is well; their uploads, in order; the file of the report, if one is named; and that of the ledger, if one is
 -- named
 abbrev pub audit_asked_by : List Text → AuditAsked
 audit_asked_by words = record {
   table = tables_or_none (unwrap_or (all_of (codes "table") (matches_of audit_program words)) []);
   all = is_given (codes "all") (matches_of audit_program words);
+  live = is_given (codes "live") (matches_of audit_program words);
   uploads = unwrap_or (all_of (codes "uploads") (matches_of audit_program words)) [];
   report = first_of (codes "report") (matches_of audit_program words);
   ledger = option_and_then not_dash (first_of (codes "LEDGER") (matches_of audit_program words));

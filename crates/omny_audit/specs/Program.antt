@@ -8,8 +8,10 @@ use Rattle.ledger_check.specs.Balances.{AreGoodFields}
 use Rattle.ledger_check.specs.Columns.{has_traced_head}
 use Rattle.class_names.specs.Classes.{AreTrees, class_of_token, tree_at}
 use Rattle.toml.specs.Data.{Members}
+use Rattle.tap_views.specs.UploadEnds.{ArePlainEnds}
 use Rattle.tap_views.specs.declared.encoder.TapFields.{TapFields}
-use Rattle.omny_audit.specs.Reports.{HasBegunAudit, IsAudit, IsRightAudit}
+use Rattle.tap_views.specs.declared.upload_end.UploadEnd.{UploadEnd}
+use Rattle.omny_audit.specs.Reports.{HasBegunAudit, IsAudit, IsRightAudit, manner}
 use Rattle.omny_audit.specs.Fault.{IsRightFault, IsTold, audit_fault_text, is_quiet, is_unwritten}
 use Rattle.omny_audit.specs.Options.{AuditAsked}
 use Rattle.fare_texts.specs.WrittenOut.{Begins}
@@ -89,6 +91,8 @@ pub record HasLoaded (asked : AuditAsked) (loaded loaded' : Option (List Loaded)
   pub are_lists : AreGoodFieldsOfEach uploads lists
   pub report : Option (List ℕ)
   pub loads_report : LoadsReport asked.report after_uploads after_report report
+  pub ends : List UploadEnd
+  pub are_ends : ArePlainEnds uploads ends
   pub ledger : List ℕ
   pub loads_ledger : LoadsOne after_report loaded' asked.ledger ledger
   -- a traced ledger's columns are held against the classes that the tables' texts name, and against
@@ -104,13 +108,14 @@ pub record HasFound (asked : AuditAsked) (loaded loaded' : Option (List Loaded))
     (well : Bool) : Type 0 where
   pub files : HasLoaded asked loaded loaded'
   pub read : List ReadLine
-  pub audit : IsAudit asked.all files.fares files.wanted files.ledger read
-      (compared asked.uploads files.good) files.report text well
-  -- well exactly if the text is, whole, a ledger of legal histories, with the taps of the uploads,
-  -- and the columns of a traced one are right, and the report is its own
-  pub right : (well ≡ true)
-      ↔ IsRightAudit files.fares files.wanted files.ledger read (compared asked.uploads files.good)
-      files.report
+  pub audit : IsAudit (manner asked.all asked.live (compared asked.uploads files.ends)) files.fares
+      files.wanted files.ledger read (compared asked.uploads files.good) files.report text well
+  -- well exactly if the text is, whole, a ledger of legal histories, settled unless a live one is
+  -- asked for, with the taps of the uploads, of which none has a layout fault, and the columns of a
+  -- traced one are right, and the report is its own
+  pub right : (well ≡ true) ↔ IsRightAudit
+      (manner asked.all asked.live (compared asked.uploads files.ends)) files.fares files.wanted
+      files.ledger read (compared asked.uploads files.good) files.report
 
 -- what was appended to the writer is the text of what was found
 pub record Audits (asked : AuditAsked) (loaded loaded' : Option (List Loaded))
@@ -132,8 +137,8 @@ pub record BeginsAudit (asked : AuditAsked) (loaded loaded' : Option (List Loade
 pub record BeginsFound (asked : AuditAsked) (loaded loaded' : Option (List Loaded))
     (out out' : Option (List ℕ)) : Type 0 where
   pub files : HasLoaded asked loaded loaded'
-  pub begun : HasBegunAudit asked.all files.fares files.wanted files.ledger
-      (compared asked.uploads files.good) files.report out out'
+  pub begun : HasBegunAudit (manner asked.all asked.live (compared asked.uploads files.ends))
+      files.fares files.wanted files.ledger (compared asked.uploads files.good) files.report out out'
 
 -- The fault's line was reported, unless a write of it failed. If who reads the text has closed it,
 -- nothing is reported.

@@ -7,13 +7,14 @@ use Rattle.fare_texts.specs.Moments.{IsMomentText}
 use Rattle.ledger_check.specs.declared.balance.Difference.{Difference}
 use Rattle.ledger_check.specs.declared.balance.Difference.TheVariants.{Missing, Surplus}
 use Rattle.tap_views.specs.declared.encoder.TapFields.{TapFields}
+use Rattle.ledger_check.specs.Recounts.{legal_text}
 use Rattle.ledger_check.specs.declared.checker.Verdict.{Verdict}
 use Rattle.ledger_check.specs.declared.checker.Verdict.TheVariants.{Legal, Wants, NoLine}
 
--- `legal 6 lines`, `line 4 wants LINE` or `line 4 is no ledger line`; the wanted line has its
+-- `legal 6 lines, ..`, `line 4 wants LINE` or `line 4 is no ledger line`; the wanted line has its
 -- newline
 unfoldable pub verdict_text : Verdict → List ℕ
-verdict_text (Legal entries) = codes "legal " ++ (decimal entries ++ codes " lines\n")
+verdict_text (Legal entries early) = legal_text entries early
 verdict_text (Wants line wanted) =
     codes "line " ++ (decimal line ++ (codes " wants " ++ string_bytes wanted))
 verdict_text (NoLine line) = codes "line " ++ (decimal line ++ codes " is no ledger line\n")

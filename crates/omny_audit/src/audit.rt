@@ -2,7 +2,7 @@
 
 ghost use Rattle.std.specs.Prelude.{◌≡◌, ℕ, List, [], IfErr, IfOk, IsTrue, None, Some, false, map};
 ghost use Rattle.std.specs.Prelude.{Bool, ◌↔◌, if◌then◌else◌, is_some, option_map, string_bytes};
-ghost use Rattle.std.specs.Prelude.{true};
+ghost use Rattle.std.specs.Prelude.{◌||◌, not, true};
 ghost use Rattle.std.specs.Io.KnownBytes.{Appends, Keeps, prepend_known};
 ghost use Rattle.tariffs.specs.Fares.{Fares};
 ghost use Rattle.histories.specs.declared.entry.Entry.{Entry};
@@ -10,10 +10,11 @@ ghost use Rattle.ledger_check.specs.Balances.{IsBalance};
 ghost use Rattle.tap_views.specs.declared.encoder.TapFields.{TapFields};
 ghost use Rattle.ledger_check.specs.Columns.{read_as};
 ghost use Rattle.ledger_check.specs.Ledger.{IsLedger, IsLedgerOf};
-ghost use Rattle.ledger_check.specs.Struck.{HasStruck, tap_of_entry};
-ghost use Rattle.ledger_check.specs.Verdicts.{HasFed, IsVerdict, is_legal};
+ghost use Rattle.ledger_check.specs.Orders.{tap_of_entry};
+ghost use Rattle.ledger_check.specs.Struck.{HasStruck};
+ghost use Rattle.ledger_check.specs.Verdicts.{HasFed, IsVerdict, early_in, is_legal};
 ghost use Rattle.omny_audit.specs.Findings.{IsFinding, agrees};
-ghost use Rattle.omny_audit.specs.Reports.{IsAudit};
+ghost use Rattle.omny_audit.specs.Reports.{IsAudit, manner};
 ghost use Rattle.omny_audit.specs.inside.Findings.{StrikesOut};
 ghost use Rattle.omny_audit.specs.inside.Reports.{HasSummedFor, text_of};
 ghost use Rattle.omny_audit.specs.Fault.{IsOfWriteEnd, is_unwritten, named_by};
@@ -26,7 +27,7 @@ ghost use Rattle.omny_audit.specs.inside.Source.{IsAllOf};
 use crate::fault::Fault;
 use crate::ledger::{PIECE_BYTES, WholeLedger, read_on};
 use crate::output::write_text;
-use crate::report::{ReportWithSums, add_piece, are_both, write_report_line};
+use crate::report::{ReportWithSums, add_piece, are_both, is_either, write_last_lines};
 use crate::source::Source;
 use crate::text::{verdict_line, write_difference};
 use crate::traced::{TracedPieces, read_end, read_piece, write_columns};
@@ -36,7 +37,7 @@ use ledger_check::{Balance, Checker, Difference, Verdict};
 use program_manners::Output;
 use std::alloc::{AllocError, Global};
 use std::io::Write;
-use tap_views::NoMemory;
+use tap_views::{NoMemory, UploadEnd};
 
 /// Reads what the end of the file leaves, and gives the verdict. The text is replaced.
 fn end_verdict(
@@ -156,9 +157,26 @@ fn reports_legal(verdict: &Verdict) -> bool
     ensures { result ≡ is_legal verdict.now }
 {
     match verdict {
-        Verdict::Legal(_) => true,
+        Verdict::Legal(_, _) => true,
         Verdict::Wants(_, _) | Verdict::NoLine(_) => false,
     }
+}
+
+/// Whether a line of the legal ledger is earlier than the line before it.
+fn has_early(verdict: &Verdict) -> bool
+    ensures { result ≡ is_some (early_in verdict.now) }
+{
+    match verdict {
+        Verdict::Legal(_, early) => early.is_some(),
+        Verdict::Wants(_, _) | Verdict::NoLine(_) => false,
+    }
+}
+
+/// Whether the order of the lines is well: a live ledger is, if it is asked for.
+fn is_in_order(live: bool, verdict: &Verdict) -> bool
+    ensures { result ≡ (live || not (is_some (early_in verdict.now))) }
+{
+    is_either(live, !has_early(verdict))
 }
 
 /// Whether there is no difference.
@@ -178,33 +196,37 @@ fn finding_text(
     verdict: &Verdict,
     balance: &Balance,
     has_uploads: bool,
+    live: bool,
 ) -> Result<(String, bool), AllocError>
     ensures { IfOk result (λ reported. (fares : Fares) (text : List ℕ) (good : List TapFields)
         → IsVerdict fares text verdict.now
         → (IsTrue (is_legal verdict.now) → (entries : List Entry) → IsLedgerOf fares entries text
         → IsBalance balance.now good (map tap_of_entry entries))
-        → IsFinding fares text (if has_uploads then Some good else None)
+        → IsFinding live fares text (if has_uploads then Some good else None)
         (string_bytes reported.0) reported.1) }
 {
     let mut text = verdict_line(alloc, verdict)?;
     if !reports_legal(verdict) {
         return Ok((text, false));
     }
+    let in_order = is_in_order(live, verdict);
     if !has_uploads {
-        return Ok((text, true));
+        return Ok((text, in_order));
     }
     let reported = balance.difference();
     write_difference(&mut text, &reported)?;
-    Ok((text, is_even(&reported)))
+    Ok((text, are_both(is_even(&reported), in_order)))
 }
 
 /// What is reported of the verdict, of the taps and, if it is legal, of the columns of a traced
-/// ledger and of the report, if there is one; and whether all is well.
+/// ledger and of the report, if there is one, and of the uploads; and whether all is well.
 fn audit_text(
     alloc: Global,
     verdict: &Verdict,
     balance: &Balance,
     has_uploads: bool,
+    ends: &[UploadEnd],
+    live: bool,
     trace: &Option<TracedPieces>,
     report: Option<ReportWithSums>,
 ) -> Result<(Vec<u8>, bool), NoMemory>
@@ -221,22 +243,22 @@ fn audit_text(
         → HasSummedFor fares report (read_as (is_some (wanted_by trace.now)) file))
         → (is_legal verdict.now ≡ true → HasReadAll trace.now file)
         → (read : List ReadLine)
-        × IsAudit false fares (wanted_by trace.now) file read
-        (if has_uploads then Some good else None) (text_of report) reported.0.items reported.1) }
+        × IsAudit (manner false live (if has_uploads then Some ends.now else None)) fares
+        (wanted_by trace.now) file read (if has_uploads then Some good else None) (text_of report) reported.0.items reported.1) }
 {
-    let found = finding_text(alloc, verdict, balance, has_uploads)?;
+    let found = finding_text(alloc, verdict, balance, has_uploads, live)?;
     let is_sound = found.1;
     let mut text = found.0.into_bytes();
     let is_legal = reports_legal(verdict);
     let is_right = write_columns(alloc, &mut text, is_legal, trace)?;
     let is_whole = are_both(is_legal, is_right);
-    let fits = write_report_line(alloc, &mut text, is_whole, report)?;
+    let fits = write_last_lines(alloc, &mut text, is_whole, report, has_uploads, ends)?;
     let is_behind = are_both(is_right, fits);
     Ok((text, are_both(is_sound, is_behind)))
 }
 
-/// Checks what the ledger has left, beside the taps of uploads that the balance has and beside a
-/// report, if there is one, and writes the finding. Says whether all is well.
+/// Checks what the ledger has left, beside the taps of uploads that the balance has, and that end
+/// so, and beside a report, if there is one, and writes the finding. Says whether all is well.
 pub(crate) fn audit_over<S: Source, W: Write>(
     alloc: Global,
     table: &FareTable,
@@ -245,6 +267,8 @@ pub(crate) fn audit_over<S: Source, W: Write>(
     ledger: &mut WholeLedger<'_, S::Ledger>,
     mut balance: Balance,
     has_uploads: bool,
+    ends: &[UploadEnd],
+    live: bool,
     mut trace: Option<TracedPieces>,
     mut report: Option<ReportWithSums>,
     out: &mut Output<W>,
@@ -256,8 +280,9 @@ pub(crate) fn audit_over<S: Source, W: Write>(
     ensures reported { IfOk result (λ well. (file : List ℕ)
         × IsAllOf (prepend_known ledger.old.head.now (S.Ledger.remaining ledger.old.rest)) file
         × ((good : List TapFields) → IsBalance balance good [] → (reported : List ℕ)
-        × (read : List ReadLine) × IsAudit false table.now (wanted_by trace) file read
-        (if has_uploads then Some good else None) (text_of report) reported well
+        × (read : List ReadLine)
+        × IsAudit (manner false live (if has_uploads then Some ends.now else None)) table.now
+        (wanted_by trace) file read (if has_uploads then Some good else None) (text_of report) reported well
         × Appends (W.contents out.old.writer) (W.contents out.new.writer) reported)) }
 
     // That a write failed is told only if the output remembers one that failed so.
@@ -270,8 +295,9 @@ pub(crate) fn audit_over<S: Source, W: Write>(
     ensures begun { IfErr result (λ fault. is_unwritten fault ≡ true → (file : List ℕ)
         × IsAllOf (prepend_known ledger.old.head.now (S.Ledger.remaining ledger.old.rest)) file
         × ((good : List TapFields) → IsBalance balance good [] → (reported : List ℕ) × (well : Bool)
-        × (read : List ReadLine) × IsAudit false table.now (wanted_by trace) file read
-        (if has_uploads then Some good else None) (text_of report) reported well
+        × (read : List ReadLine)
+        × IsAudit (manner false live (if has_uploads then Some ends.now else None)) table.now
+        (wanted_by trace) file read (if has_uploads then Some good else None) (text_of report) reported well
         × Begins (W.contents out.old.writer) (W.contents out.new.writer) reported)) }
     ensures loaded { S.loaded source.new ≡ S.loaded source.old }
     ensures well { IfOk result (λ _. S.refused source.new ≡ S.refused source.old) }
@@ -291,7 +317,16 @@ pub(crate) fn audit_over<S: Source, W: Write>(
         &mut trace,
         &mut report,
     )?;
-    let reported = audit_text(alloc, &verdict, &balance, has_uploads, &trace, report)?;
+    let reported = audit_text(
+        alloc,
+        &verdict,
+        &balance,
+        has_uploads,
+        ends,
+        live,
+        &trace,
+        report,
+    )?;
     write_text(out, reported.0.as_slice())?;
     Ok(reported.1)
 }

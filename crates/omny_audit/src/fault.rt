@@ -31,6 +31,8 @@ pub(crate) enum Fault<'a> {
     NamedTable(NamedTableLine<'a>),
     /// A fare table cannot follow those before it.
     Follow(FollowLine<'a>),
+    /// A ledger was named as an upload.
+    GivenLedger(&'a str),
     /// The fare table's text names a class that no traced ledger can have.
     ClassName,
     /// The text of one of several fare tables names a class that no traced ledger can have.
@@ -80,6 +82,7 @@ impl<'a> Fault<'a> {
             Fault::ClassName | Fault::Write | Fault::NoMemory => false,
             Fault::Date(_) | Fault::NamedTable(_) => false,
             Fault::Follow(_) | Fault::NamedClass(_) => false,
+            Fault::GivenLedger(_) => false,
         }
     }
 }
@@ -141,6 +144,10 @@ impl fmt::Display for Fault<'_> {
             Fault::Date(wrong) => write!(f, "fault: {wrong}"),
             Fault::NamedTable(line) => line.fmt(f),
             Fault::Follow(line) => line.fmt(f),
+            Fault::GivenLedger(name) => write!(
+                f,
+                "fault: {name} is a ledger and no upload: write it before --uploads, or after --"
+            ),
             Fault::NamedClass(line) => line.fmt(f),
             Fault::ClassName => {
                 f.write_str("fault: table has a class name that no ledger can have")

@@ -12,11 +12,12 @@ ghost use Rattle.omny_audit.specs.Fault.{IsOfWriteEnd, is_unwritten, named_by};
 ghost use Rattle.omny_audit.specs.inside.Fault.{IsLedgerFault, is_of_source};
 ghost use Rattle.ledger_check.specs.Columns.{read_as};
 ghost use Rattle.ledger_check.specs.Ledger.{IsLedger};
+ghost use Rattle.ledger_check.specs.Orders.{are_settled};
 ghost use Rattle.ledger_check.specs.Recounts.{IsRecount, TakenLine, recount_text, taps_from};
 ghost use Rattle.ledger_check.specs.Recounts.{wrong_count};
 ghost use Rattle.ledger_check.specs.RecountStates.{HasRecounted};
 ghost use Rattle.omny_audit.specs.Findings.{IsDifferencesEnd};
-ghost use Rattle.omny_audit.specs.Reports.{HasBegunAudit, IsAudit, IsReportLine};
+ghost use Rattle.omny_audit.specs.Reports.{AreLastLines, HasBegunAudit, IsAudit, manner};
 ghost use Rattle.omny_audit.specs.inside.Reports.{HasSummedFor, text_of};
 ghost use Rattle.omny_audit.specs.inside.Findings.{HasBegunRecount, HasRecountedAll};
 ghost use Rattle.omny_audit.specs.inside.Source.{IsAllOf};
@@ -26,20 +27,19 @@ ghost use Rattle.omny_audit.specs.inside.Traced.{HasReadAll, HasReadAs, wanted_b
 use crate::fault::Fault;
 use crate::ledger::{PIECE_BYTES, WholeLedger, read_on};
 use crate::output::write_text;
-use crate::report::{ReportWithSums, add_piece, are_both, write_report_line};
+use crate::report::{ReportWithSums, add_piece, are_both, is_either, write_last_lines};
 use crate::source::Source;
 use crate::text::{are_none, write_differences};
 use crate::traced::{TracedPieces, read_end, read_piece, write_columns};
 use fare_table::{Clock, FareTable};
 use ledger_check::laws::{recounts_decide, recounts_go_on};
-use ledger_check::{Balance, FullBalance, Recount};
+use ledger_check::{Balance, FullBalance, Recount, Recounted};
 use program_manners::Output;
 use std::alloc::{AllocError, Global};
 use std::io::Write;
-use tap_views::{NoMemory, TapFields};
+use tap_views::{NoMemory, TapFields, UploadEnd};
 
 /// Reads what the end of the file leaves, and appends the rest of the report. The text is replaced.
-/// Says whether no line is wrong.
 fn end_recount(
     alloc: Global,
     table: &FareTable,
@@ -51,26 +51,27 @@ fn end_recount(
     report: &mut Option<ReportWithSums>,
     text: &mut Vec<u8>,
     reported: &mut String,
-) -> Result<bool, Fault<'static>>
+) -> Result<Recounted, Fault<'static>>
     requires clock { clock.now ≡ table.now.zone }
     requires fed { (before written : List ℕ) × (good : List TapFields)
         × HasRecounted table.now recount.old has_uploads full.old before written good
         × HasSummedFor table.now report.old before }
 
     // Of all that was read so far.
-    ensures reported { IfOk result (λ legal. (file before written : List ℕ) (good : List TapFields)
+    ensures reported { IfOk result (λ recounted. (file before written : List ℕ) (good : List TapFields)
         → HasReadAs trace.old file before
         → HasRecounted table.now recount.old has_uploads full.old before written good
         → (taken : List TakenLine)
         × IsRecount table.now (read_as (is_some (wanted_by trace.new)) file) taken
-        × (legal ≡ nat_eq (wrong_count taken) 0)
+        × (recounted.is_legal ≡ nat_eq (wrong_count taken) 0)
+        × (recounted.is_settled ≡ are_settled (taps_from taken))
         × (has_uploads ≡ true → IsFullBalance full.new good (taps_from taken))
         × (more : List ℕ) × (string_bytes reported.new ≡ string_bytes reported.old ++ more)
         × (written ++ more ≡ recount_text taken)) }
-    ensures sums { IfOk result (λ legal. (file before : List ℕ) → HasReadAs trace.old file before
+    ensures sums { IfOk result (λ _. (file before : List ℕ) → HasReadAs trace.old file before
         → HasSummedFor table.now report.old before
         → HasSummedFor table.now report.new (read_as (is_some (wanted_by trace.new)) file)) }
-    ensures all { IfOk result (λ legal. (file before : List ℕ) → HasReadAs trace.old file before
+    ensures all { IfOk result (λ _. (file before : List ℕ) → HasReadAs trace.old file before
         → HasReadAll trace.new file) }
     ensures wanted { wanted_by trace.new ≡ wanted_by trace.old }
     ensures report { text_of report.new ≡ text_of report.old }
@@ -82,13 +83,13 @@ fn end_recount(
     let left = text.as_slice();
     recount.feed(table, clock, left, has_uploads, full, reported)?;
     add_piece(alloc, table, left, report)?;
-    let legal = recount.finish(reported)?;
-    Ok(legal)
+    let recounted = recount.finish(reported)?;
+    Ok(recounted)
 }
 
 /// Recounts all that the ledger has left, and writes what is reported of its lines as they come.
 /// The taps that they name are struck out, if there are uploads. It keeps no more of the text than
-/// one read gives. Says whether no line is wrong.
+/// one read gives.
 fn recount_all<S: Source, W: Write>(
     alloc: Global,
     table: &FareTable,
@@ -100,7 +101,7 @@ fn recount_all<S: Source, W: Write>(
     trace: &mut Option<TracedPieces>,
     report: &mut Option<ReportWithSums>,
     out: &mut Output<W>,
-) -> Result<bool, Fault<'static>>
+) -> Result<Recounted, Fault<'static>>
     requires clock { clock.now ≡ table.now.zone }
     requires trace { HasReadAs trace.old [] [] }
     requires sums { HasSummedFor table.now report.old [] }
@@ -108,11 +109,11 @@ fn recount_all<S: Source, W: Write>(
         × (has_uploads ≡ true → IsFullBalance full.old good []) }
 
     // Of all good taps that the balance can have.
-    ensures reported { IfOk result (λ legal. (file : List ℕ)
+    ensures reported { IfOk result (λ recounted. (file : List ℕ)
         × IsAllOf (prepend_known ledger.old.head.now (S.Ledger.remaining ledger.old.rest)) file
         × ((good : List TapFields) → (has_uploads ≡ true → IsFullBalance full.old good [])
         → HasRecountedAll table.now has_uploads full.new
-        (read_as (is_some (wanted_by trace.new)) file) good legal (W.contents out.old.writer)
+        (read_as (is_some (wanted_by trace.new)) file) good recounted (W.contents out.old.writer)
         (W.contents out.new.writer))
         × HasSummedFor table.now report.new (read_as (is_some (wanted_by trace.new)) file)
         × HasReadAll trace.new file) }
@@ -143,7 +144,7 @@ fn recount_all<S: Source, W: Write>(
         };
         reported.clear();
         if count == 0 {
-            let legal = end_recount(
+            let recounted = end_recount(
                 alloc,
                 table,
                 clock,
@@ -156,7 +157,7 @@ fn recount_all<S: Source, W: Write>(
                 &mut reported,
             )?;
             write_text(out, reported.as_bytes())?;
-            return Ok(legal);
+            return Ok(recounted);
         }
         read_piece(trace, &step[..count], &mut text)?;
         let part = text.as_slice();
@@ -198,11 +199,12 @@ fn differences_text(
 
 /// What is reported of the taps behind a recount, if there are uploads, of the columns of a traced
 /// ledger, and of the report, if there is one and nothing of the ledger is wrong; and whether all
-/// is well.
+/// is well. Last come the uploads that have a layout fault.
 fn end_text(
     alloc: Global,
     full: &FullBalance,
     has_uploads: bool,
+    ends: &[UploadEnd],
     legal: bool,
     trace: &Option<TracedPieces>,
     report: Option<ReportWithSums>,
@@ -216,7 +218,8 @@ fn end_text(
         × ((file : List ℕ) → HasReadAll trace.now file → (read : List ReadLine)
         × AreColumnsReported (wanted_by trace.now) true file read columns right)
         × ((fares : Fares) (text : List ℕ) → (legal ≡ true → HasSummedFor fares report text)
-        → IsReportLine fares text (text_of report) (legal && right) rest fits)
+        → AreLastLines (if has_uploads then Some ends.now else None) fares text (text_of report)
+        (legal && right) rest fits)
         × (reported.0.items ≡ (ending ++ columns) ++ rest)
         × (reported.1 ≡ (sound && (right && fits)))) }
 {
@@ -225,13 +228,14 @@ fn end_text(
     let mut text = ending.0.into_bytes();
     let is_right = write_columns(alloc, &mut text, true, trace)?;
     let is_whole = are_both(legal, is_right);
-    let fits = write_report_line(alloc, &mut text, is_whole, report)?;
+    let fits = write_last_lines(alloc, &mut text, is_whole, report, has_uploads, ends)?;
     let is_behind = are_both(is_right, fits);
     Ok((text, are_both(is_sound, is_behind)))
 }
 
-/// Checks all lines that the ledger has left, beside the taps of uploads that the balance has and
-/// beside a report, if there is one, and writes the finding. Says whether all is well.
+/// Checks all lines that the ledger has left, beside the taps of uploads that the balance has, and
+/// that end so, and beside a report, if there is one, and writes the finding. Says whether all is
+/// well.
 pub(crate) fn full_audit_over<S: Source, W: Write>(
     alloc: Global,
     table: &FareTable,
@@ -240,6 +244,8 @@ pub(crate) fn full_audit_over<S: Source, W: Write>(
     ledger: &mut WholeLedger<'_, S::Ledger>,
     balance: Balance,
     has_uploads: bool,
+    ends: &[UploadEnd],
+    live: bool,
     mut trace: Option<TracedPieces>,
     mut report: Option<ReportWithSums>,
     out: &mut Output<W>,
@@ -253,8 +259,9 @@ pub(crate) fn full_audit_over<S: Source, W: Write>(
     ensures reported { IfOk result (λ well. (file : List ℕ)
         × IsAllOf (prepend_known ledger.old.head.now (S.Ledger.remaining ledger.old.rest)) file
         × ((good : List TapFields) → IsBalance balance good [] → (reported : List ℕ)
-        × (read : List ReadLine) × IsAudit true table.now (wanted_by trace) file read
-        (if has_uploads then Some good else None) (text_of report) reported well
+        × (read : List ReadLine)
+        × IsAudit (manner true live (if has_uploads then Some ends.now else None)) table.now
+        (wanted_by trace) file read (if has_uploads then Some good else None) (text_of report) reported well
         × Appends (W.contents out.old.writer) (W.contents out.new.writer) reported)) }
 
     // That a write failed is told only if the output remembers one that failed so.
@@ -263,7 +270,8 @@ pub(crate) fn full_audit_over<S: Source, W: Write>(
     // What was written when a fault comes is a beginning of the right text.
     ensures begun { IfErr result (λ _. (file : List ℕ)
         × IsAllOf (prepend_known ledger.old.head.now (S.Ledger.remaining ledger.old.rest)) file
-        × ((good : List TapFields) → IsBalance balance good [] → HasBegunAudit true table.now
+        × ((good : List TapFields) → IsBalance balance good []
+        → HasBegunAudit (manner true live (if has_uploads then Some ends.now else None)) table.now
         (wanted_by trace) file (if has_uploads then Some good else None) (text_of report)
         (W.contents out.old.writer) (W.contents out.new.writer))) }
     ensures loaded { S.loaded source.new ≡ S.loaded source.old }
@@ -277,7 +285,7 @@ pub(crate) fn full_audit_over<S: Source, W: Write>(
     // proof: what is reported of its first lines is a beginning of what is reported of all
     recounts_go_on();
     let mut full = FullBalance::of(alloc, balance);
-    let legal = recount_all(
+    let recounted = recount_all(
         alloc,
         table,
         clock,
@@ -289,7 +297,16 @@ pub(crate) fn full_audit_over<S: Source, W: Write>(
         &mut report,
         out,
     )?;
-    let reported = end_text(alloc, &full, has_uploads, legal, &trace, report)?;
+    let reported = end_text(
+        alloc,
+        &full,
+        has_uploads,
+        ends,
+        recounted.is_legal,
+        &trace,
+        report,
+    )?;
     write_text(out, reported.0.as_slice())?;
-    Ok(reported.1)
+    let in_order = is_either(live, recounted.is_settled);
+    Ok(are_both(reported.1, in_order))
 }

@@ -34,10 +34,10 @@ mod text;
 mod traced;
 
 use files::Host;
-use options::list_words;
+use options::{list_words, reads_input};
 use program::main_over;
 use program_manners::{Complaints, Escaping, Output, take_list, unread_words, words_of};
-use std::io::Write;
+use std::io::{IsTerminal, Write};
 use std::process::ExitCode;
 use world::Recorded;
 
@@ -53,18 +53,28 @@ fn words_with_list<E: Write>(rt: &HostRuntime, err: &mut Complaints<E>) -> Resul
     Ok(more.unwrap_or(words))
 }
 
+/// Says on the standard error that the ledger is read from the terminal, if no file of it is named.
+fn note_input(rt: &HostRuntime, words: &[String]) {
+    if rt.reader().is_terminal() && reads_input(rt.alloc(), words) {
+        Complaints::new(rt.stderr()).report_line("reading the ledger from the standard input");
+    }
+}
+
 /// The program.
 fn main(rt: HostRuntime) -> ExitCode {
     let mut err = Complaints::new(Escaping::new(rt.stderr()));
     let status = match words_with_list(&rt, &mut err) {
-        Ok(words) => main_over(
-            &rt,
-            rt.alloc(),
-            &words,
-            &mut Host::new(&rt),
-            &mut Output::new(Recorded::new(rt.stdout())),
-            &mut err,
-        ),
+        Ok(words) => {
+            note_input(&rt, &words);
+            main_over(
+                &rt,
+                rt.alloc(),
+                &words,
+                &mut Host::new(&rt),
+                &mut Output::new(Recorded::new(rt.stdout())),
+                &mut err,
+            )
+        }
         Err(status) => status,
     };
     err.into_writer().finish();

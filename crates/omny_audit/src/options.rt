@@ -22,24 +22,28 @@ const ABOUT: &str = "Checks a ledger under a fare table, and against uploads.
 
 A ledger has a head line, and for each token, rising, a line for each of its taps: what it cost and
 why. It is legal where each line is the one that the fare rules give its tap after those before it.
-With --uploads its taps must be those of the uploads before their layout faults, each as often as
-there, in whatever order. With --report the report must be that of its sums. With --all it goes on
-after the first wrong line. Of a traced ledger the classes are checked too, and with --uploads the
-places of the taps.";
+It is settled where its lines are in order of token, moment and validator. With --uploads its taps
+must be those of the uploads before their layout faults, each as often as there, in whatever order.
+With --report the report must be that of its sums, and of the uploads. With --all it goes on after
+the first wrong line. Of a traced ledger the classes are checked too, and with --uploads the places
+of the taps.";
 
 /// What the help says last: what is printed, and the exit status.
 const NOTES: &str = "What is printed:
-  legal N lines              the text is, whole, a ledger; N does not count the head line
+  legal N lines, settled     the text is, whole, a ledger; N does not count the head line
+  legal N lines, not settled: line L is earlier than the line before
+                             the same of a live run, whose charges depend on the order in which taps
+                             were drawn; L is the first such line
   line N wants LINE          the first line that no ledger has there, and the one that its tap should
                              have; line 1 is the head line
   line N is no ledger line   the first line that no ledger has there: it is cut, too long, out of
                              order, or has not the form of a ledger's line
-With --uploads a second line follows `legal N lines`:
+With --uploads a second line follows `legal N lines, ..`:
   all taps of the uploads                    the ledger has these taps, and no others
   missing tap TOKEN MOMENT VALIDATOR         the uploads have this tap more often than the ledger
   surplus tap TOKEN MOMENT VALIDATOR         the ledger has this tap more often than the uploads
 With --all each wrong line is printed, held against the rules after the taps that the lines before it
-tell, and then, in place of `legal N lines`:
+tell, and then, in place of `legal N lines, ..`:
   wrong N of M lines, of K tokens; cents C, wanted D
                              C is what the lines ask for, and D what the rules give their taps
 With --uploads each missing and each surplus tap follows.
@@ -53,25 +57,29 @@ and with --uploads, where uploads count from 0 and places from 1:
                                              the first line that has not
   line N has upload U place P again          the first line whose place an earlier line has
   no line has upload U place P               no line has a wrong place, and none has this tap
-With --report a last line follows, if the ledger is legal and its columns are right:
+With --report a line follows, if the ledger is legal and its columns are right:
   report of the ledger                       each line is that of the sums of the ledger
   wrong report line N: wants LINE            the first line that is not, and the one that should be
   wrong report line N: no report has it      the first line that no report has there
   wrong report line N: the uploads have A taps, the ledger B
-                                             N is the last line of the report's uploads
+                                             without --uploads; N is the last line of the report's uploads
+Without --uploads `upload lines not compared` follows it: any with as many taps are taken.
+With --uploads the last lines name the damaged uploads, however the ledger is:
+  upload U refused TAPS at OFFSET FAULT      the layout fault after TAPS taps, and the offset of its batch
 
 Examples:
   omny_audit --table table.toml ledger.csv
   omny_audit --table table.toml ledger.csv --uploads a.tap b.tap
   find week -name '*.tap' -print0 | omny_audit --table table.toml ledger.csv --files-from - -0
   omny_audit --all --table table.toml ledger.csv
-  omny_audit --table table.toml --report bill.txt ledger.csv
+  omny_audit --table table.toml --report bill.txt --uploads a.tap b.tap -- ledger.csv
   omny_audit --table old.toml --table new.toml@2026-01-04 ledger.csv
-  omny_cli --table table.toml --ledger a.tap b.tap | omny_audit --table table.toml --uploads a.tap b.tap
+  omny_cli --table table.toml --settle --ledger a.tap b.tap |
+    omny_audit --table table.toml --uploads a.tap b.tap
 
 Exit status:
-  0  the ledger is legal, has right columns, if it is traced, and, with --uploads, has their taps, and,
-     with --report, the report is its own
+  0  the ledger is legal and settled (or with --live legal), has right columns, if it is traced, and,
+     with --uploads, has their taps, none of them is damaged, and, with --report, the report is its own
   1  it is not, or has not; or a file, the table, memory or writing failed, as a line `fault: ..` on
      the standard error tells
   2  the command line is wrong";
@@ -83,6 +91,8 @@ pub(crate) struct Options<'a> {
     pub(crate) table: TableWords<'a>,
     /// Whether all wrong lines are asked for.
     pub(crate) all: bool,
+    /// Whether a ledger that is not settled is well.
+    pub(crate) live: bool,
     /// The files of the uploads whose taps the ledger should have; none asks for no such check.
     pub(crate) uploads: Vec<&'a str>,
     /// The file of the report; none asks for no such check.
@@ -97,6 +107,9 @@ const TABLE_HELP: &str =
 
 /// The help of `--all`.
 const ALL_HELP: &str = "Print each wrong line, each missing and each surplus tap";
+
+/// The help of `--live`.
+const LIVE_HELP: &str = "Take a ledger that is not settled, as a run without --settle writes it";
 
 /// The help of `--uploads`.
 const UPLOADS_HELP: &str =
@@ -123,12 +136,14 @@ fn command<'a>(alloc: Global) -> Result<Command<'a>, AllocError>
 {
     let table = table_arg(alloc);
     let all = flag_arg(alloc, "all", ALL_HELP);
+    let live = flag_arg(alloc, "live", LIVE_HELP);
     let uploads = files_arg(alloc, "uploads", UPLOADS_HELP);
     let report = option_arg(alloc, "report", "REPORT", REPORT_HELP);
     let ledger = positional_arg(alloc, "LEDGER", ArgAction::Set, LEDGER_HELP);
     let command = new_command(alloc, "omny_audit", ABOUT, NOTES)
         .arg(table)?
         .arg(all)?
+        .arg(live)?
         .arg(uploads)?
         .arg(report)?;
     add_list_args(alloc, command)?.arg(ledger)
@@ -187,10 +202,20 @@ impl<'a> Options<'a> {
         Ok(Options {
             table: tables_of(alloc, &tables)?,
             all: flag_in(&matches, "all"),
+            live: flag_in(&matches, "live"),
             uploads: names_in(alloc, &matches, "uploads")?,
             report: matches.get_str("report"),
             ledger: ledger_in(matches.get_str("LEDGER")),
         })
+    }
+}
+
+/// Whether the words are a command line that names no file of the ledger, so that standard input is
+/// read.
+pub(crate) fn reads_input(alloc: Global, words: &[String]) -> bool {
+    match matched(alloc, words) {
+        Ok(matches) => ledger_in(matches.get_str("LEDGER")).is_none(),
+        Err(_) => false,
     }
 }
 

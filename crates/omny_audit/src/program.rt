@@ -1,13 +1,17 @@
 //! The whole program, over any source of bytes and any two writers.
-ghost use Rattle.std.specs.Prelude.{◌≡◌, ◌≢◌, ◌≤◌, ◌⊎◌, ◌++◌, [], List, ℕ, IfErr, IfOk, IfSome};
+ghost use Rattle.std.specs.Prelude.{◌≡◌, ◌≢◌, ◌≤◌, ◌⊎◌, ◌++◌, ◌∷◌, [], List, ℕ, IfErr, IfOk, IfSome};
+ghost use Rattle.std.specs.Prelude.{OnOk};
+ghost use Rattle.tap_views.specs.declared.upload_end.UploadEnd.{UploadEnd as AnEnd};
 ghost use Rattle.std.specs.Prelude.{None, Option, Some, codes, false, if◌then◌else◌, is_some};
 ghost use Rattle.std.specs.Prelude.{length, map, option_map, string_bytes, true};
 ghost use Rattle.std.specs.Io.KnownBytes.{Keeps};
 ghost use Rattle.clap.specs.Words.{kind_of};
 ghost use Rattle.tariffs.specs.Fares.{Fares};
 ghost use Rattle.ledger_check.specs.Balances.{IsBalance};
-ghost use Rattle.ledger_check.specs.Columns.{has_traced_head};
+ghost use Rattle.ledger_check.specs.Columns.{has_ledger_head, has_traced_head};
+ghost use Rattle.omny_audit.specs.declared.fault.Fault.TheVariants.{GivenLedger};
 ghost use Rattle.ledger_check.specs.Places.{HasUploads, uploads_of};
+ghost use Rattle.tap_views.specs.UploadEnds.{ArePlainEnds, IsPlainEnd};
 ghost use Rattle.tap_views.specs.declared.encoder.TapFields.{TapFields};
 ghost use Rattle.omny_audit.specs.Fault.{IsOfWriteEnd, IsRightAnswerFault, IsTold, NamesOneOf};
 ghost use Rattle.omny_audit.specs.Fault.{is_unwritten, named_by};
@@ -18,7 +22,7 @@ ghost use Rattle.omny_audit.specs.Options.{files_of, named_file};
 ghost use Rattle.omny_audit.specs.Program.{AreGoodFieldsOfAll, AreGoodFieldsOfEach, AreWanted};
 ghost use Rattle.omny_audit.specs.Program.{AuditGaveUp, Audits, LoadsNamedFiles};
 ghost use Rattle.omny_audit.specs.Program.{LoadsReport};
-ghost use Rattle.omny_audit.specs.inside.Fault.{IsRefusal, is_of_source};
+ghost use Rattle.omny_audit.specs.inside.Fault.{IsRefusal, IsUploadFault, is_of_source};
 ghost use Rattle.omny_audit.specs.inside.Tables.{IsClassFault};
 ghost use Rattle.omny_audit.specs.inside.Traced.{HasReadAs, HaveNamed, uploads_in, wanted_by};
 ghost use Rattle.omny_audit.specs.Program.{IsFaultReported, IsRightAuditFault};
@@ -44,7 +48,7 @@ use clap::Error;
 use clap::error::ErrorKind;
 use class_names::{ClassFault, ClassNames, WrongNames};
 use histories::HashSeed;
-use ledger_check::{Balance, Places, has_traced_head};
+use ledger_check::{Balance, Places, has_ledger_head, has_traced_head};
 use program_manners::{
     Complaints, NamedClassLine, Output, TableWord, TableWords, Tables, WrongWord, load_tables,
     show_answer,
@@ -52,6 +56,7 @@ use program_manners::{
 use std::alloc::Global;
 use std::io::Write;
 use std::random::RandomSource;
+use tap_views::{NoMemory, UploadEnd, facts_of};
 
 /// All bytes of the file of this name.
 pub(crate) fn load_named<'a, S: Source>(source: &mut S, name: &'a str) -> Result<Vec<u8>, Fault<'a>>
@@ -70,33 +75,61 @@ pub(crate) fn load_named<'a, S: Source>(source: &mut S, name: &'a str) -> Result
     }
 }
 
-/// The good taps of the uploads of these names: how often each is there, and by their places. It
-/// holds one upload at a time.
+/// Refuses an upload that is a ledger by its head line.
+fn refuse_ledger<'a>(name: &'a str, upload: &[u8]) -> Result<(), Fault<'a>>
+    ensures ok { OnOk result (has_ledger_head upload.now ≡ false) }
+    ensures fault { IfErr result (λ fault. (fault ≡ GivenLedger name.entry)
+        × (has_ledger_head upload.now ≡ true)) }
+{
+    if has_ledger_head(upload) {
+        Err(Fault::GivenLedger(name))
+    } else {
+        Ok(())
+    }
+}
+
+/// Adds how the upload ends.
+fn add_end(ends: &mut Vec<UploadEnd>, upload: &[u8]) -> Result<(), NoMemory>
+    ensures { OnOk result ((end : AnEnd) × IsPlainEnd upload.now end
+        × (ends.new.items ≡ ends.old.items ++ end ∷ [])) }
+{
+    let facts = facts_of(upload);
+    ends.push(UploadEnd::by_fault(facts.taps, facts.fault))?;
+    Ok(())
+}
+
+/// The good taps of the uploads of these names: how often each is there, and by their places; and
+/// how the uploads end. It holds one upload at a time.
 fn load_uploads<'a, S: Source>(
     alloc: Global,
     names: &[&'a str],
     source: &mut S,
-) -> Result<(Balance, Places), Fault<'a>>
+) -> Result<(Balance, Places, Vec<UploadEnd>), Fault<'a>>
     ensures ok { IfOk result (λ loaded. (files : List (List ℕ)) × (good : List TapFields)
         × LoadsNamedFiles (map (λ n. n.now) names.now)
         (S.loaded source.old) (S.loaded source.new) files
         × AreGoodFieldsOfAll files good × IsBalance loaded.0 good []
         × (lists : List (List TapFields)) × AreGoodFieldsOfEach files lists
-        × HasUploads loaded.1 lists) }
+        × HasUploads loaded.1 lists × ArePlainEnds files loaded.2.items) }
     ensures fault { IfErr result (λ fault. is_unwritten fault ≡ false) }
     ensures named { IfErr result (λ fault. NamesOneOf (map (λ n. n.now) names.now) fault) }
     ensures well { IfOk result (λ _. S.refused source.new ≡ S.refused source.old) }
-    ensures right { IfErr result (IsRefusal (S.refused source.new)) }
+    ensures right { IfErr result
+        (IsUploadFault (S.loaded source.new) (S.refused source.new)) }
     ensures told { IfErr result (IsTold (S.refused source.old) (S.refused source.new)) }
 {
     let mut balance = Balance::new(alloc);
     let mut places = Places::new(alloc);
+    let mut ends = Vec::new(alloc);
     for name in names {
         let upload = load_named(source, name)?;
-        balance.add_upload(&upload)?;
-        places.add_upload(alloc, &upload)?;
+        let bytes = upload.as_slice();
+        refuse_ledger(name, bytes)?;
+        balance.add_upload(bytes)?;
+        places.add_upload(alloc, bytes)?;
+        add_end(&mut ends, bytes)?;
     }
-    Ok((balance, places))
+    Ok((balance, places, ends))
 }
 
 /// The places, if uploads are named.
@@ -214,8 +247,9 @@ fn audit<'a, R: RandomSource, S: Source, W: Write>(
     let tables = load_tables(alloc, &options.table, source)?;
     let clock = tables.fares.clock(alloc)?;
     let names = options.uploads.as_slice();
-    let (balance, places) = load_uploads(alloc, names, source)?;
+    let (balance, places, ends) = load_uploads(alloc, names, source)?;
     let has_uploads = !names.is_empty();
+    let known_ends = ends.as_slice();
     let report = load_report(rt, alloc, options.report, source)?;
     let mut ledger = open_ledger(options.ledger, source)?;
     let head = read_head(alloc, options.ledger, source, &mut ledger)?;
@@ -238,6 +272,8 @@ fn audit<'a, R: RandomSource, S: Source, W: Write>(
             &mut whole,
             balance,
             has_uploads,
+            known_ends,
+            options.live,
             trace,
             report,
             out,
@@ -251,6 +287,8 @@ fn audit<'a, R: RandomSource, S: Source, W: Write>(
         &mut whole,
         balance,
         has_uploads,
+        known_ends,
+        options.live,
         trace,
         report,
         out,

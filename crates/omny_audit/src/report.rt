@@ -1,11 +1,15 @@
 //! The report that is held beside the ledger.
 
 ghost use Rattle.std.specs.Prelude.{◌≡◌, ◌&&◌, ◌++◌, ℕ, List, [], IfOk, OnOk, codes, string_bytes};
-ghost use Rattle.std.specs.Prelude.{true};
+ghost use Rattle.std.specs.Prelude.{◌||◌, None, Some, if◌then◌else◌, option_map, true};
 ghost use Rattle.std.specs.Fmt.{decimal};
 ghost use Rattle.tariffs.specs.Fares.{Fares};
 ghost use Rattle.ledger_check.specs.Ledger.{IsLedger};
-ghost use Rattle.omny_audit.specs.Reports.{IsReportFinding, IsReportLine, report_text};
+ghost use Rattle.omny_audit.specs.Reports.{AreLastLines, IsReportFinding, IsReportLine, are_whole};
+ghost use Rattle.omny_audit.specs.Reports.{damage_line, damage_lines, damage_text, report_text};
+ghost use Rattle.omny_audit.specs.Reports.{uncompared_text};
+ghost use Rattle.tap_views.specs.UploadEnds.{are_posted};
+ghost use Rattle.tap_views.specs.declared.upload_end.UploadEnd.{UploadEnd as AnEnd};
 ghost use Rattle.omny_audit.specs.inside.Reports.{HasSummedFor, text_of};
 ghost use Rattle.report_check.specs.LedgerSums.{HasSummed};
 ghost use Rattle.report_check.specs.Reports.{is_of_ledger};
@@ -13,8 +17,9 @@ ghost use Rattle.report_check.specs.Reports.{is_of_ledger};
 use fare_table::FareTable;
 use histories::HashSeed;
 use report_check::{LedgerSums, ReportVerdict, check_report};
+use report_texts::write_upload;
 use std::alloc::{AllocError, Global};
-use tap_views::NoMemory;
+use tap_views::{NoMemory, UploadEnd};
 
 /// A report, and the sums of the ledger that is read beside it.
 #[derive(Drop)]
@@ -137,42 +142,69 @@ fn is_of_ledger(verdict: &ReportVerdict) -> bool
     }
 }
 
+/// The ends of the uploads, if there are uploads.
+fn known_if(has_uploads: bool, ends: &[UploadEnd]) -> Option<&[UploadEnd]>
+    ensures { option_map (λ e. e.now) result ≡ (if has_uploads then Some ends.now else None) }
+{
+    if has_uploads { Some(ends) } else { None }
+}
+
+/// Appends that the lines of uploads were not compared, if no uploads are named.
+#[tactic(auto, unfolding(crate::specs::Reports::uncompared_text))]
+fn write_uncompared(text: &mut Vec<u8>, has_uploads: bool) -> Result<(), AllocError>
+    ensures { OnOk result ((ends : List AnEnd) → text.new.items
+        ≡ text.old.items ++ uncompared_text (if has_uploads then Some ends else None)) }
+{
+    if has_uploads {
+        return Ok(());
+    }
+    text.extend_from_slice(b"upload lines not compared\n")
+}
+
 /// Appends what is found of the report, beside a ledger that was read whole. Says whether the
 /// report is the ledger's.
 fn write_finding(
     alloc: Global,
     text: &mut Vec<u8>,
     report: ReportWithSums,
+    has_uploads: bool,
+    ends: &[UploadEnd],
 ) -> Result<bool, NoMemory>
     requires { (fares : Fares) × (ledger : List ℕ) × HasSummed fares report.sums ledger
         × IsLedger fares ledger }
     ensures { IfOk result (λ fits. (rest : List ℕ) × (text.new.items ≡ text.old.items ++ rest)
         × ((fares : Fares) (ledger : List ℕ) → HasSummed fares report.sums ledger
-        → IsReportFinding fares ledger report.text.items rest fits)) }
+        → IsReportFinding (if has_uploads then Some ends.now else None) fares ledger
+        report.text.items rest fits)) }
 {
     let ReportWithSums { text: lines, sums } = report;
     let Some(sums) = sums.finish(alloc)? else {
         unreachable!();
     };
-    let verdict = check_report(alloc, &sums, &lines)?;
+    let known = known_if(has_uploads, ends);
+    let verdict = check_report(alloc, known, &sums, &lines)?;
     write_verdict(alloc, text, &verdict)?;
+    write_uncompared(text, has_uploads)?;
     Ok(is_of_ledger(&verdict))
 }
 
 /// Appends what is found of the report behind a legal ledger, if there is a report. Says whether it
 /// is the ledger's: without a report it is, and beside a ledger that is not legal it is not.
-pub(crate) fn write_report_line(
+fn write_report_line(
     alloc: Global,
     text: &mut Vec<u8>,
     is_legal: bool,
     report: Option<ReportWithSums>,
+    has_uploads: bool,
+    ends: &[UploadEnd],
 ) -> Result<bool, NoMemory>
     requires { is_legal ≡ true → (fares : Fares) × (ledger : List ℕ)
         × HasSummedFor fares report ledger × IsLedger fares ledger }
     ensures { IfOk result (λ fits. (rest : List ℕ) × (text.new.items ≡ text.old.items ++ rest)
         × ((fares : Fares) (ledger : List ℕ)
         → (is_legal ≡ true → HasSummedFor fares report ledger)
-        → IsReportLine fares ledger (text_of report) is_legal rest fits)) }
+        → IsReportLine (if has_uploads then Some ends.now else None) fares ledger
+        (text_of report) is_legal rest fits)) }
 {
     let Some(report) = report else {
         return Ok(true);
@@ -180,7 +212,88 @@ pub(crate) fn write_report_line(
     if !is_legal {
         return Ok(false);
     }
-    write_finding(alloc, text, report)
+    write_finding(alloc, text, report, has_uploads, ends)
+}
+
+/// Appends the line of an upload that has a layout fault.
+fn write_damaged(text: &mut String, upload: u64, end: &UploadEnd) -> Result<(), AllocError>
+    ensures { OnOk result (string_bytes text.new ≡ string_bytes text.old
+        ++ damage_line upload end.now) }
+{
+    if end.is_posted() {
+        return Ok(());
+    }
+    write_upload(text, upload, end)
+}
+
+/// The lines of the uploads that have a layout fault.
+#[tactic(auto, using(crate::proofs::Damage::damage_more))]
+fn damage_lines(alloc: Global, ends: &[UploadEnd]) -> Result<String, AllocError>
+    ensures { IfOk result (λ text. string_bytes text ≡ damage_lines 0 ends.now) }
+{
+    let mut text = String::new(alloc);
+    for (upload, end) in ends.iter().enumerate() {
+        write_damaged(&mut text, upload as u64, end)?;
+    }
+    Ok(text)
+}
+
+/// Whether no upload has a layout fault.
+fn are_posted(ends: &[UploadEnd]) -> bool
+    ensures { result ≡ are_posted ends.now }
+{
+    ends.iter().all(|end| end.is_posted())
+}
+
+/// Appends the lines of the uploads that have a layout fault, if there are uploads. Says whether
+/// none has one.
+fn write_damage(
+    alloc: Global,
+    text: &mut Vec<u8>,
+    has_uploads: bool,
+    ends: &[UploadEnd],
+) -> Result<bool, AllocError>
+    ensures text { OnOk result (text.new.items ≡ text.old.items
+        ++ damage_text (if has_uploads then Some ends.now else None)) }
+    ensures whole { IfOk result (λ whole.
+        whole ≡ are_whole (if has_uploads then Some ends.now else None)) }
+{
+    if !has_uploads {
+        return Ok(true);
+    }
+    let lines = damage_lines(alloc, ends)?;
+    text.extend_from_slice(lines.as_bytes())?;
+    Ok(are_posted(ends))
+}
+
+/// Appends what is found of the report, if there is one, and the lines of the uploads that have a
+/// layout fault, if there are uploads. Says whether the report is right and no upload has a fault.
+pub(crate) fn write_last_lines(
+    alloc: Global,
+    text: &mut Vec<u8>,
+    is_legal: bool,
+    report: Option<ReportWithSums>,
+    has_uploads: bool,
+    ends: &[UploadEnd],
+) -> Result<bool, NoMemory>
+    requires { is_legal ≡ true → (fares : Fares) × (ledger : List ℕ)
+        × HasSummedFor fares report ledger × IsLedger fares ledger }
+    ensures { IfOk result (λ well. (rest : List ℕ) × (text.new.items ≡ text.old.items ++ rest)
+        × ((fares : Fares) (ledger : List ℕ)
+        → (is_legal ≡ true → HasSummedFor fares report ledger)
+        → AreLastLines (if has_uploads then Some ends.now else None) fares ledger
+        (text_of report) is_legal rest well)) }
+{
+    let fits = write_report_line(alloc, text, is_legal, report, has_uploads, ends)?;
+    let is_whole = write_damage(alloc, text, has_uploads, ends)?;
+    Ok(are_both(fits, is_whole))
+}
+
+/// Whether a live ledger is well, or this one is settled.
+pub(crate) fn is_either(live: bool, is_settled: bool) -> bool
+    ensures { result ≡ (live || is_settled) }
+{
+    live || is_settled
 }
 
 /// Whether the ledger and the report are right.

@@ -7,7 +7,7 @@ ghost use Rattle.omny_audit.specs.Text.{space_and_validator};
 ghost use Rattle.omny_audit.specs.Text.{verdict_text};
 
 use fare_texts::{Digits, write_moment};
-use ledger_check::{Difference, Verdict};
+use ledger_check::{Difference, Verdict, write_legal};
 use std::alloc::{AllocError, Global};
 use tap_views::{TapFields, Token};
 
@@ -17,7 +17,11 @@ pub(crate) fn verdict_line(alloc: Global, verdict: &Verdict) -> Result<String, A
     ensures { IfOk result (λ text. string_bytes text ≡ verdict_text verdict.now) }
 {
     match verdict {
-        Verdict::Legal(entries) => format!(in alloc; "legal {entries} lines\n"),
+        Verdict::Legal(entries, early) => {
+            let mut text = String::new(alloc);
+            write_legal(&mut text, *entries, *early)?;
+            Ok(text)
+        }
         Verdict::Wants(line, wanted) => format!(in alloc; "line {line} wants {wanted}"),
         Verdict::NoLine(line) => format!(in alloc; "line {line} is no ledger line\n"),
     }

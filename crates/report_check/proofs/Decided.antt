@@ -1,6 +1,6 @@
 -- A true verdict says that a report is the ledger's exactly if it is.
 use Rattle.std.proofs.Common.{◌≡◌, ◌≢◌, ◌∙◌, ℕ, ◌<◌, ◌^◌, true, false, List, [], ◌++◌, length}
-use Rattle.std.proofs.Common.{append_assoc, append-nil, codes, refl, sym, ap, arith, inl, inr}
+use Rattle.std.proofs.Common.{Some, None, append_assoc, append-nil, codes, refl, sym, ap, arith, inl, inr}
 use Rattle.std.specs.Prelude.{◌↔◌, sum_by}
 use Rattle.std.specs.Io.BufRead.{drop_through, take_through}
 use Rattle.std.proofs.lemmas.List.{append_cancel_left}
@@ -16,7 +16,7 @@ use Rattle.tap_views.specs.declared.upload_end.UploadEnd.{UploadEnd}
 use Rattle.report_check.specs.Reports.{BeginsWithUploads, HasNoUploads, HasOtherTaps}
 use Rattle.report_check.specs.Reports.{HasReportBefore, HasWrongLine, HaveTapsOf, IsNoUploadLine}
 use Rattle.report_check.specs.Reports.{IsReportOfLedger, IsReportVerdict, IsWrongLine, is_of_ledger}
-use Rattle.report_check.specs.Reports.{report_of}
+use Rattle.report_check.specs.Reports.{IsDifferenceFrom, ReportVerdictsDecide, report_of}
 use Rattle.report_check.specs.declared.verdict.ReportVerdict.{ReportVerdict}
 use Rattle.report_check.specs.declared.verdict.ReportVerdict.TheVariants.{OfLedger, Wants, NoLine}
 use Rattle.report_check.specs.declared.verdict.ReportVerdict.TheVariants.{Taps}
@@ -111,24 +111,36 @@ taps_not entries text line uploads ledger has own =
     has.apart (has.reported ∙ ap (λ (es : List UploadEnd). sum_by taps_of_end es) (sym same)
     ∙ own.have.taps ∙ sym has.has)
 
-other : (entries : List Entry) (text : List ℕ) → ¬ (IsReportOfLedger entries text)
-    → (false ≡ true) ↔ IsReportOfLedger entries text
-other entries text not = (λ is. absurd (apart is), λ own. absurd (not own))
+other : (Is : Type 0) → ¬ Is → (false ≡ true) ↔ Is
+other Is not = (λ is. absurd (apart is), λ own. absurd (not own))
   where
     apart : false ≡ true → ⊥
     apart is = cc
 
-pub decides : (entries : List Entry) (text : List ℕ) (verdict : ReportVerdict)
+by_ledger : (entries : List Entry) (text : List ℕ) (verdict : ReportVerdict)
     → IsReportVerdict entries text verdict
     → (is_of_ledger verdict ≡ true) ↔ IsReportOfLedger entries text
-decides entries text OfLedger is = (λ same. is, λ own. refl)
-decides entries text (Wants number line) is =
-    other entries text (wrong_not entries text number line.items is)
-decides entries text (NoLine number) (inl (inl none)) =
-    other entries text (headless_not entries text none.1)
-decides entries text (NoLine number) (inl (inr none)) =
-    other entries text (no_line_not entries text number none)
-decides entries text (NoLine number) (inr behind) =
-    other entries text (behind_not entries text number behind)
-decides entries text (Taps line uploads ledger) is =
-    other entries text (taps_not entries text line uploads ledger is)
+by_ledger entries text OfLedger is = (λ same. is, λ own. refl)
+by_ledger entries text (Wants number line) is =
+    other (IsReportOfLedger entries text) (wrong_not entries text number line.items is)
+by_ledger entries text (NoLine number) (inl (inl none)) =
+    other (IsReportOfLedger entries text) (headless_not entries text none.1)
+by_ledger entries text (NoLine number) (inl (inr none)) =
+    other (IsReportOfLedger entries text) (no_line_not entries text number none)
+by_ledger entries text (NoLine number) (inr behind) =
+    other (IsReportOfLedger entries text) (behind_not entries text number behind)
+by_ledger entries text (Taps line uploads ledger) is =
+    other (IsReportOfLedger entries text) (taps_not entries text line uploads ledger is)
+
+by_ends : (text wanted : List ℕ) (verdict : ReportVerdict) → IsDifferenceFrom text wanted verdict
+    → (is_of_ledger verdict ≡ true) ↔ (text ≡ wanted)
+by_ends text wanted OfLedger is = (λ same. is, λ own. refl)
+by_ends text wanted (Wants number line) is =
+    other (text ≡ wanted) (wrong_apart text wanted number line.items is)
+by_ends text wanted (NoLine number) is =
+    other (text ≡ wanted) (λ same. more_apart wanted is.more is.some (sym same ∙ is.has))
+by_ends text wanted (Taps line uploads ledger) is = absurd is
+
+pub decides : ReportVerdictsDecide
+decides None entries text verdict is = by_ledger entries text verdict is
+decides (Some ends) entries text verdict is = by_ends text (report_of ends entries) verdict is

@@ -7,13 +7,13 @@ use Rattle.histories.specs.Sums.{Sums}
 use Rattle.histories.specs.declared.entry.Entry.{Entry}
 use Rattle.histories.proofs.SumsLemmas.{sums-taps}
 use Rattle.report_check.specs.Reports.{BeginsWithUploads, HasOtherTaps, HaveTapsOf, IsReportVerdict}
+use Rattle.report_check.specs.Reports.{IsDifferenceFrom}
 use Rattle.report_check.specs.Reports.{report_of}
 use Rattle.report_check.specs.Sums.{AreSumsOf}
 use Rattle.report_check.specs.declared.open_sums.EntrySums.{EntrySums}
 use Rattle.report_check.specs.declared.verdict.ReportVerdict.{ReportVerdict}
 use Rattle.report_check.specs.declared.verdict.ReportVerdict.TheVariants.{OfLedger, Wants, NoLine}
 use Rattle.report_check.specs.declared.verdict.ReportVerdict.TheVariants.{Taps}
-use Rattle.report_check.specs.inside.Differences.{IsDifferenceFrom}
 
 -- as many taps as entries
 taps_of : (made : EntrySums) (entries : List Entry) → AreSumsOf entries made

@@ -1,6 +1,6 @@
 -- What a check finds of a report beside the entries of a ledger.
 use Rattle.std.specs.Prelude.{◌≡◌, ◌≢◌, ◌⊎◌, ◌↔◌, ◌==◌, ℕ, ◌+◌, ◌<◌, ◌^◌, All, List, [], ◌∷◌, ◌++◌}
-use Rattle.std.specs.Prelude.{Bool, true, false, codes, count_by, length, sum_by}
+use Rattle.std.specs.Prelude.{Option, Some, None, Bool, true, false, codes, count_by, length, sum_by}
 use Rattle.std.specs.Io.BufRead.{take_through}
 use Rattle.fare_texts.specs.ReportLines.{number_line}
 use Rattle.report_texts.specs.Numbers.{IsUploadEnd}
@@ -134,6 +134,25 @@ IsReportVerdict entries text (NoLine number) =
 IsReportVerdict entries text (Taps line uploads ledger) =
     HasOtherTaps entries text line uploads ledger
 
+-- the first line of the text that is not that of the wanted text
+abbrev pub IsDifferenceFrom : List ℕ → List ℕ → ReportVerdict → Type 0
+IsDifferenceFrom text wanted OfLedger = text ≡ wanted
+IsDifferenceFrom text wanted (Wants number line) = IsWrongLine text wanted number line.items
+IsDifferenceFrom text wanted (NoLine number) = HasLineBehind text wanted number
+IsDifferenceFrom text wanted (Taps line uploads ledger) = ⊥
+
+-- the same, beside uploads whose ends are known: the first difference from the report of these ends
+abbrev pub IsReportVerdictBeside : Option (List UploadEnd) → List Entry → List ℕ → ReportVerdict
+    → Type 0
+IsReportVerdictBeside None entries text verdict = IsReportVerdict entries text verdict
+IsReportVerdictBeside (Some ends) entries text verdict =
+    IsDifferenceFrom text (report_of ends entries) verdict
+
+-- the text is the report of the entries, and of the uploads that ended so, if their ends are known
+abbrev pub IsReportBeside : Option (List UploadEnd) → List Entry → List ℕ → Type 0
+IsReportBeside None entries text = IsReportOfLedger entries text
+IsReportBeside (Some ends) entries text = text ≡ report_of ends entries
+
 -- whether the verdict is that the report is the ledger's
 abbrev pub is_of_ledger : ReportVerdict → Bool
 is_of_ledger OfLedger = true
@@ -144,6 +163,6 @@ is_of_ledger (Taps line uploads ledger) = false
 -- a verdict that is true says that the report is the ledger's exactly if it is
 abbrev pub ReportVerdictsDecide : Type 0
 ReportVerdictsDecide =
-    (entries : List Entry) (text : List ℕ) (verdict : ReportVerdict)
-    → IsReportVerdict entries text verdict
-    → (is_of_ledger verdict ≡ true) ↔ IsReportOfLedger entries text
+    (ends : Option (List UploadEnd)) (entries : List Entry) (text : List ℕ)
+    (verdict : ReportVerdict) → IsReportVerdictBeside ends entries text verdict
+    → (is_of_ledger verdict ≡ true) ↔ IsReportBeside ends entries text

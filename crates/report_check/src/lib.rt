@@ -1,9 +1,9 @@
 //! Whether a report is that of a ledger.
 //!
 //! The sums of a ledger's entries are made from the text of the ledger, line by line. A report is
-//! not read: what it should be is printed from the sums, and compared. Of the lines of its uploads,
-//! which a ledger does not have, only the form is known, and that their taps are as many as the
-//! ledger's.
+//! not read: what it should be is printed from the sums, and compared. The lines of its uploads are
+//! compared if it is known how the uploads end. Else only their form is looked at, and that their
+//! taps are as many as the ledger's.
 #![tactic(auto)]
 
 mod entry_line;

@@ -1,10 +1,11 @@
 //! The verdict on a report beside the sums of a ledger's entries.
 
-ghost use Rattle.std.specs.Prelude.{◌≡◌, List, IfOk};
+ghost use Rattle.std.specs.Prelude.{◌≡◌, List, IfOk, option_map};
 ghost use Rattle.histories.specs.declared.entry.Entry.{Entry};
 ghost use Rattle.report_check.specs.Sums.{AreSumsOf};
-ghost use Rattle.report_check.specs.Reports.{IsReportVerdict, report_of};
-ghost use Rattle.report_check.specs.inside.Differences.{EndsWithFeed, IsDifferenceFrom};
+ghost use Rattle.report_check.specs.Reports.{IsDifferenceFrom, IsReportVerdict};
+ghost use Rattle.report_check.specs.Reports.{IsReportVerdictBeside, report_of};
+ghost use Rattle.report_check.specs.inside.Differences.{EndsWithFeed};
 
 use crate::open_sums::EntrySums;
 use crate::upload_lines::{UploadLines, upload_lines};
@@ -80,9 +81,13 @@ fn wanted_report(alloc: Global, ends: &[UploadEnd], sums: &EntrySums) -> Result<
     }
 }
 
-/// Whether the report is that of the ledger whose entries have these sums, or the first line that
-/// is not. The text of the report that it should be is held beside the report.
-pub fn check_report(alloc: Global, sums: &EntrySums, text: &[u8]) -> Result<ReportVerdict, NoMemory>
+/// Whether the report is that of the ledger whose entries have these sums, and of some uploads with
+/// as many taps; or the first line that is not.
+fn check_any_uploads(
+    alloc: Global,
+    sums: &EntrySums,
+    text: &[u8],
+) -> Result<ReportVerdict, NoMemory>
     ensures { IfOk result (λ verdict. (entries : List Entry) → AreSumsOf entries sums.now
         → IsReportVerdict entries text.now verdict) }
 {
@@ -100,4 +105,23 @@ pub fn check_report(alloc: Global, sums: &EntrySums, text: &[u8]) -> Result<Repo
             first_difference(alloc, text, &wanted)
         }
     }
+}
+
+/// Whether the report is that of the ledger whose entries have these sums, and of the uploads that
+/// ended so, if their ends are known; or the first line that is not. The text of the report that it
+/// should be is held beside the report.
+pub fn check_report(
+    alloc: Global,
+    ends: Option<&[UploadEnd]>,
+    sums: &EntrySums,
+    text: &[u8],
+) -> Result<ReportVerdict, NoMemory>
+    ensures { IfOk result (λ verdict. (entries : List Entry) → AreSumsOf entries sums.now
+        → IsReportVerdictBeside (option_map (λ e. e.now) ends.entry) entries text.now verdict) }
+{
+    let Some(ends) = ends else {
+        return check_any_uploads(alloc, sums, text);
+    };
+    let wanted = wanted_report(alloc, ends, sums)?;
+    first_difference(alloc, text, &wanted)
 }

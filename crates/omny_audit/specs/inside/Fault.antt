@@ -8,7 +8,9 @@ use Rattle.program_manners.specs.declared.table_loads.TablesFault.TheVariants as
 use Rattle.omny_audit.specs.declared.fault.Fault.{Fault}
 use Rattle.omny_audit.specs.declared.fault.Fault.TheVariants.{ClassName, Date, File, Follow, Ledger}
 use Rattle.omny_audit.specs.declared.fault.Fault.TheVariants.{NamedClass, NamedTable, NoMemory}
-use Rattle.omny_audit.specs.declared.fault.Fault.TheVariants.{Table}
+use Rattle.omny_audit.specs.declared.fault.Fault.TheVariants.{GivenLedger, Table}
+use Rattle.omny_audit.specs.Fault.{LoadsGivenLedger}
+use Rattle.program_manners.specs.Loads.{Loaded}
 
 -- whether a file was not loaded or not read, the table's text is no table, or no ledger can have
 -- its classes
@@ -20,6 +22,7 @@ is_of_source (Table fault) = true
 is_of_source (NamedTable line) = true
 is_of_source (Follow line) = true
 is_of_source ClassName = true
+is_of_source (GivenLedger name) = true
 is_of_source (NamedClass line) = true
 is_of_source _ = false
 
@@ -36,6 +39,12 @@ abbrev pub IsRefusal : Option (Option (List ℕ) × LoadFault) → Fault → Typ
 IsRefusal refused (File file) = HasRefused refused file.name.now file.fault
 IsRefusal refused NoMemory = ⊤
 IsRefusal refused _ = ⊥
+
+-- the same, or the upload that was loaded last is a ledger
+abbrev pub IsUploadFault : Option (List Loaded) → Option (Option (List ℕ) × LoadFault) → Fault
+    → Type 0
+IsUploadFault loaded refused (GivenLedger name) = LoadsGivenLedger loaded name.now
+IsUploadFault loaded refused fault = IsRefusal refused fault
 
 -- The fault of what is done with the ledger of this name, once it was opened. If it is that the
 -- ledger cannot be read, the source refused it so; else the source has refused nothing meanwhile.

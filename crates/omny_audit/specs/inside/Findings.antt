@@ -8,7 +8,8 @@ use Rattle.ledger_check.specs.FirstLines.{AreFirstTaken}
 use Rattle.ledger_check.specs.Ledger.{IsLedgerOf}
 use Rattle.ledger_check.specs.Recounts.{IsRecount, TakenLine, recount_text, remark_lines}
 use Rattle.ledger_check.specs.Recounts.{taps_from, wrong_count}
-use Rattle.ledger_check.specs.Struck.{tap_of_entry}
+use Rattle.ledger_check.specs.Orders.{are_settled, tap_of_entry}
+use Rattle.ledger_check.specs.declared.recount.Recounted.{Recounted}
 use Rattle.ledger_check.specs.Verdicts.{is_legal}
 use Rattle.ledger_check.specs.declared.checker.Verdict.{Verdict}
 use Rattle.ledger_check.specs.Balances.{IsBalance}
@@ -27,11 +28,12 @@ StrikesOut fares text before after verdict =
 -- all lines of the text were recounted and reported, and their taps struck out, if there are
 -- uploads
 pub record HasRecountedAll (fares : Fares) (has_uploads : Bool) (full : FullBalance)
-    (text : List ℕ) (good : List TapFields) (legal : Bool) (out out' : Option (List ℕ))
+    (text : List ℕ) (good : List TapFields) (recounted : Recounted) (out out' : Option (List ℕ))
     : Type 0 where
   pub taken : List TakenLine
   pub recount : IsRecount fares text taken
-  pub is_legal : legal ≡ nat_eq (wrong_count taken) 0
+  pub is_legal : recounted.is_legal ≡ nat_eq (wrong_count taken) 0
+  pub is_settled : recounted.is_settled ≡ are_settled (taps_from taken)
   pub struck : has_uploads ≡ true → IsFullBalance full good (taps_from taken)
   pub written : Appends out out' (recount_text taken)
 

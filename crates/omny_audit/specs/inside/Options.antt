@@ -17,6 +17,7 @@ abbrev pub audit_asked_of : Options → AuditAsked
 audit_asked_of options = record {
   table = names_of options.table;
   all = options.all;
+  live = options.live;
   uploads = map (λ f. f.now) options.uploads.items;
   report = option_map (λ f. f.now) options.report;
   ledger = option_map (λ f. f.now) options.ledger;

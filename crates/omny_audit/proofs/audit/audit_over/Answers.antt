@@ -1,8 +1,9 @@
-use Rattle.std.proofs.Common.{ℕ, List, Option, Some, None, false, if◌then◌else◌, subst}
+use Rattle.std.proofs.Common.{ℕ, Bool, List, Option, Some, None, false, if◌then◌else◌, subst}
 use Rattle.std.specs.Prelude.{is_some}
 use Rattle.std.specs.Io.KnownBytes.{Appends}
 use Rattle.ledger_check.specs.Columns.{read_as}
-use Rattle.omny_audit.specs.Reports.{IsAudit}
+use Rattle.omny_audit.specs.Reports.{IsAudit, Manner, manner}
+use Rattle.tap_views.specs.declared.upload_end.UploadEnd.{UploadEnd}
 use Rattle.fare_texts.specs.WrittenOut.{Begins}
 use Rattle.omny_audit.specs.Traced.{Wanted}
 use Rattle.omny_audit.specs.inside.Reports.{text_of}
@@ -10,6 +11,9 @@ use Rattle.omny_audit.specs.inside.Traced.{wanted_by}
 use Rattle.omny_audit.proofs.ProgramLemmas.{unwritten_on}
 use Rattle.omny_audit.proofs.RightFaults.{end_on, later_on, memory_end, memory_on, written_on}
 use Rattle.omny_audit.proofs.audit.audit_over.Goals as goal
+
+abbrev how : Bool → Bool → List UploadEnd → Manner
+how live has ends = manner false live (if has then Some ends else None)
 
 pub audit_text-requires : goal.audit_text-requires
 audit_text-requires g c = λ yes.
@@ -37,11 +41,11 @@ returns-clause-reported g c =
           found.4 found.5 in (
             reported.0.items,
             audit.0,
-            subst (λ (cs : Option Wanted). IsAudit false fares cs found.0 audit.0
+            subst (λ (cs : Option Wanted). IsAudit (how c.args.live c.args.has_uploads c.args.ends.now) fares cs found.0 audit.0
                 (if c.args.has_uploads then Some good else None) (text_of c.args.report)
                 reported.0.items reported.1)
                 c.verdict_of.ensures.wanted
-                (subst (λ (r : Option (List ℕ)). IsAudit false fares
+                (subst (λ (r : Option (List ℕ)). IsAudit (how c.args.live c.args.has_uploads c.args.ends.now) fares
                 (wanted_by c.verdict_of.new.trace) found.0 audit.0
                 (if c.args.has_uploads then Some good else None) r reported.0.items reported.1)
                 c.verdict_of.ensures.report audit.1),
@@ -67,11 +71,11 @@ returns-in_err-write_text-clause-begun g c =
             reported.0.items,
             reported.1,
             audit.0,
-            subst (λ (cs : Option Wanted). IsAudit false fares cs found.0 audit.0
+            subst (λ (cs : Option Wanted). IsAudit (how c.args.live c.args.has_uploads c.args.ends.now) fares cs found.0 audit.0
                 (if c.args.has_uploads then Some good else None) (text_of c.args.report)
                 reported.0.items reported.1)
                 c.verdict_of.ensures.wanted
-                (subst (λ (r : Option (List ℕ)). IsAudit false fares
+                (subst (λ (r : Option (List ℕ)). IsAudit (how c.args.live c.args.has_uploads c.args.ends.now) fares
                 (wanted_by c.verdict_of.new.trace) found.0 audit.0
                 (if c.args.has_uploads then Some good else None) r reported.0.items reported.1)
                 c.verdict_of.ensures.report audit.1),

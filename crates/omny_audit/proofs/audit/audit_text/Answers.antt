@@ -1,17 +1,17 @@
 use Rattle.std.proofs.Common.{◌++◌, ◌∙◌, ℕ, Bool, List, sym, ap, subst, string_bytes}
-use Rattle.std.proofs.Common.{append_assoc}
+use Rattle.std.proofs.Common.{append_assoc, None, Some, if◌then◌else◌}
 use Rattle.std.specs.Prelude.{◌&&◌, is_some}
 use Rattle.std.proofs.lemmas.Bool.{and_parts}
 use Rattle.ledger_check.specs.Columns.{read_as}
-use Rattle.omny_audit.specs.Reports.{IsReportLine}
+use Rattle.omny_audit.specs.Reports.{AreLastLines}
 use Rattle.omny_audit.specs.Traced.{AreColumnsReported}
 use Rattle.omny_audit.specs.inside.Reports.{text_of}
 use Rattle.omny_audit.specs.inside.Traced.{wanted_by}
 use Rattle.ledger_check.specs.Verdicts.{is_legal}
 use Rattle.omny_audit.proofs.audit.audit_text.Goals as goal
 
-pub write_report_line-requires : goal.write_report_line-requires
-write_report_line-requires c = λ yes.
+pub write_last_lines-requires : goal.write_last_lines-requires
+write_last_lines-requires c = λ yes.
     c.requires (sym c.reports_legal-is_legal.ensures
     ∙ (and_parts c.reports_legal-is_legal.result c.in_ok-is_right.is_right
     (sym c.are_both-is_whole.ensures ∙ yes)).0)
@@ -41,8 +41,9 @@ returns c = λ fares file good is decide balance sums all.
             right) same reported.1;
         rest = wrote.0;
         fits = c.in_ok-fits.fits;
-        report_line = subst (λ (b : Bool). IsReportLine fares ledger (text_of c.args.report) b
-            wrote.0 c.in_ok-fits.fits)
+        last = subst (λ (b : Bool). AreLastLines
+            (if c.args.has_uploads then Some c.args.ends.now else None) fares ledger
+            (text_of c.args.report) b wrote.0 c.in_ok-fits.fits)
             (whole ∙ ap (λ (b : Bool). b && right) same)
             (wrote.2 fares ledger
             (λ yes. sums (sym same

@@ -1,5 +1,6 @@
 use Rattle.std.proofs.Common.{◌≡◌, ◌++◌, ℕ, List, [], sym, ap, ◌∙◌, append-nil, true, false, rules}
-use Rattle.std.proofs.Common.{tests}
+use Rattle.std.proofs.Common.{Bool, refl, tests}
+use Rattle.std.specs.Prelude.{◌&&◌}
 use Rattle.omny_audit.specs.Text.{verdict_text}
 use Rattle.omny_audit.proofs.FindingLemmas.{alone, beside, not_legal}
 use Rattle.ledger_check.specs.Verdicts.{is_legal}
@@ -15,7 +16,9 @@ returns-then-not-reports_legal c = λ fares text good is balance.
       is_verdict = is;
       rest = [];
       shown = c.in_ok-text.ensures ∙ sym (append-nil (verdict_text verdict));
+      even = false;
       second = not_legal fares text _ (is_legal verdict) none;
+      both = refl;
     }
 
 pub returns-then-not-has_uploads : goal.returns-then-not-has_uploads
@@ -29,7 +32,9 @@ returns-then-not-has_uploads c = λ fares text good is balance.
       is_verdict = is;
       rest = [];
       shown = c.in_ok-text.ensures ∙ sym (append-nil (verdict_text verdict));
+      even = true;
       second = alone fares text good c.args.has_uploads (is_legal verdict) none some;
+      both = c.is_in_order-in_order.ensures;
     }
 
 pub returns : goal.returns
@@ -44,8 +49,11 @@ returns c = λ fares text good is balance.
       is_verdict = is;
       rest = wrote.0;
       shown = wrote.2 ∙ ap (λ (t : List ℕ). t ++ wrote.0) c.in_ok-text.ensures;
+      even = c.is_even.result;
       second = beside fares text good c.args.has_uploads (is_legal verdict)
           c.difference-reported.result
           wrote.0 _ some legal wrote.1 c.is_even.ensures
           (λ entries ledger. c.difference-reported.ensures good _ (balance legal entries ledger));
+      both = c.are_both.ensures ∙ ap (λ (b : Bool). c.is_even.result && b)
+          c.is_in_order-in_order.ensures;
     }

@@ -16,16 +16,17 @@ returns-clause-reported c = λ file before written good known has.
     let read = c.in_ok-read_end.ensures.read file before known in
     let all = ap (λ (t : List ℕ). before ++ t) c.as_slice-left.ensures.value ∙ read.0 in
     let fed = c.in_ok-feed.ensures before written good has in
-    let ended = c.in_ok-legal.ensures fares c.args.has_uploads c.feed.new.full
+    let ended = c.in_ok-recounted.ensures fares c.args.has_uploads c.feed.new.full
     (before ++ c.as_slice-left.result.now) (written ++ fed.0) good fed.2 in (
       ended.0,
       subst (λ (t : List ℕ). IsRecount fares t ended.0) all ended.1,
       ended.2,
       ended.3,
-      fed.0 ++ ended.4,
-      ended.5 ∙ ap (λ (t : List ℕ). t ++ ended.4) fed.1
-          ∙ append_assoc (string_bytes c.args.reported.now) fed.0 ended.4,
-      sym (append_assoc written fed.0 ended.4) ∙ ended.6,
+      ended.4,
+      fed.0 ++ ended.5,
+      ended.6 ∙ ap (λ (t : List ℕ). t ++ ended.5) fed.1
+          ∙ append_assoc (string_bytes c.args.reported.now) fed.0 ended.5,
+      sym (append_assoc written fed.0 ended.5) ∙ ended.7,
     )
 
 pub returns-clause-sums : goal.returns-clause-sums

@@ -60,7 +60,7 @@ returns-then-count-eq0-clause-reported g c =
     let before = c.loop-piece.invariant in
     let fares = c.args.table.now in
     let got = c.in-Ok.ensures.bytes in
-    let legal = c.in_ok-legal.legal in
+    let recounted = c.in_ok-recounted.recounted in
     let traced = is_some (wanted_by c.end_recount.new.trace) in
     let none = ap (λ (n : ℕ). before.file ++ take n c.read_on.new.piece) c.if-count-eq0.true
     ∙ append-nil before.file in
@@ -68,7 +68,7 @@ returns-then-count-eq0-clause-reported g c =
     → Type 0 = λ file. ((good : List TapFields)
     → (c.args.has_uploads ≡ true → IsFullBalance c.args.full.now good [])
     → HasRecountedAll fares c.args.has_uploads c.end_recount.new.full (read_as traced file) good
-    legal (g.W.Write.contents c.args.out.now.writer)
+    recounted (g.W.Write.contents c.args.out.now.writer)
     (g.W.Write.contents c.write_text.new.out.writer))
     × HasSummedFor fares c.end_recount.new.report (read_as traced file)
     × HasReadAll c.end_recount.new.trace file in
@@ -78,25 +78,26 @@ returns-then-count-eq0-clause-reported g c =
     (subst Is (sym none) (
       λ good struck.
           let now = before.known good struck in
-          let ended = c.in_ok-legal.ensures.reported before.file before.text now.0 good
+          let ended = c.in_ok-recounted.ensures.reported before.file before.text now.0 good
           before.as_text
           now.1 in
-          let more = ended.5 ∙ ap (λ (t : List ℕ). t ++ ended.4) c.clear.ensures.bytes in
+          let more = ended.6 ∙ ap (λ (t : List ℕ). t ++ ended.5) c.clear.ensures.bytes in
           record {
             taken = ended.0;
             recount = ended.1;
             is_legal = ended.2;
-            struck = ended.3;
+            is_settled = ended.3;
+            struck = ended.4;
             written = subst
                 (λ (t : List ℕ). Appends (g.W.Write.contents c.args.out.now.writer)
-                (g.W.Write.contents c.write_text.new.out.writer) t) ended.6
-                (Appends-trans _ _ _ now.0 ended.4 now.2
+                (g.W.Write.contents c.write_text.new.out.writer) t) ended.7
+                (Appends-trans _ _ _ now.0 ended.5 now.2
                 (subst (λ (t : List ℕ). Appends (g.W.Write.contents c.loop-piece.out.writer)
                 (g.W.Write.contents c.write_text.new.out.writer) t)
                 (c.as_bytes.ensures.value ∙ more) c.in_ok-write_text.ensures.text));
           },
-      c.in_ok-legal.ensures.sums before.file before.text before.as_text before.sums,
-      c.in_ok-legal.ensures.all before.file before.text before.as_text,
+      c.in_ok-recounted.ensures.sums before.file before.text before.as_text before.sums,
+      c.in_ok-recounted.ensures.all before.file before.text before.as_text,
     )) in
     (reported.0, reported.1, reported.2.0, reported.2.1, reported.2.2)
 
@@ -163,8 +164,8 @@ returns-clause-begun g c =
     c.requires.good.0 _ _ _ _ before.as_text before.wanted now.1 before.read
     (begins_whole _ _ _ now.2)
 
-pub returns-in_err-legal-clause-begun : goal.returns-in_err-legal-clause-begun
-returns-in_err-legal-clause-begun g c =
+pub returns-in_err-recounted-clause-begun : goal.returns-in_err-recounted-clause-begun
+returns-in_err-recounted-clause-begun g c =
     let before = c.loop-piece.invariant in
     let now = before.known c.requires.good.0 c.requires.good.1 in
     OnErr_any c.from_residual.result _
@@ -216,9 +217,9 @@ returns-in_err-write_text-clause-begun g c =
     ∙ append-nil before.file in
     let Is : List ℕ → Type 0 = λ file. HasBegunRecount fares
     (read_as (is_some (wanted_by c.args.trace.now)) file) out last in
-    let ended = c.in_ok-legal.ensures.reported before.file before.text now.0 c.requires.good.0
+    let ended = c.in_ok-recounted.ensures.reported before.file before.text now.0 c.requires.good.0
     before.as_text now.1 in
-    let more = ended.5 ∙ ap (λ (t : List ℕ). t ++ ended.4) c.clear.ensures.bytes in
+    let more = ended.6 ∙ ap (λ (t : List ℕ). t ++ ended.5) c.clear.ensures.bytes in
     OnErr_any c.from_residual-in_err-write_text.result _
     (at_end Is _ _ _
     (Consumes-trans _ _ _ before.file (take c.in-Ok.count c.read_on.new.piece) before.read got.0)
@@ -227,8 +228,8 @@ returns-in_err-write_text-clause-begun g c =
       ended.0,
       subst (λ (w : Option Wanted). IsRecount fares (read_as (is_some w) before.file) ended.0)
           (c.end_recount.ensures.wanted ∙ before.wanted) ended.1,
-      subst (λ (t : List ℕ). Begins out last t) ended.6
-          (begins_behind _ _ _ now.0 ended.4 now.2
+      subst (λ (t : List ℕ). Begins out last t) ended.7
+          (begins_behind _ _ _ now.0 ended.5 now.2
           (subst (λ (t : List ℕ). Begins (g.W.Write.contents c.loop-piece.out.writer) last t)
           (c.as_bytes.ensures.value ∙ more) c.in_err-write_text.ensures.begun)),
     ))))
@@ -264,10 +265,10 @@ returns-in_default-clause-later g c =
     c.in_default.ensures.fault
 
 -- another fault came
-pub returns-in_err-legal-clause-later : goal.returns-in_err-legal-clause-later
-returns-in_err-legal-clause-later g c =
-    later_on _ _ _ c.from_residual.result c.in_err-legal.field-0.0 c.from_residual.ensures.1
-    c.in_err-legal.ensures.later (c.in-Ok.ensures.well ∙ c.loop-piece.invariant.refused)
+pub returns-in_err-recounted-clause-later : goal.returns-in_err-recounted-clause-later
+returns-in_err-recounted-clause-later g c =
+    later_on _ _ _ c.from_residual.result c.in_err-recounted.field-0.0 c.from_residual.ensures.1
+    c.in_err-recounted.ensures.later (c.in-Ok.ensures.well ∙ c.loop-piece.invariant.refused)
 
 pub returns-in_err-write_text-clause-later : goal.returns-in_err-write_text-clause-later
 returns-in_err-write_text-clause-later g c =
@@ -300,10 +301,10 @@ returns-in_err-write_text-2-clause-later g c =
     c.in_err-write_text-2.ensures.later (c.in-Ok.ensures.well ∙ c.loop-piece.invariant.refused)
 
 -- no write failed
-pub returns-in_err-legal-clause-end : goal.returns-in_err-legal-clause-end
-returns-in_err-legal-clause-end g c =
-    written_on _ c.from_residual.result c.in_err-legal.field-0.0 c.from_residual.ensures.1
-    c.in_err-legal.ensures.fault
+pub returns-in_err-recounted-clause-end : goal.returns-in_err-recounted-clause-end
+returns-in_err-recounted-clause-end g c =
+    written_on _ c.from_residual.result c.in_err-recounted.field-0.0 c.from_residual.ensures.1
+    c.in_err-recounted.ensures.fault
 
 pub returns-in_err-read_piece-clause-end : goal.returns-in_err-read_piece-clause-end
 returns-in_err-read_piece-clause-end g c =

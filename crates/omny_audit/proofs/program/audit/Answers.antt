@@ -1,11 +1,12 @@
 use Rattle.std.proofs.Common.{◌∙◌, ℕ, Bool, Bor, Option, List, ap, false, map, not, subst}
-use Rattle.std.proofs.Common.{inr, sym, true}
+use Rattle.std.proofs.Common.{Some, None, if◌then◌else◌, inr, sym, true}
 use Rattle.std.proofs.KnownBytes.{Keeps-refl}
 use Rattle.std.proofs.lemmas.Result.{IfOk-weaker}
 use Rattle.tap_views.specs.declared.encoder.TapFields.{TapFields}
 use Rattle.omny_audit.specs.Fault.{NamesOneOf}
 use Rattle.omny_audit.specs.Options.{files_of}
-use Rattle.omny_audit.specs.Reports.{HasBegunAudit, IsAudit}
+use Rattle.omny_audit.specs.Reports.{HasBegunAudit, IsAudit, manner}
+use Rattle.tap_views.specs.declared.upload_end.UploadEnd.{UploadEnd}
 use Rattle.omny_audit.specs.inside.Options.{audit_asked_of}
 use Rattle.omny_audit.specs.inside.Reports.{text_of}
 use Rattle.omny_audit.specs.inside.Traced.{uploads_in, wanted_by}
@@ -16,7 +17,8 @@ use Rattle.omny_audit.proofs.ProgramLemmas.{kept_all, kept_lists, loads_same, na
 use Rattle.omny_audit.proofs.ProgramLemmas.{names_same}
 use Rattle.omny_audit.proofs.ProgramLemmas.{loaded_ledger, loaded_report, reads_ledger}
 use Rattle.omny_audit.proofs.ProgramLemmas.{right_of_names, written_first}
-use Rattle.omny_audit.proofs.RightFaults.{right_of_ledger, right_refusal, told_of_ledger}
+use Rattle.omny_audit.proofs.RightFaults.{right_of_ledger, right_refusal, right_upload}
+use Rattle.omny_audit.proofs.RightFaults.{told_of_ledger}
 use Rattle.omny_audit.proofs.TableFaults.{unloaded_is_right, unloaded_named, unloaded_told}
 use Rattle.omny_audit.proofs.TableFaults.{unloaded_unwritten}
 use Rattle.omny_audit.specs.inside.Fault.{unloaded_as}
@@ -66,23 +68,33 @@ returns-clause-ok g c =
     c.in_ok-trace.ensures.wanted in
     let files = has_loaded (audit_asked_of c.args.options.now) _ _ _ _ _ c.in_ok-tables.tables.fares
     _
-    loaded.0 loaded.1 loaded.5 (text_of c.in_ok-report.report) (wanted_by c.in_ok-trace.trace)
+    loaded.0 loaded.1 loaded.5 _ (text_of c.in_ok-report.report) (wanted_by c.in_ok-trace.trace)
     audited.0
     c.in_ok-tables.ensures.ok
     (loads_same c.as_slice-names.result.now c.args.options.now.uploads.items _ _ loaded.0 names
     loaded.2)
-    loaded.3 loaded.6 c.in_ok-report.ensures.ok reads in
-    let found = subst (λ (good : Option (List TapFields)). IsAudit false files.fares files.wanted
+    loaded.3 loaded.6 loaded.8 c.in_ok-report.ensures.ok reads in
+    let ends_same = ap (λ (es : List UploadEnd).
+    if not c.is_empty-has_uploads.result then Some es else None)
+    c.as_slice-known_ends.ensures.value
+    ∙ compared_is c.as_slice-names.result.now files.ends _ (ap not c.is_empty-has_uploads.ensures)
+    ∙ ap (λ (ns : List (Bor (List ℕ))). compared (map (λ n. n.now) ns) files.ends) names in
+    let found = subst (λ (good : Option (List TapFields)). IsAudit
+    (manner false c.args.options.now.live (if not c.is_empty-has_uploads.result then Some c.as_slice-known_ends.result.now else None))
+    files.fares files.wanted
     files.ledger finding.1 good files.report finding.0 well) same finding.2 in
+    let told = subst (λ (e : Option (List UploadEnd)). IsAudit (manner false c.args.options.now.live e)
+    files.fares files.wanted files.ledger finding.1 (compared (map (λ n. n.now) c.args.options.now.uploads.items) loaded.1)
+    files.report finding.0 well) ends_same found in
+    let audit = subst (λ (b : Bool). IsAudit (manner b c.args.options.now.live (compared (map (λ n. n.now) c.args.options.now.uploads.items) files.ends)) files.fares files.wanted files.ledger finding.1
+    (compared (map (λ n. n.now) c.args.options.now.uploads.items) loaded.1) files.report finding.0 well) (sym c.if-options.false) told in
     record {
       text = finding.0;
       found = record {
         files = files;
         read = finding.1;
-        audit = subst (λ (b : Bool). IsAudit b files.fares files.wanted files.ledger finding.1
-            (compared (map (λ n. n.now) c.args.options.now.uploads.items) loaded.1) files.report
-            finding.0 well) (sym c.if-options.false) found;
-        right = c.audits_decide.ensures _ _ _ _ _ _ _ _ _ found;
+        audit = audit;
+        right = c.audits_decide.ensures _ _ _ _ _ _ _ _ _ audit;
       };
       written = finding.3;
     })
@@ -113,23 +125,33 @@ returns-then-options-clause-ok g c =
     c.in_ok-trace.ensures.wanted in
     let files = has_loaded (audit_asked_of c.args.options.now) _ _ _ _ _ c.in_ok-tables.tables.fares
     _
-    loaded.0 loaded.1 loaded.5 (text_of c.in_ok-report.report) (wanted_by c.in_ok-trace.trace)
+    loaded.0 loaded.1 loaded.5 _ (text_of c.in_ok-report.report) (wanted_by c.in_ok-trace.trace)
     audited.0
     c.in_ok-tables.ensures.ok
     (loads_same c.as_slice-names.result.now c.args.options.now.uploads.items _ _ loaded.0 names
     loaded.2)
-    loaded.3 loaded.6 c.in_ok-report.ensures.ok reads in
-    let found = subst (λ (good : Option (List TapFields)). IsAudit true files.fares files.wanted
+    loaded.3 loaded.6 loaded.8 c.in_ok-report.ensures.ok reads in
+    let ends_same = ap (λ (es : List UploadEnd).
+    if not c.is_empty-has_uploads.result then Some es else None)
+    c.as_slice-known_ends.ensures.value
+    ∙ compared_is c.as_slice-names.result.now files.ends _ (ap not c.is_empty-has_uploads.ensures)
+    ∙ ap (λ (ns : List (Bor (List ℕ))). compared (map (λ n. n.now) ns) files.ends) names in
+    let found = subst (λ (good : Option (List TapFields)). IsAudit
+    (manner true c.args.options.now.live (if not c.is_empty-has_uploads.result then Some c.as_slice-known_ends.result.now else None))
+    files.fares files.wanted
     files.ledger finding.1 good files.report finding.0 well) same finding.2 in
+    let told = subst (λ (e : Option (List UploadEnd)). IsAudit (manner true c.args.options.now.live e)
+    files.fares files.wanted files.ledger finding.1 (compared (map (λ n. n.now) c.args.options.now.uploads.items) loaded.1)
+    files.report finding.0 well) ends_same found in
+    let audit = subst (λ (b : Bool). IsAudit (manner b c.args.options.now.live (compared (map (λ n. n.now) c.args.options.now.uploads.items) files.ends)) files.fares files.wanted files.ledger finding.1
+    (compared (map (λ n. n.now) c.args.options.now.uploads.items) loaded.1) files.report finding.0 well) (sym c.if-options.true) told in
     record {
       text = finding.0;
       found = record {
         files = files;
         read = finding.1;
-        audit = subst (λ (b : Bool). IsAudit b files.fares files.wanted files.ledger finding.1
-            (compared (map (λ n. n.now) c.args.options.now.uploads.items) loaded.1) files.report
-            finding.0 well) (sym c.if-options.true) found;
-        right = c.audits_decide.ensures _ _ _ _ _ _ _ _ _ found;
+        audit = audit;
+        right = c.audits_decide.ensures _ _ _ _ _ _ _ _ _ audit;
       };
       written = finding.3;
     })
@@ -168,7 +190,7 @@ returns-in_err-balance-clause-right g c =
     IfErr_handed_on c.from_residual-in_err-balance.result fault
     (λ f. IsRightAuditFault asked _ _ _ _ _ f _ _) c.from_residual-in_err-balance.ensures.1
     (written_first asked _ _ _ _ _ fault _ _ c.in_err-balance.ensures.fault (Keeps-refl _)
-    (right_refusal asked.table asked.ledger _ _ _ _ fault c.in_err-balance.ensures.right)
+    (right_upload asked.table asked.ledger _ _ _ _ fault c.in_err-balance.ensures.right)
     (λ no. c.in_err-balance.ensures.told no ∙ c.in_ok-tables.ensures.well))
 
 pub returns-in_err-report-clause-right : goal.returns-in_err-report-clause-right
@@ -228,26 +250,35 @@ returns-clause-right g c =
           c.in_ok-trace.ensures.wanted in
           let files = has_loaded (audit_asked_of c.args.options.now) _ _ _ _ _
           c.in_ok-tables.tables.fares _
-          loaded.0 loaded.1 loaded.5 (text_of c.in_ok-report.report) (wanted_by c.in_ok-trace.trace)
+          loaded.0 loaded.1 loaded.5 _ (text_of c.in_ok-report.report) (wanted_by c.in_ok-trace.trace)
           audited.0
           c.in_ok-tables.ensures.ok
           (loads_same c.as_slice-names.result.now c.args.options.now.uploads.items _ _ loaded.0
           names loaded.2)
-          loaded.3 loaded.6 c.in_ok-report.ensures.ok reads in
+          loaded.3 loaded.6 loaded.8 c.in_ok-report.ensures.ok reads in
+          let ends_same = ap (λ (es : List UploadEnd).
+          if not c.is_empty-has_uploads.result then Some es else None)
+          c.as_slice-known_ends.ensures.value
+          ∙ compared_is c.as_slice-names.result.now files.ends _ (ap not c.is_empty-has_uploads.ensures)
+          ∙ ap (λ (ns : List (Bor (List ℕ))). compared (map (λ n. n.now) ns) files.ends) names in
           let found = subst
-          (λ (good : Option (List TapFields)). IsAudit false files.fares files.wanted
+          (λ (good : Option (List TapFields)). IsAudit
+          (manner false c.args.options.now.live (if not c.is_empty-has_uploads.result then Some c.as_slice-known_ends.result.now else None))
+          files.fares files.wanted
           files.ledger finding.2 good files.report finding.0 finding.1) same finding.3 in
+          let told = subst (λ (e : Option (List UploadEnd)). IsAudit (manner false c.args.options.now.live e)
+          files.fares files.wanted files.ledger finding.2 (compared (map (λ n. n.now) c.args.options.now.uploads.items) loaded.1)
+          files.report finding.0 finding.1) ends_same found in
+          let audit = subst (λ (b : Bool). IsAudit (manner b c.args.options.now.live (compared (map (λ n. n.now) c.args.options.now.uploads.items) files.ends)) files.fares files.wanted files.ledger finding.2
+          (compared (map (λ n. n.now) c.args.options.now.uploads.items) loaded.1) files.report finding.0 finding.1) (sym c.if-options.false) told in
           record {
             text = finding.0;
             well = finding.1;
             found = record {
               files = files;
               read = finding.2;
-              audit = subst (λ (b : Bool). IsAudit b files.fares files.wanted files.ledger finding.2
-                  (compared (map (λ n. n.now) c.args.options.now.uploads.items) loaded.1)
-                  files.report
-                  finding.0 finding.1) (sym c.if-options.false) found;
-              right = c.audits_decide.ensures _ _ _ _ _ _ _ _ _ found;
+              audit = audit;
+              right = c.audits_decide.ensures _ _ _ _ _ _ _ _ _ audit;
             };
             begun = finding.4;
           };
@@ -280,12 +311,17 @@ returns-then-options-clause-right g c =
     c.in_ok-trace.ensures.wanted in
     let files = has_loaded (audit_asked_of c.args.options.now) _ _ _ _ _ c.in_ok-tables.tables.fares
     _
-    loaded.0 loaded.1 loaded.5 (text_of c.in_ok-report.report) (wanted_by c.in_ok-trace.trace)
+    loaded.0 loaded.1 loaded.5 _ (text_of c.in_ok-report.report) (wanted_by c.in_ok-trace.trace)
     begun.0
     c.in_ok-tables.ensures.ok
     (loads_same c.as_slice-names.result.now c.args.options.now.uploads.items _ _ loaded.0 names
     loaded.2)
-    loaded.3 loaded.6 c.in_ok-report.ensures.ok reads in
+    loaded.3 loaded.6 loaded.8 c.in_ok-report.ensures.ok reads in
+    let ends_same = ap (λ (es : List UploadEnd).
+    if not c.is_empty-has_uploads.result then Some es else None)
+    c.as_slice-known_ends.ensures.value
+    ∙ compared_is c.as_slice-names.result.now files.ends _ (ap not c.is_empty-has_uploads.ensures)
+    ∙ ap (λ (ns : List (Bor (List ℕ))). compared (map (λ n. n.now) ns) files.ends) names in
     record {
       right = right_of_ledger _ _ _ _ _ _ _ fault later end;
       told = λ no. told_of_ledger _ _ _ fault later no ∙ c.in_ok-head.ensures.well
@@ -294,15 +330,21 @@ returns-then-options-clause-right g c =
       begun = λ all un. absurd (not_both c.args.options.now.all all c.if-options.true);
       begun_of_all = λ all. inr (record {
         files = files;
-        begun = subst (λ (b : Bool). HasBegunAudit b files.fares files.wanted files.ledger
+        begun = subst (λ (b : Bool). HasBegunAudit
+            (manner b c.args.options.now.live (compared (map (λ n. n.now) c.args.options.now.uploads.items) files.ends)) files.fares files.wanted files.ledger
             (compared (map (λ n. n.now) c.args.options.now.uploads.items) loaded.1) files.report
             (g.W.Write.contents c.args.out.now.writer)
             (g.W.Write.contents c.full_audit_over.new.out.writer))
             (sym all)
-            (subst (λ (good : Option (List TapFields)). HasBegunAudit true files.fares files.wanted
+            (subst (λ (e : Option (List UploadEnd)). HasBegunAudit (manner true c.args.options.now.live e) files.fares files.wanted files.ledger
+            (compared (map (λ n. n.now) c.args.options.now.uploads.items) loaded.1) files.report
+            (g.W.Write.contents c.args.out.now.writer)
+            (g.W.Write.contents c.full_audit_over.new.out.writer)) ends_same
+            (subst (λ (good : Option (List TapFields)). HasBegunAudit (manner true c.args.options.now.live
+            (if not c.is_empty-has_uploads.result then Some c.as_slice-known_ends.result.now else None)) files.fares files.wanted
             files.ledger good files.report (g.W.Write.contents c.args.out.now.writer)
             (g.W.Write.contents c.full_audit_over.new.out.writer)) same
-            (begun.2 loaded.1 loaded.4));
+            (begun.2 loaded.1 loaded.4)));
       });
     })
     c.full_audit_over.ensures.later c.full_audit_over.ensures.end

@@ -2,6 +2,7 @@ use Rattle.std.proofs.Common.{◌≡◌, ℕ, List, [], map, take}
 use Rattle.ledger_check.specs.Balances.{IsBalance}
 use Rattle.tap_views.specs.declared.encoder.TapFields.{TapFields}
 use Rattle.ledger_check.specs.Places.{HasUploads}
+use Rattle.tap_views.specs.UploadEnds.{ArePlainEnds}
 use Rattle.omny_audit.specs.Program.{AreGoodFieldsOfAll, AreGoodFieldsOfEach, LoadsNamedFiles}
 use Rattle.omny_audit.proofs.program.load_uploads.Given as goal
 
@@ -13,6 +14,6 @@ invariant-loop-name g l = record {
       (g.S.FileSource.loaded l.fn.source) (g.S.FileSource.loaded l.source) files
       × AreGoodFieldsOfAll files good × IsBalance l.balance good []
       × (lists : List (List TapFields)) × AreGoodFieldsOfEach files lists
-      × HasUploads l.places lists;
+      × HasUploads l.places lists × ArePlainEnds files l.ends.items;
   refused : g.S.FileSource.refused l.source ≡ g.S.FileSource.refused l.fn.source;
 }

@@ -2,4 +2,4 @@ use Rattle.report_check.proofs.Decided.{decides}
 use Rattle.report_check.proofs.laws.report_verdicts_decide.Goals as goal
 
 pub returns : goal.returns
-returns c = λ entries text verdict is. decides entries text verdict is
+returns c = λ ends entries text verdict is. decides ends entries text verdict is

@@ -1,5 +1,5 @@
 -- Each round reads one line more of the piece.
-use Rattle.std.proofs.Common.{◌≡◌, ◌++◌, [], ℕ, List, sym, ap, subst, ◌∙◌, append_assoc, append-nil}
+use Rattle.std.proofs.Common.{◌≡◌, ◌++◌, [], ℕ, List, refl, sym, ap, subst, ◌∙◌, append_assoc, append-nil}
 use Rattle.std.proofs.Common.{arith, rules, tests}
 use Rattle.std.proofs.lemmas.Bool.Decides.{nat_tests}
 use Rattle.ledger_check.specs.Struck.{HasStruck, IfUndecided}
@@ -7,6 +7,17 @@ use Rattle.ledger_check.specs.Verdicts.{HasFed, IsFed}
 use Rattle.ledger_check.proofs.CheckerLemmas.{empty_list, fed_none, fed_on, remark_early}
 use Rattle.ledger_check.proofs.StruckLemmas.{none_reported, some_reported}
 use Rattle.ledger_check.proofs.checker.Checker.feed.Goals as goal
+
+pub loop-rest-init : goal.loop-rest-init
+loop-rest-init c = record {
+  consumed = [];
+  whole = refl;
+  fed = λ text fed. subst (λ (t : List ℕ). HasFed c.args.table.now c.args.self.now t)
+      (sym (append-nil text)) fed;
+  struck = λ text good struck.
+      subst (λ (t : List ℕ). HasStruck c.args.table.now c.args.self.now c.args.balance.now t good)
+      (sym (append-nil text)) struck;
+}
 
 pub keep-requires-clause-fed : goal.keep-requires-clause-fed
 keep-requires-clause-fed c = (

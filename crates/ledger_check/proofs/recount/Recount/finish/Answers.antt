@@ -1,7 +1,12 @@
-use Rattle.std.proofs.Common.{◌≡◌, ◌++◌, ◌∙◌, ℕ, List, sym, ap, append_assoc, string_bytes}
-use Rattle.std.specs.Prelude.{nat_eq}
+use Rattle.std.proofs.Common.{◌≡◌, ◌++◌, ◌∙◌, ℕ, Bool, List, Option, true, false, refl, sym, ap}
+use Rattle.std.proofs.Common.{append_assoc, not, string_bytes}
+use Rattle.std.specs.Prelude.{is_some, nat_eq}
 use Rattle.ledger_check.specs.Recounts.{end_text}
 use Rattle.ledger_check.proofs.recount.Recount.finish.Goals as goal
+
+twice : (b : Bool) → b ≡ not (not b)
+twice true = refl
+twice false = refl
 
 pub returns : goal.returns
 returns c = λ fares strikes full text written good is.
@@ -10,6 +15,8 @@ returns c = λ fares strikes full text written good is.
       ended.taken,
       ended.recount,
       ap (λ (n : ℕ). nat_eq n 0) ended.sums_are.wrong,
+      twice c.is_none.result ∙ ap not (sym c.is_none.ensures)
+          ∙ ap (λ (e : Option ℕ). not (is_some e)) ended.sums_are.order.early,
       ended.struck,
       ended.more ++ end,
       c.in_ok-write_end.ensures ended.taken ended.sums_are

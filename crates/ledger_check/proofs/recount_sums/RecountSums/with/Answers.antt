@@ -1,7 +1,8 @@
-use Rattle.std.proofs.Common.{◌≡◌, ℕ, ◌+◌, ◌≤◌, ◌^◌, Option, ◌∷◌, length, sym, ap, ap₂, ◌∙◌, arith}
+use Rattle.std.proofs.Common.{◌≡◌, ℕ, ◌+◌, ◌≤◌, ◌^◌, Option, ◌∷◌, length, sym, subst, ap, ap₂, ◌∙◌, arith}
 use Rattle.tap_views.specs.declared.token.Token.{Token}
 use Rattle.ledger_check.specs.Recounts.{asked_cents, last_wrong_token, one_other, one_wrong}
-use Rattle.ledger_check.specs.Recounts.{ruled_cents, wrong_token_of}
+use Rattle.ledger_check.specs.Orders.{IsOrderOf}
+use Rattle.ledger_check.specs.Recounts.{ruled_cents, taps_from, taps_with, wrong_token_of}
 use Rattle.ledger_check.specs.declared.walk.LineFinding.{LineFinding}
 use Rattle.ledger_check.proofs.recount_sums.RecountSums.with.Goals as goal
 
@@ -29,4 +30,6 @@ returns c = λ taken next same sums.
       tokens = omega (arith, sums.tokens, tokens, c.in_ok-tokens.ensures);
       cents = omega (arith, sums.cents, cents, c.asked_cents.ensures, c.in_ok-cents.ensures);
       wanted = omega (arith, sums.wanted, wanted, c.ruled_cents.ensures, c.in_ok-wanted.ensures);
+      order = subst (λ (f : LineFinding). IsOrderOf (taps_with (taps_from taken) f.tap)
+          c.in_ok-order.order) (sym same) (c.in_ok-order.ensures (taps_from taken) sums.order);
     }

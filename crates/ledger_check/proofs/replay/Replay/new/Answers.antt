@@ -4,6 +4,7 @@ use Rattle.ledger_check.proofs.replay.Replay.new.Goals as goal
 
 pub returns : goal.returns
 returns c = λ fares. record {
+  order = c.new.ensures;
   entries = [];
   are = tt;
   only = λ others are. none_left fares [] others are;

@@ -1,6 +1,8 @@
 -- Each return says what its tests found.
 use Rattle.std.proofs.Common.{◌≡◌, ◌^◌, ◌<◌, ◌≤◌, ℕ, List, length, refl, sym, ap, ◌∙◌, arith}
-use Rattle.std.proofs.Common.{string_bytes}
+use Rattle.std.proofs.Common.{string_bytes, subst, ◌++◌, ◌∷◌, []}
+use Rattle.tap_views.specs.declared.encoder.TapFields.{TapFields}
+use Rattle.ledger_check.specs.Orders.{IsOrderOf}
 use Rattle.std.proofs.lemmas.Bool.{both_ways}
 use Rattle.account_rule.specs.declared.reason.Reason.{Reason}
 use Rattle.histories.specs.declared.entry.Entry.{Entry}
@@ -67,7 +69,9 @@ returns-then-same_bytes c = λ lines read.
           c.in-Some-explainer_of.ensures.token
           reports
           (sym c.as_bytes.ensures.value ∙ c.same_bytes.ensures.0 c.if-same_bytes.true) (omega arith)
-          (omega arith) refl refl,
+          (omega arith) refl refl
+          (λ taps is. subst (λ (t : TapFields). IsOrderOf (taps ++ t ∷ []) c.in_ok-order.order)
+          c.fields.ensures (c.in_ok-order.ensures taps is)),
       reports,
     )
 

@@ -16,6 +16,7 @@ returns-clause-asked c =
     ∙ ap (λ (ws : List (Bor (List ℕ))). tables_or_none (map (λ w. w.now) ws)) c.deref.ensures.value
     ∙ ap tables_or_none words in
     let all = c.flag_in.ensures ∙ ap (is_given (codes "all")) rows in
+    let live = c.flag_in-2.ensures ∙ ap (is_given (codes "live")) rows in
     let report = c.get_str.ensures ∙ first_value-rows found (codes "report")
     ∙ ap (first_of (codes "report")) rows in
     let named = c.get_str-2.ensures ∙ first_value-rows found (codes "LEDGER")
@@ -23,5 +24,11 @@ returns-clause-asked c =
     let ledger = c.ledger_in.ensures ∙ ap (option_and_then not_dash) named in
     let uploads = c.in_ok-names_in.ensures
     ∙ ap (λ r. unwrap_or (all_of (codes "uploads") r) []) rows in
-    λ i. record
-    { table = table i; all = all i; uploads = uploads i; report = report i; ledger = ledger i }
+    λ i. record {
+      table = table i;
+      all = all i;
+      live = live i;
+      uploads = uploads i;
+      report = report i;
+      ledger = ledger i;
+    }
