@@ -137,7 +137,8 @@ fn charge_named<'a, R: Threads + Wait + RandomSource + Sync, D: Disk + Sync, W: 
         → Keeps (W.contents out.old) (W.contents out.new)) }
 {
     if options.settle {
-        return charge_settled(rt, alloc, options, table, token, uploads, out);
+        let disk = uploads.disk;
+        return charge_settled(rt, alloc, disk, options, table, token, uploads, out);
     }
     let own = table.try_clone(alloc)?;
     let keeper = NotingGatekeeper::new(uploads.disk, uploads.sizes);
@@ -147,7 +148,8 @@ fn charge_named<'a, R: Threads + Wait + RandomSource + Sync, D: Disk + Sync, W: 
         names: uploads.names,
         sizes: uploads.sizes,
     };
-    charge_lent(rt, alloc, options, own, token, lent, &keeper, out)
+    let disk = uploads.disk;
+    charge_lent(rt, alloc, disk, options, own, token, lent, &keeper, out)
 }
 
 /// Charges the named files while they are read, and writes what is asked for, if that can be done:

@@ -1,6 +1,7 @@
 //! The program: `fare_program` over the words, with the names of a list if they name one, the
-//! files, the standard input and the outputs of the system. If the standard error is a terminal, a
-//! note there says what one should know of the run, and a line says what a long run does.
+//! files, the standard input and the outputs of the system. After the run notes on the standard error
+//! say what one should know of its text. If the standard error is a terminal, a note says before that
+//! the standard input is read, and a line says what a long run does.
 //!
 //! | module | what it does |
 //! |---|---|
@@ -12,9 +13,9 @@ mod beside;
 use beside::run_beside_line;
 use fare_program::{Complaints, Host, Note, Output, list_words, unread_words, words_of};
 use program_manners::take_list;
-use run_progress::{Hushing, Steps, Ticker, Watched, WatchedDisk};
+use run_progress::{Findings, Hushing, Steps, Ticker, Watched, WatchedDisk};
 use std::fs;
-use std::io::IsTerminal;
+use std::io::{IsTerminal, Stderr};
 use std::process::ExitCode;
 
 /// The ticker of the run that the words ask for. If the standard error is a terminal, the note on
@@ -40,6 +41,21 @@ fn words_with_list(rt: &HostRuntime) -> Result<Vec<String>, u8> {
     Ok(more.unwrap_or(words))
 }
 
+/// Prints what a person should know of a run that made a text.
+fn report_findings(findings: Findings, err: &mut Complaints<Stderr>) {
+    if let Some(late) = findings.live {
+        err.report_line(Note::FollowsFileOrder);
+        match late {
+            Some(0) => {}
+            Some(taps) => err.report_line(Note::CameLate(taps)),
+            None => err.report_line(Note::LateUncounted),
+        }
+    }
+    if findings.is_absent {
+        err.report_line(Note::UnknownToken);
+    }
+}
+
 /// Whether the standard output is a file, which no terminal shows. It is asked by the name that the
 /// system has for it: if there is none, it is taken for no file.
 fn writes_to_file(rt: &HostRuntime) -> bool {
@@ -55,7 +71,7 @@ fn main(rt: HostRuntime) -> ExitCode {
         Err(status) => return ExitCode::from(status),
     };
     let ticker = ticker_for(&rt, &words);
-    ExitCode::from(run_beside_line(
+    let status = run_beside_line(
         &rt,
         &words,
         &ticker,
@@ -63,5 +79,7 @@ fn main(rt: HostRuntime) -> ExitCode {
         &mut Watched::new(&rt, &ticker, Host::new(&rt)),
         &mut Output::new(Hushing::new(&rt, &ticker, rt.stdout(), writes_to_file(&rt))),
         &mut Complaints::new(Hushing::new(&rt, &ticker, rt.stderr(), false)),
-    ))
+    );
+    report_findings(ticker.findings(&rt), &mut Complaints::new(rt.stderr()));
+    ExitCode::from(status)
 }
