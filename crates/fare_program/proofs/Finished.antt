@@ -5,6 +5,7 @@ use Rattle.std.specs.Io.KnownBytes.{Keeps}
 use Rattle.std.proofs.KnownBytes.{Appends-kept}
 use Rattle.program_manners.specs.TableWords.{TableNames}
 use Rattle.program_manners.specs.Loads.{Loaded}
+use Rattle.world.specs.Origins.{Origin}
 use Rattle.fare_program.specs.Options.{Asked, lists}
 use Rattle.fare_program.specs.Program.{Does, RunsListing, RunsService, RunsSorted, RunsTraced}
 
@@ -18,22 +19,27 @@ kept_listing : (table : Option TableNames) (names : List (List ℕ))
     → RunsListing table names loaded loaded' out out' well
     → RunsListing table names loaded loaded' out last well
 kept_listing table names loaded loaded' out out' last well kept done = record {
+  between = done.between;
   fares = done.fares;
+  loads_table = done.loads_table;
   files = done.files;
-  loads = done.loads;
+  loads_files = done.loads_files;
   text = done.text;
   listing = done.listing;
   written = Appends-kept out out' last done.text done.written kept;
 }
 
-kept_service : (asked : Asked) (loaded loaded' : Option (List Loaded))
-    (out out' last : Option (List ℕ)) (well : Bool) → Keeps out' last
-    → RunsService asked loaded loaded' out out' well
-    → RunsService asked loaded loaded' out last well
-kept_service asked loaded loaded' out out' last well kept done = record {
+kept_service : (asked : Asked) (origin : List ℕ → Origin)
+    (loaded loaded' : Option (List Loaded)) (out out' last : Option (List ℕ)) (well : Bool)
+    → Keeps out' last → RunsService asked origin loaded loaded' out out' well
+    → RunsService asked origin loaded loaded' out last well
+kept_service asked origin loaded loaded' out out' last well kept done = record {
+  between = done.between;
   fares = done.fares;
+  loads_table = done.loads_table;
   files = done.files;
-  loads = done.loads;
+  drawn = done.drawn;
+  loads_files = done.loads_files;
   token = done.token;
   is_token = done.is_token;
   text = done.text;
@@ -78,18 +84,18 @@ kept_traced asked loaded loaded' out out' last well kept done = record {
   written = Appends-kept out out' last done.text done.written kept;
 }
 
-pub does_kept : (asked : Asked) (known : List ℕ → Option (List ℕ))
+pub does_kept : (asked : Asked) (known : List ℕ → Option (List ℕ)) (origin : List ℕ → Origin)
     (loaded loaded' : Option (List Loaded)) (out out' last : Option (List ℕ)) (well : Bool)
-    → Keeps out' last → Does asked known loaded loaded' out out' well
-    → Does asked known loaded loaded' out last well
-does_kept asked known loaded loaded' out out' last well kept done =
+    → Keeps out' last → Does asked known origin loaded loaded' out out' well
+    → Does asked known origin loaded loaded' out last well
+does_kept asked known origin loaded loaded' out out' last well kept done =
     kept_by asked.traced _ _ _ _ (
       kept_traced asked loaded loaded' out out' last well kept,
       kept_by (lists asked) _ _ _ _ (
         kept_listing asked.table asked.files loaded loaded' out out' last well kept,
         kept_by asked.sorted _ _ _ _ (
           kept_sorted asked known loaded loaded' out out' last well kept,
-          kept_service asked loaded loaded' out out' last well kept,
+          kept_service asked origin loaded loaded' out out' last well kept,
         ),
       ),
     ) done

@@ -1,6 +1,7 @@
 pub mod Appends
 pub mod Billed
 pub mod Causes
+pub mod Counts
 pub mod DefaultClasses
 pub mod Defaults
 pub mod Going
@@ -8,6 +9,7 @@ pub mod LastMoments
 pub mod ListedFiles
 pub mod Loads
 pub mod PostedTexts
+pub mod ReadAhead
 pub mod Ledgers
 pub mod Explains
 pub mod Finished
@@ -15,3 +17,4 @@ pub mod SortedRuns
 pub mod Works
 pub mod WritesFailed
 pub mod TableCauses
+pub mod SystemFiles

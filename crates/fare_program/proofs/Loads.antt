@@ -2,7 +2,7 @@
 use Rattle.std.proofs.Common.{◌≡◌, ◌∙◌, ◌<◌, ℕ, List, [], ◌∷◌, ◌++◌, length, map, refl, ap, arith}
 use Rattle.std.proofs.Common.{Option, Some, Bor}
 use Rattle.std.proofs.lemmas.List.{map-append}
-use Rattle.fare_program.specs.Program.{LoadsFiles, names_to_load}
+use Rattle.fare_program.specs.FilesLoaded.{LoadsFiles, names_to_load}
 use Rattle.program_manners.specs.Loads.{Loaded, LoadsOne}
 use Rattle.program_manners.proofs.LoadsOn.{loads_more}
 

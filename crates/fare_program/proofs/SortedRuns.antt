@@ -6,6 +6,7 @@ use Rattle.tariffs.specs.Fares.{Fares}
 use Rattle.tap_views.specs.declared.token.Token.{Token}
 use Rattle.program_manners.specs.Loads.{Loaded}
 use Rattle.program_manners.specs.TableWords.{TableNames}
+use Rattle.world.specs.Origins.{Origin}
 use Rattle.fare_program.specs.Fault.{charge_mistake_of, explain_mistake, first_of_two}
 use Rattle.fare_program.specs.Fault.{ledger_mistake, live_mistake, mistake}
 use Rattle.fare_program.specs.Fault.{settle_mistake, sorted_mistake, sorted_mistake_of}
@@ -84,23 +85,23 @@ traced_table asked right traced =
     asked.settle asked.sorted asked.token traced five) settle).1
 
 -- a traced ledger was asked for, and written
-pub does_traced : (asked : Asked) (known : List ℕ → Option (List ℕ))
+pub does_traced : (asked : Asked) (known : List ℕ → Option (List ℕ)) (origin : List ℕ → Origin)
     (loaded loaded' : Option (List Loaded))
     (out out' : Option (List ℕ)) (well : Bool) → asked.traced ≡ true
-    → RunsTraced asked loaded loaded' out out' well → Does asked known loaded loaded' out out' well
-does_traced asked known loaded loaded' out out' well traced runs =
+    → RunsTraced asked loaded loaded' out out' well → Does asked known origin loaded loaded' out out' well
+does_traced asked known origin loaded loaded' out out' well traced runs =
     subst (λ (b : Bool). MatchBool b (RunsTraced asked loaded loaded' out out' well)
-    (DoesUntraced asked known loaded loaded' out out' well)) (sym traced) runs
+    (DoesUntraced asked known origin loaded loaded' out out' well)) (sym traced) runs
 
 -- what was done is no traced ledger, and none was asked for
-pub does_untraced : (asked : Asked) (known : List ℕ → Option (List ℕ))
+pub does_untraced : (asked : Asked) (known : List ℕ → Option (List ℕ)) (origin : List ℕ → Origin)
     (loaded loaded' : Option (List Loaded))
     (out out' : Option (List ℕ)) (well : Bool) → asked.traced ≡ false
-    → DoesUntraced asked known loaded loaded' out out' well
-    → Does asked known loaded loaded' out out' well
-does_untraced asked known loaded loaded' out out' well untraced done =
+    → DoesUntraced asked known origin loaded loaded' out out' well
+    → Does asked known origin loaded loaded' out out' well
+does_untraced asked known origin loaded loaded' out out' well untraced done =
     subst (λ (b : Bool). MatchBool b (RunsTraced asked loaded loaded' out out' well)
-    (DoesUntraced asked known loaded loaded' out out' well)) (sym untraced) done
+    (DoesUntraced asked known origin loaded loaded' out out' well)) (sym untraced) done
 
 -- the table that is named was loaded
 pub has_table : (asked : Asked) (loaded loaded' : Option (List Loaded)) (fares : Option Fares)
@@ -115,25 +116,25 @@ no_list true table none some = cc
 no_list false None none some = cc
 no_list false (Some name) none some = refl
 
-pub does_sorted : (asked : Asked) (known : List ℕ → Option (List ℕ))
+pub does_sorted : (asked : Asked) (known : List ℕ → Option (List ℕ)) (origin : List ℕ → Origin)
     (loaded between : Option (List Loaded))
     (fares : Option Fares) (token : Option Token) (out out' : Option (List ℕ)) (well : Bool)
     → mistake asked ≡ None → asked.sorted ≡ true → LoadsTable asked.table loaded between fares
     → IsTokenIn asked.token token
     → (well ≡ true) × ((f : Fares) → fares ≡ Some f
     → IsChargedSorted asked (map known asked.files) f token out out')
-    → DoesUntraced asked known loaded between out out' well
-does_sorted asked known loaded between fares token out out' well right sorted loads is_token made =
+    → DoesUntraced asked known origin loaded between out out' well
+does_sorted asked known origin loaded between fares token out out' well right sorted loads is_token made =
     let (list, some) = charges asked right sorted in
     let (f, is) = has_table asked loaded between fares right sorted loads in
     let done = made.1 f is in
     subst (λ (b : Bool). MatchBool b
     (RunsListing asked.table asked.files loaded between out out' well)
     (MatchBool asked.sorted (RunsSorted asked known loaded between out out' well)
-    (RunsService asked loaded between out out' well)))
+    (RunsService asked origin loaded between out out' well)))
     (sym (no_list asked.list asked.table list some))
     (subst (λ (b : Bool). MatchBool b (RunsSorted asked known loaded between out out' well)
-    (RunsService asked loaded between out out' well)) (sym sorted) (record {
+    (RunsService asked origin loaded between out out' well)) (sym sorted) (record {
       fares = f;
       loads = subst (LoadsTable asked.table loaded between) is loads;
       token = token;

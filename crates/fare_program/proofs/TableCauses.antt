@@ -8,7 +8,7 @@ use Rattle.program_manners.proofs.Refusals.{has_refused}
 use Rattle.program_manners.specs.TableLoads.{LoadsTables}
 use Rattle.program_manners.specs.TableWords.{TableNames}
 use Rattle.program_manners.specs.TablesFaults.{IsTablesFault}
-use Rattle.program_manners.specs.declared.loading.LoadFault.{LoadFault}
+use Rattle.world.specs.declared.faults.LoadFault.{LoadFault}
 use Rattle.program_manners.specs.declared.table_loads.TablesFault.{TablesFault}
 use Rattle.program_manners.specs.declared.table_loads.TablesFault.TheVariants as unloaded
 use Rattle.class_names.specs.ClassFaults.{IsFaultOf, IsWrongAt}

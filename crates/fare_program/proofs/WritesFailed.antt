@@ -7,8 +7,9 @@ use Rattle.fare_texts.specs.WrittenOut.{Begins}
 use Rattle.fare_texts.specs.declared.print_fault.PrintFault.{PrintFault}
 use Rattle.fare_texts.specs.declared.print_fault.PrintFault.TheVariants as print
 use Rattle.program_manners.specs.Loads.{Loaded}
-use Rattle.program_manners.specs.declared.loading.LoadFault.{LoadFault}
+use Rattle.world.specs.declared.faults.LoadFault.{LoadFault}
 use Rattle.program_manners.specs.declared.output.WriteEnd.{WriteEnd}
+use Rattle.world.specs.Origins.{Origin}
 use Rattle.fare_program.specs.Begun.{AreOfBytes, HasBegun, IsBegun, IsLeftBy}
 use Rattle.fare_program.specs.Causes.{IsRightFault}
 use Rattle.fare_program.specs.Fault.{IsLate}
@@ -73,26 +74,26 @@ grown_by true A B P one other is = one is
 grown_by false A B P one other is = other is
 
 -- what was done is a text that was written
-does_write : (asked : Asked) (known : List ℕ → Option (List ℕ))
+does_write : (asked : Asked) (known : List ℕ → Option (List ℕ)) (origin : List ℕ → Origin)
     (loaded loaded' : Option (List Loaded))
-    (out out' : Option (List ℕ)) (well : Bool) → Does asked known loaded loaded' out out' well
+    (out out' : Option (List ℕ)) (well : Bool) → Does asked known origin loaded loaded' out out' well
     → (text : List ℕ) × Appends out out' text
-does_write asked known loaded loaded' out out' well done =
+does_write asked known origin loaded loaded' out out' well done =
     grown_by asked.traced (RunsTraced asked loaded loaded' out out' well) _ _
     (λ runs. (runs.text, runs.written))
     (grown_by (lists asked) (RunsListing asked.table asked.files loaded loaded' out out' well) _ _
     (λ runs. (runs.text, runs.written))
     (grown_by asked.sorted (RunsSorted asked known loaded loaded' out out' well)
-    (RunsService asked loaded loaded' out out' well) _ (λ runs. (runs.text, runs.written))
+    (RunsService asked origin loaded loaded' out out' well) _ (λ runs. (runs.text, runs.written))
     (λ runs. (runs.text, runs.written)))) done
 
-pub begun_done : (asked : Asked) (known : List ℕ → Option (List ℕ))
+pub begun_done : (asked : Asked) (known : List ℕ → Option (List ℕ)) (origin : List ℕ → Origin)
     (loaded loaded' : Option (List Loaded)) (out out' : Option (List ℕ)) (well : Bool)
-    → Does asked known loaded loaded' out out' well → HasBegun asked known loaded loaded' out out'
-begun_done asked known loaded loaded' out out' well done =
-    let (text, written) = does_write asked known loaded loaded' out out' well done in (
+    → Does asked known origin loaded loaded' out out' well → HasBegun asked known origin loaded loaded' out out'
+begun_done asked known origin loaded loaded' out out' well done =
+    let (text, written) = does_write asked known origin loaded loaded' out out' well done in (
       well,
-      begun_whole out out' text (λ all. Does asked known loaded loaded' out all well) written done,
+      begun_whole out out' text (λ all. Does asked known origin loaded loaded' out all well) written done,
     )
 
 -- ---- what is reported of a fault
@@ -112,12 +113,12 @@ right_remembered asked under loaded loaded' refused (Some why) fault right = rig
 right_remembered asked under loaded loaded' refused None Write right = tt
 right_remembered asked under loaded loaded' refused None fault right = right
 
-module _ (asked : Asked) (under : List ℕ → Option (List ℕ)) (loaded loaded' : Option (List Loaded))
+module _ (asked : Asked) (under : List ℕ → Option (List ℕ)) (origin : List ℕ → Origin) (loaded loaded' : Option (List Loaded))
     (out out' : Option (List ℕ)) where
   left_by : (fault : Fault)
       → (fault ≢ Write → (asked.sorted ≡ true → IsLate fault → ⊥) → Keeps out out')
-      → (fault ≡ Write → AreOfBytes asked under → HasBegun asked under loaded loaded' out out')
-      → IsLeftBy asked under loaded loaded' out out' fault
+      → (fault ≡ Write → AreOfBytes asked under → HasBegun asked under origin loaded loaded' out out')
+      → IsLeftBy asked under origin loaded loaded' out out' fault
   left_by Write kept begun = begun refl
   left_by NoMemory kept begun = inl (kept (λ is. cc) (λ sorted late. late))
   left_by _ kept begun = kept (λ is. cc)
@@ -125,8 +126,8 @@ module _ (asked : Asked) (under : List ℕ → Option (List ℕ)) (loaded loaded
   -- so it is of what is reported
   pub left_remembered : (end : Option WriteEnd) (fault : Fault)
       → (fault ≢ Write → (asked.sorted ≡ true → IsLate fault → ⊥) → Keeps out out')
-      → (fault ≡ Write → AreOfBytes asked under → HasBegun asked under loaded loaded' out out')
-      → IsLeftBy asked under loaded loaded' out out' (as_remembered end fault)
+      → (fault ≡ Write → AreOfBytes asked under → HasBegun asked under origin loaded loaded' out out')
+      → IsLeftBy asked under origin loaded loaded' out out' (as_remembered end fault)
   left_remembered (Some why) fault kept begun = left_by fault kept begun
   left_remembered None Write kept begun = inr (begun refl)
   left_remembered None fault kept begun = left_by fault kept begun

@@ -9,6 +9,7 @@ use Rattle.fare_program.specs.declared.fault.Fault.TheVariants.{NoMemory, Write}
 use Rattle.program_manners.specs.LineWritten.{LineWritten}
 use Rattle.program_manners.specs.Loads.{Loaded}
 use Rattle.program_manners.specs.declared.output.WriteEnd.{WriteEnd}
+use Rattle.world.specs.Origins.{Origin}
 use Rattle.sorted_bills.specs.Ledgers.{KnownAreBytes}
 
 -- Known bytes grew, and with some bytes more behind them `Whole` would hold of all that stands.
@@ -29,32 +30,32 @@ AreOfBytes asked under = IsSortedLedger asked → KnownAreBytes (map under asked
 
 -- What stands is a beginning: with some bytes more behind it, what is asked for would have been
 -- done.
-abbrev pub HasBegun : Asked → (List ℕ → Option (List ℕ)) → Option (List Loaded)
+abbrev pub HasBegun : Asked → (List ℕ → Option (List ℕ)) → (List ℕ → Origin) → Option (List Loaded)
     → Option (List Loaded) → Option (List ℕ) → Option (List ℕ) → Type 0
-HasBegun asked known loaded loaded' out out' = (well : Bool)
-    × IsBegun out out' (λ whole. Does asked known loaded loaded' out whole well)
+HasBegun asked known origin loaded loaded' out out' = (well : Bool)
+    × IsBegun out out' (λ whole. Does asked known origin loaded loaded' out whole well)
 
 -- What this fault left in the output. If a write failed, a beginning of the text that is asked for
 -- was written, and nothing else. If memory was refused, nothing was written, or such a beginning.
 -- Before any other fault nothing was written, unless a sorted file was refused after all were
 -- checked.
-abbrev pub IsLeftBy : Asked → (List ℕ → Option (List ℕ)) → Option (List Loaded)
+abbrev pub IsLeftBy : Asked → (List ℕ → Option (List ℕ)) → (List ℕ → Origin) → Option (List Loaded)
     → Option (List Loaded) → Option (List ℕ) → Option (List ℕ) → Fault → Type 0
-IsLeftBy asked known loaded loaded' out out' Write =
-    AreOfBytes asked known → HasBegun asked known loaded loaded' out out'
-IsLeftBy asked known loaded loaded' out out' NoMemory =
-    Keeps out out' ⊎ (AreOfBytes asked known → HasBegun asked known loaded loaded' out out')
-IsLeftBy asked known loaded loaded' out out' fault =
+IsLeftBy asked known origin loaded loaded' out out' Write =
+    AreOfBytes asked known → HasBegun asked known origin loaded loaded' out out'
+IsLeftBy asked known origin loaded loaded' out out' NoMemory =
+    Keeps out out' ⊎ (AreOfBytes asked known → HasBegun asked known origin loaded loaded' out out')
+IsLeftBy asked known origin loaded loaded' out out' fault =
     (asked.sorted ≡ true → IsLate fault → ⊥) → Keeps out out'
 
 -- The program gave up on what is asked for: the fault's line was reported. That of a write is only
 -- reported if the output remembers (`end`) that one failed.
-pub record GaveUpOn (asked : Asked) (known : List ℕ → Option (List ℕ))
+pub record GaveUpOn (asked : Asked) (known : List ℕ → Option (List ℕ)) (origin : List ℕ → Origin)
     (loaded loaded' : Option (List Loaded)) (fault : Fault) (end : Option WriteEnd)
     (said said' : Option (List ℕ)) (failed : Bool) (out out' : Option (List ℕ)) : Type 0 where
   pub line_reported : LineWritten said said' failed (fault_text fault)
   pub write_failed : fault ≡ Write → end ≢ None
-  pub left : IsLeftBy asked known loaded loaded' out out' fault
+  pub left : IsLeftBy asked known origin loaded loaded' out out' fault
 
 -- The line of a write that failed was reported, and the output remembers (`end`) that one did.
 pub record ReportedWrite (end : Option WriteEnd) (said said' : Option (List ℕ)) (failed : Bool)

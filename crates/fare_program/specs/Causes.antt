@@ -2,12 +2,13 @@
 use Rattle.std.specs.Prelude.{◌≡◌, ◌≢◌, ◌⊎◌, ◌<◌, ℕ, List, [], ◌∷◌, Option, None, Some, true, false}
 use Rattle.std.specs.Prelude.{All, codes, length, map, slice_get, take}
 use Rattle.tariffs.specs.Fares.{Fares}
+use Rattle.fare_service.specs.Faults.{IsForMemory}
 use Rattle.program_manners.specs.Loads.{Loaded}
 use Rattle.program_manners.specs.Refusals.{IsOneOf, HasRefused}
 use Rattle.program_manners.specs.TableLoads.{LoadsTables}
 use Rattle.program_manners.specs.TableRefusals.{RefusesNamed, RefusesOnly, RefusesToFollow}
 use Rattle.program_manners.specs.TableWords.{TableNames, file_named}
-use Rattle.program_manners.specs.declared.loading.LoadFault.{LoadFault}
+use Rattle.world.specs.declared.faults.LoadFault.{LoadFault}
 use Rattle.sorted_bills.specs.Faults.{HaveTooManyTaps}
 use Rattle.class_names.specs.Classes.{has_plain_classes}
 use Rattle.sorted_taps.specs.Checked.{IsFirstUnsorted}
@@ -90,8 +91,8 @@ pub record RefusesNames (asked : Asked) (loaded loaded' : Option (List Loaded)) 
 -- one that the source refused so. A table fault is the first one of the text that was loaded under
 -- the table's name, behind those of the tables before it. A class's name is refused only for a
 -- traced ledger, and if a text has one that no ledger can have. There are too many uploads only
--- above 65,535. A write and want of memory may fail at any time. So may the gathering of a live run,
--- and with sorted files a file may have changed or be read no more.
+-- above 65,535. A write may fail at any time, and so may memory, also for gathering a live run. With
+-- sorted files a file may have changed or be read no more.
 abbrev pub IsRightFault : Asked → (List ℕ → Option (List ℕ)) → Option (List Loaded)
     → Option (List Loaded) → Option (Option (List ℕ) × LoadFault) → Fault → Type 0
 IsRightFault asked under loaded loaded' refused (File file) =
@@ -110,7 +111,8 @@ IsRightFault asked under loaded loaded' refused (NamedClass line) =
     (asked.traced ≡ true) × RefusesNames asked loaded loaded' line.0.now
 IsRightFault asked under loaded loaded' refused Uploads =
     (asked.settle ≡ false) × (65535 < length asked.files)
-IsRightFault asked under loaded loaded' refused (Gather fault) = asked.settle ≡ false
+IsRightFault asked under loaded loaded' refused (Gather fault) =
+    (asked.settle ≡ false) × IsForMemory fault
 IsRightFault asked under loaded loaded' refused Write = Unit {0}
 IsRightFault asked under loaded loaded' refused NoMemory = Unit {0}
 IsRightFault asked under loaded loaded' refused fault =

@@ -1,6 +1,7 @@
 pub mod Begun
 pub mod Causes
 pub mod Fault
+pub mod FilesLoaded
 pub mod Lines
 pub mod Listing
 pub mod Notes
@@ -9,5 +10,6 @@ pub mod Program
 pub mod Runs
 pub mod Settling
 pub mod SortedFaults
+pub mod SystemFiles
 pub mod Uploads
 pub mod inside

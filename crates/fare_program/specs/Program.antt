@@ -8,7 +8,7 @@ use Rattle.tap_views.specs.Token.{bytes_of}
 use Rattle.tap_views.specs.declared.token.Token.{Token}
 use Rattle.tap_views.specs.declared.upload_end.UploadEnd.{UploadEnd}
 use Rattle.histories.specs.declared.entry.Entry.{Entry}
-use Rattle.fare_service.specs.Headline.{HasRun}
+use Rattle.fare_service.specs.Headline.{HasRun, drawn_by}
 use Rattle.fare_service.specs.Outcomes.{OutcomeView}
 use Rattle.fare_service.specs.Plain.{AreApart}
 use Rattle.histories.specs.Plain.{IsPlain}
@@ -20,12 +20,14 @@ use Rattle.fare_program.specs.Settling.{ShowsOver, ShowsSettled}
 use Rattle.fare_program.specs.declared.fault.Fault.{Fault}
 use Rattle.fare_service.specs.Explained.{IsExplainedOf}
 use Rattle.fare_service.specs.Ledger.{IsLedgerOfBooks}
-use Rattle.program_manners.specs.Loads.{Loaded, LoadsAll}
+use Rattle.program_manners.specs.Loads.{Loaded}
 use Rattle.program_manners.specs.TableLoads.{LoadsTables}
 use Rattle.program_manners.specs.TableWords.{TableNames}
 use Rattle.program_manners.specs.LineWritten.{LineWritten}
 use Rattle.fare_program.specs.Uploads.{IsListing}
+use Rattle.fare_program.specs.FilesLoaded.{AreLoaded, LoadsFiles, names_to_load}
 use Rattle.toml.specs.Data.{Members}
+use Rattle.world.specs.Origins.{Origin}
 use Rattle.class_names.specs.Classes.{AreTrees, class_of_token, tree_at}
 use Rattle.settled_texts.specs.Ledgers.{IsTracedLedger}
 
@@ -37,35 +39,16 @@ LoadsTable None loaded loaded' fares = (fares ≡ None) × (loaded' ≡ loaded)
 LoadsTable (Some tables) loaded loaded' fares = (texts : List (List ℕ)) × (all : Fares)
     × LoadsTables tables loaded loaded' texts all × (fares ≡ Some all)
 
--- the names under which files are loaded: standard input, which has no name, if none is named
-abbrev pub names_to_load : List (List ℕ) → List (Option (List ℕ))
-names_to_load [] = None ∷ []
-names_to_load (name ∷ names) = map Some (name ∷ names)
-
--- A file of each of these names was loaded, in their order.
-pub record LoadsFiles (names : List (Option (List ℕ))) (loaded loaded' : Option (List Loaded))
-    (files : List (List ℕ)) : Type 0 where
-  pub loads : List Loaded
-  pub named : map (λ load. load.name) loads ≡ names
-  pub bytes : map (λ load. load.bytes) loads ≡ files
-  pub is_loaded : LoadsAll loaded loaded' loads
-
--- The named tables were loaded, then the named files, or standard input if none is named.
-pub record Loads (table : Option TableNames) (names : List (List ℕ))
-    (loaded loaded' : Option (List Loaded)) (fares : Option Fares) (files : List (List ℕ))
-    : Type 0 where
-  pub between : Option (List Loaded)
-  pub loads_table : LoadsTable table loaded between fares
-  pub loads_files : LoadsFiles (names_to_load names) between loaded' files
-
 -- Tables and files were loaded; what was appended to the writer is the listing of these files, with
 -- the validators known that the table knows. It is clean if no file has a layout fault.
 pub record RunsListing (table : Option TableNames) (names : List (List ℕ))
     (loaded loaded' : Option (List Loaded)) (out out' : Option (List ℕ)) (clean : Bool) : Type
     0 where
+  pub between : Option (List Loaded)
   pub fares : Option Fares
+  pub loads_table : LoadsTable table loaded between fares
   pub files : List (List ℕ)
-  pub loads : Loads table names loaded loaded' fares files
+  pub loads_files : LoadsFiles (names_to_load names) between loaded' files
   pub text : List ℕ
   pub listing : IsListing fares files text clean
   pub written : Appends out out' text
@@ -103,35 +86,42 @@ IsTokenIn None None = Unit {0}
 IsTokenIn (Some digits) (Some token) = decode_sized digits 16 ≡ Ok (bytes_of token)
 IsTokenIn _ _ = ⊥
 
--- A service was run over the files as they are, and the text is what is asked for of its outcome.
--- It is well if each upload was posted whole. A text that is well is then that of the plain history
--- of the files, if no token has taps in two of them.
-pub record ShowsLiveRun (asked : Asked) (fares : Fares) (files : List (List ℕ))
+-- A service was run over the files as they are, of which these were drawn, and the text is what is
+-- asked for of its outcome. It is well if each upload was posted whole. A text that is well is then
+-- that of the plain history of the files, if no token has taps in two of them.
+pub record ShowsLiveRun (asked : Asked) (fares : Fares) (files : List (List ℕ)) (drawn : List ℕ)
     (token : Option Token) (text : List ℕ) (well : Bool) : Type 0 where
   pub outcome : OutcomeView
   pub run : HasRun fares asked.shards files asked.workers outcome
+  pub drawn_are : drawn ≡ drawn_by run.0
   pub shows : ShowsOf asked token outcome.ends outcome text
   pub is_well : well ≡ are_posted outcome.ends
   pub plain : well ≡ true → ShowsPlain asked fares files token text
 
 -- The text is what is asked for of the files. Settled, it is a function of the files and the table:
--- no schedule and no number of workers has a part in it.
-abbrev pub ShowsAsked : Asked → Fares → List (List ℕ) → Option Token → List ℕ → Bool → Type 0
-ShowsAsked asked fares files token text well = MatchBool asked.settle
+-- no schedule and no number of workers has a part in it. Else these files were drawn.
+abbrev pub ShowsAsked : Asked → Fares → List (List ℕ) → List ℕ → Option Token → List ℕ → Bool
+    → Type 0
+ShowsAsked asked fares files drawn token text well = MatchBool asked.settle
     (ShowsSettled asked fares files token text well)
-    (ShowsLiveRun asked fares files token text well)
+    (ShowsLiveRun asked fares files drawn token text well)
 
--- Tables and files were loaded, and their taps posted; what was appended to the writer is the
+-- Tables and files were loaded, and their taps posted. Where the bytes of a file come from that was
+-- read ahead is given for its name. What was appended to the writer is the
 -- report, the statement of the token that is asked for, or the ledger, whichever is asked for.
-pub record RunsService (asked : Asked) (loaded loaded' : Option (List Loaded))
-    (out out' : Option (List ℕ)) (well : Bool) : Type 0 where
+pub record RunsService (asked : Asked) (origin : List ℕ → Origin)
+    (loaded loaded' : Option (List Loaded)) (out out' : Option (List ℕ)) (well : Bool) : Type
+    0 where
+  pub between : Option (List Loaded)
   pub fares : Fares
+  pub loads_table : LoadsTable asked.table loaded between (Some fares)
   pub files : List (List ℕ)
-  pub loads : Loads asked.table asked.files loaded loaded' (Some fares) files
+  pub drawn : List ℕ
+  pub loads_files : AreLoaded asked origin between loaded' files drawn
   pub token : Option Token
   pub is_token : IsTokenIn asked.token token
   pub text : List ℕ
-  pub shows : ShowsAsked asked fares files token text well
+  pub shows : ShowsAsked asked fares files drawn token text well
   pub written : Appends out out' text
 
 -- The named tables were loaded, and the named files were opened, each of which has its taps in
@@ -175,20 +165,20 @@ pub record RunsTraced (asked : Asked) (loaded loaded' : Option (List Loaded))
 
 -- What is asked for beside a traced ledger was done, of files that were loaded, or of sorted files.
 -- What stands under a name of a sorted file is given, if it is known.
-abbrev pub DoesUntraced : Asked → (List ℕ → Option (List ℕ)) → Option (List Loaded)
-    → Option (List Loaded)
-    → Option (List ℕ) → Option (List ℕ) → Bool → Type 0
-DoesUntraced asked known loaded loaded' out out' well = MatchBool (lists asked)
+abbrev pub DoesUntraced : Asked → (List ℕ → Option (List ℕ)) → (List ℕ → Origin)
+    → Option (List Loaded) → Option (List Loaded) → Option (List ℕ) → Option (List ℕ) → Bool
+    → Type 0
+DoesUntraced asked known origin loaded loaded' out out' well = MatchBool (lists asked)
     (RunsListing asked.table asked.files loaded loaded' out out' well)
     (MatchBool asked.sorted (RunsSorted asked known loaded loaded' out out' well)
-    (RunsService asked loaded loaded' out out' well))
+    (RunsService asked origin loaded loaded' out out' well))
 
 -- What is asked for was done: a traced ledger was written, or something else.
-abbrev pub Does : Asked → (List ℕ → Option (List ℕ)) → Option (List Loaded) → Option (List Loaded)
-    → Option (List ℕ) → Option (List ℕ) → Bool → Type 0
-Does asked known loaded loaded' out out' well = MatchBool asked.traced
+abbrev pub Does : Asked → (List ℕ → Option (List ℕ)) → (List ℕ → Origin) → Option (List Loaded)
+    → Option (List Loaded) → Option (List ℕ) → Option (List ℕ) → Bool → Type 0
+Does asked known origin loaded loaded' out out' well = MatchBool asked.traced
     (RunsTraced asked loaded loaded' out out' well)
-    (DoesUntraced asked known loaded loaded' out out' well)
+    (DoesUntraced asked known origin loaded loaded' out out' well)
 
 -- The program gave up before it wrote: the fault's line was reported, and nothing was written.
 pub record GaveUp (fault : Fault) (said said' : Option (List ℕ)) (failed : Bool)

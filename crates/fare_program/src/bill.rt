@@ -22,6 +22,7 @@ use std::io::Write;
 use std::marker::Sync;
 use std::random::RandomSource;
 use std::thread::Threads;
+use world::Trace;
 
 /// Writes the report of a bill. Says whether each file was posted whole.
 pub(crate) fn write_billed<'a, W: Write>(
@@ -61,15 +62,18 @@ pub(crate) fn write_bill<'a, R: Threads + RandomSource + Sync, U: Uploads + Sync
     table: &FareTable,
     workers: u32,
     uploads: &U,
+    calls: &mut Trace,
     out: &mut W,
 ) -> Result<bool, Fault<'a>>
     ensures ok { IfOk result (λ well. (files : List (List ℕ)) × (text : List ℕ)
-        × AreRead (U.may_be uploads.now) 0 (U.number uploads.now) files
+        × AreRead (U.origin uploads.now) 0 (U.number uploads.now) files calls.old.run
+        calls.new.run
         × ShowsBill table.now files text well
         × Appends (W.contents out.old) (W.contents out.new) text) }
     ensures begun { IfErr result (λ fault. fault ≡ Fault.Write
         → (well : Bool) × (files : List (List ℕ)) × (text : List ℕ)
-        × AreRead (U.may_be uploads.now) 0 (U.number uploads.now) files
+        × AreRead (U.origin uploads.now) 0 (U.number uploads.now) files calls.old.run
+        calls.new.run
         × ShowsBill table.now files text well
         × Begins (W.contents out.old) (W.contents out.new) text) }
     ensures output { IfErr result IsOfOutput }
@@ -78,6 +82,6 @@ pub(crate) fn write_bill<'a, R: Threads + RandomSource + Sync, U: Uploads + Sync
         → Keeps (W.contents out.old) (W.contents out.new)) }
 {
     let seed = HashSeed::new(rt)?;
-    let made = settled_bill(rt, alloc, table, seed, uploads, workers)?;
+    let made = settled_bill(rt, alloc, table, seed, uploads, workers, calls)?;
     write_billed(alloc, made, out)
 }

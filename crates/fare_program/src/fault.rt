@@ -1,15 +1,14 @@
 //! Why the program gives up, with the line that says so and the status.
 ghost use Rattle.std.specs.Prelude.{◌≡◌, ◌≢◌, ℕ, List, Option, Some, if◌then◌else◌, map};
-ghost use Rattle.fare_service.specs.declared.faults.GatherFault.{GatherFault};
-ghost use Rattle.fare_service.specs.declared.lending.Unlent.{Unlent};
+ghost use Rattle.fare_service.specs.Faults.{MissesNothing};
 ghost use Rattle.fare_program.specs.Fault.{IsLate, fault_text, gather_text, status_of};
-ghost use Rattle.fare_program.specs.inside.Fault.{as_remembered};
+ghost use Rattle.fare_program.specs.inside.Fault.{IsRunFailure, as_remembered};
 ghost use Rattle.fare_program.specs.Causes.{IsNameReported, IsRightFault, IsRightOfSorted};
 ghost use Rattle.fare_program.specs.Options.{Asked};
 ghost use Rattle.sorted_bills.specs.Faults.{IsBeforeText, IsBillFault};
 ghost use Rattle.program_manners.specs.Loads.{Loaded};
 ghost use Rattle.program_manners.specs.Refusals.{IsOneOf, HasRefused};
-ghost use Rattle.program_manners.specs.declared.loading.LoadFault.{LoadFault as ALoadFault};
+ghost use Rattle.world.specs.declared.faults.LoadFault.{LoadFault as ALoadFault};
 ghost use Rattle.program_manners.specs.Lines.{load_text, table_text};
 
 use crate::sorted_fault::{LateFault, UnopenedFile, UnsortedFile};
@@ -153,13 +152,11 @@ impl<'a> Fault<'a> {
         }
     }
 
-    /// Why the service was not run, with a number of workers that it takes.
+    /// Why the service was not run, with a number of workers that it takes and all its claims.
     pub(crate) fn of_run(fault: RunFault) -> Fault<'a>
-        requires { fault ≢ RunFault.Workers }
-        ensures memory { fault ≡ RunFault.NoMemory → result ≡ Fault.NoMemory }
-        ensures gather { (why : GatherFault) → fault ≡ RunFault.Gather why
-            → result ≡ Fault.Gather why }
-        ensures unlent { (why : Unlent) → fault ≡ RunFault.Unlent why → result ≡ Fault.NoMemory }
+        requires workers { fault ≢ RunFault.Workers }
+        requires claims { MissesNothing fault }
+        ensures { (uploads : ℕ) → IsRunFailure uploads result }
     {
         match fault {
             RunFault::Workers => unreachable!(),

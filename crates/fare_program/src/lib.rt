@@ -46,7 +46,7 @@ mod sorted_fault;
 mod traced;
 mod uploads;
 
-pub use file_sources::{Amount, Disk, FileAhead, Host, Source, read_ahead};
+pub use file_sources::{Amount, Disk, Host, Source, read_ahead};
 pub use listing::{ListCounts, Listing, Word};
 pub use named_list::list_words;
 pub use note::Note;

@@ -1,11 +1,10 @@
 //! Named files that are read while their taps are charged.
-ghost use Rattle.std.specs.Prelude.{◌≡◌, ◌≢◌, ℕ, Bool, List, None, IfErr, IfOk, IfSome, OnErr};
-ghost use Rattle.std.specs.Prelude.{length};
+ghost use Rattle.std.specs.Prelude.{◌≡◌, ◌≢◌, ◌<◌, Bool, false, length, None, Some};
+ghost use Rattle.std.specs.Prelude.{IfErr, IfOk, IfSome, OnErr};
 ghost use Rattle.std.specs.Io.KnownBytes.{Appends, Keeps};
 ghost use Rattle.fare_texts.specs.WrittenOut.{Begins};
-ghost use Rattle.fare_program.specs.Program.{ShowsAsked};
 ghost use Rattle.fare_program.specs.inside.Options.{asked_of};
-ghost use Rattle.fare_program.specs.inside.ChargedAhead.{IsBegunAhead, IsChargedAhead};
+ghost use Rattle.fare_program.specs.inside.ChargedAhead.{IsChargedAhead};
 
 use crate::fault::Fault;
 use crate::noting::NotingGatekeeper;
@@ -14,7 +13,7 @@ use crate::posting::charge_lent;
 use crate::settle::charge_settled;
 use fare_service::LentUploads;
 use fare_table::FareTable;
-use file_sources::{Amount, Disk};
+use file_sources::{Amount, Disk, Source};
 use settlement::Uploads;
 use std::alloc::{AllocError, Global};
 use std::io::Write;
@@ -24,6 +23,7 @@ use std::random::RandomSource;
 use std::sync::Wait;
 use std::thread::Threads;
 use tap_views::Token;
+use world::Trace;
 
 /// Files of a disk, each of which is read when its turn comes.
 #[derive(Clone, Copy)]
@@ -38,12 +38,13 @@ pub(crate) struct NamedFiles<'a, D> {
 }
 
 impl<D: Disk> Uploads for NamedFiles<'_, D> {
-    ghost use Rattle.std.specs.Prelude.{length};
+    ghost use Rattle.std.specs.Prelude.{length, map};
+    ghost use Rattle.fare_program.specs.FilesLoaded.{text_at};
 
     ghost number = { λ files. length files.names.now };
 
-    // No contract says what a file of a disk has.
-    ghost may_be = { λ files upload bytes. Unit {0} };
+    ghost origin = { λ files upload.
+        D.origin files.disk.now (text_at (map (λ n. n.now) files.names.now) upload) };
 
     fn len(&self) -> usize {
         self.names.len()
@@ -63,11 +64,11 @@ impl<D: Disk> Uploads for NamedFiles<'_, D> {
         }
     }
 
-    fn read(&self, upload: usize, room: Vec<u8>) -> Result<Vec<u8>, AllocError> {
+    fn read(&self, upload: usize, room: Vec<u8>, calls: &mut Trace) -> Result<Vec<u8>, AllocError> {
         let mut room = room;
         // one byte more shows that the file has ended
         room.resize(self.size(upload).saturating_add(1), 0)?;
-        match self.disk.read_into(self.names[upload], room) {
+        match self.disk.read_into(self.names[upload], room, calls) {
             Ok(bytes) => Ok(bytes),
             Err(_) => Err(AllocError),
         }
@@ -83,18 +84,24 @@ impl<D: Disk> Uploads for NamedFiles<'_, D> {
 }
 
 impl<D: Disk> LentUploads for NamedFiles<'_, D> {
-    ghost use Rattle.std.specs.Prelude.{None, map};
+    ghost use Rattle.std.specs.Prelude.{map};
+    ghost use Rattle.fare_program.specs.FilesLoaded.{unless_memory};
 
-    // No contract says what a file of a disk has.
-    ghost known = { λ files. map (λ name. None) files.names.now };
+    ghost origins = { λ files.
+        map (λ n. unless_memory (D.origin files.disk.now n.now)) files.names.now };
 
     fn len(&self) -> usize {
         self.names.len()
     }
 
-    fn lend<'b>(&'b self, upload: u32, room: &'b mut Vec<u8>) -> Option<&'b [u8]> {
+    fn lend<'b>(
+        &'b self,
+        upload: u32,
+        room: &'b mut Vec<u8>,
+        calls: &mut Trace,
+    ) -> Option<&'b [u8]> {
         let taken = mem::replace(room, Vec::new(self.alloc));
-        let Ok(bytes) = self.read(upload as usize, taken) else {
+        let Ok(bytes) = self.read(upload as usize, taken, calls) else {
             return None;
         };
         *room = bytes;
@@ -113,88 +120,102 @@ pub(crate) fn sizes_of<D: Disk>(alloc: Global, disk: &D, names: &[&str]) -> Opti
     Some(sizes)
 }
 
-/// Charges the named files, each of which is read when its turn comes, and writes what is asked
-/// for. Says whether each file was posted whole.
+/// Charges the files that are asked for, each of which is read when its turn comes, by this table,
+/// and writes what is asked for. Says whether each file was posted whole.
 fn charge_named<'a, R: Threads + Wait + RandomSource + Sync, D: Disk + Sync, W: Write>(
-    rt: &R,
-    alloc: Global,
-    options: &Options<'a>,
-    table: &FareTable,
-    token: Option<Token>,
-    uploads: &NamedFiles<'_, D>,
-    out: &mut W,
-) -> Result<bool, Fault<'a>>
-    ensures ok { IfOk result (λ well. (files : List (List ℕ)) × (text : List ℕ)
-        × (length files ≡ length uploads.now.names.now)
-        × ShowsAsked (asked_of options.now) table.now files token text well
-        × Appends (W.contents out.old) (W.contents out.new) text) }
-    ensures begun { IfErr result (λ fault. fault ≡ Fault.Write
-        → (well : Bool) × (files : List (List ℕ)) × (text : List ℕ)
-        × (length files ≡ length uploads.now.names.now)
-        × ShowsAsked (asked_of options.now) table.now files token text well
-        × Begins (W.contents out.old) (W.contents out.new) text) }
-    ensures fault { IfErr result (λ fault. fault ≢ Fault.Write
-        → Keeps (W.contents out.old) (W.contents out.new)) }
-{
-    if options.settle {
-        let disk = uploads.disk;
-        return charge_settled(rt, alloc, disk, options, table, token, uploads, out);
-    }
-    let own = table.try_clone(alloc)?;
-    let keeper = NotingGatekeeper::new(uploads.disk, uploads.sizes);
-    let lent = NamedFiles {
-        alloc,
-        disk: uploads.disk,
-        names: uploads.names,
-        sizes: uploads.sizes,
-    };
-    let disk = uploads.disk;
-    charge_lent(rt, alloc, disk, options, own, token, lent, &keeper, out)
-}
-
-/// Charges the named files while they are read, and writes what is asked for, if that can be done:
-/// the source keeps no loads, and all files may be read before they are due. Says whether each file
-/// was posted whole.
-///
-/// If it says nothing, nothing was written. Then the files are to be loaded in their turns: so the
-/// fault that is reported is that of the first file in the order of the words.
-pub(crate) fn charge_ahead<'a, R: Threads + Wait + RandomSource + Sync, D: Disk + Sync, W: Write>(
     rt: &R,
     alloc: Global,
     disk: &D,
     options: &Options<'a>,
-    keeps_loads: bool,
+    table: &FareTable,
+    token: Option<Token>,
+    sizes: &[u64],
+    calls: &mut Trace,
+    out: &mut W,
+) -> Result<bool, Fault<'a>>
+    requires list { options.now.list ≡ false }
+    requires some { 0 < length options.now.files.items }
+    ensures ok { IfOk result (IsChargedAhead (asked_of options.now) (D.origin disk.now)
+        (Some calls.old.run.loads) (Some calls.new.run.loads) (Some table.now) token
+        (Appends (W.contents out.old) (W.contents out.new))) }
+    ensures begun { IfErr result (λ fault. fault ≡ Fault.Write → (well : Bool)
+        × IsChargedAhead (asked_of options.now) (D.origin disk.now) (Some calls.old.run.loads)
+        (Some calls.new.run.loads) (Some table.now) token
+        (Begins (W.contents out.old) (W.contents out.new)) well) }
+    ensures fault { IfErr result (λ fault. fault ≢ Fault.Write
+        → Keeps (W.contents out.old) (W.contents out.new)) }
+{
+    let uploads = NamedFiles {
+        alloc,
+        disk,
+        names: options.files.as_slice(),
+        sizes,
+    };
+    if options.settle {
+        return charge_settled(rt, alloc, disk, options, table, token, &uploads, calls, out);
+    }
+    let own = table.try_clone(alloc)?;
+    let keeper = NotingGatekeeper::new(disk, sizes);
+    charge_lent(
+        rt, alloc, disk, options, own, token, uploads, &keeper, calls, out,
+    )
+}
+
+/// Charges the named files while they are read, and writes what is asked for, if all files may be
+/// read before they are due. Says whether each file was posted whole. The source takes over what
+/// was loaded.
+///
+/// If it says nothing, nothing was written and nothing loaded. Then the files are to be loaded in
+/// their turns: so the fault that is reported is that of the first file in the order of the words.
+pub(crate) fn charge_ahead<
+    'a,
+    R: Threads + Wait + RandomSource + Sync,
+    D: Disk + Sync,
+    S: Source,
+    W: Write,
+>(
+    rt: &R,
+    alloc: Global,
+    disk: &D,
+    options: &Options<'a>,
     table: &Option<FareTable>,
     token: Option<Token>,
+    source: &mut S,
     out: &mut W,
 ) -> Result<Option<bool>, Fault<'a>>
     ensures done { IfOk result (λ done. IfSome done (IsChargedAhead (asked_of options.now)
-        keeps_loads table.now token (W.contents out.old) (W.contents out.new))) }
+        (D.origin disk.now) (S.loaded source.old) (S.loaded source.new) table.now token
+        (Appends (W.contents out.old) (W.contents out.new)))) }
     ensures none { IfOk result (λ done. done ≡ None
         → Keeps (W.contents out.old) (W.contents out.new)) }
+    ensures unloaded { IfOk result (λ done. done ≡ None
+        → S.loaded source.new ≡ S.loaded source.old) }
     ensures fault { IfErr result (λ fault. fault ≡ Fault.Write) }
-    ensures begun { OnErr result (IsBegunAhead (asked_of options.now) keeps_loads table.now token
-        (W.contents out.old) (W.contents out.new)) }
+    ensures begun { OnErr result ((well : Bool) × IsChargedAhead (asked_of options.now)
+        (D.origin disk.now) (S.loaded source.old) (S.loaded source.new) table.now token
+        (Begins (W.contents out.old) (W.contents out.new)) well) }
 {
-    if options.list || keeps_loads || options.files.is_empty() {
+    if options.list || options.files.is_empty() {
         return Ok(None);
     }
     let Some(table) = table else {
         return Ok(None);
     };
-    let names = options.files.as_slice();
-    let Some(sizes) = sizes_of(alloc, disk, names) else {
+    let Some(sizes) = sizes_of(alloc, disk, options.files.as_slice()) else {
         return Ok(None);
     };
-    let uploads = NamedFiles {
-        alloc,
-        disk,
-        names,
-        sizes: &sizes,
-    };
-    match charge_named(rt, alloc, options, table, token, &uploads, out) {
-        Ok(well) => Ok(Some(well)),
-        Err(Fault::Write) => Err(Fault::Write),
+    let mut calls = Trace::new();
+    match charge_named(
+        rt, alloc, disk, options, table, token, &sizes, &mut calls, out,
+    ) {
+        Ok(well) => {
+            source.join(calls);
+            Ok(Some(well))
+        }
+        Err(Fault::Write) => {
+            source.join(calls);
+            Err(Fault::Write)
+        }
         Err(_) => Ok(None),
     }
 }

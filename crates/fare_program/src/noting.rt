@@ -1,12 +1,11 @@
 //! Loaded uploads whose charging is noted on the disk, for whoever watches the run.
 
-ghost use Rattle.std.specs.Prelude.{◌≡◌, ◌<◌, Some, length, map, slice_get, IfOk};
-
 use fare_service::Gatekeeper;
 use file_sources::{Amount, Disk};
 use settlement::{LoadedUploads, Uploads};
 use std::alloc::{AllocError, Global};
 use tap_views::NoMemory;
+use world::Trace;
 
 /// How many bytes these sizes are together, or 2^64 - 1 if they are more.
 fn sum_of(sizes: &[u64]) -> u64 {
@@ -69,12 +68,13 @@ pub(crate) struct NotedUploads<'a, D> {
 }
 
 impl<D: Disk> Uploads for NotedUploads<'_, D> {
-    ghost use Rattle.std.specs.Prelude.{◌≡◌, Some, length, map, slice_get};
+    ghost use Rattle.std.specs.Prelude.{[], length, map, slice_index_or};
+    ghost use Rattle.world.specs.Origins.{memory};
 
     ghost number = { λ uploads. length uploads.all.now };
 
-    ghost may_be = { λ uploads upload bytes.
-        slice_get (map (λ u. u.items) uploads.all.now) upload ≡ Some bytes };
+    ghost origin = { λ uploads upload.
+        memory (slice_index_or (map (λ u. u.items) uploads.all.now) upload []) };
 
     fn len(&self) -> usize {
         self.all.len()
@@ -88,8 +88,8 @@ impl<D: Disk> Uploads for NotedUploads<'_, D> {
         LoadedUploads { all: self.all }.push_sample(upload, sample)
     }
 
-    fn read(&self, upload: usize, room: Vec<u8>) -> Result<Vec<u8>, AllocError> {
-        LoadedUploads { all: self.all }.read(upload, room)
+    fn read(&self, upload: usize, room: Vec<u8>, calls: &mut Trace) -> Result<Vec<u8>, AllocError> {
+        LoadedUploads { all: self.all }.read(upload, room, calls)
     }
 
     fn note_all(&self, taps: u64) {

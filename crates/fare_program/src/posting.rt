@@ -5,7 +5,7 @@ ghost use Rattle.fare_texts.specs.WrittenOut.{Begins};
 ghost use Rattle.fare_program.specs.Fault.{status_of};
 ghost use Rattle.fare_program.specs.inside.Causes.{IsOfOutput, IsRightOfUploads};
 ghost use Rattle.fare_program.specs.inside.Options.{asked_of};
-ghost use Rattle.fare_service.specs.Lending.{AreLentAs};
+ghost use Rattle.fare_program.specs.inside.PostedFiles.{AreLent};
 ghost use Rattle.fare_program.specs.Program.{ShowsAsked, ShowsOf, ShowsStatement, ShowsWith};
 
 use crate::fault::Fault;
@@ -24,6 +24,7 @@ use std::random::RandomSource;
 use std::sync::Wait;
 use std::thread::Threads;
 use tap_views::Token;
+use world::Trace;
 
 /// Prints the statement of the token, explained if that is asked for.
 #[tactic(auto, using(crate::proofs::WritesFailed::of_write))]
@@ -130,28 +131,32 @@ pub(crate) fn charge_lent<
     token: Option<Token>,
     uploads: U,
     keeper: &G,
+    calls: &mut Trace,
     out: &mut W,
 ) -> Result<bool, Fault<'a>>
     requires { (asked_of options.now).settle ≡ false }
-    ensures ok { IfOk result (λ well. (files : List (List ℕ)) × (text : List ℕ)
-        × AreLentAs (U.known uploads) files
-        × ShowsAsked (asked_of options.now) table files token text well
+    ensures ok { IfOk result (λ well. (files : List (List ℕ)) × (drawn : List ℕ) × (text : List ℕ)
+        × AreLent (U.origins uploads) files drawn calls.old.run calls.new.run
+        × ShowsAsked (asked_of options.now) table files drawn token text well
         × Appends (W.contents out.old) (W.contents out.new) text) }
     ensures begun { IfErr result (λ fault. fault ≡ Fault.Write
-        → (well : Bool) × (files : List (List ℕ)) × (text : List ℕ)
-        × AreLentAs (U.known uploads) files
-        × ShowsAsked (asked_of options.now) table files token text well
+        → (well : Bool) × (files : List (List ℕ)) × (drawn : List ℕ) × (text : List ℕ)
+        × AreLent (U.origins uploads) files drawn calls.old.run calls.new.run
+        × ShowsAsked (asked_of options.now) table files drawn token text well
         × Begins (W.contents out.old) (W.contents out.new) text) }
     ensures right { IfErr result (IsRightOfUploads (asked_of options.now).settle
-        (length (U.known uploads))) }
+        (length (U.origins uploads))) }
     ensures status { IfErr result (λ fault. status_of fault ≡ 1) }
     ensures fault { IfErr result (λ fault. fault ≢ Fault.Write
         → Keeps (W.contents out.old) (W.contents out.new)) }
 {
     let outcome = post_live(rt, alloc, table, options, uploads, keeper)?;
     note_outcome(alloc, disk, options, &outcome, token);
-    print_asked(rt, alloc, options, &outcome, token, out)?;
-    Ok(are_posted(outcome.ends()))
+    let printed = print_asked(rt, alloc, options, &outcome, token, out);
+    let well = are_posted(outcome.ends());
+    calls.join(outcome.into_calls());
+    printed?;
+    Ok(well)
 }
 
 /// Posts the files, settled if that is asked for, and writes what is asked for. Says whether each
@@ -166,12 +171,14 @@ pub(crate) fn charge<'a, R: Threads + Wait + RandomSource + Sync, D: Disk + Sync
     files: Vec<Vec<u8>>,
     out: &mut W,
 ) -> Result<bool, Fault<'a>>
-    ensures ok { IfOk result (λ well. (text : List ℕ)
-        × ShowsAsked (asked_of options.now) table (map (λ f. f.items) files.items) token text well
+    ensures ok { IfOk result (λ well. (drawn : List ℕ) × (text : List ℕ)
+        × ShowsAsked (asked_of options.now) table (map (λ f. f.items) files.items) drawn token text
+        well
         × Appends (W.contents out.old) (W.contents out.new) text) }
     ensures begun { IfErr result (λ fault. fault ≡ Fault.Write
-        → (well : Bool) × (text : List ℕ)
-        × ShowsAsked (asked_of options.now) table (map (λ f. f.items) files.items) token text well
+        → (well : Bool) × (drawn : List ℕ) × (text : List ℕ)
+        × ShowsAsked (asked_of options.now) table (map (λ f. f.items) files.items) drawn token text
+        well
         × Begins (W.contents out.old) (W.contents out.new) text) }
     ensures right { IfErr result (IsRightOfUploads (asked_of options.now).settle
         (length files.items)) }
@@ -180,8 +187,12 @@ pub(crate) fn charge<'a, R: Threads + Wait + RandomSource + Sync, D: Disk + Sync
         → Keeps (W.contents out.old) (W.contents out.new)) }
 {
     let uploads = NotedUploads { disk, all: &files };
+    // nothing is read from outside
+    let mut calls = Trace::new();
     if options.settle {
-        return charge_settled(rt, alloc, disk, options, &table, token, &uploads, out);
+        return charge_settled(
+            rt, alloc, disk, options, &table, token, &uploads, &mut calls, out,
+        );
     }
     let sizes = sizes_in(alloc, &files)?;
     let keeper = NotingGatekeeper::new(disk, &sizes);
@@ -194,6 +205,7 @@ pub(crate) fn charge<'a, R: Threads + Wait + RandomSource + Sync, D: Disk + Sync
         token,
         files.as_slice(),
         &keeper,
+        &mut calls,
         out,
     )
 }

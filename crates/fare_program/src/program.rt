@@ -13,10 +13,11 @@ ghost use Rattle.fare_program.specs.Fault.{traced_mistake, wrong_date};
 ghost use Rattle.fare_program.specs.inside.Fault.{IsLoadLine, IsWhyOf};
 ghost use Rattle.fare_program.specs.Options.{Asked, AsksForText, Parses, asked_by};
 ghost use Rattle.fare_program.specs.inside.Options.{asked_of};
-ghost use Rattle.fare_program.specs.Program.{Does, GaveUp, IsTokenIn, LoadsFiles};
+ghost use Rattle.fare_program.specs.Program.{Does, GaveUp, IsTokenIn};
+ghost use Rattle.fare_program.specs.FilesLoaded.{LoadsFiles, names_to_load};
 ghost use Rattle.fare_program.specs.Begun.{AreOfBytes, GaveUpOn, HasBegun, IsBegun, ReportedWrite};
 ghost use Rattle.fare_texts.specs.WrittenOut.{Begins};
-ghost use Rattle.fare_program.specs.Program.{DoesUntraced, LoadsTable, RunsTraced, names_to_load};
+ghost use Rattle.fare_program.specs.Program.{DoesUntraced, LoadsTable, RunsTraced};
 ghost use Rattle.program_manners.specs.Loads.{Loaded, LoadsOne};
 ghost use Rattle.program_manners.specs.LineWritten.{LineWritten};
 ghost use Rattle.program_manners.specs.TableViews.{names_of};
@@ -374,7 +375,8 @@ fn work_by_table<'a, R: Threads + Wait + RandomSource + Sync, D: Disk + Sync, S:
         → LoadsTable (asked_of options.now).table loaded (S.loaded source.old) table
         → IsTokenIn (asked_of options.now).token token → Keeps before (W.contents out.old)
         → (asked_of options.now).sorted ≡ false
-        → DoesUntraced (asked_of options.now) (D.bytes_under disk.now) loaded (S.loaded source.new)
+        → DoesUntraced (asked_of options.now) (D.bytes_under disk.now) (D.origin disk.now)
+        loaded (S.loaded source.new)
         before (W.contents out.new) well) }
     ensures begun { IfErr result (λ fault. fault ≡ Fault.Write
         → (loaded : Option (List Loaded)) (before : Option (List ℕ))
@@ -382,7 +384,8 @@ fn work_by_table<'a, R: Threads + Wait + RandomSource + Sync, D: Disk + Sync, S:
         → IsTokenIn (asked_of options.now).token token → Keeps before (W.contents out.old)
         → (asked_of options.now).sorted ≡ false
         → (well : Bool) × IsBegun before (W.contents out.new) (λ whole.
-        DoesUntraced (asked_of options.now) (D.bytes_under disk.now) loaded (S.loaded source.new)
+        DoesUntraced (asked_of options.now) (D.bytes_under disk.now) (D.origin disk.now)
+        loaded (S.loaded source.new)
         before whole well)) }
     ensures fault { IfErr result (λ fault. fault ≢ Fault.Write
         → Keeps (W.contents out.old) (W.contents out.new)) }
@@ -455,7 +458,8 @@ fn work<'a, R: Threads + Wait + RandomSource + Sync, D: Disk + Sync, S: Source, 
     out: &mut W,
 ) -> Result<bool, Fault<'a>>
     ensures ok { IfOk result (λ well.
-        Does (asked_of options.now) (D.bytes_under disk.now) (S.loaded source.old)
+        Does (asked_of options.now) (D.bytes_under disk.now) (D.origin disk.now)
+        (S.loaded source.old)
         (S.loaded source.new) (W.contents out.old) (W.contents out.new) well) }
     ensures right { OnOk result (mistake (asked_of options.now) ≡ None) }
     ensures dates { OnOk result (wrong_date (asked_of options.now) ≡ None) }
@@ -469,7 +473,8 @@ fn work<'a, R: Threads + Wait + RandomSource + Sync, D: Disk + Sync, S: Source, 
     // What a write that failed left is a beginning of the text that is asked for.
     ensures begun { IfErr result (λ fault. fault ≡ Fault.Write
         → AreOfBytes (asked_of options.now) (D.bytes_under disk.now)
-        → HasBegun (asked_of options.now) (D.bytes_under disk.now) (S.loaded source.old)
+        → HasBegun (asked_of options.now) (D.bytes_under disk.now) (D.origin disk.now)
+        (S.loaded source.old)
         (S.loaded source.new) (W.contents out.old) (W.contents out.new)) }
 
     // A mistake in what is asked for is seen before all else, and then nothing was loaded. Another
@@ -491,8 +496,7 @@ fn work<'a, R: Threads + Wait + RandomSource + Sync, D: Disk + Sync, S: Source, 
     if options.sorted {
         return work_sorted(rt, alloc, disk, options, table, token, out);
     }
-    let keeps_loads = source.keeps_loads();
-    match charge_ahead(rt, alloc, disk, options, keeps_loads, &table, token, out)? {
+    match charge_ahead(rt, alloc, disk, options, &table, token, source, out)? {
         Some(well) => Ok(well),
         None => work_by_table(rt, alloc, disk, options, table, token, source, out),
     }
@@ -580,7 +584,7 @@ pub fn main_over<
 ) -> u8
     // With status 0 the whole text was written, and each upload is well.
     ensures done { Parses (map string_bytes words.now) → result ≡ 0
-        → Does (asked_by (map string_bytes words.now)) (D.bytes_under disk.now)
+        → Does (asked_by (map string_bytes words.now)) (D.bytes_under disk.now) (D.origin disk.now)
         (S.loaded source.old) (S.loaded source.new) (W.contents out.old.writer)
         (W.contents out.new.writer)
         true }
@@ -638,7 +642,7 @@ pub fn main_over<
     // file was refused after all were checked.
     ensures faults { result ≡ 1
         → (Parses (map string_bytes words.now)
-        × Does (asked_by (map string_bytes words.now)) (D.bytes_under disk.now)
+        × Does (asked_by (map string_bytes words.now)) (D.bytes_under disk.now) (D.origin disk.now)
         (S.loaded source.old) (S.loaded source.new) (W.contents out.old.writer)
         (W.contents out.new.writer)
         false × (out.new.is_flushed ≡ true) × (err.new ≡ err.old))
@@ -651,6 +655,7 @@ pub fn main_over<
         × IsRightFault (asked_by (map string_bytes words.now)) (D.bytes_under disk.now)
         (S.loaded source.old) (S.loaded source.new) (S.refused source.new) fault
         × GaveUpOn (asked_by (map string_bytes words.now)) (D.bytes_under disk.now)
+        (D.origin disk.now)
         (S.loaded source.old) (S.loaded source.new) fault out.new.end
         (E.contents err.old.writer) (E.contents err.new.writer) err.new.failed
         (W.contents out.old.writer) (W.contents out.new.writer)))) }

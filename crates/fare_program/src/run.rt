@@ -8,7 +8,6 @@ ghost use Rattle.tap_views.specs.UploadEnds.{are_posted, is_posted};
 ghost use Rattle.fare_program.specs.Options.{Asked};
 ghost use Rattle.fare_program.specs.Program.{ShowsOf, ShowsPlain};
 ghost use Rattle.fare_service.specs.Headline.{HasRun, HasRunOver};
-ghost use Rattle.fare_service.specs.Lending.{AreLentAs};
 ghost use Rattle.fare_program.specs.inside.PostedFiles.{IsLiveRun};
 
 use crate::fault::Fault;
@@ -37,9 +36,9 @@ pub(crate) fn outcome_of<
     uploads: U,
     keeper: &G,
 ) -> Result<Outcome, Fault<'a>>
-    ensures run { IfOk result (HasRunOver table options.now.shards (U.known uploads)
+    ensures run { IfOk result (HasRunOver table options.now.shards (U.origins uploads)
         options.now.workers) }
-    ensures fault { IfErr result (IsRunFailure (length (U.known uploads))) }
+    ensures fault { IfErr result (IsRunFailure (length (U.origins uploads))) }
 {
     let (service, share) = match Service::open(rt, alloc, table, options.shards, uploads) {
         Ok(opened) => opened,
@@ -80,9 +79,9 @@ pub(crate) fn post_live<
     keeper: &G,
 ) -> Result<Outcome, Fault<'a>>
     ensures live { IfOk result (λ outcome. (files : List (List ℕ))
-        × AreLentAs (U.known uploads) files
-        × IsLiveRun table options.now.shards options.now.workers files outcome) }
-    ensures fault { IfErr result (IsRunFailure (length (U.known uploads))) }
+        × IsLiveRun table options.now.shards options.now.workers (U.origins uploads) files
+        outcome) }
+    ensures fault { IfErr result (IsRunFailure (length (U.origins uploads))) }
     ensures status { IfErr result (λ fault. status_of fault ≡ 1) }
 {
     let outcome = outcome_of(rt, alloc, table, options, uploads, keeper)?;

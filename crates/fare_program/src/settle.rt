@@ -24,6 +24,7 @@ use std::marker::Sync;
 use std::random::RandomSource;
 use std::thread::Threads;
 use tap_views::Token;
+use world::Trace;
 
 /// Writes the ledger of the settled history of the uploads, which this number of workers make. Says
 /// whether each file was posted whole.
@@ -33,16 +34,19 @@ fn write_ledger<'a, R: Threads + Sync, U: Uploads + Sync, W: Write>(
     table: &FareTable,
     workers: u32,
     uploads: &U,
+    calls: &mut Trace,
     out: &mut W,
 ) -> Result<bool, Fault<'a>>
     ensures ok { IfOk result (λ well. (files : List (List ℕ)) × (text : List ℕ)
-        × AreRead (U.may_be uploads.now) 0 (U.number uploads.now) files
+        × AreRead (U.origin uploads.now) 0 (U.number uploads.now) files calls.old.run
+        calls.new.run
         × ((asked : Asked) → asked.ledger ≡ true
         → ShowsSettled asked table.now files None text well)
         × Appends (W.contents out.old) (W.contents out.new) text) }
     ensures begun { IfErr result (λ fault. fault ≡ Fault.Write
         → (well : Bool) × (files : List (List ℕ)) × (text : List ℕ)
-        × AreRead (U.may_be uploads.now) 0 (U.number uploads.now) files
+        × AreRead (U.origin uploads.now) 0 (U.number uploads.now) files calls.old.run
+        calls.new.run
         × ((asked : Asked) → asked.ledger ≡ true
         → ShowsSettled asked table.now files None text well)
         × Begins (W.contents out.old) (W.contents out.new) text) }
@@ -51,7 +55,7 @@ fn write_ledger<'a, R: Threads + Sync, U: Uploads + Sync, W: Write>(
     ensures fault { IfErr result (λ fault. fault ≢ Fault.Write
         → Keeps (W.contents out.old) (W.contents out.new)) }
 {
-    let SettledTaps { ends, lists } = settled_taps(rt, alloc, uploads, workers)?;
+    let SettledTaps { ends, lists } = settled_taps(rt, alloc, uploads, workers, calls)?;
     // proof: the taps, posted in their order, are the settled history
     laws::posted_taps();
     write_settled_ledger(rt, alloc, table, &lists, workers, out)?;
@@ -66,15 +70,18 @@ fn charge_all<'a, R: Threads + RandomSource + Sync, U: Uploads + Sync, W: Write>
     options: &Options<'a>,
     table: &FareTable,
     uploads: &U,
+    calls: &mut Trace,
     out: &mut W,
 ) -> Result<bool, Fault<'a>>
     ensures ok { IfOk result (λ well. (files : List (List ℕ)) × (text : List ℕ)
-        × AreRead (U.may_be uploads.now) 0 (U.number uploads.now) files
+        × AreRead (U.origin uploads.now) 0 (U.number uploads.now) files calls.old.run
+        calls.new.run
         × ShowsSettled (asked_of options.now) table.now files None text well
         × Appends (W.contents out.old) (W.contents out.new) text) }
     ensures begun { IfErr result (λ fault. fault ≡ Fault.Write
         → (well : Bool) × (files : List (List ℕ)) × (text : List ℕ)
-        × AreRead (U.may_be uploads.now) 0 (U.number uploads.now) files
+        × AreRead (U.origin uploads.now) 0 (U.number uploads.now) files calls.old.run
+        calls.new.run
         × ShowsSettled (asked_of options.now) table.now files None text well
         × Begins (W.contents out.old) (W.contents out.new) text) }
     ensures output { IfErr result IsOfOutput }
@@ -83,9 +90,9 @@ fn charge_all<'a, R: Threads + RandomSource + Sync, U: Uploads + Sync, W: Write>
         → Keeps (W.contents out.old) (W.contents out.new)) }
 {
     if options.ledger {
-        return write_ledger(rt, alloc, table, options.workers, uploads, out);
+        return write_ledger(rt, alloc, table, options.workers, uploads, calls, out);
     }
-    write_bill(rt, alloc, table, options.workers, uploads, out)
+    write_bill(rt, alloc, table, options.workers, uploads, calls, out)
 }
 
 /// Settles the uploads, and writes what is asked for. Says whether each file was posted whole. If
@@ -104,15 +111,18 @@ pub(crate) fn charge_settled<
     table: &FareTable,
     token: Option<Token>,
     uploads: &U,
+    calls: &mut Trace,
     out: &mut W,
 ) -> Result<bool, Fault<'a>>
     ensures ok { IfOk result (λ well. (files : List (List ℕ)) × (text : List ℕ)
-        × AreRead (U.may_be uploads.now) 0 (U.number uploads.now) files
+        × AreRead (U.origin uploads.now) 0 (U.number uploads.now) files calls.old.run
+        calls.new.run
         × ShowsSettled (asked_of options.now) table.now files token text well
         × Appends (W.contents out.old) (W.contents out.new) text) }
     ensures begun { IfErr result (λ fault. fault ≡ Fault.Write
         → (well : Bool) × (files : List (List ℕ)) × (text : List ℕ)
-        × AreRead (U.may_be uploads.now) 0 (U.number uploads.now) files
+        × AreRead (U.origin uploads.now) 0 (U.number uploads.now) files calls.old.run
+        calls.new.run
         × ShowsSettled (asked_of options.now) table.now files token text well
         × Begins (W.contents out.old) (W.contents out.new) text) }
     ensures output { IfErr result IsOfOutput }
@@ -121,7 +131,7 @@ pub(crate) fn charge_settled<
         → Keeps (W.contents out.old) (W.contents out.new)) }
 {
     match token {
-        Some(token) => write_token(rt, alloc, disk, options, table, token, uploads, out),
-        None => charge_all(rt, alloc, options, table, uploads, out),
+        Some(token) => write_token(rt, alloc, disk, options, table, token, uploads, calls, out),
+        None => charge_all(rt, alloc, options, table, uploads, calls, out),
     }
 }

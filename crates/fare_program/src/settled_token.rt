@@ -28,6 +28,7 @@ use std::io::Write;
 use std::marker::Sync;
 use std::thread::Threads;
 use tap_views::{TapFields, Token};
+use world::Trace;
 
 /// Writes the statement of a token that has these taps, explained if that is asked for.
 #[tactic(auto, using(crate::proofs::WritesFailed::of_write))]
@@ -112,15 +113,18 @@ pub(crate) fn write_token<'a, R: Threads + Sync, D: Disk, U: Uploads + Sync, W: 
     table: &FareTable,
     token: Token,
     uploads: &U,
+    calls: &mut Trace,
     out: &mut W,
 ) -> Result<bool, Fault<'a>>
     ensures ok { IfOk result (λ well. (files : List (List ℕ)) × (text : List ℕ)
-        × AreRead (U.may_be uploads.now) 0 (U.number uploads.now) files
+        × AreRead (U.origin uploads.now) 0 (U.number uploads.now) files calls.old.run
+        calls.new.run
         × ShowsSettled (asked_of options.now) table.now files (Some token) text well
         × Appends (W.contents out.old) (W.contents out.new) text) }
     ensures begun { IfErr result (λ fault. fault ≡ Fault.Write
         → (well : Bool) × (files : List (List ℕ)) × (text : List ℕ)
-        × AreRead (U.may_be uploads.now) 0 (U.number uploads.now) files
+        × AreRead (U.origin uploads.now) 0 (U.number uploads.now) files calls.old.run
+        calls.new.run
         × ShowsSettled (asked_of options.now) table.now files (Some token) text well
         × Begins (W.contents out.old) (W.contents out.new) text) }
     ensures output { IfErr result IsOfOutput }
@@ -128,7 +132,7 @@ pub(crate) fn write_token<'a, R: Threads + Sync, D: Disk, U: Uploads + Sync, W: 
     ensures fault { IfErr result (λ fault. fault ≢ Fault.Write
         → Keeps (W.contents out.old) (W.contents out.new)) }
 {
-    let TokenTaps { ends, taps } = settled_taps_of(rt, alloc, uploads, token)?;
+    let TokenTaps { ends, taps } = settled_taps_of(rt, alloc, uploads, token, calls)?;
     // proof: the taps, posted alone, are the token's entries in the settled history
     laws::posted_taps();
     note_taps(disk, &taps);

@@ -12,7 +12,7 @@ ghost use Rattle.fare_program.specs.inside.Tables.{IsClassFault, IsClassFaultAt}
 ghost use Rattle.program_manners.specs.Loads.{Loaded};
 ghost use Rattle.program_manners.specs.TableLoads.{LoadsTables};
 ghost use Rattle.program_manners.specs.TableViews.{names_of};
-ghost use Rattle.program_manners.specs.declared.loading.LoadFault.{LoadFault};
+ghost use Rattle.world.specs.declared.faults.LoadFault.{LoadFault};
 ghost use Rattle.class_names.specs.Classes.{AreTrees};
 ghost use Rattle.settled_texts.specs.Ledgers.{IsTracedLedger};
 ghost use Rattle.class_names.specs.Names.{HasClasses, class_by};

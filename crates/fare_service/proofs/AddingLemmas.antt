@@ -32,6 +32,7 @@ use Rattle.fare_service.specs.inside.ServiceView.{IsService}
 use Rattle.fare_service.specs.ShareView.{ShareView}
 use Rattle.fare_service.specs.inside.Joining.{with_all_done}
 use Rattle.fare_service.specs.Outcomes.{OutcomeView}
+use Rattle.world.specs.Run.{nothing_yet}
 use Rattle.fare_service.specs.Runs.{RunVisit, IsEntered, entries_of, taps_posted}
 use Rattle.fare_service.specs.inside.Runs.{visits_to}
 use Rattle.fare_service.specs.Shares.{Worked, all_visits, IsWorkOf, IsEndOf, IsShareOf, all_works}
@@ -434,14 +435,14 @@ pub shares_add_up : (service : ServiceView) → IsService service → (shares : 
     → sums (all_entries closed) ≡ add_all workers
 shares_add_up service is shares all closed work ends are number workers sums_are =
     let o = has_gathered service is shares all closed work ends are number workers sums_are
-    (sums (all_entries closed)) in
+    (sums (all_entries closed)) nothing_yet in
     workers_add_up (given_of service o.files) o.works
     (record {
       books = closed;
       ends = ends;
       workers = workers;
-      totals =
-          sums (all_entries closed);
+      totals = sums (all_entries closed);
+      run = nothing_yet;
     }) o.gathered
 
 -- few entries, few taps

@@ -555,4 +555,5 @@ fresh_left share f =
       visits =
           λ shard. own_left shard share.passes ∙ f.visits shard;
       totals = f.totals;
+      run = f.run;
     }

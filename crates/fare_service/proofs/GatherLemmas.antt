@@ -4,6 +4,7 @@ use Rattle.std.specs.Prelude.{[], ◌∷◌, ◌++◌, length, map, replicate, s
 use Rattle.std.specs.Prelude.{Some, cond}
 use Rattle.std.specs.List.{flat_map, AllZip}
 use Rattle.std.proofs.Common.{refl, sym, ◌∙◌, ap, inl, inr, subst, arith, eq-eqb}
+use Rattle.std.proofs.Common.{append_assoc, append-nil}
 use Rattle.std.proofs.lemmas.Bool.{cases_lt}
 use Rattle.std.proofs.lemmas.Bool.Decides.{eqb_tells}
 use Rattle.std.proofs.lemmas.List.{map-append}
@@ -25,13 +26,16 @@ use Rattle.fare_service.specs.Headline.{end_of}
 use Rattle.fare_service.specs.ServiceView.{ServiceView, shards_of}
 use Rattle.fare_service.specs.inside.ServiceView.{IsService, IsBookOf}
 use Rattle.fare_service.specs.ShareView.{ShareView}
-use Rattle.fare_service.specs.inside.Joining.{with_done, with_all_done}
+use Rattle.fare_service.specs.inside.Joining.{with_done, with_all_done, with_runs}
+use Rattle.world.specs.Origins.{with_loads}
+use Rattle.world.specs.Run.{Load, Run, nothing_yet, with_all}
 use Rattle.fare_service.specs.inside.Outcomes.{IsOutcome}
 use Rattle.fare_service.specs.Runs.{entries_of}
 use Rattle.fare_service.specs.Shares.{Worked, all_visits, all_works, done_of, IsWorked}
-use Rattle.fare_service.specs.Shares.{IsWorkOf, KeepsWorks, IsShareOf, IsEndOf}
+use Rattle.fare_service.specs.Shares.{IsWorkOf, KeepsWorks, IsShareOf, IsEndOf, loads_of}
 use Rattle.fare_service.proofs.GatheredWork.{Given, IsBookOfWork}
 use Rattle.fare_service.proofs.PlainLists.{All-flat}
+use Rattle.fare_service.proofs.ShareLemmas.{loads_append}
 
 -- what each share keeps
 abbrev pub Kept : ServiceView → List ShareView → List (List Worked) → Type 0
@@ -74,6 +78,28 @@ drawn_all service (s ∷ shares) (w ∷ works) kept =
     ap (λ ds. ds ++ flat_map (λ (share : ShareView). share.drawer.drawn) shares) kept.0.drawn
     ∙ ap (λ ds. map (λ (x : Worked). x.upload) w ++ ds) (drawn_all service shares works kept.1)
     ∙ sym (map-append (λ x. x.upload) w (all_works works))
+
+loads_after : (service : ServiceView) (shares : List ShareView) (works : List (List Worked))
+    → Kept service shares works → (before : List Load)
+    → with_runs (with_loads nothing_yet before) shares
+    ≡ with_loads nothing_yet (before ++ loads_of service.uploads (all_works works))
+loads_after service [] [] kept before = ap (with_loads nothing_yet) (sym (append-nil before))
+loads_after service [] (w ∷ works) kept before = absurd kept
+loads_after service (s ∷ shares) [] kept before = absurd kept
+loads_after service (s ∷ shares) (w ∷ works) kept before =
+    let own = loads_of service.uploads w in
+    let others = loads_of service.uploads (all_works works) in
+    ap (λ r. with_runs (with_all (with_loads nothing_yet before) r) shares) kept.0.loads
+    ∙ loads_after service shares works kept.1 (before ++ own)
+    ∙ ap (with_loads nothing_yet) (append_assoc before own others
+    ∙ ap (λ loads. before ++ loads) (sym (loads_append service.uploads w (all_works works))))
+
+-- the calls of all shares are the loads of all works
+pub loads_all : (service : ServiceView) (shares : List ShareView) (works : List (List Worked))
+    → Kept service shares works
+    → with_runs nothing_yet shares
+    ≡ with_loads nothing_yet (loads_of service.uploads (all_works works))
+loads_all service shares works kept = loads_after service shares works kept []
 
 pub totals_all : (service : ServiceView) (shares : List ShareView) (works : List (List Worked))
     → Kept service shares works
@@ -224,7 +250,7 @@ never_undrawn : (service : ServiceView) (w : Worked) → IsWorked service w → 
 never_undrawn service w worked = by_end w.end worked.ended
   where
     by_end : (end : UploadEnd)
-        → IsEndOf (shards_of service) worked.file worked.batches worked.rest w.visits end
+        → IsEndOf (shards_of service) w.file worked.batches worked.rest w.visits end
         → end ≢ Undrawn
     by_end Undrawn e is = e
     by_end (Posted taps) e is = absurd (cc)
@@ -367,9 +393,15 @@ undrawn_last service shares works kept closed work upload ended =
 pub is_outcome : (service : ServiceView) → IsService service
     → (shares : List ShareView) (closed : List Book) → IsClosedWork service.books shares closed
     → (ends : List UploadEnd) → length ends ≡ length service.uploads
-    → (workers : List Sums) (totals : Sums) → totals ≡ sums (all_entries closed)
-    → IsOutcome (record { books = closed; ends = ends; workers = workers; totals = totals })
-is_outcome service is shares closed work ends number workers totals of_books = record {
+    → (workers : List Sums) (totals : Sums) (run : Run) → totals ≡ sums (all_entries closed)
+    → IsOutcome (record {
+      books = closed;
+      ends = ends;
+      workers = workers;
+      totals = totals;
+      run = run;
+    })
+is_outcome service is shares closed work ends number workers totals run of_books = record {
   some_shard = omega (arith, work.number, is.some_shard);
   few_shards = omega (arith, work.number, is.few_shards);
   shards = λ shard book at. let h = work.books shard book at in

@@ -1,19 +1,24 @@
 -- Shares are gathered: what their workers did is an outcome of files, with which the uploads were
 -- lent.
-use Rattle.std.specs.Prelude.{ℕ, ◌≡◌, List, length, map, replicate, All}
-use Rattle.std.specs.List.{AllZip}
-use Rattle.std.proofs.Common.{sym, ◌∙◌, inl, inr, subst}
+use Rattle.std.specs.Prelude.{ℕ, ◌≡◌, List, [], ◌∷◌, ◌++◌, length, map, replicate, All}
+use Rattle.std.specs.Prelude.{slice_index_or}
+use Rattle.std.specs.List.{AllZip, flat_map}
+use Rattle.std.proofs.Common.{refl, sym, ◌∙◌, ap, inl, inr, subst}
+use Rattle.std.proofs.lemmas.List.Elements.{All-head, All-map, All-tail}
+use Rattle.world.specs.Origins.{Origin, IsFrom, loads_from, with_loads}
+use Rattle.world.specs.Run.{Run, nothing_yet}
 use Rattle.shard_book.specs.Book.{Book}
 use Rattle.histories.specs.Sums.{Sums}
 use Rattle.shared_books.specs.Drawing.{NoneTwice}
 use Rattle.tap_views.specs.declared.upload_end.UploadEnd.{UploadEnd}
 use Rattle.tap_views.specs.declared.upload_end.UploadEnd.TheVariants.{Undrawn}
-use Rattle.fare_service.specs.Headline.{end_of, HasOutcome, HasRunOver}
-use Rattle.fare_service.specs.Lending.{AreLentAs}
+use Rattle.fare_service.specs.Headline.{end_of, HasOutcome, HasRunOver, loads_at}
+use Rattle.fare_service.specs.Lending.{AreLentAs, origin_at}
 use Rattle.fare_service.specs.Outcomes.{OutcomeView}
 use Rattle.fare_service.specs.ServiceView.{ServiceView, shards_of}
 use Rattle.fare_service.specs.ShareView.{ShareView}
 use Rattle.fare_service.specs.Shares.{Worked, all_works, IsShareOf, IsWorked, IsWorkOf, KeepsWorks}
+use Rattle.fare_service.specs.Shares.{file_at, loads_of}
 use Rattle.fare_service.specs.inside.Closing.{IsClosedWork}
 use Rattle.fare_service.specs.inside.Joining.{with_all_done}
 use Rattle.fare_service.specs.inside.ServiceView.{IsService}
@@ -40,9 +45,15 @@ pub has_gathered : (service : ServiceView) → IsService service → (shares : L
     → ends ≡ with_all_done (replicate (length service.uploads) Undrawn) shares
     → length ends ≡ length service.uploads
     → (workers : List Sums) → workers ≡ map (λ share. share.totals) shares → (totals : Sums)
-    → HasGathered service shares
-    (record { books = closed; ends = ends; workers = workers; totals = totals })
-has_gathered service is shares all closed work ends are number workers sums_are totals =
+    (run : Run)
+    → HasGathered service shares (record {
+      books = closed;
+      ends = ends;
+      workers = workers;
+      totals = totals;
+      run = run;
+    })
+has_gathered service is shares all closed work ends are number workers sums_are totals run =
     let k = keepings service shares all in
     let D : List ℕ → Type 0 = NoneTwice in
     let once = subst D (drawn_all service shares k.0 k.1) work.once in
@@ -74,6 +85,18 @@ has_gathered service is shares all closed work ends are number workers sums_are 
         ∙ sym (not_drawn (all_works works) upload none)
     by_reported works upload end (inr (some, e)) = e
 
+-- the loads of works are those of their files
+loads_drawn : (uploads : List Origin) (files : List (List ℕ)) (works : List Worked)
+    → All (λ w. w.file ≡ file_at files w.upload) works
+    → loads_of uploads works ≡ flat_map (loads_at uploads files) (map (λ w. w.upload) works)
+loads_drawn uploads files [] lent = refl
+loads_drawn uploads files (w ∷ works) lent =
+    let P : Worked → Type 0 = λ x. x.file ≡ file_at files x.upload in
+    ap (λ f. loads_from (origin_at uploads w.upload) f ++ loads_of uploads works)
+    (All-head P w works lent)
+    ∙ ap (λ loads. loads_at uploads files w.upload ++ loads)
+    (loads_drawn uploads files works (All-tail P w works lent))
+
 -- a run of this number of workers was gathered
 pub has_run : (service : ServiceView) (shares : List ShareView) (workers : ℕ)
     (outcome : OutcomeView) → length shares ≡ workers → HasOutcome service shares outcome
@@ -82,4 +105,24 @@ has_run service shares workers outcome number is = record {
   files = is.files;
   lent = is.lent;
   run = (is.works, sym (kept_length service shares is.works is.kept) ∙ number, is.headline);
+  loaded = record {
+    from = All-map (λ upload. IsFrom (origin_at service.uploads upload) (file_at is.files upload))
+        (λ w. w.upload) works
+        (λ k d few. from (slice_index_or works k d) (each k d few) (of k d few).lent);
+    loads = is.loads ∙ ap (with_loads nothing_yet)
+        (loads_drawn service.uploads is.files works (λ k d few. (of k d few).lent));
+  };
 }
+  where
+    works : List Worked
+    works = all_works is.works
+
+    each : All (IsWorked service) works
+    each = All-flat (IsWorked service) is.works (all_each service shares is.works is.kept)
+
+    of : All (IsWorkOf (shards_of service) is.files) works
+    of = All-flat (IsWorkOf (shards_of service) is.files) is.works is.headline.worked
+
+    from : (w : Worked) → IsWorked service w → w.file ≡ file_at is.files w.upload
+        → IsFrom (origin_at service.uploads w.upload) (file_at is.files w.upload)
+    from w worked lent = subst (IsFrom (origin_at service.uploads w.upload)) lent worked.from

@@ -20,7 +20,10 @@ use Rattle.fare_service.specs.ShareView.{ShareView}
 use Rattle.fare_service.specs.Runs.{RunVisit, entries_to, entries_of}
 use Rattle.fare_service.specs.Shares.{Worked, all_visits, done_of, IsWorked, KeepsWorks, IsShareOf}
 use Rattle.fare_service.specs.Shares.{IsFresh, HasWorked, HasVisited, made_visits_at}
-use Rattle.fare_service.specs.Shares.{made_visits, books_of}
+use Rattle.fare_service.specs.Shares.{made_visits, books_of, loads_of}
+use Rattle.fare_service.specs.Lending.{origin_at}
+use Rattle.world.specs.Origins.{Origin, loads_from, with_loads}
+use Rattle.world.specs.Run.{Load, Run, nothing_yet}
 use Rattle.fare_service.specs.inside.Shares.{worked}
 use Rattle.fare_service.proofs.VisitLemmas.{made_none, made_more, entries_to-append, own-others}
 use Rattle.fare_service.proofs.VisitLemmas.{no_taps}
@@ -29,12 +32,26 @@ pub all_visits-append : (xs ys : List Worked)
     → all_visits (xs ++ ys) ≡ all_visits xs ++ all_visits ys
 all_visits-append xs ys = flat_map-append (λ w. w.visits) xs ys
 
+pub loads_append : (uploads : List Origin) (xs ys : List Worked)
+    → loads_of uploads (xs ++ ys) ≡ loads_of uploads xs ++ loads_of uploads ys
+loads_append uploads xs ys =
+    flat_map-append (λ w. loads_from (origin_at uploads w.upload) w.file) xs ys
+
+-- no load
+with_none : (r : Run) → with_loads r [] ≡ r
+with_none r = ap (λ loads. record r { loads = loads }) (append-nil r.loads)
+
+-- some loads, and then others
+with_both : (r : Run) (xs ys : List Load)
+    → with_loads (with_loads r xs) ys ≡ with_loads r (xs ++ ys)
+with_both r xs ys = ap (λ loads. record r { loads = loads }) (append_assoc r.loads xs ys)
+
 -- nothing was done with the share
 pub worked_none : (service : ServiceView) (old new : ShareView)
     → new.drawer.claims ≡ old.drawer.claims → new.drawer.drawn ≡ old.drawer.drawn
     → new.done ≡ old.done → new.passes ≡ old.passes → new.totals ≡ old.totals
-    → HasWorked service old new []
-worked_none service old new claims drawn done passes totals =
+    → new.run ≡ old.run → HasWorked service old new []
+worked_none service old new claims drawn done passes totals run =
     let P : List PassView → Type 0 =
     λ ps. HasVisited (shards_of service) old.passes ps old.totals new.totals [] in
     let T : Sums → Type 0 =
@@ -46,6 +63,7 @@ worked_none service old new claims drawn done passes totals =
       done = done ∙ sym (append-nil old.done);
       made = subst P (sym passes)
           (subst T (sym totals) (made_none (shards_of service) old.passes old.totals));
+      loads = run ∙ sym (with_none old.run);
     }
 
 -- one upload was drawn and posted
@@ -53,8 +71,10 @@ pub worked_one : (service : ServiceView) (old new : ShareView) (w : Worked) → 
     → new.drawer.claims ≡ old.drawer.claims → new.drawer.drawn ≡ old.drawer.drawn ++ w.upload ∷ []
     → new.done ≡ old.done ++ done_of w ∷ []
     → HasVisited (shards_of service) old.passes new.passes old.totals new.totals w.visits
+    → new.run ≡ with_loads old.run (loads_from (origin_at service.uploads w.upload) w.file)
     → HasWorked service old new (w ∷ [])
-worked_one service old new w is claims drawn done made =
+worked_one service old new w is claims drawn done made lent =
+    let loads = loads_from (origin_at service.uploads w.upload) w.file in
     let P : List RunVisit → Type 0 =
     λ vs. HasVisited (shards_of service) old.passes new.passes old.totals new.totals vs in
     record {
@@ -63,6 +83,7 @@ worked_one service old new w is claims drawn done made =
       drawn = drawn;
       done = done;
       made = subst P (sym (append-nil w.visits)) made;
+      loads = lent ∙ ap (with_loads old.run) (sym (append-nil loads));
     }
 
 -- some uploads, and then others
@@ -85,6 +106,10 @@ worked_more service a b c xs ys p q =
       made = subst P (sym (all_visits-append xs ys))
           (made_more (shards_of service) a.passes b.passes c.passes a.totals b.totals c.totals
           (all_visits xs) (all_visits ys) p.made q.made);
+      loads = q.loads
+          ∙ (ap (λ r. with_loads r (loads_of service.uploads ys)) p.loads
+          ∙ with_both a.run (loads_of service.uploads xs) (loads_of service.uploads ys)
+          ∙ ap (with_loads a.run) (sym (loads_append service.uploads xs ys)));
     }
 
 -- what a share keeps after it went on
@@ -105,6 +130,9 @@ keeps_more service old new works more k h = record {
       ∙ sym (ap (λ vs. sums (entries_of vs)) (all_visits-append works more)
       ∙ ap sums (flat_map-append (λ v. v.entries) (all_visits works) (all_visits more))
       ∙ sums-append (entries_of (all_visits works)) (entries_of (all_visits more))));
+  loads = h.loads
+      ∙ (ap (λ r. with_loads r (loads_of service.uploads more)) k.loads
+      ∙ ap (with_loads nothing_yet) (sym (loads_append service.uploads works more)));
 }
 
 pub share_more : (service : ServiceView) (old new : ShareView) (more : List Worked)
@@ -119,43 +147,47 @@ share_more service old new more share h drawn_from few = record {
   room = omega (arith, few, share.room, length-append share.works more);
 }
 
-abbrev pub holding : DrawerView → List PassView → Sums → List Done → ShareView
-holding drawer passes totals done =
-    record { drawer = drawer; passes = passes; totals = totals; done = done }
+abbrev pub holding : DrawerView → List PassView → Sums → List Done → Run → ShareView
+holding drawer passes totals done run =
+    record { drawer = drawer; passes = passes; totals = totals; done = done; run = run }
 
 -- a worker that drew an upload and posted it
 pub next_done : (service : ServiceView) (drawer drawer' : DrawerView)
     (passes passes' : List PassView) (totals totals' : Sums) (done done' : List Done) (upload : ℕ)
-    (end : UploadEnd) (visits : List RunVisit)
+    (file : List ℕ) (end : UploadEnd) (visits : List RunVisit) (run run' : Run)
     → drawer'.claims ≡ drawer.claims → drawer'.drawn ≡ drawer.drawn ++ upload ∷ []
     → done' ≡ done ++ record { upload = upload; end = end } ∷ []
     → HasVisited (shards_of service) passes passes' totals totals' visits
-    → IsWorked service (worked upload end visits)
-    → HasWorked service (holding drawer passes totals done) (holding drawer' passes' totals' done')
-    (worked upload end visits ∷ [])
-next_done service drawer drawer' passes passes' totals totals' done done' upload end visits claims
-    drawn more made is =
-    worked_one service (holding drawer passes totals done) (holding drawer' passes' totals' done')
-    (worked upload end visits) is claims drawn more made
+    → IsWorked service (worked upload file end visits)
+    → run' ≡ with_loads run (loads_from (origin_at service.uploads upload) file)
+    → HasWorked service (holding drawer passes totals done run)
+    (holding drawer' passes' totals' done' run') (worked upload file end visits ∷ [])
+next_done service drawer drawer' passes passes' totals totals' done done' upload file end visits
+    run run' claims drawn more made is lent =
+    worked_one service (holding drawer passes totals done run)
+    (holding drawer' passes' totals' done' run') (worked upload file end visits) is claims drawn
+    more made lent
 
 pub next_share : (service : ServiceView) (drawer drawer' : DrawerView)
     (passes passes' : List PassView) (totals totals' : Sums) (done done' : List Done) (upload : ℕ)
-    (end : UploadEnd) (old : ShareView)
-    → holding drawer passes totals done ≡ old → IsShareOf service old
+    (file : List ℕ) (end : UploadEnd) (run run' : Run) (old : ShareView)
+    → holding drawer passes totals done run ≡ old → IsShareOf service old
     → drawer'.claims ≡ drawer.claims → drawer'.drawn ≡ drawer.drawn ++ upload ∷ []
     → drawer'.drawn_from ≡ drawer.drawn_from
     → done' ≡ done ++ record { upload = upload; end = end } ∷ []
     → ((visits : List RunVisit)
     × HasVisited (shards_of service) passes passes' totals totals' visits
-    × IsWorked service (worked upload end visits)) → totals'.taps ≤ totals.taps + 2 ^ 60
-    → IsShareOf service (holding drawer' passes' totals' done')
-next_share service drawer drawer' passes passes' totals totals' done done' upload end old is share
-    claims drawn drawn_from more (visits, made, did) few =
+    × IsWorked service (worked upload file end visits)) → totals'.taps ≤ totals.taps + 2 ^ 60
+    → run' ≡ with_loads run (loads_from (origin_at service.uploads upload) file)
+    → IsShareOf service (holding drawer' passes' totals' done' run')
+next_share service drawer drawer' passes passes' totals totals' done done' upload file end run run'
+    old is share claims drawn drawn_from more (visits, made, did) few lent =
     let P : ShareView → Type 0 = IsShareOf service in
-    share_more service (holding drawer passes totals done) (holding drawer' passes' totals' done')
-    (worked upload end visits ∷ []) (subst P (sym is) share)
-    (next_done service drawer drawer' passes passes' totals totals' done done' upload end visits
-    claims drawn more made did) drawn_from (omega (arith, few))
+    share_more service (holding drawer passes totals done run)
+    (holding drawer' passes' totals' done' run')
+    (worked upload file end visits ∷ []) (subst P (sym is) share)
+    (next_done service drawer drawer' passes passes' totals totals' done done' upload file end
+    visits run run' claims drawn more made did lent) drawn_from (omega (arith, few))
 
 -- passes of which none made a visit
 pub own_none : {A : Type 0} (f : A → PassView) → ((x : A) → made_visits (f x).marks ≡ [])
@@ -200,6 +232,7 @@ share_left service share is = record {
     visits =
         λ s. own_left s share.passes ∙ is.keeps.visits s;
     totals = is.keeps.totals;
+    loads = is.keeps.loads;
   };
   room = is.room;
 }
@@ -228,11 +261,13 @@ books_split (p ∷ ps) = ap (λ xs. p.book ∷ xs) (books_split ps)
 
 -- a share with which nothing was done
 pub fresh_share : (service : ServiceView) (drawer : DrawerView) (passes : List PassView)
-    (totals : Sums) (done : List Done) → drawer.drawn_from ≡ service.drawing → drawer.drawn ≡ []
+    (totals : Sums) (done : List Done) (run : Run) → drawer.drawn_from ≡ service.drawing
+    → drawer.drawn ≡ []
     → books_of passes ≡ service.books
     → ((shard : ℕ) → made_visits_at shard passes ≡ []) → totals ≡ sums [] → done ≡ []
-    → IsShareOf service (holding drawer passes totals done)
-fresh_share service drawer passes totals done drawn_from drawn books own zero_totals none = record {
+    → run ≡ nothing_yet → IsShareOf service (holding drawer passes totals done run)
+fresh_share service drawer passes totals done run drawn_from drawn books own zero_totals none
+    unread = record {
   drawer = drawn_from;
   passes = books;
   works = [];
@@ -241,14 +276,15 @@ fresh_share service drawer passes totals done drawn_from drawn books own zero_to
     drawn = drawn;
     done = none;
     visits = own;
-    totals =
-        zero_totals;
+    totals = zero_totals;
+    loads = unread;
   };
   room = omega (arith, ap (λ s. s.taps) zero_totals, no_taps);
 }
 
 pub fresh : (drawer : DrawerView) (passes : List PassView) (totals : Sums) (done : List Done)
-    → drawer.drawn ≡ [] → ((shard : ℕ) → made_visits_at shard passes ≡ []) → totals ≡ sums []
-    → done ≡ [] → IsFresh (holding drawer passes totals done)
-fresh drawer passes totals done drawn own zero_totals none =
-    record { drawn = drawn; done = none; visits = own; totals = zero_totals }
+    (run : Run) → drawer.drawn ≡ [] → ((shard : ℕ) → made_visits_at shard passes ≡ [])
+    → totals ≡ sums [] → done ≡ [] → run ≡ nothing_yet
+    → IsFresh (holding drawer passes totals done run)
+fresh drawer passes totals done run drawn own zero_totals none unread =
+    record { drawn = drawn; done = none; visits = own; totals = zero_totals; run = unread }

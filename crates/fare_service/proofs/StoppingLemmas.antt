@@ -1,5 +1,5 @@
 -- A worker that goes on, and where it stops.
-use Rattle.std.specs.Prelude.{◌≡◌, ◌⊎◌, List, [], ◌∷◌, ◌++◌, All, length, Some, None}
+use Rattle.std.specs.Prelude.{◌≡◌, ◌⊎◌, ℕ, List, [], ◌∷◌, ◌++◌, All, length, Some, None}
 use Rattle.std.proofs.Common.{refl, inl, inr}
 use Rattle.std.proofs.lemmas.List.Elements.{All-nil, All-cons, All-append, All-weaker}
 use Rattle.std.specs.Option.{option_to_list}
@@ -13,6 +13,9 @@ use Rattle.fare_service.specs.Plain.{WasNotCut}
 use Rattle.fare_service.specs.Runs.{RunVisit}
 use Rattle.fare_service.specs.Shares.{Worked, HasWorked, IsWorked, HasVisited, WentOn}
 use Rattle.fare_service.specs.inside.Shares.{worked}
+use Rattle.fare_service.specs.Lending.{origin_at}
+use Rattle.world.specs.Origins.{loads_from, with_loads}
+use Rattle.world.specs.Run.{Run}
 use Rattle.fare_service.specs.Stopping.{SomeFull, MayGoOn, StoppedWell, WasCut}
 use Rattle.fare_service.proofs.ShareLemmas.{holding, next_done, worked_none}
 use Rattle.fare_service.proofs.ShareLemmas.{worked_more}
@@ -72,45 +75,53 @@ stopped_went_on service old new s = (s.before ++ option_to_list s.last, s.worked
 
 pub going_start : (service : ServiceView) (share : ShareView) → Going service share share
 going_start service share =
-    ([], worked_none service share share refl refl refl refl refl, All-nil (MayGoOn share.passes))
+    (
+      [],
+      worked_none service share share refl refl refl refl refl refl,
+      All-nil (MayGoOn share.passes),
+    )
 
--- an upload that was drawn and posted
+-- an upload that was drawn, lent and posted
 module _ (service : ServiceView) (old : ShareView) (drawer drawer' : DrawerView)
-    (passes passes' : List PassView) (totals totals' : Sums) (done done' : List Done) (next : Done)
-    (going : Going service old (holding drawer passes totals done))
+    (passes passes' : List PassView) (totals totals' : Sums) (done done' : List Done)
+    (file : List ℕ) (run run' : Run) (next : Done)
+    (going : Going service old (holding drawer passes totals done run))
     (claims : drawer'.claims ≡ drawer.claims)
     (drawn : drawer'.drawn ≡ drawer.drawn ++ next.upload ∷ []) (more : done' ≡ done ++ next ∷ [])
     (did : (visits : List RunVisit)
     × HasVisited (shards_of service) passes passes' totals totals' visits
-    × IsWorked service (worked next.upload next.end visits))
+    × IsWorked service (worked next.upload file next.end visits))
+    (lent : run' ≡ with_loads run (loads_from (origin_at service.uploads next.upload) file))
     (full : SomeFull passes → SomeFull passes') where
-  one : HasWorked service (holding drawer passes totals done)
-      (holding drawer' passes' totals' done') (worked next.upload next.end did.0 ∷ [])
-  one = next_done service drawer drawer' passes passes' totals totals' done done' next.upload
-      next.end did.0 claims drawn more did.1 did.2
+  one : HasWorked service (holding drawer passes totals done run)
+      (holding drawer' passes' totals' done' run') (worked next.upload file next.end did.0 ∷ [])
+  one = next_done service drawer drawer' passes passes' totals totals' done done' next.upload file
+      next.end did.0 run run' claims drawn more did.1 did.2 lent
 
   pub going_next : WasNotCut next.end ⊎ SomeFull passes'
-      → Going service old (holding drawer' passes' totals' done')
-  going_next goes = going_more service old (holding drawer passes totals done)
-      (holding drawer' passes' totals' done') (worked next.upload next.end did.0) going one full
-      goes
+      → Going service old (holding drawer' passes' totals' done' run')
+  going_next goes = going_more service old (holding drawer passes totals done run)
+      (holding drawer' passes' totals' done' run') (worked next.upload file next.end did.0) going
+      one full goes
 
-  pub cut_next : WasCut next.end → StoppedWell service old (holding drawer' passes' totals' done')
-  cut_next cut = stopped_cut service old (holding drawer passes totals done)
-      (holding drawer' passes' totals' done') (worked next.upload next.end did.0) going one full cut
+  pub cut_next : WasCut next.end
+      → StoppedWell service old (holding drawer' passes' totals' done' run')
+  cut_next cut = stopped_cut service old (holding drawer passes totals done run)
+      (holding drawer' passes' totals' done' run') (worked next.upload file next.end did.0) going
+      one full cut
 
 -- no upload was left to draw
 module _ (service : ServiceView) (drawer drawer' : DrawerView) (passes : List PassView)
-    (totals : Sums) (done : List Done) (claims : drawer'.claims ≡ drawer.claims)
+    (totals : Sums) (done : List Done) (run : Run) (claims : drawer'.claims ≡ drawer.claims)
     (same : drawer'.drawn ≡ drawer.drawn) where
-  stays : HasWorked service (holding drawer passes totals done) (holding drawer' passes totals done)
-      []
-  stays = worked_none service (holding drawer passes totals done)
-      (holding drawer' passes totals done) claims same refl refl refl
+  stays : HasWorked service (holding drawer passes totals done run)
+      (holding drawer' passes totals done run) []
+  stays = worked_none service (holding drawer passes totals done run)
+      (holding drawer' passes totals done run) claims same refl refl refl refl
 
-  pub none_next : (old : ShareView) → Going service old (holding drawer passes totals done)
+  pub none_next : (old : ShareView) → Going service old (holding drawer passes totals done run)
       → drawer'.seen ≡ length service.uploads
-      → StoppedWell service old (holding drawer' passes totals done)
+      → StoppedWell service old (holding drawer' passes totals done run)
   none_next old going seen =
-      stopped_none service old (holding drawer passes totals done)
-      (holding drawer' passes totals done) going stays (λ h. h) seen
+      stopped_none service old (holding drawer passes totals done run)
+      (holding drawer' passes totals done run) going stays (λ h. h) seen

@@ -12,7 +12,8 @@ use Rattle.tap_views.specs.declared.upload_end.UploadEnd.TheVariants.{Cut}
 use Rattle.fare_service.specs.declared.service.working.Stop.{Stop}
 use Rattle.tap_views.specs.UploadEnds.{end_by}
 use Rattle.fare_service.specs.ServiceView.{ServiceView, shards_of}
-use Rattle.fare_service.specs.Lending.{IsLentAs}
+use Rattle.fare_service.specs.Lending.{origin_at}
+use Rattle.world.specs.Origins.{IsFrom}
 use Rattle.fare_service.specs.Runs.{RunVisit, runs_of, ArePostedWhole, taps_posted}
 use Rattle.fare_service.specs.inside.Runs.{ArePostedOrCut}
 use Rattle.fare_service.specs.Shares.{HasVisited, IsWorked, IsEndOf}
@@ -29,11 +30,11 @@ Ended shards file p q s t r =
     × IfOk r (IsEndAfterBatches file rest)
 
 -- the upload was worked on, and ended so
-abbrev pub Worked_as : ServiceView → ℕ → UploadEnd → List PassView → List PassView → Sums → Sums
-    → Type 0
-Worked_as service upload end p q s t =
+abbrev pub Worked_as : ServiceView → ℕ → List ℕ → UploadEnd → List PassView → List PassView
+    → Sums → Sums → Type 0
+Worked_as service upload file end p q s t =
     (visits : List RunVisit) × HasVisited (shards_of service) p q s t visits
-    × IsWorked service (worked upload end visits)
+    × IsWorked service (worked upload file end visits)
 
 posted_taps_are : (shards : ℕ) (p q : List PassView) (s t : Sums) (more : List RunVisit) (taps : ℕ)
     → HasVisited shards p q s t more → taps ≡ t.taps - s.taps → taps ≡ taps_posted more
@@ -43,17 +44,16 @@ posted_taps_are shards p q s t more taps made e =
 by_end : (service : ServiceView) (upload : ℕ) (end : UploadEnd) (file : List ℕ)
     (batches : List (List Tap)) (rest : List ℕ) (visits : List RunVisit) (p q : List PassView)
     (s t : Sums)
-    → upload < length service.uploads → IsLentAs service.uploads upload file
+    → upload < length service.uploads → IsFrom (origin_at service.uploads upload) file
     → IsFile file batches rest → HasVisited (shards_of service) p q s t visits
     → IsEndOf (shards_of service) file batches rest visits end
-    → Worked_as service upload end p q s t
+    → Worked_as service upload file end p q s t
 by_end service upload end file batches rest visits p q s t within lent is made ended = (
   visits,
   made,
   record {
     within = within;
-    file = file;
-    lent = lent;
+    from = lent;
     batches = batches;
     rest = rest;
     is_file = is;
@@ -64,9 +64,9 @@ by_end service upload end file batches rest visits p q s t within lent is made e
 
 pub upload_whole : (service : ServiceView) (upload taps : ℕ) (found : Option (ℕ × LayoutFault))
     (file : List ℕ) (p q : List PassView) (s t : Sums) (r : Result (Option (ℕ × LayoutFault)) Stop)
-    → upload < length service.uploads → IsLentAs service.uploads upload file
+    → upload < length service.uploads → IsFrom (origin_at service.uploads upload) file
     → Ended (shards_of service) file p q s t r → r ≡ Ok found → taps ≡ t.taps - s.taps
-    → Worked_as service upload (end_by taps found) p q s t
+    → Worked_as service upload file (end_by taps found) p q s t
 upload_whole service upload taps found file p q s t r within lent ended e counted =
     let P : Result (Option (ℕ × LayoutFault)) Stop → Type 0 =
     Ended (shards_of service) file p q s t in
@@ -86,9 +86,9 @@ upload_whole service upload taps found file p q s t r within lent ended e counte
 
 pub upload_cut : (service : ServiceView) (upload taps : ℕ) (stop : Stop) (file : List ℕ)
     (p q : List PassView) (s t : Sums) (r : Result (Option (ℕ × LayoutFault)) Stop)
-    → upload < length service.uploads → IsLentAs service.uploads upload file
+    → upload < length service.uploads → IsFrom (origin_at service.uploads upload) file
     → Ended (shards_of service) file p q s t r → r ≡ Err stop → taps ≡ t.taps - s.taps
-    → Worked_as service upload (Cut taps) p q s t
+    → Worked_as service upload file (Cut taps) p q s t
 upload_cut service upload taps stop file p q s t r within lent ended e counted =
     let P : Result (Option (ℕ × LayoutFault)) Stop → Type 0 =
     Ended (shards_of service) file p q s t in

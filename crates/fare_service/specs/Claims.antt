@@ -42,6 +42,7 @@ left_share share =
       passes = map left_pass share.passes;
       totals = share.totals;
       done = share.done;
+      run = share.run;
     }
 
 -- what a split gave to the new share: half of the claims

@@ -1,6 +1,6 @@
 -- THE HEADLINE: what the books, the ends and the totals of an outcome are, by what each worker did.
 use Rattle.std.specs.Prelude.{◌≡◌, ℕ, ◌<◌, ◌≤◌, ◌==◌, if◌then◌else◌, List, [], ◌∷◌, length, map}
-use Rattle.std.specs.Prelude.{filter, All, Option, slice_get, slice_index_or, Some}
+use Rattle.std.specs.Prelude.{filter, All, slice_get, slice_index_or, Some}
 use Rattle.std.specs.List.{flat_map, AllZip}
 use Rattle.tariffs.specs.Fares.{Fares}
 use Rattle.histories.specs.declared.entry.Entry.{Entry}
@@ -12,13 +12,16 @@ use Rattle.shared_books.specs.Drawing.{NoneTwice}
 use Rattle.tap_views.specs.declared.upload_end.UploadEnd.{UploadEnd}
 use Rattle.tap_views.specs.declared.upload_end.UploadEnd.TheVariants.{Undrawn}
 use Rattle.fare_service.specs.Adding.{AddUp}
-use Rattle.fare_service.specs.Lending.{AreLentAs}
+use Rattle.fare_service.specs.Lending.{AreLentAs, origin_at}
 use Rattle.fare_service.specs.ServiceView.{ServiceView, shards_of}
 use Rattle.fare_service.specs.ShareView.{ShareView}
 use Rattle.fare_service.specs.Outcomes.{OutcomeView}
 use Rattle.fare_service.specs.Placing.{StandOnce}
 use Rattle.fare_service.specs.Runs.{entries_to}
 use Rattle.fare_service.specs.Shares.{Worked, all_works, all_visits, IsWorkOf, KeepsWorks}
+use Rattle.fare_service.specs.Shares.{file_at, loads_of}
+use Rattle.world.specs.Origins.{Origin, IsFrom, loads_from, with_loads}
+use Rattle.world.specs.Run.{Load, Run, nothing_yet}
 
 -- a visit to a shard's book, and the worker that made it
 pub record Signed : Type 0 where
@@ -82,13 +85,30 @@ HasRun fares shards files workers outcome =
     (works : List (List Worked)) × (length works ≡ workers)
     × Headline fares shards files works outcome
 
--- the headline of a run over uploads that were lent: of some files, which are the known ones if
--- their bytes are known
-pub record HasRunOver (fares : Fares) (shards : ℕ) (uploads : List (Option (List ℕ)))
+-- the uploads that workers drew, worker by worker
+abbrev pub drawn_by : List (List Worked) → List ℕ
+drawn_by works = map (λ w. w.upload) (all_works works)
+
+-- the loads by which an upload was lent with the bytes of its file
+abbrev pub loads_at : List Origin → List (List ℕ) → ℕ → List Load
+loads_at uploads files upload = loads_from (origin_at uploads upload) (file_at files upload)
+
+-- Each of these uploads was lent from where it comes, with the bytes of its file. What was done is
+-- their loads, one after another, and nothing else.
+pub record AreLoaded (uploads : List Origin) (files : List (List ℕ)) (drawn : List ℕ) (run : Run)
+    : Type 0 where
+  pub from : All (λ upload. IsFrom (origin_at uploads upload) (file_at files upload)) drawn
+  pub loads : run ≡ with_loads nothing_yet (flat_map (loads_at uploads files) drawn)
+
+-- The headline of a run over uploads that were lent: of some files, which are those that memory
+-- holds, if it holds them. Those that were drawn, none twice, were loaded with these very bytes, and
+-- nothing else was. Each upload whose end is not `Undrawn` was drawn.
+pub record HasRunOver (fares : Fares) (shards : ℕ) (uploads : List Origin)
     (workers : ℕ) (outcome : OutcomeView) : Type 0 where
   pub files : List (List ℕ)
   pub lent : AreLentAs uploads files
   pub run : HasRun fares shards files workers outcome
+  pub loaded : AreLoaded uploads files (drawn_by run.0) outcome.run
 
 -- the headline, for what the workers of these shares of a service did: each upload was lent with
 -- the bytes of its file
@@ -99,6 +119,7 @@ pub record HasOutcome (service : ServiceView) (shares : List ShareView) (outcome
   pub works : List (List Worked)
   pub kept : AllZip (KeepsWorks service) shares works
   pub headline : Headline service.table (shards_of service) files works outcome
+  pub loads : outcome.run ≡ with_loads nothing_yet (loads_of service.uploads (all_works works))
 
 -- an upload that nobody drew: no share has seen it drawn. Uploads are drawn in their order, so
 -- these are the last ones

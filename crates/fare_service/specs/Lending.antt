@@ -1,24 +1,31 @@
--- Uploads that are lent to a service, of which the bytes are known or not.
-use Rattle.std.specs.Prelude.{◌≡◌, ℕ, List, Option, None, Some, slice_get, slice_index_or}
+-- Uploads that are lent to a service, each from where it comes.
+use Rattle.std.specs.Prelude.{◌≡◌, ◌<◌, ℕ, List, length, slice_index_or}
 use Rattle.std.specs.List.{AllZip}
+use Rattle.world.specs.Origins.{Origin, nowhere, memory, IsLent}
+use Rattle.world.specs.Run.{Run}
 
--- the bytes are the known ones, if these are known
-abbrev pub IsAsKnown : Option (List ℕ) → List ℕ → Type 0
-IsAsKnown None bytes = Unit {0}
-IsAsKnown (Some known) bytes = bytes ≡ known
+-- where an upload comes from
+abbrev pub origin_at : List Origin → ℕ → Origin
+origin_at uploads upload = slice_index_or uploads upload nowhere
 
--- what is known of an upload
-abbrev pub known_at : List (Option (List ℕ)) → ℕ → Option (List ℕ)
-known_at uploads upload = slice_index_or uploads upload None
+-- the upload was lent with these bytes, and nothing was done but the loads of its origin
+abbrev pub IsLentAs : List Origin → ℕ → Run → Run → List ℕ → Type 0
+IsLentAs uploads upload old new bytes = IsLent (origin_at uploads upload) old new bytes
 
--- the upload may be lent with these bytes
-abbrev pub IsLentAs : List (Option (List ℕ)) → ℕ → List ℕ → Type 0
-IsLentAs uploads upload bytes = IsAsKnown (known_at uploads upload) bytes
+-- memory does not hold what comes from there
+abbrev pub IsOutside : Origin → Type 0
+IsOutside (memory known) = ⊥
+IsOutside _ = Unit {0}
 
--- an upload that may fail to be lent: its bytes are not known
-abbrev pub IsUnlent : List (Option (List ℕ)) → ℕ → Type 0
-IsUnlent uploads upload = slice_get uploads upload ≡ Some None
+-- an upload that may fail to be lent: memory does not hold it
+abbrev pub IsUnlent : List Origin → ℕ → Type 0
+IsUnlent uploads upload = (upload < length uploads) × IsOutside (origin_at uploads upload)
 
--- there is a file for each upload: its bytes, if they are known, and any bytes if not
-abbrev pub AreLentAs : List (Option (List ℕ)) → List (List ℕ) → Type 0
+-- the bytes are those that memory holds, if it holds them
+abbrev pub IsAsKnown : Origin → List ℕ → Type 0
+IsAsKnown (memory known) bytes = bytes ≡ known
+IsAsKnown _ bytes = Unit {0}
+
+-- there is a file for each upload: the bytes that memory holds, or any bytes if it holds none
+abbrev pub AreLentAs : List Origin → List (List ℕ) → Type 0
 AreLentAs uploads files = AllZip IsAsKnown uploads files

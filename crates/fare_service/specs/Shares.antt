@@ -11,9 +11,11 @@ use Rattle.shared_books.specs.declared.turns.rule.Mark.{Mark}
 use Rattle.shared_books.specs.Passes.{SharedBookView, PassView}
 use Rattle.tap_views.specs.declared.upload_end.UploadEnd.{UploadEnd}
 use Rattle.tap_views.specs.declared.upload_end.UploadEnd.TheVariants.{Posted, Refused, Cut, Undrawn}
+use Rattle.world.specs.Origins.{Origin, IsFrom, loads_from, with_loads}
+use Rattle.world.specs.Run.{Load, nothing_yet}
 use Rattle.fare_service.specs.declared.service.share.Done.{Done}
 use Rattle.fare_service.specs.Claims.{claims_of}
-use Rattle.fare_service.specs.Lending.{IsLentAs}
+use Rattle.fare_service.specs.Lending.{origin_at}
 use Rattle.fare_service.specs.ServiceView.{ServiceView, shards_of}
 use Rattle.fare_service.specs.ShareView.{ShareView}
 use Rattle.fare_service.specs.Runs.{RunVisit, IsEntered, ArePostedWhole, AreCut, runs_of}
@@ -35,9 +37,11 @@ marks_at shard passes = slice_index_or (map (λ pass. pass.marks) passes) shard 
 abbrev pub made_visits_at : ℕ → List PassView → List (List Entry)
 made_visits_at shard passes = made_visits (marks_at shard passes)
 
--- an upload that a share drew: how it ended, and the visits that were made for it
+-- an upload that a share drew: the bytes with which it was lent, how it ended, and the visits that
+-- were made for it
 pub record Worked : Type 0 where
   pub upload : ℕ
+  pub file : List ℕ
   pub end : UploadEnd
   pub visits : List RunVisit
 
@@ -48,6 +52,10 @@ all_visits works = flat_map (λ w. w.visits) works
 -- what all workers did
 abbrev pub all_works : List (List Worked) → List Worked
 all_works works = flat_map (λ done. done) works
+
+-- the loads by which these uploads were lent, upload by upload
+abbrev pub loads_of : List Origin → List Worked → List Load
+loads_of uploads works = flat_map (λ w. loads_from (origin_at uploads w.upload) w.file) works
 
 -- the upload and how it ended
 abbrev pub done_of : Worked → Done
@@ -71,6 +79,7 @@ file_at files upload = slice_index_or files upload []
 -- what was done with an upload of these files: its visits and its end are those of its bytes
 pub record IsWorkOf (shards : ℕ) (files : List (List ℕ)) (w : Worked) : Type 0 where
   pub within : w.upload < length files
+  pub lent : w.file ≡ file_at files w.upload
   pub batches : List (List Tap)
   pub rest : List ℕ
   pub is_file : IsFile (file_at files w.upload) batches rest
@@ -81,15 +90,15 @@ pub record IsWorkOf (shards : ℕ) (files : List (List ℕ)) (w : Worked) : Type
 -- which it was lent
 pub record IsWorked (service : ServiceView) (w : Worked) : Type 0 where
   pub within : w.upload < length service.uploads
-  pub file : List ℕ
-  pub lent : IsLentAs service.uploads w.upload file
+  pub from : IsFrom (origin_at service.uploads w.upload) w.file
   pub batches : List (List Tap)
   pub rest : List ℕ
-  pub is_file : IsFile file batches rest
-  pub ended : IsEndOf (shards_of service) file batches rest w.visits w.end
+  pub is_file : IsFile w.file batches rest
+  pub ended : IsEndOf (shards_of service) w.file batches rest w.visits w.end
   pub entered : All (IsEntered (shards_of service)) w.visits
 
--- the share keeps what was done for these uploads, in the order in which it drew them
+-- the share keeps what was done for these uploads, in the order in which it drew them, and lending
+-- them did nothing but their loads
 pub record KeepsWorks (service : ServiceView) (share : ShareView) (works : List Worked)
     : Type 0 where
   pub each : All (IsWorked service) works
@@ -97,6 +106,7 @@ pub record KeepsWorks (service : ServiceView) (share : ShareView) (works : List 
   pub done : share.done ≡ map done_of works
   pub visits : (shard : ℕ) → made_visits_at shard share.passes ≡ entries_to shard (all_visits works)
   pub totals : share.totals ≡ sums (entries_of (all_visits works))
+  pub loads : share.run ≡ with_loads nothing_yet (loads_of service.uploads works)
 
 -- the share belongs to the service, and keeps what was done for some uploads
 pub record IsShareOf (service : ServiceView) (share : ShareView) : Type 0 where
@@ -112,6 +122,7 @@ pub record IsFresh (share : ShareView) : Type 0 where
   pub done : share.done ≡ []
   pub visits : (shard : ℕ) → made_visits_at shard share.passes ≡ []
   pub totals : share.totals ≡ sums []
+  pub run : share.run ≡ nothing_yet
 
 -- what a worker's visits changed: the passes have made them and keep their claims, and the totals
 -- count their replies
@@ -124,7 +135,7 @@ pub record HasVisited (shards : ℕ) (passes passes' : List PassView) (totals to
   pub counted : totals' ≡ add_sums totals (sums (entries_of more))
   pub entered : All (IsEntered shards) more
 
--- the share drew these uploads more and did this for them, and keeps its claims
+-- the share drew these uploads more, by their loads, and did this for them, and keeps its claims
 pub record HasWorked (service : ServiceView) (old new : ShareView) (more : List Worked)
     : Type 0 where
   pub each : All (IsWorked service) more
@@ -133,6 +144,7 @@ pub record HasWorked (service : ServiceView) (old new : ShareView) (more : List 
   pub done : new.done ≡ old.done ++ map done_of more
   pub made : HasVisited (shards_of service) old.passes new.passes old.totals new.totals
       (all_visits more)
+  pub loads : new.run ≡ with_loads old.run (loads_of service.uploads more)
 
 -- the share went on with some uploads
 abbrev pub WentOn : ServiceView → ShareView → ShareView → Type 0

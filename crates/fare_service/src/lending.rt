@@ -1,5 +1,7 @@
 //! Uploads that are lent to a service, each by its number.
 
+use world::Trace;
+
 /// An upload that was drawn could not be read, or memory for it was refused.
 #[derive(Clone, Copy, Debug, PartialEq, Eq, thiserror::Error)]
 #[error("upload {upload} cannot be read")]
@@ -12,37 +14,45 @@ pub struct Unlent {
 /// lends itself. Another source may load an upload when it is lent: no more than one upload a
 /// worker lies in memory then.
 pub trait LentUploads {
-    ghost use Rattle.std.specs.Prelude.{◌≡◌, ◌<◌, ℕ, List, Option, None, Some, IfNone, IfSome};
-    ghost use Rattle.std.specs.Prelude.{length, slice_get};
-    ghost use Rattle.fare_service.specs.Lending.{IsLentAs};
+    ghost use Rattle.std.specs.Prelude.{◌≡◌, ◌<◌, List, IfNone, IfSome, length};
+    ghost use Rattle.world.specs.Origins.{Origin};
+    ghost use Rattle.fare_service.specs.Lending.{IsLentAs, IsUnlent};
 
-    // The bytes of each upload, in their order, if they are known.
-    ghost known: { Self → List (Option (List ℕ)) };
+    // Where each upload comes from, in their order.
+    ghost origins: { Self → List Origin };
 
     /// How many uploads there are.
     fn len(&self) -> usize
-        ensures { result ≡ length (known self.now) };
+        ensures { result ≡ length (origins self.now) };
 
     /// The bytes of the upload of this number, from 0. They may be read into `room`, which a worker
-    /// keeps from one upload to the next: what stands there is overwritten. It lends none if memory
-    /// is refused or the upload cannot be read. An upload whose bytes are known is lent.
-    fn lend<'b>(&'b self, upload: u32, room: &'b mut Vec<u8>) -> Option<&'b [u8]>
-        requires { upload < length (known self.now) }
-        ensures lent { IfSome result (λ bytes. IsLentAs (known self.now) upload bytes.now) }
-        ensures none { IfNone result (slice_get (known self.now) upload ≡ Some None) };
+    /// keeps from one upload to the next: what stands there is overwritten. The calls of the system
+    /// by which they are read are recorded. It lends none if memory is refused or the upload cannot
+    /// be read. An upload that memory holds is lent.
+    fn lend<'b>(&'b self, upload: u32, room: &'b mut Vec<u8>, calls: &mut Trace) -> Option<&'b [u8]>
+        requires { upload < length (origins self.now) }
+        ensures lent { IfSome result (λ bytes. IsLentAs (origins self.now) upload
+            calls.old.run calls.new.run bytes.now) }
+        ensures none { IfNone result (IsUnlent (origins self.now) upload) };
 }
 
 impl LentUploads for &[Vec<u8>] {
-    ghost use Rattle.std.specs.Prelude.{Some, map};
+    ghost use Rattle.std.specs.Prelude.{map};
+    ghost use Rattle.world.specs.Origins.{memory};
 
-    ghost known = { λ uploads. map (λ upload. Some upload.items) uploads.now };
+    ghost origins = { λ uploads. map (λ upload. memory upload.items) uploads.now };
 
     fn len(&self) -> usize {
         let uploads: &[Vec<u8>] = self;
         uploads.len()
     }
 
-    fn lend<'b>(&'b self, upload: u32, _room: &'b mut Vec<u8>) -> Option<&'b [u8]> {
+    fn lend<'b>(
+        &'b self,
+        upload: u32,
+        _room: &'b mut Vec<u8>,
+        _calls: &mut Trace,
+    ) -> Option<&'b [u8]> {
         Some(self[upload as usize].as_slice())
     }
 }

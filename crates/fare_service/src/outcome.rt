@@ -3,6 +3,7 @@
 use shard_book::{ShardBook, Totals};
 use std::marker::Model;
 use tap_views::UploadEnd;
+use world::Trace;
 
 /// What the work of a service came to. Each shard has a book, whose history is one thread's.
 #[derive(Drop)]
@@ -12,6 +13,8 @@ pub struct Outcome {
     pub(crate) workers: Vec<Totals>,
     /// The totals of all workers.
     pub(crate) totals: Totals,
+    /// The calls of the system by which the uploads were lent.
+    pub(crate) calls: Trace,
 }
 
 impl Model for Outcome {
@@ -27,6 +30,7 @@ impl Model for Outcome {
       ends = o.ends.items;
       workers = map sums_of o.workers.items;
       totals = sums_of o.totals;
+      run = o.calls.run;
     } };
 
     ghost invariant = { λ o. IsOutcome (record {
@@ -34,6 +38,7 @@ impl Model for Outcome {
       ends = o.ends.items;
       workers = map sums_of o.workers.items;
       totals = sums_of o.totals;
+      run = o.calls.run;
     }) };
 }
 
@@ -110,5 +115,19 @@ impl Outcome {
         ensures of_books { sums_of result ≡ sums (all_entries self.now.books) }
     {
         self.totals
+    }
+
+    /// The calls of the system by which the uploads were lent.
+    pub fn into_calls(self) -> Trace
+        ensures { result.run ≡ self.entry.run }
+    {
+        let Outcome {
+            books: _,
+            ends: _,
+            workers: _,
+            totals: _,
+            calls,
+        } = self;
+        calls
     }
 }

@@ -11,6 +11,7 @@ use std::marker::Model;
 use std::random::RandomSource;
 use tap_views::NoMemory;
 use tariffs::FareTable;
+use world::Trace;
 
 pub(crate) mod gathering;
 pub(crate) mod running;
@@ -46,14 +47,14 @@ impl<U: LentUploads + Drop> Model for Service<U> {
       table = s.table;
       drawing = s.draw;
       books = s.books.items;
-      uploads = U.known s.uploads;
+      uploads = U.origins s.uploads;
     } };
 
     ghost invariant = { λ s. IsService (record {
       table = s.table;
       drawing = s.draw;
       books = s.books.items;
-      uploads = U.known s.uploads;
+      uploads = U.origins s.uploads;
     }) };
 }
 
@@ -76,11 +77,11 @@ impl<U: LentUploads + Drop> Service<U> {
     ) -> Result<(Service<U>, Share), OpenFault>
         ensures table { IfOk result (λ r. r.0.table ≡ table) }
         ensures shards { IfOk result (λ r. shards_of r.0 ≡ shards) }
-        ensures uploads { IfOk result (λ r. r.0.uploads ≡ U.known uploads) }
+        ensures uploads { IfOk result (λ r. r.0.uploads ≡ U.origins uploads) }
         ensures share { IfOk result (λ r. IsShareOf r.0 r.1) }
         ensures fresh { IfOk result (λ r. IsFresh r.1) }
         ensures claims { IfOk result (λ r. HasAllClaims shards r.1) }
-        ensures fault { IfErr result (IsOpenFault shards (length (U.known uploads))) }
+        ensures fault { IfErr result (IsOpenFault shards (length (U.origins uploads))) }
     {
         if shards == 0 || shards > MAX_SHARDS {
             return Err(OpenFault::Shards);
@@ -105,6 +106,7 @@ impl<U: LentUploads + Drop> Service<U> {
                 totals: Totals::new(),
             },
             done: Vec::new(alloc),
+            calls: Trace::new(),
         };
         Ok((service, share))
     }
@@ -130,6 +132,7 @@ impl<U: LentUploads + Drop> Service<U> {
                 totals: Totals::new(),
             },
             done: Vec::new(alloc),
+            calls: Trace::new(),
         })
     }
 

@@ -4,21 +4,25 @@ ghost use Rattle.std.specs.Prelude.{string_bytes};
 ghost use Rattle.file_sources.specs.inside.FilesAhead.{IsNotNext};
 
 use placed_files::{Placed, Unopened};
-use program_manners::LoadFault;
 use std::alloc::{AllocError, Global};
 use std::marker::Sync;
 use std::thread;
 use std::thread::Threads;
+use world::{LoadFault, Loaded, Trace};
 
 /// A disk: files by their names. Several threads may read them at once.
 pub trait Disk {
-    ghost use Rattle.std.specs.Prelude.{◌≡◌, ℕ, List, IfOk, Option, None};
+    ghost use Rattle.std.specs.Prelude.{◌≡◌, ℕ, List, IfOk, Option, None, string_bytes};
+    ghost use Rattle.world.specs.Origins.{Origin, IsLent, anywhere};
 
     /// A file that was opened to be read at any offset.
     type File: Placed + Sync + Drop;
 
     // What the file of a name has, if that is known. It does not change.
     ghost bytes_under: { Self → List ℕ → Option (List ℕ) } = { λ _ _. None };
+
+    // Where the bytes of a name come from, if they are read whole.
+    ghost origin: { Self → List ℕ → Origin } = { λ _ _. anywhere };
 
     /// The file of this name, opened to be read at any offset.
     fn open_placed(&self, name: &str) -> Result<Self::File, Unopened>
@@ -36,12 +40,16 @@ pub trait Disk {
         sample: &mut Vec<u128>,
     ) -> Result<(), AllocError>;
 
-    /// All bytes of the file of this name.
-    fn read(&self, alloc: Global, name: &str) -> Result<Vec<u8>, LoadFault>;
+    /// The file of this name, read to its end. Only a file of the system can be given.
+    fn read(&self, alloc: Global, name: String) -> Result<Loaded, LoadFault>
+        ensures { IfOk result (λ file. string_bytes file.name ≡ string_bytes name) };
 
-    /// All bytes of the file of this name, read into the memory of `room`. What stands there is
-    /// overwritten, and more room is asked for if the file is no shorter.
-    fn read_into(&self, name: &str, room: Vec<u8>) -> Result<Vec<u8>, LoadFault>;
+    /// All bytes of the file of this name, read into the memory of `room`. What is in it is
+    /// overwritten, and more room is asked for if the file is no shorter. An error says nothing of
+    /// the calls.
+    fn read_into(&self, name: &str, room: Vec<u8>, calls: &mut Trace) -> Result<Vec<u8>, LoadFault>
+        ensures { IfOk result (λ bytes. IsLent (origin self.now name.now) calls.old.run
+            calls.new.run bytes.items) };
 
     /// Notes how much is to be charged, before anything is. It serves whoever watches the run:
     /// nothing else depends on it.
@@ -67,31 +75,18 @@ pub enum Amount {
     Bytes(u64),
 }
 
-/// What came of reading a file before it is due.
-#[derive(Drop)]
-pub struct FileAhead {
-    /// The name of the file.
-    pub name: String,
-    /// Its bytes, or why it was not loaded.
-    pub loaded: Result<Vec<u8>, LoadFault>,
-}
-
-/// Takes the next file of the list, which stands last there, if it has this name.
-pub(crate) fn take_next(
-    ahead: &mut Vec<FileAhead>,
-    name: &str,
-) -> Option<Result<Vec<u8>, LoadFault>>
-    ensures taken { IfSome result (λ loaded. (next : FileAhead)
-        × (ahead.old.items ≡ ahead.new.items ++ next ∷ []) × (string_bytes next.name ≡ name.now)
-        × (next.loaded ≡ loaded)) }
+/// Takes the next file of the list, which is the last one there, if it has this name.
+pub(crate) fn take_next(ahead: &mut Vec<Loaded>, name: &str) -> Option<Loaded>
+    ensures taken { IfSome result (λ next. (ahead.old.items ≡ ahead.new.items ++ next ∷ [])
+        × (string_bytes next.name ≡ name.now)) }
     ensures kept { IfNone result ((ahead.new.items ≡ ahead.old.items)
         × IsNotNext name.now ahead.old.items) }
 {
-    if ahead.last()?.name.as_str() != name {
+    if ahead.last()?.name().as_str() != name {
         return None;
     }
     let next = ahead.pop()?;
-    Some(next.loaded)
+    Some(next)
 }
 
 /// How many files may be read before they are due. The first that may not keeps all behind it
@@ -107,35 +102,23 @@ fn count_ahead<D: Disk>(disk: &D, names: &[&str]) -> usize
     names.len()
 }
 
-/// Keeps what came of a file, and says whether the next one is to be read too: a fault ends all
-/// loading when it is due. If memory was refused, nothing is kept, so that the file is read when it
-/// is due.
-fn keep(
-    part: &mut Vec<FileAhead>,
-    name: String,
-    loaded: Result<Vec<u8>, LoadFault>,
-) -> Result<bool, AllocError> {
-    if matches!(loaded, Err(LoadFault::NoMemory)) {
-        return Err(AllocError);
-    }
-    let is_whole = loaded.is_ok();
-    part.push(FileAhead { name, loaded })?;
-    Ok(is_whole)
-}
-
-/// Reads one more file and keeps it, as `keep` does.
+/// Reads one more file and keeps it. Returns whether it did.
 fn read_one<D: Disk>(
     alloc: Global,
     disk: &D,
-    part: &mut Vec<FileAhead>,
+    part: &mut Vec<Loaded>,
     name: &str,
 ) -> Result<bool, AllocError> {
-    let loaded = disk.read(alloc, name);
-    keep(part, String::from_str(alloc, name)?, loaded)
+    let name = String::from_str(alloc, name)?;
+    let Ok(file) = disk.read(alloc, name) else {
+        return Ok(false);
+    };
+    part.push(file)?;
+    Ok(true)
 }
 
-/// Reads these files, up to the first that is not whole.
-fn read_some<D: Disk>(alloc: Global, disk: &D, names: &[&str]) -> Vec<FileAhead> {
+/// Reads these files, up to the first that cannot be loaded, which is read again when it is due.
+fn read_some<D: Disk>(alloc: Global, disk: &D, names: &[&str]) -> Vec<Loaded> {
     let mut part = Vec::new(alloc);
     for name in names {
         if !read_one(alloc, disk, &mut part, name).unwrap_or(false) {
@@ -152,7 +135,7 @@ fn read_by_threads<R: Threads + Sync, D: Disk + Sync>(
     disk: &D,
     names: &[&str],
     threads: usize,
-) -> Result<Vec<FileAhead>, AllocError>
+) -> Result<Vec<Loaded>, AllocError>
     requires { 0 < threads }
 {
     let size = names.len().div_ceil(threads).max(1);
@@ -180,7 +163,7 @@ pub fn read_ahead<R: Threads + Sync, D: Disk + Sync>(
     disk: &D,
     names: &[&str],
     threads: usize,
-) -> Vec<FileAhead> {
+) -> Vec<Loaded> {
     if threads < 2 {
         return Vec::new(alloc);
     }

@@ -1,20 +1,21 @@
 //! The files and the standard input of the system.
 
-use crate::files_ahead::{Disk, FileAhead, take_next};
+use crate::files_ahead::{Disk, take_next};
 use crate::sampling::push_file_sample;
 use crate::source::Source;
 use placed_files::{Unopened, open_regular};
-use program_manners::{FileSource, LOAD_LIMIT_BYTES, LoadFault, load_file, load_from, open_file};
+use program_manners::{FileSource, LOAD_LIMIT_BYTES, LoadFault, RecordedLoads, open_file};
 use std::alloc::{AllocError, Global};
 use std::fs;
-use std::fs::File;
-use std::io::{ErrorKind, Read};
-
-/// How many bytes more are asked for if a file is longer than its size said.
-const MORE_BYTES: usize = 65_536;
+use std::fs::{File, Files};
+use world::{Loaded, Trace, load_apart, load_into};
 
 impl Disk for HostRuntime {
+    ghost use Rattle.world.specs.Origins.{file};
+
     type File = File;
+
+    ghost origin = { λ _ name. file name };
 
     fn open_placed(&self, name: &str) -> Result<File, Unopened> {
         open_regular(self, name)
@@ -42,87 +43,80 @@ impl Disk for HostRuntime {
         }
     }
 
-    fn read(&self, alloc: Global, name: &str) -> Result<Vec<u8>, LoadFault> {
-        load_file(self, alloc, name)
+    fn read(&self, alloc: Global, name: String) -> Result<Loaded, LoadFault> {
+        load_apart(self, alloc, name)
     }
 
-    fn read_into(&self, name: &str, room: Vec<u8>) -> Result<Vec<u8>, LoadFault> {
-        let mut file = open_file(self, name)?;
-        load_into(&mut file, room)
+    fn read_into(
+        &self,
+        name: &str,
+        room: Vec<u8>,
+        calls: &mut Trace,
+    ) -> Result<Vec<u8>, LoadFault> {
+        load_into(self, name, room, calls)
     }
 }
 
-/// All bytes that the reader has left, to its end, read into the memory of `room`: as `load_from`
-/// reads them, but that what stands in the room is not written again before.
-fn load_into<F: Read>(file: &mut F, room: Vec<u8>) -> Result<Vec<u8>, LoadFault> {
-    let mut bytes = room;
-    let mut end = 0usize;
-    for _ in 0..u64::MAX {
-        if end >= bytes.len() {
-            if end > LOAD_LIMIT_BYTES {
-                return Err(LoadFault::TooLong);
-            }
-            bytes.resize(end + MORE_BYTES, 0)?;
-        }
-        match file.read(&mut bytes[end..]) {
-            Ok(0) => break,
-            Ok(count) => end += count,
-            Err(error) if error.kind() == ErrorKind::Interrupted => {}
-            Err(error) if error.kind() == ErrorKind::OutOfMemory => return Err(LoadFault::NoMemory),
-            Err(_) => return Err(LoadFault::Unread),
-        }
-    }
-    if end > LOAD_LIMIT_BYTES {
-        return Err(LoadFault::TooLong);
-    }
-    bytes.truncate(end);
-    Ok(bytes)
-}
-
-/// Loads from the system's files and standard input. It does not keep what it loaded.
+/// Loads from the system's files and standard input, each call recorded.
 #[derive(Drop)]
 pub struct Host<'a, R> {
     /// The runtime that reaches the files.
     rt: &'a R,
     /// The files that were read before they are due, the next one last.
-    ahead: Vec<FileAhead>,
+    ahead: Vec<Loaded>,
+    loads: RecordedLoads,
 }
 
 impl<'a, R: AllocGlobal> Host<'a, R> {
-    /// What this runtime reaches.
-    pub fn new(rt: &'a R) -> Host<'a, R> {
+    ghost use Rattle.std.specs.Prelude.{◌≡◌, None};
+    ghost use Rattle.world.specs.Run.{no_calls};
+    ghost use Rattle.program_manners.specs.Refusals.{refusal_of};
+
+    /// What this runtime reaches, of which nothing was loaded yet.
+    pub fn new(rt: &'a R) -> Host<'a, R>
+        ensures trace { result.loads.trace ≡ no_calls }
+        ensures last { refusal_of result.loads.last.value ≡ (None, LoadFault.NoMemory) }
+    {
         Host {
             rt,
             ahead: Vec::new(rt.alloc()),
+            loads: RecordedLoads::new(),
         }
     }
 }
 
-impl<R: Disk + Input + AllocGlobal> FileSource for Host<'_, R>
+impl<R: Files + Input + AllocGlobal> FileSource for Host<'_, R>
 where
     R::Reader: Drop,
 {
+    ghost use Rattle.std.specs.Prelude.{Some};
+    ghost use Rattle.program_manners.specs.Refusals.{refusal_of};
+
+    ghost loaded = { λ h. Some h.loads.trace.run.loads };
+
+    ghost refused = { λ h. Some (refusal_of h.loads.last.value) };
+
     fn load(&mut self, name: &str) -> Result<Vec<u8>, LoadFault> {
         match take_next(&mut self.ahead, name) {
-            Some(loaded) => loaded,
-            None => self.rt.read(self.rt.alloc(), name),
+            Some(file) => Ok(self.loads.take(file)),
+            None => self.loads.load(self.rt, name),
         }
     }
 }
 
-impl<R: Disk + Input + AllocGlobal> Source for Host<'_, R>
+impl<R: Files + Input + AllocGlobal> Source for Host<'_, R>
 where
     R::Reader: Drop,
 {
-    fn keeps_loads(&self) -> bool {
-        false
-    }
-
-    fn keep_ahead(&mut self, ahead: Vec<FileAhead>) {
+    fn keep_ahead(&mut self, ahead: Vec<Loaded>) {
         self.ahead = ahead;
     }
 
     fn input(&mut self) -> Result<Vec<u8>, LoadFault> {
-        load_from(self.rt.alloc(), &mut self.rt.reader())
+        self.loads.input(self.rt)
+    }
+
+    fn join(&mut self, calls: Trace) {
+        self.loads.join(calls);
     }
 }

@@ -14,6 +14,6 @@ mod host;
 mod sampling;
 mod source;
 
-pub use files_ahead::{Amount, Disk, FileAhead, read_ahead};
+pub use files_ahead::{Amount, Disk, read_ahead};
 pub use host::Host;
 pub use source::Source;

@@ -1,21 +1,17 @@
 //! Where the program's bytes come from.
 
-use crate::files_ahead::FileAhead;
 use program_manners::{FileSource, LoadFault};
+use world::{Loaded, Trace};
 
 /// Where the program's bytes come from.
 pub trait Source: FileSource {
-    ghost use Rattle.std.specs.Prelude.{◌≡◌, IfErr, IfOk, None, false};
+    ghost use Rattle.std.specs.Prelude.{◌≡◌, ◌++◌, IfErr, IfOk, None, option_map};
     ghost use Rattle.program_manners.specs.Loads.{LoadsOne};
     ghost use Rattle.program_manners.specs.Refusals.{Refuses};
 
-    /// Whether it keeps what it loaded. Files need not be loaded from a source that keeps nothing.
-    fn keeps_loads(&self) -> bool
-        ensures { result ≡ false → Self.loaded self.now ≡ None };
-
     /// Takes what was read of the next files before they are due, the first one last. None is
-    /// loaded by it: each is given, or its fault reported, when it is loaded by its name.
-    fn keep_ahead(&mut self, ahead: Vec<FileAhead>)
+    /// loaded by it: each is given when it is loaded by its name.
+    fn keep_ahead(&mut self, ahead: Vec<Loaded>)
         ensures { Self.loaded self.new ≡ Self.loaded self.old };
 
     /// All bytes of standard input. No clause says what a fault leaves loaded.
@@ -23,4 +19,10 @@ pub trait Source: FileSource {
         ensures reported { IfOk result (λ bytes.
             LoadsOne (Self.loaded self.old) (Self.loaded self.new) None bytes.items) }
         ensures fault { IfErr result (λ fault. Refuses (Self.refused self.new) None fault) };
+
+    /// Appends the loads that other threads made.
+    fn join(&mut self, calls: Trace)
+        ensures loaded { Self.loaded self.new
+            ≡ option_map (λ loads. loads ++ calls.run.loads) (Self.loaded self.old) }
+        ensures refused { Self.refused self.new ≡ Self.refused self.old };
 }

@@ -30,7 +30,7 @@ use Rattle.program_manners.proofs.Refusals.{is_one_at}
 use Rattle.omny_audit.specs.inside.Tables.{IsClassFault}
 use Rattle.omny_audit.specs.inside.Source.{IsAllOf}
 use Rattle.program_manners.specs.Loads.{Loaded, LoadsAll, LoadsOne, OpensOne}
-use Rattle.program_manners.specs.declared.loading.LoadFault.{LoadFault}
+use Rattle.world.specs.declared.faults.LoadFault.{LoadFault}
 use Rattle.program_manners.specs.declared.output.WriteEnd.{WriteEnd}
 use Rattle.program_manners.proofs.LoadsOn.{loads_more}
 

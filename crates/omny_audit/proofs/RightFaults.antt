@@ -5,7 +5,7 @@ use Rattle.std.specs.Prelude.{IfErr, IsErrAnd}
 use Rattle.tap_views.proofs.Choices.{IfErr_handed_on}
 use Rattle.program_manners.specs.Loads.{Loaded}
 use Rattle.program_manners.specs.TableWords.{TableNames}
-use Rattle.program_manners.specs.declared.loading.LoadFault.{LoadFault}
+use Rattle.world.specs.declared.faults.LoadFault.{LoadFault}
 use Rattle.program_manners.specs.declared.output.WriteEnd.{WriteEnd}
 use Rattle.omny_audit.specs.Fault.{IsOfWriteEnd, IsRightFault, IsTold, is_unwritten}
 use Rattle.omny_audit.specs.declared.fault.Fault.{Fault}

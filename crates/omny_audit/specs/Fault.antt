@@ -10,8 +10,8 @@ use Rattle.program_manners.specs.TableLoads.{LoadsTables}
 use Rattle.program_manners.specs.TableRefusals.{RefusesNamed, RefusesOnly, RefusesToFollow}
 use Rattle.program_manners.specs.TableWords.{TableNames, date_text, table_files}
 use Rattle.program_manners.specs.Loads.{Loaded, LoadsAll}
-use Rattle.program_manners.specs.declared.loading.LoadFault.{LoadFault}
-use Rattle.program_manners.specs.declared.loading.LoadFault.TheVariants as load
+use Rattle.world.specs.declared.faults.LoadFault.{LoadFault}
+use Rattle.world.specs.declared.faults.LoadFault.TheVariants as load
 use Rattle.program_manners.specs.declared.output.WriteEnd.{WriteEnd}
 use Rattle.program_manners.specs.declared.output.WriteEnd.TheVariants as end
 use Rattle.program_manners.specs.Refusals.{IsOneOf, HasRefused, Refuses}

@@ -17,7 +17,7 @@ use Rattle.omny_audit.specs.Traced.{ReadLine, Wanted}
 use Rattle.program_manners.specs.Loads.{Loaded, LoadsAll, LoadsOne}
 use Rattle.program_manners.specs.LineWritten.{LineWritten}
 use Rattle.program_manners.specs.TableLoads.{LoadsTables}
-use Rattle.program_manners.specs.declared.loading.LoadFault.{LoadFault}
+use Rattle.world.specs.declared.faults.LoadFault.{LoadFault}
 use Rattle.program_manners.specs.declared.output.WriteEnd.{WriteEnd}
 use Rattle.omny_audit.specs.declared.fault.Fault.{Fault}
 

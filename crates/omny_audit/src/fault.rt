@@ -4,7 +4,7 @@ ghost use Rattle.omny_audit.specs.Fault.{IsOfWriteEnd, audit_fault_text, is_quie
 ghost use Rattle.omny_audit.specs.Fault.{is_unwritten, named_by};
 ghost use Rattle.omny_audit.specs.inside.Fault.{IsRefusal, is_of_source};
 ghost use Rattle.program_manners.specs.Refusals.{HasRefused};
-ghost use Rattle.program_manners.specs.declared.loading.LoadFault.{LoadFault as ALoadFault};
+ghost use Rattle.world.specs.declared.faults.LoadFault.{LoadFault as ALoadFault};
 ghost use Rattle.program_manners.specs.Lines.{load_text};
 
 use fare_table::TableFault;

@@ -6,7 +6,7 @@ ghost use Rattle.std.specs.Io.{ReadsAtMost};
 ghost use Rattle.std.specs.Io.KnownBytes.{Consumes, IsAtEnd, ReadConsumes, prepend_known};
 ghost use Rattle.ledger_check.specs.Columns.{traced_head};
 ghost use Rattle.program_manners.specs.Refusals.{Refuses};
-ghost use Rattle.program_manners.specs.declared.loading.LoadFault.TheVariants.{Unread};
+ghost use Rattle.world.specs.declared.faults.LoadFault.TheVariants.{Unread};
 ghost use Rattle.omny_audit.specs.Fault.{IsTold, is_unwritten, named_by};
 ghost use Rattle.program_manners.specs.Loads.{OpensOne};
 ghost use Rattle.omny_audit.specs.inside.Fault.{IsLedgerFault, IsRefusal};

@@ -10,7 +10,7 @@ pub trait Source: FileSource {
     ghost use Rattle.std.specs.Io.{ReadsAtMost};
     ghost use Rattle.std.specs.Io.KnownBytes.{ReadConsumes};
     ghost use Rattle.program_manners.specs.Refusals.{Refuses};
-    ghost use Rattle.program_manners.specs.declared.loading.LoadFault.TheVariants.{Unread};
+    ghost use Rattle.world.specs.declared.faults.LoadFault.TheVariants.{Unread};
     ghost use Rattle.program_manners.specs.Loads.{OpensOne};
 
     /// A ledger that was opened. It is read through the source, which remembers what failed.

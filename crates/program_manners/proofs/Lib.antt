@@ -6,6 +6,7 @@ pub mod LoadsOn
 pub mod NameLists
 pub mod NextTables
 pub mod Refusals
+pub mod Shown
 pub mod TablesFaults
 pub mod TablesRefused
 pub mod WordLists

@@ -10,7 +10,7 @@ use Rattle.fare_table.specs.TableMeaning.{meaning_in}
 use Rattle.fare_table.specs.declared.fault.TableFault.{TableFault}
 use Rattle.fare_table.specs.declared.fault.TableFault.TheVariants.{NoMemory, Text}
 use Rattle.program_manners.specs.Refusals.{IsFirstTableFault, IsOneOf, Refuses, HasRefused}
-use Rattle.program_manners.specs.declared.loading.LoadFault.{LoadFault}
+use Rattle.world.specs.declared.faults.LoadFault.{LoadFault}
 
 -- a name at a place is one of the names
 pub is_one_at : (names : List (Bor (List ℕ))) (k : ℕ) (d : Bor (List ℕ)) (name : List ℕ)

@@ -15,7 +15,7 @@ use Rattle.program_manners.specs.TablesFaults.{IsTablesFault, KeepsRefusals}
 use Rattle.program_manners.specs.declared.following.NextFault.{NextFault}
 use Rattle.program_manners.specs.declared.following.NextFault.TheVariants as next
 use Rattle.program_manners.specs.declared.loading.FileFault.{FileFault}
-use Rattle.program_manners.specs.declared.loading.LoadFault.{LoadFault}
+use Rattle.world.specs.declared.faults.LoadFault.{LoadFault}
 use Rattle.program_manners.specs.declared.table_loads.TablesFault.{TablesFault}
 use Rattle.program_manners.specs.declared.table_loads.TablesFault.TheVariants.{File, Follow}
 use Rattle.program_manners.specs.declared.table_loads.TablesFault.TheVariants.{NamedTable, NoMemory}

@@ -11,8 +11,8 @@ use Rattle.program_manners.specs.declared.file_list.NameEnd.{NameEnd}
 use Rattle.program_manners.specs.declared.file_list.NameEnd.TheVariants.{LineFeed, Nul}
 use Rattle.program_manners.specs.declared.file_list.WrongName.{WrongName}
 use Rattle.program_manners.specs.declared.file_list.WrongName.TheVariants.{Empty, HasNul, NotUtf8}
-use Rattle.program_manners.specs.declared.loading.LoadFault.{LoadFault}
-use Rattle.program_manners.specs.declared.loading.LoadFault.TheVariants as load
+use Rattle.world.specs.declared.faults.LoadFault.{LoadFault}
+use Rattle.world.specs.declared.faults.LoadFault.TheVariants as load
 
 -- why a list that was not loaded gives no names
 abbrev pub list_fault_of : LoadFault → ListFault

@@ -11,8 +11,8 @@ use Rattle.program_manners.specs.declared.file_list.NameEnd.{NameEnd}
 use Rattle.program_manners.specs.declared.file_list.NameEnd.TheVariants.{LineFeed, Nul}
 use Rattle.program_manners.specs.declared.file_list.WrongName.{WrongName}
 use Rattle.program_manners.specs.declared.file_list.WrongName.TheVariants as wrong
-use Rattle.program_manners.specs.declared.loading.LoadFault.{LoadFault}
-use Rattle.program_manners.specs.declared.loading.LoadFault.TheVariants as load
+use Rattle.world.specs.declared.faults.LoadFault.{LoadFault}
+use Rattle.world.specs.declared.faults.LoadFault.TheVariants as load
 
 -- a fault of a table by its number, and the key if it has one
 abbrev pub table_text : TableFault → List ℕ

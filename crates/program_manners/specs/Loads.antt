@@ -1,10 +1,6 @@
 -- What is known of what a source of bytes loaded.
 use Rattle.std.specs.Prelude.{◌≡◌, ⊤, ℕ, List, [], ◌∷◌, ◌++◌, Option, Some, None}
-
--- the bytes of a named file, or of standard input, which has no name
-pub record Loaded : Type 0 where
-  pub name : Option (List ℕ)
-  pub bytes : List ℕ
+pub use Rattle.world.specs.Run.{Load as Loaded}
 
 -- A source that keeps a list of what it loaded has these loads at its end now. Of one that keeps
 -- none nothing is known.

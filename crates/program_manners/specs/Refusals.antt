@@ -1,11 +1,14 @@
 -- What is known of what a source of bytes did not load, and of a text that is no fare table.
-use Rattle.std.specs.Prelude.{◌≡◌, ◌≢◌, ◌⊎◌, ⊤, ℕ, List, [], ◌∷◌, Option, Some, None, Err, IsUtf8}
-use Rattle.std.specs.Prelude.{codes, unwrap_or}
+use Rattle.std.specs.Prelude.{◌≡◌, ◌≢◌, ◌<◌, ◌⊎◌, ⊤, ℕ, List, [], ◌∷◌, Option, Some, None, Err, IsUtf8}
+use Rattle.std.specs.Prelude.{Contains, codes, length, option_map, unwrap_or}
 use Rattle.fare_table.specs.TableMeaning.{meaning_in}
 use Rattle.fare_table.specs.declared.fault.TableFault.{TableFault}
 use Rattle.fare_table.specs.declared.fault.TableFault.TheVariants.{NoMemory, Text}
 use Rattle.program_manners.specs.Loads.{Loaded, LoadsOne}
-use Rattle.program_manners.specs.declared.loading.LoadFault.{LoadFault}
+use Rattle.program_manners.specs.declared.refusal.Refusal.{Refusal}
+use Rattle.world.specs.Run.{Run}
+use Rattle.world.specs.declared.faults.LoadFault.{LoadFault}
+use Rattle.world.specs.declared.faults.LoadFault.TheVariants as load
 
 -- The load under this name was refused by this fault. Of a source that keeps no refusal nothing is
 -- known.
@@ -19,6 +22,17 @@ abbrev pub HasRefused : Option (Option (List ℕ) × LoadFault) → List ℕ →
 HasRefused None name fault = ⊤
 HasRefused (Some refused) name fault =
     (unwrap_or refused.0 (codes "standard input") ≡ name) × (refused.1 ≡ fault)
+
+-- the name and why, of a load that was refused
+abbrev pub refusal_of : Refusal → Option (List ℕ) × LoadFault
+refusal_of r = (option_map (λ n. n.bytes) r.name, r.fault)
+
+-- The calls of the run show this refusal. That memory was refused no call shows.
+abbrev pub IsShown : Run → Option (List ℕ) × LoadFault → Type 0
+IsShown run (name, load.Unread) = Contains run.unread name
+IsShown run (name, load.TooLong) = (front : List ℕ) × (67108864 < length front)
+    × Contains run.too_long (record { name = name; bytes = front })
+IsShown run (name, load.NoMemory) = ⊤
 
 -- the name is one of these
 abbrev pub IsOneOf : List ℕ → List (List ℕ) → Type 0

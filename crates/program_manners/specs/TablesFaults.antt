@@ -4,7 +4,7 @@ use Rattle.program_manners.specs.Loads.{Loaded}
 use Rattle.program_manners.specs.Refusals.{IsOneOf, Refuses}
 use Rattle.program_manners.specs.TableRefusals.{RefusesNamed, RefusesOnly, RefusesToFollow}
 use Rattle.program_manners.specs.TableWords.{TableNames, table_files}
-use Rattle.program_manners.specs.declared.loading.LoadFault.{LoadFault}
+use Rattle.world.specs.declared.faults.LoadFault.{LoadFault}
 use Rattle.program_manners.specs.declared.table_loads.TablesFault.{TablesFault}
 use Rattle.program_manners.specs.declared.table_loads.TablesFault.TheVariants.{File, Follow}
 use Rattle.program_manners.specs.declared.table_loads.TablesFault.TheVariants.{NamedTable, NoMemory}

@@ -3,9 +3,9 @@ ghost use Rattle.std.specs.Prelude.{◌≡◌, ◌≢◌, ◌⊎◌, ◌++◌, �
 ghost use Rattle.program_manners.specs.FileLists.{AreNamesOf, IsRefusedList, IsWrongBy, Lacks};
 ghost use Rattle.program_manners.specs.FileLists.{end_byte};
 
-use crate::loading::LoadFault;
 use memchr::memchr;
 use std::alloc::{AllocError, AllocFailed, Global};
+use world::LoadFault;
 
 /// What ends each name of a list.
 #[derive(Clone, Copy, Debug, PartialEq, Eq)]

@@ -1,13 +1,13 @@
 //! Where whole files come from.
 
-use crate::loading::LoadFault;
+use world::LoadFault;
 
 /// Where whole files come from, by their names.
 pub trait FileSource {
     ghost use Rattle.std.specs.Prelude.{◌≡◌, ℕ, List, IfErr, IfOk, Option, None, Some};
     ghost use Rattle.program_manners.specs.Loads.{Loaded, LoadsOne};
     ghost use Rattle.program_manners.specs.Refusals.{Refuses};
-    ghost use Rattle.program_manners.specs.declared.loading.LoadFault.{LoadFault as AFault};
+    ghost use Rattle.world.specs.declared.faults.LoadFault.{LoadFault as AFault};
 
     // What was loaded so far, in order, by a source that keeps it.
     ghost loaded: { Self → Option (List Loaded) } = { λ _. None };

@@ -7,6 +7,7 @@
 //! | `output` | where the text of a run goes, and why it cannot go there |
 //! | `loading` | whole files up to a limit, and the line of one that was not loaded |
 //! | `file_source` | where whole files come from, by their names |
+//! | `recorded_loads`, `refusal` | what a source loads of the system, and what was refused last |
 //! | `opened` | a file or standard input, to be read in pieces |
 //! | `table_line` | the line of a fault of the fare table |
 //! | `table_words` | words of `--table`: a file, and the date from which its table is valid |
@@ -33,6 +34,8 @@ mod listed_words;
 mod loading;
 mod opened;
 mod output;
+mod recorded_loads;
+mod refusal;
 mod table_line;
 mod table_loads;
 mod table_words;
@@ -49,11 +52,10 @@ pub use following::{FollowLine, NamedClassLine, NamedTableLine, NextFault, table
 pub use list_line::ListLine;
 pub use list_words::{ListWords, take_list};
 pub use listed_words::{with_files, with_option_files};
-pub use loading::{
-    FileFault, LOAD_LIMIT_BYTES, LoadFault, STANDARD_INPUT, load_file, load_from, open_file,
-};
+pub use loading::{FileFault, STANDARD_INPUT, load_file, load_from, open_file};
 pub use opened::Opened;
 pub use output::{Output, WriteEnd};
+pub use recorded_loads::RecordedLoads;
 pub use table_line::TableLine;
 pub use table_loads::{Tables, TablesFault, load_tables};
 pub use table_words::{DateFault, TableWord, TableWords, WrittenDate, WrongWord};
@@ -63,3 +65,4 @@ pub use words::{
     add_list_args, files_arg, flag_arg, flag_in, names_in, new_command, number_arg, option_arg,
     positional_arg, repeated_arg,
 };
+pub use world::{LOAD_LIMIT_BYTES, LoadFault};

@@ -12,12 +12,13 @@ use crate::complaints::Complaints;
 use crate::file_list::{ListFault, NameEnd, names_of_list};
 use crate::list_line::ListLine;
 use crate::listed_words::{with_files, with_option_files};
-use crate::loading::{LoadFault, STANDARD_INPUT, load_file, load_from};
+use crate::loading::{STANDARD_INPUT, load_file, load_from};
 use crate::words::flag_in;
 use clap::error::ErrorKind;
 use clap::{ArgMatches, Error};
 use std::fs::Files;
 use std::io::{Input, Write};
+use world::LoadFault;
 
 /// The word that stands for standard input.
 const INPUT_WORD: &str = "-";

@@ -2,41 +2,14 @@
 ghost use Rattle.std.specs.Prelude.{◌≡◌, ◌≢◌, ◌<◌, ◌≤◌, length, IfErr, IfOk, IfSome, Some, IsErrOf};
 ghost use Rattle.program_manners.specs.Lines.{load_text};
 
-use std::alloc::{AllocError, Global};
+use std::alloc::Global;
 use std::fs::Files;
 use std::io::{ErrorKind, Read};
 use std::{fmt, fs};
-use thiserror::Error;
-
-/// The most bytes of a file that is loaded: 64 MiB.
-pub const LOAD_LIMIT_BYTES: usize = 67_108_864;
+use world::{LOAD_LIMIT_BYTES, LoadFault};
 
 /// What standard input is called in a fault line.
 pub const STANDARD_INPUT: &str = "standard input";
-
-/// Why a file or standard input was not loaded.
-#[derive(Clone, Copy, Debug, PartialEq, Eq, Error)]
-pub enum LoadFault {
-    /// It could not be opened, or a read failed.
-    #[error("it cannot be read")]
-    Unread,
-    /// It has more than 67,108,864 bytes.
-    #[error("it is longer than {LOAD_LIMIT_BYTES} bytes")]
-    TooLong,
-    /// A growth of memory was refused.
-    #[error("out of memory")]
-    NoMemory,
-}
-
-impl From<AllocError> for LoadFault {
-    ghost use Rattle.program_manners.specs.declared.loading.LoadFault.TheVariants.{NoMemory};
-
-    ghost from_gives = { λ _ fault. fault ≡ NoMemory };
-
-    fn from(_refused: AllocError) -> LoadFault {
-        LoadFault::NoMemory
-    }
-}
 
 /// A file that was not loaded. Its `Display` is the fault line without its line feed.
 #[derive(Clone, Copy, Debug)]

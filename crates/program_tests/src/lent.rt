@@ -2,7 +2,7 @@
 
 use super::running::{NoDisk, run_over};
 use super::shelf::{Content, FIRST, SAMPLE, Shelf};
-use fare_program::{Amount, Disk, FileAhead, FileSource, LoadFault, Source};
+use fare_program::{Amount, Disk, LoadFault};
 use placed_files::{InMemory, Unopened};
 use std::alloc::{AllocError, Global};
 use std::marker::Sync;
@@ -11,6 +11,7 @@ use std::sync::Wait;
 use std::sync::atomic::{AtomicU64, Ordering};
 use std::test::Fail;
 use std::thread::Threads;
+use world::{Loaded, Trace};
 
 /// A disk of files with one content, of which two are not read. It counts reads, and adds up the
 /// bytes that are noted as charged.
@@ -22,7 +23,11 @@ struct CountingDisk<'a> {
 }
 
 impl Disk for CountingDisk<'_> {
+    ghost use Rattle.world.specs.Origins.{memory};
+
     type File = InMemory<'static>;
+
+    ghost origin = { λ disk _. memory disk.content.now };
 
     fn open_placed(&self, _: &str) -> Result<InMemory<'static>, Unopened> {
         Err(Unopened::Unread)
@@ -36,7 +41,7 @@ impl Disk for CountingDisk<'_> {
         Ok(())
     }
 
-    fn read_into(&self, name: &str, room: Vec<u8>) -> Result<Vec<u8>, LoadFault> {
+    fn read_into(&self, name: &str, room: Vec<u8>, _: &mut Trace) -> Result<Vec<u8>, LoadFault> {
         self.reads.fetch_add(1, Ordering::SeqCst);
         match name {
             "none" => Err(LoadFault::Unread),
@@ -50,7 +55,7 @@ impl Disk for CountingDisk<'_> {
         }
     }
 
-    fn read(&self, _: Global, _: &str) -> Result<Vec<u8>, LoadFault> {
+    fn read(&self, _: Global, _: String) -> Result<Loaded, LoadFault> {
         Err(LoadFault::NoMemory)
     }
 
@@ -58,32 +63,6 @@ impl Disk for CountingDisk<'_> {
         if let Amount::Bytes(bytes) = more {
             self.charged.fetch_add(bytes, Ordering::SeqCst);
         }
-    }
-}
-
-/// A source that keeps no loads. It counts those that it is asked for.
-#[derive(Drop)]
-struct Bare<'a> {
-    from: Shelf<'a>,
-    loads: u64,
-}
-
-impl FileSource for Bare<'_> {
-    fn load(&mut self, name: &str) -> Result<Vec<u8>, LoadFault> {
-        self.loads = self.loads.saturating_add(1);
-        self.from.load(name)
-    }
-}
-
-impl Source for Bare<'_> {
-    fn keeps_loads(&self) -> bool {
-        false
-    }
-
-    fn keep_ahead(&mut self, _: Vec<FileAhead>) {}
-
-    fn input(&mut self) -> Result<Vec<u8>, LoadFault> {
-        self.from.input()
     }
 }
 
@@ -99,7 +78,7 @@ struct Came {
     charged: u64,
 }
 
-fn run_bare<R: Threads + Wait + RandomSource + Sync>(
+fn run_counting<R: Threads + Wait + RandomSource + Sync>(
     rt: &R,
     alloc: Global,
     words: &[&str],
@@ -118,10 +97,7 @@ fn run_bare<R: Threads + Wait + RandomSource + Sync>(
         charged: AtomicU64::new(0),
     };
     let input = Content::Fault(LoadFault::Unread);
-    let mut source = Bare {
-        from: Shelf::new(alloc, files.as_slice(), input),
-        loads: 0,
-    };
+    let mut source = Shelf::new(alloc, files.as_slice(), input);
     let mut out = Vec::new(alloc);
     let (status, err) = run_over(rt, alloc, words, &disk, &mut source, &mut out)?;
     Ok(Came {
@@ -159,7 +135,7 @@ fn reads_each_file_once(rt: HostRuntime) -> Result<(), Fail> {
     let alloc = rt.alloc();
     for workers in ["1", "2", "16"] {
         let words = ["--table", "t", "--workers", workers, "a", "b"];
-        let came = run_bare(&rt, alloc, &words)?;
+        let came = run_counting(&rt, alloc, &words)?;
         assert_eq!(rt; (came.status, came.err.len()), (0, 0), "by {workers}");
         assert_eq!(rt; (came.reads, came.loads), (2, 1), "by {workers}");
         assert_eq!(rt; came.charged, 128, "by {workers}");
@@ -185,7 +161,7 @@ fn reports_the_first_unread_file(rt: HostRuntime) -> Result<(), Fail> {
             "b",
             "long",
         ];
-        let came = run_bare(&rt, alloc, &words)?;
+        let came = run_counting(&rt, alloc, &words)?;
         assert_eq!(rt; (came.status, came.out.len()), (1, 0), "by {workers}");
         assert_eq!(rt;
             came.err.as_slice(),
@@ -193,7 +169,7 @@ fn reports_the_first_unread_file(rt: HostRuntime) -> Result<(), Fail> {
             "by {workers}"
         );
         let words = ["--table", "t", "--workers", workers, "long", "none", "a"];
-        let came = run_bare(&rt, alloc, &words)?;
+        let came = run_counting(&rt, alloc, &words)?;
         assert_eq!(rt; (came.status, came.out.len()), (1, 0), "by {workers}");
         assert_eq!(rt;
             came.err.as_slice(),

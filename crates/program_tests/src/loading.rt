@@ -4,16 +4,16 @@
 use super::running::{NoDisk, run_over};
 use super::shelf::{Content, Shelf};
 use fare_program::{
-    Disk, FileAhead, FileSource, Host, LOAD_LIMIT_BYTES, LoadFault, Source, load_from, read_ahead,
+    Disk, FileSource, Host, LOAD_LIMIT_BYTES, LoadFault, Source, load_from, read_ahead,
 };
 use placed_files::{InMemory, Unopened};
 use std::alloc::{AllocError, Global};
 use std::io::Read;
 use std::marker::Sync;
-use std::process::Abort;
 use std::test::Fail;
 use std::thread::Threads;
 use std::{fs, io};
+use world::{Loaded, Trace};
 
 /// A file for which there is no memory is no file that cannot be read.
 #[test]
@@ -130,11 +130,16 @@ fn reads_files_ahead_by_several_threads_alone(rt: HostRuntime) -> Result<(), Fai
     Ok(())
 }
 
-/// A disk on which each file holds its own name, but for some.
-struct Names;
+/// A disk of the system's files, but for some names.
+#[derive(Drop)]
+struct Names<'a, R> {
+    rt: &'a R,
+}
 
-impl Disk for Names {
+impl<R: Disk> Disk for Names<'_, R> {
     type File = InMemory<'static>;
+
+    ghost origin = { λ disk name. R.origin disk.rt.now name };
 
     fn open_placed(&self, _: &str) -> Result<InMemory<'static>, Unopened> {
         Err(Unopened::Unread)
@@ -148,62 +153,61 @@ impl Disk for Names {
         Ok(())
     }
 
-    fn read_into(&self, name: &str, room: Vec<u8>) -> Result<Vec<u8>, LoadFault> {
-        match name {
-            "none" => Err(LoadFault::Unread),
-            "long" => Err(LoadFault::TooLong),
-            "large" => Err(LoadFault::NoMemory),
-            _ => {
-                let mut bytes = room;
-                bytes.clear();
-                bytes.extend_from_slice(name.as_bytes())?;
-                Ok(bytes)
-            }
-        }
+    fn read_into(
+        &self,
+        name: &str,
+        room: Vec<u8>,
+        calls: &mut Trace,
+    ) -> Result<Vec<u8>, LoadFault> {
+        self.rt.read_into(name, room, calls)
     }
 
-    fn read(&self, alloc: Global, name: &str) -> Result<Vec<u8>, LoadFault> {
-        match name {
+    fn read(&self, alloc: Global, name: String) -> Result<Loaded, LoadFault> {
+        match name.as_str() {
             "none" => Err(LoadFault::Unread),
             "long" => Err(LoadFault::TooLong),
             "large" => Err(LoadFault::NoMemory),
-            _ => Ok(Vec::from_slice(alloc, name.as_bytes())?),
+            _ => self.rt.read(alloc, name),
         }
     }
 }
 
-/// The names of what two threads read ahead, in the order of the list. Each has its own bytes, or
-/// the fault that the disk reports of it.
-fn ahead_names<R: Threads + Sync + Abort>(
+/// The names of what two threads read ahead, in the order of the list.
+fn ahead_names<R: Threads + Sync + Disk>(
     rt: &R,
     alloc: Global,
     names: &[&str],
 ) -> Result<String, Fail> {
     let mut text = String::new(alloc);
-    for file in read_ahead(rt, alloc, &Names, names, 2) {
-        write!(text, "{} ", file.name)?;
-        assert!(rt; file.loaded == Names.read(alloc, file.name.as_str()));
+    for file in read_ahead(rt, alloc, &Names { rt }, names, 2) {
+        write!(text, "{} ", file.name())?;
     }
     Ok(text)
 }
 
-/// Each thread's part ends behind the first fault, and before the first file for which there is no
-/// memory.
+/// Each thread's part ends before the first file that is not loaded.
 #[test]
 fn reads_parts_up_to_a_fault(rt: HostRuntime) -> Result<(), Fail> {
-    let alloc = rt.alloc();
+    let files = ["part_a", "part_b", "part_c", "part_d"];
+    let [a, b, c, d] = files;
+    for name in files {
+        fs::write(&rt, name, name)?;
+    }
     let rows = [
-        (["a", "b", "c", "d"], "d c b a "),
-        (["a", "none", "c", "d"], "d c none a "),
-        (["none", "b", "long", "d"], "long none "),
-        (["large", "b", "c", "large"], "c "),
-        (["a", "b", "c", "pipe"], "c b a "),
-        (["a", "pipe", "c", "d"], "a "),
-        (["pipe", "b", "c", "d"], ""),
+        ([a, b, c, d], "part_d part_c part_b part_a "),
+        ([a, "none", c, d], "part_d part_c part_a "),
+        (["none", b, "long", d], ""),
+        (["large", b, c, "large"], "part_c "),
+        ([a, b, c, "pipe"], "part_c part_b part_a "),
+        ([a, "pipe", c, d], "part_a "),
+        (["pipe", b, c, d], ""),
     ];
     for (names, reported) in rows {
-        let text = ahead_names(&rt, alloc, &names)?;
+        let text = ahead_names(&rt, rt.alloc(), &names)?;
         assert_eq!(rt; text.as_str(), reported, "{names:?}");
+    }
+    for name in files {
+        fs::remove_file(&rt, name)?;
     }
     Ok(())
 }
@@ -221,34 +225,41 @@ impl FileSource for AheadCount {
 }
 
 impl Source for AheadCount {
-    fn keeps_loads(&self) -> bool {
-        true
-    }
-
-    fn keep_ahead(&mut self, ahead: Vec<FileAhead>) {
+    fn keep_ahead(&mut self, ahead: Vec<Loaded>) {
         self.files = ahead.len();
     }
 
     fn input(&mut self) -> Result<Vec<u8>, LoadFault> {
         Err(LoadFault::Unread)
     }
+
+    fn join(&mut self, _: Trace) {}
 }
 
 #[test]
 fn reads_files_ahead_for_any_number_of_workers(rt: HostRuntime) -> Result<(), Fail> {
     let alloc = rt.alloc();
+    let files = ["many_a", "many_b", "many_c"];
+    let [a, b, c] = files;
+    for name in files {
+        fs::write(&rt, name, name)?;
+    }
     for workers in ["1", "2", "3", "16"] {
         let mut source = AheadCount { files: 0 };
-        let words = ["--workers", workers, "a", "b", "c"];
+        let words = ["--workers", workers, a, b, c];
+        let disk = Names { rt: &rt };
         let mut out = Vec::new(alloc);
-        let (status, err) = run_over(&rt, alloc, words.as_slice(), &Names, &mut source, &mut out)?;
+        let (status, err) = run_over(&rt, alloc, &words, &disk, &mut source, &mut out)?;
         assert_eq!(rt; (out.len(), status), (0, 1), "by {workers}");
         assert_eq!(rt;
             err.as_slice(),
-            b"fault: cannot read a\n".as_slice(),
+            b"fault: cannot read many_a\n".as_slice(),
             "by {workers}"
         );
         assert_eq!(rt; source.files, 3, "by {workers}");
+    }
+    for name in files {
+        fs::remove_file(&rt, name)?;
     }
     Ok(())
 }

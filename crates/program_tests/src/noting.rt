@@ -11,6 +11,7 @@ use std::sync::Wait;
 use std::sync::atomic::{AtomicU64, Ordering};
 use std::test::Fail;
 use std::thread::Threads;
+use world::{Loaded, Trace};
 
 /// A disk of which nothing is read. It adds up what is noted.
 #[derive(Drop)]
@@ -22,7 +23,11 @@ struct NotingDisk {
 }
 
 impl Disk for NotingDisk {
+    ghost use Rattle.world.specs.Origins.{nowhere};
+
     type File = InMemory<'static>;
+
+    ghost origin = { λ _ _. nowhere };
 
     fn open_placed(&self, _: &str) -> Result<InMemory<'static>, Unopened> {
         Err(Unopened::Unread)
@@ -36,11 +41,11 @@ impl Disk for NotingDisk {
         Ok(())
     }
 
-    fn read_into(&self, _: &str, _: Vec<u8>) -> Result<Vec<u8>, LoadFault> {
+    fn read_into(&self, _: &str, _: Vec<u8>, _: &mut Trace) -> Result<Vec<u8>, LoadFault> {
         Err(LoadFault::Unread)
     }
 
-    fn read(&self, _: Global, _: &str) -> Result<Vec<u8>, LoadFault> {
+    fn read(&self, _: Global, _: String) -> Result<Loaded, LoadFault> {
         Err(LoadFault::Unread)
     }
 

@@ -8,12 +8,17 @@ use std::marker::Sync;
 use std::random::RandomSource;
 use std::sync::Wait;
 use std::thread::Threads;
+use world::{Loaded, Trace};
 
 /// A disk of which nothing is read before its turn.
 pub(crate) struct NoDisk;
 
 impl Disk for NoDisk {
+    ghost use Rattle.world.specs.Origins.{nowhere};
+
     type File = InMemory<'static>;
+
+    ghost origin = { λ _ _. nowhere };
 
     fn open_placed(&self, _: &str) -> Result<InMemory<'static>, Unopened> {
         Err(Unopened::Unread)
@@ -27,11 +32,11 @@ impl Disk for NoDisk {
         Ok(())
     }
 
-    fn read_into(&self, _: &str, _: Vec<u8>) -> Result<Vec<u8>, LoadFault> {
+    fn read_into(&self, _: &str, _: Vec<u8>, _: &mut Trace) -> Result<Vec<u8>, LoadFault> {
         Err(LoadFault::Unread)
     }
 
-    fn read(&self, _: Global, _: &str) -> Result<Vec<u8>, LoadFault> {
+    fn read(&self, _: Global, _: String) -> Result<Loaded, LoadFault> {
         Err(LoadFault::Unread)
     }
 }

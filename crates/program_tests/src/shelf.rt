@@ -1,10 +1,9 @@
-//! A source of named files in memory, which keeps what it loaded.
-ghost use Rattle.std.specs.Prelude.{◌≡◌, ◌++◌, ◌∷◌, [], IfOk, OnOk, Some, map, option_map};
-ghost use Rattle.std.specs.Prelude.{string_bytes};
+//! A source of named files in memory.
 
-use fare_program::{FileAhead, FileSource, LoadFault, Source};
+use fare_program::{FileSource, LoadFault, Source};
 pub use sample_table::SAMPLE;
-use std::alloc::{AllocError, Global};
+use std::alloc::Global;
+use world::{Loaded, Trace};
 
 /// Two taps of one token: validator 1000 at 2024-03-08T17:00Z, validator 2000 two hours later.
 pub(crate) const FIRST: &str =
@@ -18,21 +17,22 @@ pub(crate) enum Content<'a> {
     Fault(LoadFault),
 }
 
-/// A load that was answered.
-#[derive(Drop)]
-struct Given {
-    /// The name of the file; standard input has none.
-    name: Option<String>,
-    bytes: Vec<u8>,
+impl Content<'_> {
+    fn bytes(self, alloc: Global) -> Result<Vec<u8>, LoadFault> {
+        match self {
+            Content::Bytes(bytes) => Ok(Vec::from_slice(alloc, bytes)?),
+            Content::Fault(fault) => Err(fault),
+        }
+    }
 }
 
-/// A source of some named files and an input, which keeps what it loaded.
+/// A source of some named files and an input. It counts the files that it is asked for.
 #[derive(Drop)]
 pub(crate) struct Shelf<'a> {
     alloc: Global,
     files: &'a [(&'a str, Content<'a>)],
     input: Content<'a>,
-    given: Vec<Given>,
+    pub(crate) loads: u64,
 }
 
 impl<'a> Shelf<'a> {
@@ -46,7 +46,7 @@ impl<'a> Shelf<'a> {
             alloc,
             files,
             input,
-            given: Vec::new(alloc),
+            loads: 0,
         }
     }
 
@@ -62,54 +62,18 @@ impl<'a> Shelf<'a> {
 }
 
 impl FileSource for Shelf<'_> {
-    ghost loaded = { λ s. Some (map (λ g. record {
-      name = option_map string_bytes g.name;
-      bytes = g.bytes.items;
-    }) s.given.items) };
-
     fn load(&mut self, name: &str) -> Result<Vec<u8>, LoadFault> {
-        let content = self.content(name);
-        let name = String::from_str(self.alloc, name)?;
-        let (bytes, kept) = copies(self.alloc, content)?;
-        keep(&mut self.given, Some(name), kept)?;
-        Ok(bytes)
+        self.loads = self.loads.saturating_add(1);
+        self.content(name).bytes(self.alloc)
     }
 }
 
 impl Source for Shelf<'_> {
-    fn keeps_loads(&self) -> bool {
-        true
-    }
-
-    fn keep_ahead(&mut self, _: Vec<FileAhead>) {}
+    fn keep_ahead(&mut self, _: Vec<Loaded>) {}
 
     fn input(&mut self) -> Result<Vec<u8>, LoadFault> {
-        let (bytes, kept) = copies(self.alloc, self.input)?;
-        keep(&mut self.given, None, kept)?;
-        Ok(bytes)
+        self.input.bytes(self.alloc)
     }
-}
 
-/// The content's bytes, twice.
-fn copies(alloc: Global, content: Content<'_>) -> Result<(Vec<u8>, Vec<u8>), LoadFault>
-    ensures { IfOk result (λ pair. pair.0.items ≡ pair.1.items) }
-{
-    match content {
-        Content::Bytes(bytes) => {
-            Ok((
-                Vec::from_slice(alloc, bytes)?,
-                Vec::from_slice(alloc, bytes)?,
-            ))
-        }
-        Content::Fault(fault) => Err(fault),
-    }
-}
-
-/// Keeps a load that was answered.
-fn keep(given: &mut Vec<Given>, name: Option<String>, bytes: Vec<u8>) -> Result<(), AllocError>
-    ensures { OnOk result (given.new.items ≡ given.old.items
-        ++ record { name = name; bytes = bytes } ∷ []) }
-{
-    given.push(Given { name, bytes })?;
-    Ok(())
+    fn join(&mut self, _: Trace) {}
 }

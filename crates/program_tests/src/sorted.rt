@@ -14,6 +14,7 @@ use std::sync::atomic::{AtomicU64, Ordering};
 use std::test::Fail;
 use std::thread::Threads;
 use tap_views::{TapFields, encode};
+use world::{Loaded, Trace};
 
 /// The token of most taps.
 const TOKEN: &str = "000000000000000000000000000000a1";
@@ -28,8 +29,11 @@ pub(crate) struct TwoFiles<'a> {
 impl<'a> Disk for TwoFiles<'a> {
     ghost use Rattle.std.specs.Prelude.{Some, codes, if◌then◌else◌};
     ghost use Rattle.std.specs.Str.{bytes_eq};
+    ghost use Rattle.world.specs.Origins.{nowhere};
 
     type File = InMemory<'a>;
+
+    ghost origin = { λ _ _. nowhere };
 
     ghost bytes_under = { λ disk name.
         Some (if bytes_eq name (codes "a") then disk.a.now else disk.b.now) };
@@ -47,11 +51,11 @@ impl<'a> Disk for TwoFiles<'a> {
         Ok(())
     }
 
-    fn read_into(&self, _: &str, _: Vec<u8>) -> Result<Vec<u8>, LoadFault> {
+    fn read_into(&self, _: &str, _: Vec<u8>, _: &mut Trace) -> Result<Vec<u8>, LoadFault> {
         Err(LoadFault::Unread)
     }
 
-    fn read(&self, _: Global, _: &str) -> Result<Vec<u8>, LoadFault> {
+    fn read(&self, _: Global, _: String) -> Result<Loaded, LoadFault> {
         Err(LoadFault::Unread)
     }
 }
@@ -240,11 +244,11 @@ impl<'a> Disk for FickleDisk<'a> {
         Ok(())
     }
 
-    fn read_into(&self, _: &str, _: Vec<u8>) -> Result<Vec<u8>, LoadFault> {
+    fn read_into(&self, _: &str, _: Vec<u8>, _: &mut Trace) -> Result<Vec<u8>, LoadFault> {
         Err(LoadFault::Unread)
     }
 
-    fn read(&self, _: Global, _: &str) -> Result<Vec<u8>, LoadFault> {
+    fn read(&self, _: Global, _: String) -> Result<Loaded, LoadFault> {
         Err(LoadFault::Unread)
     }
 }

@@ -17,8 +17,12 @@ pub struct Hushing<'a, R: Wait, W: Write + Drop> {
 }
 
 impl<'a, R: Wait, W: Write + Drop> Hushing<'a, R, W> {
+    ghost use Rattle.std.specs.Prelude.{◌≡◌};
+
     /// A writer to which nothing was written, and whether that is a file: beside it the line stays.
-    pub fn new(rt: &'a R, ticker: &'a Ticker, to: W, is_file: bool) -> Hushing<'a, R, W> {
+    pub fn new(rt: &'a R, ticker: &'a Ticker, to: W, is_file: bool) -> Hushing<'a, R, W>
+        ensures { result.to ≡ to }
+    {
         Hushing {
             rt,
             ticker,

@@ -2,12 +2,13 @@
 
 use crate::meter::Meter;
 use crate::ticker::Ticker;
-use file_sources::{Amount, Disk, FileAhead, Source};
+use file_sources::{Amount, Disk, Source};
 use placed_files::{FileStamp, Placed, Unopened};
 use program_manners::{FileSource, LoadFault};
 use std::alloc::{AllocError, Global};
 use std::io;
 use std::sync::Wait;
+use world::{Loaded, Trace};
 
 /// A disk or a source whose reads are noted. It gives what the one below gives.
 #[derive(Drop)]
@@ -18,8 +19,12 @@ pub struct Watched<'a, R: Wait, S: Drop> {
 }
 
 impl<'a, R: Wait, S: Drop> Watched<'a, R, S> {
+    ghost use Rattle.std.specs.Prelude.{◌≡◌};
+
     /// The source `from`, whose reads the ticker shows.
-    pub fn new(rt: &'a R, ticker: &'a Ticker, from: S) -> Watched<'a, R, S> {
+    pub fn new(rt: &'a R, ticker: &'a Ticker, from: S) -> Watched<'a, R, S>
+        ensures { result.from ≡ from }
+    {
         Watched { rt, ticker, from }
     }
 }
@@ -65,6 +70,8 @@ impl<'a, R: Disk + Wait> Disk for WatchedDisk<'a, R> {
 
     ghost bytes_under = { λ w name. R.bytes_under w.rt.now name };
 
+    ghost origin = { λ w name. R.origin w.rt.now name };
+
     fn open_placed(&self, name: &str) -> Result<WatchedFile<'a, R::File>, Unopened> {
         let from = self.rt.open_placed(name)?;
         let meter = &self.ticker.meters.sorted;
@@ -90,16 +97,21 @@ impl<'a, R: Disk + Wait> Disk for WatchedDisk<'a, R> {
         self.rt.push_sample(alloc, name, sample)
     }
 
-    fn read(&self, alloc: Global, name: &str) -> Result<Vec<u8>, LoadFault> {
+    fn read(&self, alloc: Global, name: String) -> Result<Loaded, LoadFault> {
         self.ticker.steps.lock(self.rt).begin_ahead();
-        let bytes = self.rt.read(alloc, name)?;
+        let file = self.rt.read(alloc, name)?;
         self.ticker.steps.lock(self.rt).end_ahead();
-        Ok(bytes)
+        Ok(file)
     }
 
-    fn read_into(&self, name: &str, room: Vec<u8>) -> Result<Vec<u8>, LoadFault> {
+    fn read_into(
+        &self,
+        name: &str,
+        room: Vec<u8>,
+        calls: &mut Trace,
+    ) -> Result<Vec<u8>, LoadFault> {
         self.ticker.steps.lock(self.rt).begin_ahead();
-        let bytes = self.rt.read_into(name, room)?;
+        let bytes = self.rt.read_into(name, room, calls)?;
         self.ticker.steps.lock(self.rt).end_settled();
         Ok(bytes)
     }
@@ -137,11 +149,7 @@ impl<R: Wait, S: FileSource + Drop> FileSource for Watched<'_, R, S> {
 }
 
 impl<R: Wait, S: Source + Drop> Source for Watched<'_, R, S> {
-    fn keeps_loads(&self) -> bool {
-        self.from.keeps_loads()
-    }
-
-    fn keep_ahead(&mut self, ahead: Vec<FileAhead>) {
+    fn keep_ahead(&mut self, ahead: Vec<Loaded>) {
         self.ticker.steps.lock(self.rt).keep_ahead(ahead.len());
         self.from.keep_ahead(ahead);
     }
@@ -151,5 +159,9 @@ impl<R: Wait, S: Source + Drop> Source for Watched<'_, R, S> {
         let bytes = self.from.input()?;
         self.ticker.steps.lock(self.rt).end_input();
         Ok(bytes)
+    }
+
+    fn join(&mut self, calls: Trace) {
+        self.from.join(calls);
     }
 }

@@ -7,7 +7,7 @@ use Rattle.part_reports.specs.FirstWrongLines.{IsFirstWrongOfEnds, IsFirstWrongO
 use Rattle.part_reports.specs.Reports.{AreWrongEndsAt, HaveTaps, IsMerged, IsWrongReportAt}
 use Rattle.part_reports.specs.Reports.{all_ends}
 use Rattle.program_manners.specs.Loads.{Loaded}
-use Rattle.program_manners.specs.declared.loading.LoadFault.{LoadFault}
+use Rattle.world.specs.declared.faults.LoadFault.{LoadFault}
 use Rattle.program_manners.specs.declared.output.WriteEnd.{WriteEnd}
 use Rattle.program_manners.specs.declared.output.WriteEnd.TheVariants as writes
 use Rattle.tap_views.specs.UploadEnds.{is_posted}

@@ -10,7 +10,7 @@ use Rattle.part_reports.specs.LedgersWithReports.{AddsUpToNoReportAt, IsMergedWi
 use Rattle.part_reports.specs.LedgersWithReports.{IsNoReportAt}
 use Rattle.report_texts.specs.declared.wrong.Wrong.{Wrong}
 use Rattle.program_manners.specs.Loads.{Loaded}
-use Rattle.program_manners.specs.declared.loading.LoadFault.{LoadFault}
+use Rattle.world.specs.declared.faults.LoadFault.{LoadFault}
 use Rattle.program_manners.specs.declared.output.WriteEnd.{WriteEnd}
 use Rattle.program_manners.specs.declared.output.WriteEnd.TheVariants as writes
 use Rattle.tool_tasks.specs.Fault.{IsRefusal}

@@ -5,7 +5,7 @@ use Rattle.tap_views.specs.UploadEnds.{are_posted}
 use Rattle.tap_views.specs.declared.upload_end.UploadEnd.{UploadEnd}
 use Rattle.program_manners.specs.Loads.{Loaded}
 use Rattle.program_manners.specs.TableWords.{date_text}
-use Rattle.program_manners.specs.declared.loading.LoadFault.{LoadFault}
+use Rattle.world.specs.declared.faults.LoadFault.{LoadFault}
 use Rattle.program_manners.specs.declared.output.WriteEnd.{WriteEnd}
 use Rattle.program_manners.specs.declared.table_words.DateFault.{DateFault}
 use Rattle.tap_rows.specs.declared.agency.summary.Summary.{Summary}

@@ -11,7 +11,7 @@ use Rattle.std.proofs.lemmas.List.Concat.{flat_map-append}
 use Rattle.fare_texts.specs.WrittenOut.{Begins}
 use Rattle.fare_texts.proofs.Beginnings.{begins_behind, begins_kept, begins_whole}
 use Rattle.program_manners.specs.Loads.{Loaded, LoadsOne}
-use Rattle.program_manners.specs.declared.loading.LoadFault.{LoadFault}
+use Rattle.world.specs.declared.faults.LoadFault.{LoadFault}
 use Rattle.program_manners.specs.declared.output.WriteEnd.{WriteEnd}
 use Rattle.program_manners.specs.declared.output.WriteEnd.TheVariants as writes
 use Rattle.program_manners.proofs.LoadsOn.{loads_more}

@@ -25,7 +25,7 @@ use Rattle.tool_tasks.specs.EncodeRows.{GivesUpText, HasDevices, IsChoice, IsRef
 use Rattle.tool_tasks.specs.EncodeRows.{IsRightRowsFault, StopsDevices, word_in, words_in}
 use Rattle.tool_tasks.specs.Fault.{failed_as}
 use Rattle.program_manners.specs.Loads.{Loaded}
-use Rattle.program_manners.specs.declared.loading.LoadFault.{LoadFault}
+use Rattle.world.specs.declared.faults.LoadFault.{LoadFault}
 use Rattle.program_manners.specs.declared.output.WriteEnd.{WriteEnd}
 use Rattle.program_manners.specs.declared.output.WriteEnd.TheVariants as writes
 use Rattle.tool_tasks.specs.Sink.{IsEmptyFile, IsNotMade, Made, Makes, MakesOne, RefusesNew}

@@ -3,7 +3,7 @@ use Rattle.std.proofs.Common.{◌≡◌, ◌≢◌, ◌∙◌, ℕ, Bool, List, 
 use Rattle.std.proofs.Common.{inl, inr, refl, sym}
 use Rattle.std.specs.Io.KnownBytes.{Keeps}
 use Rattle.program_manners.specs.Loads.{Loaded}
-use Rattle.program_manners.specs.declared.loading.LoadFault.{LoadFault}
+use Rattle.world.specs.declared.faults.LoadFault.{LoadFault}
 use Rattle.program_manners.specs.declared.output.WriteEnd.{WriteEnd}
 use Rattle.tool_tasks.specs.Fault.{failed_as}
 use Rattle.tool_tasks.specs.GoodPart.{GivesUpGoodPart, IsUnmadeNew, KeepsGoodPart}

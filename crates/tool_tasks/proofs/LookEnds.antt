@@ -6,7 +6,7 @@ use Rattle.tariffs.specs.TableMeaning.{TableMeaning}
 use Rattle.fare_table.specs.declared.fault.TableFault.{TableFault}
 use Rattle.program_manners.specs.Loads.{Loaded, LoadsOne}
 use Rattle.program_manners.specs.Refusals.{IsFirstTableFault}
-use Rattle.program_manners.specs.declared.loading.LoadFault.{LoadFault}
+use Rattle.world.specs.declared.faults.LoadFault.{LoadFault}
 use Rattle.program_manners.specs.declared.output.WriteEnd.{WriteEnd}
 use Rattle.tool_tasks.specs.Fault.{IsFaultReported, IsRefusal, fault_line, fault_text, is_quiet}
 use Rattle.tool_tasks.specs.Look.{GivesUpLook, IsFareTableFault, Looks}

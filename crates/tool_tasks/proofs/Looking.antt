@@ -10,7 +10,7 @@ use Rattle.tariffs.specs.TableMeaning.{TableMeaning}
 use Rattle.fare_texts.specs.WrittenOut.{Begins}
 use Rattle.fare_texts.proofs.Beginnings.{begins_behind, begins_kept, begins_whole}
 use Rattle.program_manners.specs.Loads.{Loaded, LoadsOne}
-use Rattle.program_manners.specs.declared.loading.LoadFault.{LoadFault}
+use Rattle.world.specs.declared.faults.LoadFault.{LoadFault}
 use Rattle.program_manners.specs.declared.output.WriteEnd.{WriteEnd}
 use Rattle.tap_views.specs.Facts.{AreFacts}
 use Rattle.tap_views.specs.declared.facts.Facts.{Facts}

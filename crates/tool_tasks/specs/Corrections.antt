@@ -12,7 +12,7 @@ use Rattle.report_texts.specs.declared.wrong.Wrong.TheVariants as wrong
 use Rattle.program_manners.specs.LineWritten.{LineWritten}
 use Rattle.program_manners.specs.Loads.{Loaded}
 use Rattle.program_manners.specs.Refusals.{IsOneOf}
-use Rattle.program_manners.specs.declared.loading.LoadFault.{LoadFault}
+use Rattle.world.specs.declared.faults.LoadFault.{LoadFault}
 use Rattle.program_manners.specs.declared.output.WriteEnd.{WriteEnd}
 use Rattle.program_manners.specs.declared.output.WriteEnd.TheVariants as writes
 use Rattle.tool_tasks.specs.Fault.{IsRefusal}

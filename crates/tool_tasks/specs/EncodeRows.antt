@@ -6,7 +6,7 @@ use Rattle.std.specs.Borrow.{Bor}
 use Rattle.std.specs.Io.KnownBytes.{Keeps}
 use Rattle.program_manners.specs.LineWritten.{LineWritten}
 use Rattle.program_manners.specs.Loads.{Loaded}
-use Rattle.program_manners.specs.declared.loading.LoadFault.{LoadFault}
+use Rattle.world.specs.declared.faults.LoadFault.{LoadFault}
 use Rattle.program_manners.specs.declared.output.WriteEnd.{WriteEnd}
 use Rattle.program_manners.specs.declared.output.WriteEnd.TheVariants as writes
 use Rattle.tap_rows.specs.Agencies.{IsFirstRefused, IsRowsEncoded, IsUploadBegun, IsWanting}

@@ -11,7 +11,7 @@ use Rattle.program_manners.specs.Lines.{follow_text}
 use Rattle.program_manners.specs.Loads.{Loaded}
 use Rattle.program_manners.specs.TableLoads.{CannotFollow, Follows}
 use Rattle.program_manners.specs.TableWords.{TableNames, file_named, written_date}
-use Rattle.program_manners.specs.declared.loading.LoadFault.{LoadFault}
+use Rattle.world.specs.declared.faults.LoadFault.{LoadFault}
 use Rattle.program_manners.specs.declared.output.WriteEnd.{WriteEnd}
 use Rattle.program_manners.specs.declared.output.WriteEnd.TheVariants as writes
 use Rattle.program_manners.specs.declared.table_words.WrittenDate.{WrittenDate}

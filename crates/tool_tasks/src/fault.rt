@@ -3,7 +3,7 @@ ghost use Rattle.std.specs.Prelude.{◌≡◌, ◌≢◌, ◌⊎◌, ℕ, Err, I
 ghost use Rattle.std.specs.Prelude.{OnOk, Option, Some, false, true};
 ghost use Rattle.std.specs.Io.KnownBytes.{Keeps};
 ghost use Rattle.program_manners.specs.Refusals.{IsOneOf, Refuses};
-ghost use Rattle.program_manners.specs.declared.loading.LoadFault.{LoadFault as ALoadFault};
+ghost use Rattle.world.specs.declared.faults.LoadFault.{LoadFault as ALoadFault};
 ghost use Rattle.tool_tasks.specs.Fault.{IsFaultReported, IsRefusal, failed_as, fault_text};
 ghost use Rattle.tool_tasks.specs.Fault.{is_quiet, wrong_text};
 ghost use Rattle.tool_tasks.specs.Names.{file_named};

@@ -27,7 +27,7 @@ pub trait Source {
     ghost use Rattle.std.specs.Prelude.{◌≡◌, ℕ, List, IfErr, IfOk, Option, None, option_map};
     ghost use Rattle.program_manners.specs.Loads.{Loaded, LoadsOne, OpensOne};
     ghost use Rattle.program_manners.specs.Refusals.{Refuses};
-    ghost use Rattle.program_manners.specs.declared.loading.LoadFault.{LoadFault as AFault};
+    ghost use Rattle.world.specs.declared.faults.LoadFault.{LoadFault as AFault};
 
     /// A file or standard input that was opened, to be read in pieces.
     type Text: BufRead + Drop;

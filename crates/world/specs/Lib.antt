@@ -1,6 +1,7 @@
 pub mod Faults
 pub mod GhostBytes
 pub mod Loads
+pub mod Origins
 pub mod Run
 pub mod Writes
 pub mod inside

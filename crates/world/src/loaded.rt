@@ -34,8 +34,8 @@ impl Loaded {
         &self.name
     }
 
-    /// The bytes, once the calls are appended to those of this run.
-    pub(crate) fn join(self, calls: &mut Trace) -> Vec<u8>
+    /// The bytes, after the calls by which they were read are appended to those of this run.
+    pub fn join(self, calls: &mut Trace) -> Vec<u8>
         ensures bytes { result ≡ self.bytes }
         ensures loaded { calls.new.run
             ≡ with_load calls.old.run (Some (string_bytes self.name)) result.items }

@@ -1,38 +1,24 @@
 -- Files that were charged while they were read.
-use Rattle.std.specs.Prelude.{◌≡◌, ℕ, ◌<◌, Bool, List, Option, Some, false, length}
-use Rattle.std.specs.Io.KnownBytes.{Appends}
+use Rattle.std.specs.Prelude.{◌≡◌, ℕ, Bool, List, Option, Some, false}
 use Rattle.tariffs.specs.Fares.{Fares}
-use Rattle.fare_texts.specs.WrittenOut.{Begins}
 use Rattle.tap_views.specs.declared.token.Token.{Token}
+use Rattle.world.specs.Origins.{Origin}
+use Rattle.fare_program.specs.FilesLoaded.{AreReadAhead}
 use Rattle.fare_program.specs.Options.{Asked}
 use Rattle.fare_program.specs.Program.{ShowsAsked}
+use Rattle.program_manners.specs.Loads.{Loaded}
 
--- What is asked for of the files was appended to the writer. There is a file for each name, one
--- at least, and a table, and the source keeps no loads.
-pub record IsChargedAhead (asked : Asked) (keeps : Bool) (table : Option Fares)
-    (token : Option Token) (out out' : Option (List ℕ)) (well : Bool) : Type 0 where
+-- There is a table, and the files were read ahead. What is asked for of them, well or not, was
+-- written, or a beginning of it: `Written` of its text.
+pub record IsChargedAhead (asked : Asked) (origin : List ℕ → Origin)
+    (loaded loaded' : Option (List Loaded)) (table : Option Fares) (token : Option Token)
+    (Written : List ℕ → Type 0) (well : Bool) : Type 0 where
   pub fares : Fares
   pub is_table : table ≡ Some fares
   pub lists_none : asked.list ≡ false
-  pub kept_none : keeps ≡ false
   pub files : List (List ℕ)
-  pub some : 0 < length files
-  pub number : length files ≡ length asked.files
+  pub drawn : List ℕ
+  pub read : AreReadAhead asked origin loaded loaded' files drawn
   pub text : List ℕ
-  pub shows : ShowsAsked asked fares files token text well
-  pub written : Appends out out' text
-
--- a beginning of it was, and nothing else
-pub record IsBegunAhead (asked : Asked) (keeps : Bool) (table : Option Fares)
-    (token : Option Token) (out out' : Option (List ℕ)) : Type 0 where
-  pub well : Bool
-  pub fares : Fares
-  pub is_table : table ≡ Some fares
-  pub lists_none : asked.list ≡ false
-  pub kept_none : keeps ≡ false
-  pub files : List (List ℕ)
-  pub some : 0 < length files
-  pub number : length files ≡ length asked.files
-  pub text : List ℕ
-  pub shows : ShowsAsked asked fares files token text well
-  pub begun : Begins out out' text
+  pub shows : ShowsAsked asked fares files drawn token text well
+  pub written : Written text

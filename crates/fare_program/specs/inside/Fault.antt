@@ -2,7 +2,7 @@
 use Rattle.std.specs.Prelude.{◌≡◌, ◌++◌, ℕ, List, MatchOption, None, Option, codes}
 use Rattle.program_manners.specs.Lines.{load_text}
 use Rattle.program_manners.specs.TableWords.{date_text}
-use Rattle.program_manners.specs.declared.loading.LoadFault.{LoadFault}
+use Rattle.world.specs.declared.faults.LoadFault.{LoadFault}
 use Rattle.program_manners.specs.declared.output.WriteEnd.{WriteEnd}
 use Rattle.program_manners.specs.declared.table_loads.TablesFault.{TablesFault}
 use Rattle.program_manners.specs.declared.table_loads.TablesFault.TheVariants as unloaded
@@ -10,6 +10,7 @@ use Rattle.fare_program.specs.Fault.{fault_text, mistake, status_of, wrong_date}
 use Rattle.fare_program.specs.Options.{Asked}
 use Rattle.fare_program.specs.declared.fault.Fault.{Fault}
 use Rattle.std.specs.Prelude.{◌<◌}
+use Rattle.fare_service.specs.Faults.{IsForMemory}
 use Rattle.fare_texts.specs.declared.print_fault.PrintFault.{PrintFault}
 use Rattle.fare_texts.specs.declared.print_fault.PrintFault.TheVariants as print
 use Rattle.fare_program.specs.declared.fault.Fault.TheVariants.{File, Follow, NamedTable, Table}
@@ -34,12 +35,12 @@ abbrev pub as_remembered : Option WriteEnd → Fault → Fault
 as_remembered None Write = NoMemory
 as_remembered end fault = fault
 
--- why a run over this number of uploads came to nothing: there were too many of them, or memory or
--- the gathering failed
+-- why a run over this number of uploads came to nothing: there were too many of them, or memory was
+-- refused, also to the gathering
 abbrev pub IsRunFailure : ℕ → Fault → Type 0
 IsRunFailure uploads Uploads = 65535 < uploads
 IsRunFailure uploads NoMemory = Unit {0}
-IsRunFailure uploads (Gather fault) = Unit {0}
+IsRunFailure uploads (Gather fault) = IsForMemory fault
 IsRunFailure uploads _ = ⊥
 
 -- the line is of a load under this name

@@ -2,17 +2,31 @@
 use Rattle.std.specs.Prelude.{◌≡◌, ℕ, true, List, Option}
 use Rattle.tariffs.specs.Fares.{Fares}
 use Rattle.tap_views.specs.declared.token.Token.{Token}
+use Rattle.fare_service.specs.Lending.{AreLentAs}
 use Rattle.fare_service.specs.Outcomes.{OutcomeView}
 use Rattle.fare_program.specs.Options.{Asked}
 use Rattle.tap_views.specs.UploadEnds.{are_posted}
 use Rattle.fare_program.specs.Program.{ShowsOf, ShowsPlain}
-use Rattle.fare_service.specs.Headline.{HasRun}
+use Rattle.fare_service.specs.Headline.{AreLoaded, HasRun, drawn_by}
+use Rattle.world.specs.Origins.{Origin}
+use Rattle.world.specs.Run.{Run, with_all}
 
--- The files were posted as they are. If each was posted whole, what is shown of the outcome is
--- shown over their plain history.
-pub record IsLiveRun (fares : Fares) (shards workers : ℕ) (files : List (List ℕ))
-    (outcome : OutcomeView) : Type 0 where
+-- The files were posted as they are, as uploads that were lent. If each was posted whole, what is
+-- shown of the outcome is shown over their plain history.
+pub record IsLiveRun (fares : Fares) (shards workers : ℕ) (uploads : List Origin)
+    (files : List (List ℕ)) (outcome : OutcomeView) : Type 0 where
+  pub lent : AreLentAs uploads files
   pub run : HasRun fares shards files workers outcome
+  pub loaded : AreLoaded uploads files (drawn_by run.0) outcome.run
   pub plain : (asked : Asked) (token : Option Token) (text : List ℕ)
       → are_posted outcome.ends ≡ true → ShowsOf asked token outcome.ends outcome text
       → ShowsPlain asked fares files token text
+
+-- These uploads were lent with the bytes of the files, and those that were drawn were loaded by the
+-- calls that were appended.
+pub record AreLent (uploads : List Origin) (files : List (List ℕ)) (drawn : List ℕ) (old new : Run)
+    : Type 0 where
+  pub lent : AreLentAs uploads files
+  pub run : Run
+  pub loaded : AreLoaded uploads files drawn run
+  pub appended : new ≡ with_all old run

@@ -14,6 +14,7 @@ use Rattle.fare_service.specs.Headline.{Signed, by_worker}
 use Rattle.fare_service.specs.ShareView.{ShareView}
 use Rattle.fare_service.specs.Shares.{books_of, made_visits, marks_at, made_visits_at}
 use Rattle.std.specs.List.{AllZip}
+use Rattle.world.specs.Run.{Run, with_all}
 
 -- the ends with those of some uploads, of which the last counts
 abbrev pub with_done : List UploadEnd → List Done → List UploadEnd
@@ -24,6 +25,11 @@ with_done ends (d ∷ done) = with_done (slice_set ends d.upload d.end) done
 abbrev pub with_all_done : List UploadEnd → List ShareView → List UploadEnd
 with_all_done ends [] = ends
 with_all_done ends (share ∷ shares) = with_all_done (with_done ends share.done) shares
+
+-- what was done, and then what the calls of all shares did, share by share
+abbrev pub with_runs : Run → List ShareView → Run
+with_runs run [] = run
+with_runs run (share ∷ shares) = with_runs (with_all run share.run) shares
 
 -- the sign of a mark, after the first i workers were joined
 pub record IsSign (i nobody : ℕ) (s : Signed) (m : Mark) : Type 0 where

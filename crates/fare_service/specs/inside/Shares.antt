@@ -4,6 +4,7 @@ use Rattle.tap_views.specs.declared.upload_end.UploadEnd.{UploadEnd}
 use Rattle.fare_service.specs.Runs.{RunVisit}
 use Rattle.fare_service.specs.Shares.{Worked}
 
--- an upload with its end and its visits
-abbrev pub worked : ℕ → UploadEnd → List RunVisit → Worked
-worked upload end visits = record { upload = upload; end = end; visits = visits }
+-- an upload with the bytes with which it was lent, its end and its visits
+abbrev pub worked : ℕ → List ℕ → UploadEnd → List RunVisit → Worked
+worked upload file end visits =
+    record { upload = upload; file = file; end = end; visits = visits }

@@ -12,7 +12,7 @@ ghost use Rattle.fare_service.specs.inside.Closing.{IsAppended, ReportsMissing};
 ghost use Rattle.fare_service.specs.inside.Closing.{IsFirstMissing, IsFirstUnseen, IsMissing};
 ghost use Rattle.fare_service.specs.inside.Closing.{LacksClaims, NoneMissing};
 ghost use Rattle.fare_service.specs.inside.Joining.{AreJoinedAt, Belongs, IsJoinedOf, with_done};
-ghost use Rattle.fare_service.specs.inside.Joining.{with_all_done};
+ghost use Rattle.fare_service.specs.inside.Joining.{with_all_done, with_runs};
 ghost use Rattle.fare_service.specs.Faults.{IsForMemory, IsGatherFault};
 ghost use Rattle.fare_service.specs.Shares.{books_of, made_visits_at};
 
@@ -26,6 +26,7 @@ use shard_book::{ShardBook, Totals, laws};
 use shared_books::{Draw, Drawer, Missing, Pass, SharedBook};
 use std::alloc::Global;
 use tap_views::{NoMemory, UploadEnd};
+use world::Trace;
 
 fn set_ends(ends: &mut Vec<UploadEnd>, done: &[Done])
     requires { All (λ d. d.upload < length ends.old.items) done.now }
@@ -78,33 +79,39 @@ fn join_passes(books: &[SharedBook], into: &mut Vec<Pass>, other: Vec<Pass>)
     }
 }
 
-/// Joins the other shares into the first.
+/// Joins the other shares into the first, and appends the calls of all.
 fn join_shares(
     draw: &Draw,
     books: &[SharedBook],
     first: Share,
     others: Vec<Share>,
+    calls: &mut Trace,
 ) -> (Drawer, Vec<Pass>)
     requires first { Belongs draw.now books.now first }
     requires others { All (Belongs draw.now books.now) others.items }
-    ensures { IsJoinedOf draw.now books.now (length others.items + 1)
+    ensures joined { IsJoinedOf draw.now books.now (length others.items + 1)
         (first ∷ others.items) result.0 result.1.items }
+    ensures calls { calls.new.run ≡ with_runs calls.old.run (first ∷ others.items) }
 {
     let Share {
         mut drawer,
         posting,
         done: _,
+        calls: own,
     } = first;
     let Posting {
         mut passes,
         totals: _,
     } = posting;
+    calls.join(own);
     for share in others {
         let Share {
             drawer: other,
             posting,
             done: _,
+            calls: own,
         } = share;
+        calls.join(own);
         draw.join(&mut drawer, other);
         join_passes(books, &mut passes, posting.passes);
     }
@@ -189,18 +196,20 @@ fn push_closed(
     }
 }
 
-/// Closes all books and the drawing, with what the shares hold.
+/// Closes all books and the drawing, with what the shares hold, and appends their calls.
 fn close_with(
     draw: Draw,
     books: Vec<SharedBook>,
     mut shares: Vec<Share>,
     closed: &mut Vec<ShardBook>,
+    calls: &mut Trace,
 ) -> Result<(), GatherFault>
     requires shares { All (Belongs draw books.items) shares.items }
     requires few { length books.items ≤ 64 }
     requires empty { closed.old.items ≡ [] }
     requires room { length books.items ≤ vec_capacity closed.old }
     ensures ok { OnOk result (IsClosedWork books.items shares.items closed.new.items) }
+    ensures calls { OnOk result (calls.new.run ≡ with_runs calls.old.run shares.items) }
     ensures fault { IfErr result (IsGatherFault (length books.items) shares.items) }
     ensures first { IfErr result (ReportsFirst books.items draw.numbers shares.items) }
     ensures claims { IfErr result (λ _. HaveAllClaims (length books.items) shares.items → ⊥) }
@@ -218,7 +227,7 @@ fn close_with(
         };
     }
     let first = shares.remove(0);
-    let (drawer, passes) = join_shares(&draw, books.as_slice(), first, shares);
+    let (drawer, passes) = join_shares(&draw, books.as_slice(), first, shares, calls);
     if let Err(fault) = close_all(books, passes, closed) {
         return Err(fault);
     }
@@ -238,8 +247,8 @@ impl<U: LentUploads + Drop> Service<U> {
     ghost use Rattle.fare_service.specs.Stopping.{FullIsMade};
 
     /// Gathers shares: joins what their workers did, closes the shards' books, and gives these with
-    /// the end of each upload and the totals of each share, in the order of the shares. All memory
-    /// is taken first; then missing visits are reported, of the first shard that misses some, and
+    /// the end of each upload, the totals of each share, in the order of the shares, and their
+    /// calls. All memory is taken first; then missing visits are reported, of the first shard that misses some, and
     /// then missing uploads. Shares that have all claims together miss nothing. On a fault service
     /// and shares are dropped.
     pub fn gather(self, alloc: Global, shares: Vec<Share>) -> Result<Outcome, GatherFault>
@@ -262,7 +271,8 @@ impl<U: LentUploads + Drop> Service<U> {
             books,
             uploads: _,
         } = self;
-        close_with(draw, books, shares, &mut closed)?;
+        let mut calls = Trace::new();
+        close_with(draw, books, shares, &mut closed, &mut calls)?;
         // proof: the books have few entries, so that the sums of the workers' totals fit; they are
         // those of the books
         let _entries = entries_in(closed.as_slice());
@@ -272,6 +282,7 @@ impl<U: LentUploads + Drop> Service<U> {
             ends,
             workers,
             totals,
+            calls,
         })
     }
 }

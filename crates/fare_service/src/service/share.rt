@@ -6,6 +6,7 @@ use shard_book::Totals;
 use shared_books::{Drawer, Pass};
 use std::marker::Model;
 use tap_views::UploadEnd;
+use world::Trace;
 
 /// An upload that a share drew, and how it ended.
 #[derive(Clone, Copy, Debug)]
@@ -22,7 +23,8 @@ pub(crate) struct Posting {
 }
 
 /// A worker's share of a service: the uploads that it drew, each with its end, the visits that it
-/// made for them, and the totals of the replies that it got. It keeps no entries.
+/// made for them, the totals of the replies that it got, and the calls of the system by which the
+/// uploads were lent. It keeps no entries.
 #[derive(Drop)]
 pub struct Share {
     /// The numbers of the uploads that it drew.
@@ -30,6 +32,7 @@ pub struct Share {
     pub(crate) posting: Posting,
     /// Each upload that it drew, in the order of drawing.
     pub(crate) done: Vec<Done>,
+    pub(crate) calls: Trace,
 }
 
 impl Model for Share {
@@ -44,6 +47,7 @@ impl Model for Share {
       passes = s.posting.passes.items;
       totals = sums_of s.posting.totals;
       done = s.done.items;
+      run = s.calls.run;
     } };
 }
 

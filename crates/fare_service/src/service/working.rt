@@ -128,7 +128,8 @@ impl<U: LentUploads + Drop> Service<U> {
     ghost use Rattle.fare_service.specs.inside.Runs.{ArePostedOrCut};
     ghost use Rattle.fare_service.specs.Shares.{HasVisited, books_of, IsShareOf, IsWorked};
     ghost use Rattle.fare_service.specs.Shares.{WentOn};
-    ghost use Rattle.fare_service.specs.Lending.{IsLentAs, IsUnlent};
+    ghost use Rattle.fare_service.specs.Lending.{IsUnlent, origin_at};
+    ghost use Rattle.world.specs.Origins.{IsFrom};
     ghost use Rattle.fare_service.specs.inside.Shares.{worked};
     ghost use Rattle.fare_service.specs.Plain.{WasNotCut};
     ghost use Rattle.fare_service.specs.Stopping.{SomeFull, StoppedWell, WasCut};
@@ -256,7 +257,7 @@ impl<U: LentUploads + Drop> Service<U> {
     ) -> (UploadEnd, bool)
         requires begun { G.begins _begun.now ≡ upload }
         requires upload { upload < length self.now.uploads }
-        requires lent { IsLentAs self.now.uploads upload file.now }
+        requires lent { IsFrom (origin_at self.now.uploads upload) file.now }
         requires passes { books_of posting.old.passes.items ≡ self.now.books }
         requires clock { buffers.old.run.clock ≡ self.now.table.zone }
         requires runs { length buffers.old.runs ≡ shards_of self.now }
@@ -264,7 +265,7 @@ impl<U: LentUploads + Drop> Service<U> {
         ensures worked { (visits : List RunVisit)
             × HasVisited (shards_of self.now) posting.old.passes.items posting.new.passes.items
             (sums_of posting.old.totals) (sums_of posting.new.totals) visits
-            × IsWorked self.now (worked upload result.0 visits) }
+            × IsWorked self.now (worked upload file.now result.0 visits) }
         ensures clock { buffers.new.run.clock ≡ buffers.old.run.clock }
         ensures runs { length buffers.new.runs ≡ length buffers.old.runs }
         ensures few { posting.new.totals.taps ≤ posting.old.totals.taps + 2 ^ 60 }
@@ -308,7 +309,7 @@ impl<U: LentUploads + Drop> Service<U> {
         keeper: &G,
     ) -> (Done, bool)
         requires upload { upload < length self.now.uploads }
-        requires lent { IsLentAs self.now.uploads upload file.now }
+        requires lent { IsFrom (origin_at self.now.uploads upload) file.now }
         requires passes { books_of posting.old.passes.items ≡ self.now.books }
         requires clock { buffers.old.run.clock ≡ self.now.table.zone }
         requires runs { length buffers.old.runs ≡ shards_of self.now }
@@ -317,7 +318,7 @@ impl<U: LentUploads + Drop> Service<U> {
         ensures worked { (visits : List RunVisit)
             × HasVisited (shards_of self.now) posting.old.passes.items posting.new.passes.items
             (sums_of posting.old.totals) (sums_of posting.new.totals) visits
-            × IsWorked self.now (worked result.0.upload result.0.end visits) }
+            × IsWorked self.now (worked result.0.upload file.now result.0.end visits) }
         ensures few { posting.new.totals.taps ≤ posting.old.totals.taps + 2 ^ 60 }
         ensures full { SomeFull posting.old.passes.items → SomeFull posting.new.passes.items }
         ensures goes_on { result.1 ≡ true
@@ -351,8 +352,8 @@ impl<U: LentUploads + Drop> Service<U> {
     /// cut, and the work goes on. Memory for the results of all uploads is taken first: if it is
     /// refused, the share is given back as it was.
     ///
-    /// Gives the share back with the uploads that it drew, the visits that it made and the totals
-    /// of their replies. If an upload is not lent, the share is dropped, and the upload is named.
+    /// Gives the share back with the uploads that it drew, the visits that it made, the totals of
+    /// their replies, and the calls by which the uploads were lent. If an upload is not lent, the share is dropped, and the upload is named.
     /// It waits for turns at the shards' books.
     pub fn work<R: Wait, G: Gatekeeper>(
         &self,
@@ -376,12 +377,14 @@ impl<U: LentUploads + Drop> Service<U> {
             mut drawer,
             mut posting,
             mut done,
+            mut calls,
         } = share;
         if done.reserve(self.uploads.len()).is_err() {
             return Ok(Share {
                 drawer,
                 posting,
                 done,
+                calls,
             });
         }
         for _ in rt.forever() {
@@ -392,9 +395,10 @@ impl<U: LentUploads + Drop> Service<U> {
                     drawer,
                     posting,
                     done,
+                    calls,
                 });
             };
-            let Some(file) = self.uploads.lend(upload, &mut room) else {
+            let Some(file) = self.uploads.lend(upload, &mut room, &mut calls) else {
                 return Err(Unlent { upload });
             };
             let (next, goes_on) = self.post_drawn(
@@ -411,6 +415,7 @@ impl<U: LentUploads + Drop> Service<U> {
                     drawer,
                     posting,
                     done,
+                    calls,
                 });
             }
         }

@@ -1,8 +1,8 @@
 -- Faults: what private functions alone cite.
 use Rattle.std.specs.Prelude.{◌≡◌, ⊤, ℕ, Bool, true, false, List, Option}
 use Rattle.program_manners.specs.Refusals.{HasRefused, Refuses}
-use Rattle.program_manners.specs.declared.loading.LoadFault.{LoadFault}
-use Rattle.program_manners.specs.declared.loading.LoadFault.TheVariants.{Unread}
+use Rattle.world.specs.declared.faults.LoadFault.{LoadFault}
+use Rattle.world.specs.declared.faults.LoadFault.TheVariants.{Unread}
 use Rattle.program_manners.specs.declared.table_loads.TablesFault.{TablesFault}
 use Rattle.program_manners.specs.declared.table_loads.TablesFault.TheVariants as unloaded
 use Rattle.omny_audit.specs.declared.fault.Fault.{Fault}

@@ -6,7 +6,7 @@ use Rattle.tariffs.specs.TableMeaning.{TableMeaning}
 use Rattle.fare_table.specs.declared.fault.TableFault.{TableFault}
 use Rattle.fare_texts.specs.WrittenOut.{Begins}
 use Rattle.program_manners.specs.Loads.{Loaded, LoadsOne}
-use Rattle.program_manners.specs.declared.loading.LoadFault.{LoadFault}
+use Rattle.world.specs.declared.faults.LoadFault.{LoadFault}
 use Rattle.program_manners.specs.declared.output.WriteEnd.{WriteEnd}
 use Rattle.tap_views.specs.declared.facts.Facts.{Facts}
 use Rattle.tool_tasks.specs.Decode.{AreReported, IsRightDecodeFault, IsWrittenUpTo}

@@ -1,25 +1,16 @@
-use Rattle.std.proofs.Common.{ℕ, List, Bor, arith, refl, ap, length, rules}
-use Rattle.std.proofs.lemmas.List.{length-map}
+use Rattle.std.proofs.Common.{sym}
+use Rattle.fare_program.proofs.ReadAhead.{charged_joined}
 use Rattle.fare_program.proofs.named_files.charge_ahead.Goals as goal
+
+pub returns-in-Ok-clause-done : goal.returns-in-Ok-clause-done
+returns-in-Ok-clause-done g c =
+    charged_joined _ _ _ _ _ _ _ _ _ _ _ c.new-calls.ensures c.join.ensures.loaded
+    (sym c.in-Some.is) c.in-Ok.ensures.ok
 
 pub returns-in-Err-Write-clause-begun : goal.returns-in-Err-Write-clause-begun
 returns-in-Err-Write-clause-begun g c =
-    let is = c.in-Err-Write.ensures.begun c.in-Err-Write.field-0-is in
-    record {
-      well = is.0;
-      fares = c.in-Some.table;
-      is_table = c.in-Some.is;
-      lists_none = c.if-options.false;
-      kept_none = c.if-keeps_loads.false;
-      files = is.1;
-      some = search rules;
-      number = omega (
-        arith,
-        is.3,
-        ap length c.as_slice-names.ensures.value,
-        length-map c.args.options.now.files.items (λ (f : Bor (List ℕ)). f.now),
-      );
-      text = is.2;
-      shows = is.4;
-      begun = is.5;
-    }
+    let (well, is) = c.in-Err-Write.ensures.begun c.in-Err-Write.field-0-is in (
+      well,
+      charged_joined _ _ _ _ _ _ _ _ _ _ _ c.new-calls.ensures c.join-in-Err.ensures.loaded
+          (sym c.in-Some.is) is,
+    )

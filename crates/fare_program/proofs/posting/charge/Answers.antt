@@ -1,8 +1,9 @@
-use Rattle.std.proofs.Common.{◌≡◌, ◌∙◌, ℕ, List, Some, Vec, Global, ap, length, map, subst, sym}
-use Rattle.std.specs.Prelude.{slice_get}
+use Rattle.std.proofs.Common.{◌≡◌, ◌∙◌, ℕ, List, [], Vec, Global, ap, length, map, subst, sym}
+use Rattle.std.specs.Prelude.{slice_index_or}
 use Rattle.std.proofs.lemmas.List.{length-map}
-use Rattle.std.specs.Io.KnownBytes.{Appends}
 use Rattle.std.proofs.lemmas.Result.{IfErr-weaker, IfOk-weaker}
+use Rattle.world.specs.Origins.{memory}
+use Rattle.world.specs.Run.{Run}
 use Rattle.fare_program.specs.inside.Options.{asked_of}
 use Rattle.fare_program.specs.Program.{ShowsAsked}
 use Rattle.fare_program.specs.Settling.{ShowsSettled}
@@ -15,6 +16,15 @@ use Rattle.fare_program.proofs.posting.charge.Goals as goal
 abbrev bytes_in : Vec ℕ Global → List ℕ
 bytes_in file = file.items
 
+-- the files that were read are those that were loaded
+read_files : (all : List (Vec ℕ Global)) (files : List (List ℕ)) (old new : Run)
+    → AreRead (λ upload. memory (slice_index_or (map bytes_in all) upload [])) 0 (length all) files
+    old new → files ≡ map bytes_in all
+read_files all files old new read =
+    loaded_files (map bytes_in all) files old new
+    (subst (λ n. AreRead (λ upload. memory (slice_index_or (map bytes_in all) upload [])) 0 n files
+    old new) (sym (length-map all bytes_in)) read)
+
 pub returns-clause-ok : goal.returns-clause-ok
 returns-clause-ok g c =
     let asked = asked_of c.args.options.now in
@@ -22,10 +32,11 @@ returns-clause-ok g c =
     IfOk-weaker c.charge_lent.result _ _
     (λ well is. (
       is.1,
-      subst (λ fs. ShowsAsked asked fares fs c.args.token is.1 well)
-          (known_files bytes_in c.as_slice.result.now is.0 is.2
-          ∙ ap (map bytes_in) c.as_slice.ensures.value) is.3,
-      is.4,
+      is.2,
+      subst (λ fs. ShowsAsked asked fares fs is.1 c.args.token is.2 well)
+          (known_files bytes_in c.as_slice.result.now is.0 is.3.lent
+          ∙ ap (map bytes_in) c.as_slice.ensures.value) is.4,
+      is.5,
     ))
     c.charge_lent.ensures.ok
 
@@ -34,26 +45,15 @@ returns-then-options-clause-ok g c =
     let asked = asked_of c.args.options.now in
     let fares = c.args.table in
     let all = map bytes_in c.deref.result.now in
-    let Written : List ℕ → Type 0 =
-    λ text. Appends (g.W.Write.contents c.args.out.now)
-    (g.W.Write.contents c.charge_settled.new.out) text in
-    IfOk-weaker c.charge_settled.result
-    (λ well. (files : List (List ℕ)) × (text : List ℕ)
-    × AreRead (λ upload bytes. slice_get all upload ≡ Some bytes) 0 (length c.deref.result.now)
-    files
-    × ShowsSettled asked fares files c.args.token text well × Written text)
-    (λ well. (text : List ℕ)
-    × ShowsAsked asked fares (map bytes_in c.args.files.items) c.args.token text well
-    × Written text)
+    IfOk-weaker c.charge_settled.result _ _
     (λ well is. (
+      [],
       is.1,
-      settled_asked asked fares (map bytes_in c.args.files.items) c.args.token is.1 well
+      settled_asked asked fares (map bytes_in c.args.files.items) [] c.args.token is.1 well
           c.if-options.true
           (subst (λ fs. ShowsSettled asked fares fs c.args.token is.1 well)
-          (loaded_files all is.0
-          (subst (λ n. AreRead (λ upload bytes. slice_get all upload ≡ Some bytes) 0 n is.0)
-          (sym (length-map c.deref.result.now bytes_in)) is.2)
-          ∙ ap (map bytes_in) c.deref.ensures.value) is.3),
+          (read_files c.deref.result.now is.0 _ _ is.2 ∙ ap (map bytes_in) c.deref.ensures.value)
+          is.3),
       is.4,
     ))
     c.charge_settled.ensures.ok
@@ -68,10 +68,11 @@ returns-clause-begun g c =
     let is = begun write in (
       is.0,
       is.2,
-      subst (λ fs. ShowsAsked asked fares fs c.args.token is.2 is.0)
-          (known_files bytes_in c.as_slice.result.now is.1 is.3
-          ∙ ap (map bytes_in) c.as_slice.ensures.value) is.4,
-      is.5,
+      is.3,
+      subst (λ fs. ShowsAsked asked fares fs is.2 c.args.token is.3 is.0)
+          (known_files bytes_in c.as_slice.result.now is.1 is.4.lent
+          ∙ ap (map bytes_in) c.as_slice.ensures.value) is.5,
+      is.6,
     ))
     c.charge_lent.ensures.begun
 
@@ -79,19 +80,17 @@ pub returns-then-options-clause-begun : goal.returns-then-options-clause-begun
 returns-then-options-clause-begun g c =
     let asked = asked_of c.args.options.now in
     let fares = c.args.table in
-    let all = map bytes_in c.deref.result.now in
     IfErr-weaker c.charge_settled.result _ _
     (λ fault begun write.
     let is = begun write in (
       is.0,
+      [],
       is.2,
-      settled_asked asked fares (map bytes_in c.args.files.items) c.args.token is.2 is.0
+      settled_asked asked fares (map bytes_in c.args.files.items) [] c.args.token is.2 is.0
           c.if-options.true
           (subst (λ fs. ShowsSettled asked fares fs c.args.token is.2 is.0)
-          (loaded_files all is.1
-          (subst (λ n. AreRead (λ upload bytes. slice_get all upload ≡ Some bytes) 0 n is.1)
-          (sym (length-map c.deref.result.now bytes_in)) is.3)
-          ∙ ap (map bytes_in) c.deref.ensures.value) is.4),
+          (read_files c.deref.result.now is.1 _ _ is.3 ∙ ap (map bytes_in) c.deref.ensures.value)
+          is.4),
       is.5,
     ))
     c.charge_settled.ensures.begun

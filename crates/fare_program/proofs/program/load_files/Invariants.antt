@@ -1,5 +1,5 @@
 use Rattle.std.proofs.Common.{Some, map, take}
-use Rattle.fare_program.specs.Program.{LoadsFiles}
+use Rattle.fare_program.specs.FilesLoaded.{LoadsFiles}
 use Rattle.fare_program.proofs.program.load_files.Given as goal
 
 abbrev pub invariant-loop-name : goal.invariant-loop-name

@@ -24,6 +24,7 @@ use Rattle.fare_program.proofs.program.main_over.Goals as goal
 pub returns-in-Ok-work-clause-done : goal.returns-in-Ok-work-clause-done
 returns-in-Ok-work-clause-done g c = λ parses zero.
     let under = g.D.Disk.bytes_under c.args.disk.now in
+    let origin = g.D.Disk.origin c.args.disk.now in
     let out = g.W.Write.contents c.args.out.now.writer in
     let last = g.W.Write.contents c.finish.new.out.writer in
     let loaded = g.S.FileSource.loaded c.args.source.now in
@@ -31,9 +32,9 @@ returns-in-Ok-work-clause-done g c = λ parses zero.
     let mine = asked_of c.in-Ok.options in
     let mid = g.W.Write.contents c.work.new.out.writer in
     let well = c.finish.ensures.well zero in
-    subst (λ (asked : Asked). Does asked under loaded loaded' out last true) c.in-Ok.ensures.asked
-    (does_kept mine under loaded loaded' out mid last true c.finish.ensures.kept
-    (subst (λ (b : Bool). Does mine under loaded loaded' out mid b) well.0 c.in-Ok-work.ensures.ok))
+    subst (λ (asked : Asked). Does asked under origin loaded loaded' out last true) c.in-Ok.ensures.asked
+    (does_kept mine under origin loaded loaded' out mid last true c.finish.ensures.kept
+    (subst (λ (b : Bool). Does mine under origin loaded loaded' out mid b) well.0 c.in-Ok-work.ensures.ok))
 
 -- of the words that are no command line, help or the version is asked for
 asks_for : (words : List Text) (kind : ErrorKind) → IsRequest kind
@@ -64,6 +65,7 @@ returns-clause-faults g c = λ one.
     let end = c.end.result in
     let asked = asked_by (map string_bytes c.args.words.now) in
     let under = g.D.Disk.bytes_under c.args.disk.now in
+    let origin = g.D.Disk.origin c.args.disk.now in
     let out = g.W.Write.contents c.args.out.now.writer in
     let out' = g.W.Write.contents c.work.new.out.writer in
     let loaded = g.S.FileSource.loaded c.args.source.now in
@@ -84,11 +86,11 @@ returns-clause-faults g c = λ one.
         line_reported = c.report.ensures.line;
         write_failed = λ write. subst (λ (e : Option WriteEnd). e ≢ None) c.end.ensures
             (write_remembered end fault (sym reported ∙ write));
-        left = subst (λ (f : Fault). IsLeftBy asked under loaded loaded' out out' f) (sym reported)
-            (left_remembered asked under loaded loaded' out out' end fault
+        left = subst (λ (f : Fault). IsLeftBy asked under origin loaded loaded' out out' f) (sym reported)
+            (left_remembered asked under origin loaded loaded' out out' end fault
             (λ write late. c.in-Err-work.ensures.fault write
             (λ sorted is. late (subst (λ (a : Asked). a.sorted ≡ true) same sorted) is))
-            (λ write of_bytes. subst (λ (a : Asked). HasBegun a under loaded loaded' out out') same
+            (λ write of_bytes. subst (λ (a : Asked). HasBegun a under origin loaded loaded' out out') same
             (c.in-Err-work.ensures.begun write
             (subst (λ (a : Asked). AreOfBytes a under) (sym same) of_bytes))));
       },
@@ -98,21 +100,22 @@ returns-clause-faults g c = λ one.
 pub returns-in-Ok-work-clause-faults : goal.returns-in-Ok-work-clause-faults
 returns-in-Ok-work-clause-faults g c = λ one.
     let under = g.D.Disk.bytes_under c.args.disk.now in
+    let origin = g.D.Disk.origin c.args.disk.now in
     let out = g.W.Write.contents c.args.out.now.writer in
     let last = g.W.Write.contents c.finish.new.out.writer in
     let loaded = g.S.FileSource.loaded c.args.source.now in
     let loaded' = g.S.FileSource.loaded c.work.new.source in
     let asked = asked_by (map string_bytes c.args.words.now) in
-    let done : Does asked under loaded loaded' out last c.in-Ok-work.is_well =
-    subst (λ (a : Asked). Does a under loaded loaded' out last c.in-Ok-work.is_well)
+    let done : Does asked under origin loaded loaded' out last c.in-Ok-work.is_well =
+    subst (λ (a : Asked). Does a under origin loaded loaded' out last c.in-Ok-work.is_well)
     c.in-Ok.ensures.asked
-    (does_kept (asked_of c.in-Ok.options) under loaded loaded' out
+    (does_kept (asked_of c.in-Ok.options) under origin loaded loaded' out
     (g.W.Write.contents c.work.new.out.writer) last c.in-Ok-work.is_well c.finish.ensures.kept
     c.in-Ok-work.ensures.ok) in
     elim (c.finish.ensures.ill one) [
       | inl ill ↦ inl (
         c.in-Ok.ensures.kinds,
-        subst (λ (b : Bool). Does asked under loaded loaded' out last b) ill.0 done,
+        subst (λ (b : Bool). Does asked under origin loaded loaded' out last b) ill.0 done,
         ill.1,
         ill.2,
       )
@@ -124,7 +127,7 @@ returns-in-Ok-work-clause-faults g c = λ one.
         record {
           line_reported = unflushed.1.line_reported;
           write_failed = λ write. unflushed.1.write_failed;
-          left = λ of_bytes. begun_done asked under loaded loaded' out last c.in-Ok-work.is_well
+          left = λ of_bytes. begun_done asked under origin loaded loaded' out last c.in-Ok-work.is_well
               done;
         },
       )))

@@ -1,10 +1,12 @@
 use Rattle.std.proofs.Common.{ap, subst, ◌≡◌, refl}
 use Rattle.std.specs.Prelude.{IfSome, is_some}
+use Rattle.std.specs.Io.KnownBytes.{Appends}
+use Rattle.fare_texts.specs.WrittenOut.{Begins}
 use Rattle.std.proofs.KnownBytes.{Keeps-refl, Keeps-trans}
 use Rattle.std.proofs.lemmas.Result.{IfErr-weaker, IfOk-weaker, err_from_is_err_and}
 use Rattle.tariffs.specs.Fares.{Fares}
 use Rattle.tap_views.specs.declared.token.Token.{Token}
-use Rattle.fare_program.specs.Program.{Does, IsTokenIn}
+use Rattle.fare_program.specs.Program.{Does, IsTokenIn, LoadsTable}
 use Rattle.fare_program.specs.Settling.{ShowsSettled}
 use Rattle.fare_program.specs.declared.fault.Fault.{Fault}
 use Rattle.fare_program.specs.declared.fault.Fault.TheVariants.{Write}
@@ -23,26 +25,31 @@ use Rattle.fare_program.proofs.program.work.Goals as goal
 pub returns-in-Some-clause-ok : goal.returns-in-Some-clause-ok
 returns-in-Some-clause-ok g c =
     let asked = asked_of c.args.options.now in
+    let under = g.D.Disk.bytes_under c.args.disk.now in
+    let origin = g.D.Disk.origin c.args.disk.now in
     let out = g.W.Write.contents c.args.out.now in
     let new = g.W.Write.contents c.charge_ahead.new.out in
-    let done = subst
-    (λ d. IfSome d (IsChargedAhead asked c.keeps_loads-keeps_loads.result c.in_ok-table.table
-    c.in_ok-token.token out new)) c.in-Some.is c.in_ok-well.ensures.done in
-    does_untraced asked (g.D.Disk.bytes_under c.args.disk.now) _ _ out new c.in-Some.well
-    c.if-options.false
-    (does_ahead asked (g.D.Disk.bytes_under c.args.disk.now) c.keeps_loads-keeps_loads.result _ _
-    c.in_ok-table.table c.in_ok-token.token out new
-    c.in-Some.well c.in_ok-table.ensures.ok c.keeps_loads-keeps_loads.ensures
-    c.in_ok-token.ensures.token done
-    (Keeps-refl out) c.if-options-2.false)
+    let between = g.S.FileSource.loaded c.load_table.new.source in
+    let last = g.S.FileSource.loaded c.charge_ahead.new.source in
+    let well = c.in-Some.well in
+    let done : IsChargedAhead asked origin between last c.in_ok-table.table c.in_ok-token.token
+    (Appends out new) well =
+    subst (λ d. IfSome d (IsChargedAhead asked origin between last c.in_ok-table.table
+    c.in_ok-token.token (Appends out new))) c.in-Some.is c.in_ok-well.ensures.done in
+    does_untraced asked under origin _ _ out new well c.if-options.false
+    (does_ahead asked under origin _ between last c.in_ok-table.table c.in_ok-token.token
+    (Appends out new) out new well c.in_ok-table.ensures.ok c.in_ok-token.ensures.token done
+    done.written c.if-options-2.false)
 
 pub returns-clause-ok : goal.returns-clause-ok
 returns-clause-ok g c =
     IfOk-weaker c.work_by_table.result _ _
-    (λ well done. does_untraced (asked_of c.args.options.now) (g.D.Disk.bytes_under c.args.disk.now)
+    (λ well done. does_untraced (asked_of c.args.options.now) (g.D.Disk.bytes_under c.args.disk.now) (g.D.Disk.origin c.args.disk.now)
     _ _ _ _ well
-    c.if-options.false (done _ _ c.in_ok-table.ensures.ok c.in_ok-token.ensures.token
-    (c.in_ok-well.ensures.none c.in-None.is) c.if-options-2.false))
+    c.if-options.false (done _ _ (subst (λ after. LoadsTable (asked_of c.args.options.now).table
+    (g.S.FileSource.loaded c.args.source.now) after c.in_ok-table.table)
+    (sym (c.in_ok-well.ensures.unloaded c.in-None.is)) c.in_ok-table.ensures.ok)
+    c.in_ok-token.ensures.token (c.in_ok-well.ensures.none c.in-None.is) c.if-options-2.false))
     c.work_by_table.ensures.ok
 
 pub returns-clause-fault : goal.returns-clause-fault
@@ -72,7 +79,7 @@ load_table-requires g c = c.in_ok-token.ensures.dates
 pub returns-then-options-clause-ok : goal.returns-then-options-clause-ok
 returns-then-options-clause-ok g c =
     IfOk-weaker c.work_traced.result _ _
-    (λ well runs. does_traced (asked_of c.args.options.now) (g.D.Disk.bytes_under c.args.disk.now) _
+    (λ well runs. does_traced (asked_of c.args.options.now) (g.D.Disk.bytes_under c.args.disk.now) (g.D.Disk.origin c.args.disk.now) _
     _ _ _ well
     c.if-options.true runs)
     c.work_traced.ensures.ok
@@ -86,9 +93,9 @@ pub returns-then-options-2-clause-ok : goal.returns-then-options-2-clause-ok
 returns-then-options-2-clause-ok g c =
     let asked = asked_of c.args.options.now in
     IfOk-weaker c.work_sorted.result _ _
-    (λ well done. does_untraced asked (g.D.Disk.bytes_under c.args.disk.now) _ _ _ _ well
+    (λ well done. does_untraced asked (g.D.Disk.bytes_under c.args.disk.now) (g.D.Disk.origin c.args.disk.now) _ _ _ _ well
     c.if-options.false
-    (does_sorted asked (g.D.Disk.bytes_under c.args.disk.now) _ _ c.in_ok-table.table
+    (does_sorted asked (g.D.Disk.bytes_under c.args.disk.now) (g.D.Disk.origin c.args.disk.now) _ _ c.in_ok-table.table
     c.in_ok-token.token _ _ well c.in_ok-token.ensures.right c.if-options-2.true
     c.in_ok-table.ensures.ok
     c.in_ok-token.ensures.token done))
@@ -136,47 +143,42 @@ pub returns-in_err-well-clause-begun : goal.returns-in_err-well-clause-begun
 returns-in_err-well-clause-begun g c =
     let asked = asked_of c.args.options.now in
     let under = g.D.Disk.bytes_under c.args.disk.now in
+    let origin = g.D.Disk.origin c.args.disk.now in
     let out = g.W.Write.contents c.args.out.now in
+    let new = g.W.Write.contents c.charge_ahead.new.out in
+    let between = g.S.FileSource.loaded c.load_table.new.source in
+    let last = g.S.FileSource.loaded c.charge_ahead.new.source in
     let p = err_from_is_err_and c.from_residual-in_err-well.result
     c.from_residual-in_err-well.ensures.1 in
-    let begun = c.in_err-well.ensures.begun in
+    let (well, begun) = c.in_err-well.ensures.begun in
     rw p.1 (λ write other. (
-      begun.well,
-      begun_by out out (g.W.Write.contents c.charge_ahead.new.out) begun.text
-          (λ all. Does asked under (g.S.FileSource.loaded c.args.source.now)
-          (g.S.FileSource.loaded c.load_table.new.source) out all begun.well) (Keeps-refl out)
-          begun.begun
-          (λ all written. does_untraced asked under _ _ out all begun.well c.if-options.false
-          (does_ahead asked under c.keeps_loads-keeps_loads.result _ _ c.in_ok-table.table
-          c.in_ok-token.token out all begun.well c.in_ok-table.ensures.ok
-          c.keeps_loads-keeps_loads.ensures c.in_ok-token.ensures.token (record {
-            fares = begun.fares;
-            is_table = begun.is_table;
-            lists_none = begun.lists_none;
-            kept_none = begun.kept_none;
-            files = begun.files;
-            some = begun.some;
-            number = begun.number;
-            text = begun.text;
-            shows = begun.shows;
-            written = written;
-          }) (Keeps-refl out) c.if-options-2.false)),
+      well,
+      begun_by out out new begun.text
+          (λ all. Does asked under origin (g.S.FileSource.loaded c.args.source.now) last out all well)
+          (Keeps-refl out) begun.written
+          (λ all written. does_untraced asked under origin _ _ out all well c.if-options.false
+          (does_ahead asked under origin _ between last c.in_ok-table.table c.in_ok-token.token
+          (Begins out new) out all well c.in_ok-table.ensures.ok c.in_ok-token.ensures.token begun
+          written c.if-options-2.false)),
     ))
 
 pub returns-clause-begun : goal.returns-clause-begun
 returns-clause-begun g c =
     let asked = asked_of c.args.options.now in
     let under = g.D.Disk.bytes_under c.args.disk.now in
+    let origin = g.D.Disk.origin c.args.disk.now in
     let out = g.W.Write.contents c.args.out.now in
     IfErr-weaker c.work_by_table.result _ _
     (λ fault begun write other.
-    let is = begun write _ _ c.in_ok-table.ensures.ok c.in_ok-token.ensures.token
-    (c.in_ok-well.ensures.none c.in-None.is) c.if-options-2.false in (
+    let is = begun write _ _ (subst (λ after. LoadsTable asked.table
+    (g.S.FileSource.loaded c.args.source.now) after c.in_ok-table.table)
+    (sym (c.in_ok-well.ensures.unloaded c.in-None.is)) c.in_ok-table.ensures.ok)
+    c.in_ok-token.ensures.token (c.in_ok-well.ensures.none c.in-None.is) c.if-options-2.false in (
       is.0,
       begun_so out (g.W.Write.contents c.work_by_table.new.out) _
-          (λ all. Does asked under (g.S.FileSource.loaded c.args.source.now)
+          (λ all. Does asked under origin (g.S.FileSource.loaded c.args.source.now)
           (g.S.FileSource.loaded c.work_by_table.new.source) out all is.0) is.1
-          (λ all done. does_untraced asked under _ _ out all is.0 c.if-options.false done),
+          (λ all done. does_untraced asked under origin _ _ out all is.0 c.if-options.false done),
     ))
     c.work_by_table.ensures.begun
 
@@ -184,15 +186,16 @@ pub returns-then-options-clause-begun : goal.returns-then-options-clause-begun
 returns-then-options-clause-begun g c =
     let asked = asked_of c.args.options.now in
     let under = g.D.Disk.bytes_under c.args.disk.now in
+    let origin = g.D.Disk.origin c.args.disk.now in
     let out = g.W.Write.contents c.args.out.now in
     IfErr-weaker c.work_traced.result _ _
     (λ fault begun write other.
     let is = begun write in (
       is.0,
       begun_so out (g.W.Write.contents c.work_traced.new.out) _
-          (λ all. Does asked under (g.S.FileSource.loaded c.args.source.now)
+          (λ all. Does asked under origin (g.S.FileSource.loaded c.args.source.now)
           (g.S.FileSource.loaded c.work_traced.new.source) out all is.0) is.1
-          (λ all done. does_traced asked under _ _ out all is.0 c.if-options.true done),
+          (λ all done. does_traced asked under origin _ _ out all is.0 c.if-options.true done),
     ))
     c.work_traced.ensures.begun
 
@@ -200,6 +203,7 @@ pub returns-then-options-2-clause-begun : goal.returns-then-options-2-clause-beg
 returns-then-options-2-clause-begun g c =
     let asked = asked_of c.args.options.now in
     let under = g.D.Disk.bytes_under c.args.disk.now in
+    let origin = g.D.Disk.origin c.args.disk.now in
     let out = g.W.Write.contents c.args.out.now in
     let new = g.W.Write.contents c.work_sorted.new.out in
     let table = has_table asked _ _ c.in_ok-table.table c.in_ok-token.ensures.right
@@ -213,10 +217,10 @@ returns-then-options-2-clause-begun g c =
     )) table.0 table.1 in (
       true,
       begun_by out out new is.text
-          (λ all. Does asked under (g.S.FileSource.loaded c.args.source.now)
+          (λ all. Does asked under origin (g.S.FileSource.loaded c.args.source.now)
           (g.S.FileSource.loaded c.load_table.new.source) out all true) (Keeps-refl out) is.begun
-          (λ all written. does_untraced asked under _ _ out all true c.if-options.false
-          (does_sorted asked under _ _ c.in_ok-table.table c.in_ok-token.token out all true
+          (λ all written. does_untraced asked under origin _ _ out all true c.if-options.false
+          (does_sorted asked under origin _ _ c.in_ok-table.table c.in_ok-token.token out all true
           c.in_ok-token.ensures.right c.if-options-2.true c.in_ok-table.ensures.ok
           c.in_ok-token.ensures.token (
             refl,

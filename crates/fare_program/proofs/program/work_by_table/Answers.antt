@@ -1,7 +1,8 @@
 use Rattle.std.proofs.Common.{ℕ, List, Vec, Global, Bor, None, ap, map, inl, inr, refl, subst, sym}
 use Rattle.std.proofs.Common.{Option}
 use Rattle.std.proofs.lemmas.Result.{IfErr-weaker, IfOk-weaker}
-use Rattle.fare_program.specs.Program.{DoesUntraced, LoadsFiles, LoadsTable, names_to_load}
+use Rattle.fare_program.specs.FilesLoaded.{LoadsFiles, names_to_load}
+use Rattle.fare_program.specs.Program.{DoesUntraced, LoadsTable}
 use Rattle.fare_program.proofs.WritesFailed.{begun_by}
 use Rattle.fare_program.specs.inside.Options.{asked_of}
 use Rattle.fare_program.proofs.Works.{does_charge, does_list}
@@ -24,7 +25,7 @@ returns-then-options-clause-ok g c =
     IfOk-weaker c.list.result _ _
     (λ well done loaded_before before loads is_token kept live. does_list
     (asked_of c.args.options.now)
-    (g.D.Disk.bytes_under c.args.disk.now) loaded_before _ _ before _ _ well
+    (g.D.Disk.bytes_under c.args.disk.now) (g.D.Disk.origin c.args.disk.now) loaded_before _ _ before _ _ well
     c.args.table loads kept (map bytes_in c.deref-then-options.result.now)
     (subst (λ (fs : List (List ℕ)). LoadsFiles (names_to_load (asked_of c.args.options.now).files)
     (g.S.FileSource.loaded c.args.source.now) (g.S.FileSource.loaded c.load_files.new.source) fs)
@@ -40,10 +41,10 @@ returns-in-Some-clause-ok g c =
     IfOk-weaker c.charge.result _ _
     (λ well done loaded_before before loads is_token kept live. does_charge
     (asked_of c.args.options.now)
-    (g.D.Disk.bytes_under c.args.disk.now) loaded_before _ _ before _ _ well
-    c.args.table loads kept c.in-Some.table (map bytes_in c.in_ok-files.files.items) c.args.token
-    c.in-Some.is
-    loaded is_token c.if-options.false live done)
+    (g.D.Disk.bytes_under c.args.disk.now) (g.D.Disk.origin c.args.disk.now) loaded_before _ _ before _ _ well
+    c.args.table loads kept c.in-Some.table (map bytes_in c.in_ok-files.files.items) done.0
+    c.args.token c.in-Some.is (inl loaded) is_token c.if-options.false live
+    (done.1, done.2, done.3))
     c.charge.ensures.ok
 
 pub returns-clause-ok : goal.returns-clause-ok
@@ -54,7 +55,7 @@ returns-clause-ok g c =
     IfOk-weaker c.list-in-None.result _ _
     (λ well done loaded_before before loads is_token kept live. does_list
     (asked_of c.args.options.now)
-    (g.D.Disk.bytes_under c.args.disk.now) loaded_before _ _ before _ _ well
+    (g.D.Disk.bytes_under c.args.disk.now) (g.D.Disk.origin c.args.disk.now) loaded_before _ _ before _ _ well
     None (subst
     (LoadsTable (asked_of c.args.options.now).table loaded_before
     (g.S.FileSource.loaded c.args.source.now))
@@ -82,6 +83,7 @@ pub returns-then-options-clause-begun : goal.returns-then-options-clause-begun
 returns-then-options-clause-begun g c =
     let asked = asked_of c.args.options.now in
     let under = g.D.Disk.bytes_under c.args.disk.now in
+    let origin = g.D.Disk.origin c.args.disk.now in
     let loaded = subst (λ (ns : List (Bor (List ℕ))). LoadsFiles (names_to_load (map name_in ns))
     (g.S.FileSource.loaded c.args.source.now) (g.S.FileSource.loaded c.load_files.new.source)
     (map bytes_in c.in_ok-files.files.items)) c.deref.ensures.value c.in_ok-files.ensures.ok in
@@ -90,11 +92,11 @@ returns-then-options-clause-begun g c =
     let is = begun write in (
       is.0,
       begun_by before (g.W.Write.contents c.args.out.now) (g.W.Write.contents c.list.new.out) is.1
-          (λ all. DoesUntraced asked under loaded_before (g.S.FileSource.loaded c.load_files.new.source)
+          (λ all. DoesUntraced asked under origin loaded_before (g.S.FileSource.loaded c.load_files.new.source)
           before
           all is.0)
           kept is.3
-          (λ all written. does_list asked under loaded_before _ _ before _ all is.0 c.args.table
+          (λ all written. does_list asked under origin loaded_before _ _ before _ all is.0 c.args.table
           loads
           kept (map bytes_in c.deref-then-options.result.now)
           (subst (λ (fs : List (List ℕ)). LoadsFiles (names_to_load asked.files)
@@ -108,6 +110,7 @@ pub returns-in-Some-clause-begun : goal.returns-in-Some-clause-begun
 returns-in-Some-clause-begun g c =
     let asked = asked_of c.args.options.now in
     let under = g.D.Disk.bytes_under c.args.disk.now in
+    let origin = g.D.Disk.origin c.args.disk.now in
     let loaded = subst (λ (ns : List (Bor (List ℕ))). LoadsFiles (names_to_load (map name_in ns))
     (g.S.FileSource.loaded c.args.source.now) (g.S.FileSource.loaded c.load_files.new.source)
     (map bytes_in c.in_ok-files.files.items)) c.deref.ensures.value c.in_ok-files.ensures.ok in
@@ -115,16 +118,15 @@ returns-in-Some-clause-begun g c =
     (λ fault begun write loaded_before before loads is_token kept live.
     let is = begun write in (
       is.0,
-      begun_by before (g.W.Write.contents c.args.out.now) (g.W.Write.contents c.charge.new.out) is.1
-          (λ all. DoesUntraced asked under loaded_before (g.S.FileSource.loaded c.load_files.new.source)
+      begun_by before (g.W.Write.contents c.args.out.now) (g.W.Write.contents c.charge.new.out) is.2
+          (λ all. DoesUntraced asked under origin loaded_before (g.S.FileSource.loaded c.load_files.new.source)
           before
           all is.0)
-          kept is.3
-          (λ all written. does_charge asked under loaded_before _ _ before _ all is.0 c.args.table
+          kept is.4
+          (λ all written. does_charge asked under origin loaded_before _ _ before _ all is.0 c.args.table
           loads
-          kept c.in-Some.table (map bytes_in c.in_ok-files.files.items) c.args.token c.in-Some.is
-          loaded
-          is_token c.if-options.false live (is.1, is.2, written)),
+          kept c.in-Some.table (map bytes_in c.in_ok-files.files.items) is.1 c.args.token
+          c.in-Some.is (inl loaded) is_token c.if-options.false live (is.2, is.3, written)),
     ))
     c.charge.ensures.begun
 
@@ -132,6 +134,7 @@ pub returns-clause-begun : goal.returns-clause-begun
 returns-clause-begun g c =
     let asked = asked_of c.args.options.now in
     let under = g.D.Disk.bytes_under c.args.disk.now in
+    let origin = g.D.Disk.origin c.args.disk.now in
     let loaded = subst (λ (ns : List (Bor (List ℕ))). LoadsFiles (names_to_load (map name_in ns))
     (g.S.FileSource.loaded c.args.source.now) (g.S.FileSource.loaded c.load_files.new.source)
     (map bytes_in c.in_ok-files.files.items)) c.deref.ensures.value c.in_ok-files.ensures.ok in
@@ -141,10 +144,10 @@ returns-clause-begun g c =
       is.0,
       begun_by before (g.W.Write.contents c.args.out.now)
           (g.W.Write.contents c.list-in-None.new.out) is.1
-          (λ all. DoesUntraced asked under loaded_before (g.S.FileSource.loaded c.load_files.new.source)
+          (λ all. DoesUntraced asked under origin loaded_before (g.S.FileSource.loaded c.load_files.new.source)
           before
           all is.0)
-          kept is.3 (λ all written. does_list asked under loaded_before _ _ before _ all is.0 None
+          kept is.3 (λ all written. does_list asked under origin loaded_before _ _ before _ all is.0 None
           (subst (LoadsTable asked.table loaded_before (g.S.FileSource.loaded c.args.source.now))
           c.in-None.is
           loads)

@@ -6,7 +6,8 @@ use Rattle.class_names.proofs.Classes.{class_kept}
 use Rattle.std.proofs.lemmas.Result.{IfErr-weaker, IfOk-weaker}
 use Rattle.std.proofs.KnownBytes.{Keeps-refl}
 use Rattle.fare_program.proofs.WritesFailed.{begun_by}
-use Rattle.fare_program.specs.Program.{LoadsFiles, RunsTraced, names_to_load}
+use Rattle.fare_program.specs.FilesLoaded.{LoadsFiles, names_to_load}
+use Rattle.fare_program.specs.Program.{RunsTraced}
 use Rattle.fare_program.specs.inside.Options.{asked_of}
 use Rattle.settled_texts.specs.Ledgers.{IsTracedLedger}
 use Rattle.class_names.specs.Names.{class_by}

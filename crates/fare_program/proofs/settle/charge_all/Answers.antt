@@ -14,8 +14,8 @@ returns-then-options-clause-ok g c =
     let asked = asked_of c.args.options.now in
     let fares = c.args.table.now in
     let Read : List (List ℕ) → Type 0 =
-    λ files. AreRead (g.U.Uploads.may_be c.args.uploads.now) 0
-    (g.U.Uploads.number c.args.uploads.now) files in
+    λ files. AreRead (g.U.Uploads.origin c.args.uploads.now) 0
+    (g.U.Uploads.number c.args.uploads.now) files c.args.calls.now.run c.write_ledger.new.calls.run in
     let Written : List ℕ → Type 0 =
     λ text. Appends (g.W.Write.contents c.args.out.now) (g.W.Write.contents c.write_ledger.new.out)
     text in
@@ -32,8 +32,8 @@ returns-clause-ok g c =
     let asked = asked_of c.args.options.now in
     let fares = c.args.table.now in
     let Read : List (List ℕ) → Type 0 =
-    λ files. AreRead (g.U.Uploads.may_be c.args.uploads.now) 0
-    (g.U.Uploads.number c.args.uploads.now) files in
+    λ files. AreRead (g.U.Uploads.origin c.args.uploads.now) 0
+    (g.U.Uploads.number c.args.uploads.now) files c.args.calls.now.run c.write_bill.new.calls.run in
     let Written : List ℕ → Type 0 =
     λ text. Appends (g.W.Write.contents c.args.out.now) (g.W.Write.contents c.write_bill.new.out)
     text in

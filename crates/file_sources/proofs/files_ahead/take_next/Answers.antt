@@ -4,7 +4,7 @@ use Rattle.std.proofs.Common.{vec_len, length-append}
 use Rattle.std.proofs.lemmas.Bool.Decides.{Decides-eqb}
 use Rattle.std.proofs.lemmas.Slice.Eq.{slice_eq-Decides}
 use Rattle.std.proofs.Math.Seq.{get_or-append_seam}
-use Rattle.file_sources.specs.declared.files_ahead.FileAhead.{FileAhead}
+use Rattle.world.specs.declared.loaded.Loaded.{Loaded}
 use Rattle.file_sources.proofs.files_ahead.take_next.Goals as goal
 
 not_false : (b : Bool) → false ≡ not b → true ≡ b
@@ -25,11 +25,9 @@ returns-clause-taken c =
     ap (λ o. unwrap_or o next) (c.in_ok-next.ensures.value next some) in
     let name : c.as_str.result.now ≡ c.args.name.now =
     (slice_eq-Decides Decides-eqb _ _ true (not_false _ c.if-ne.ensures)).0 refl in (
-      next,
       c.in_ok-next.ensures.items,
       ap (λ f. string_bytes f.name) (taken ∙ sym seen)
-          ∙ sym c.as_str.ensures.value ∙ name,
-      refl,
+          ∙ (ap string_bytes (sym c.name.ensures) ∙ (sym c.as_str.ensures.value ∙ name)),
     )
 
 not_true : (b : Bool) → true ≡ not b → false ≡ b
@@ -43,7 +41,7 @@ returns-then-ne-clause-kept c = (
   λ before next is same.
       let found = c.in_ok-last.ensures.item.3 in
       let size : vec_len c.args.ahead.now - 1 ≡ length before =
-      (let l = ap (λ (files : List FileAhead). length files) is in let m =
+      (let l = ap (λ (files : List Loaded). length files) is in let m =
       length-append before (next ∷ []) in omega arith) in
       let seen : c.in_ok-last.field-0.now ≡ next =
       found.1 next
@@ -52,7 +50,8 @@ returns-then-ne-clause-kept c = (
       ∙ (ap₂ (λ files n. slice_index_or files n next) is size
       ∙ get_or-append_seam before next [] next)) in
       let name : c.as_str.result.now ≡ c.args.name.now =
-      c.as_str.ensures.value ∙ (ap (λ f. string_bytes f.name) seen ∙ same) in
+      c.as_str.ensures.value
+      ∙ (ap string_bytes c.name.ensures ∙ (ap (λ f. string_bytes f.name) seen ∙ same)) in
       let reported = (slice_eq-Decides Decides-eqb _ _ false (not_true _ c.if-ne.ensures)).1 name in
       cc,
 )

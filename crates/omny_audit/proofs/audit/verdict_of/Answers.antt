@@ -10,7 +10,7 @@ use Rattle.omny_audit.specs.inside.Reports.{HasSummedFor}
 use Rattle.omny_audit.specs.inside.Traced.{HasReadAll, wanted_by}
 use Rattle.std.proofs.KnownBytes.{Consumes-trans, Consumes-nil}
 use Rattle.program_manners.specs.Refusals.{Refuses}
-use Rattle.program_manners.specs.declared.loading.LoadFault.TheVariants.{Unread}
+use Rattle.world.specs.declared.faults.LoadFault.TheVariants.{Unread}
 use Rattle.omny_audit.proofs.ReadLemmas.{at_end, whatever_follows}
 use Rattle.omny_audit.proofs.RightFaults.{later_on, memory_on}
 use Rattle.omny_audit.proofs.TraceLemmas.{reads_more}

@@ -18,7 +18,7 @@ use Rattle.std.proofs.KnownBytes.{Consumes-trans, Consumes-nil, Appends-trans, A
 use Rattle.tap_views.proofs.Choices.{OnErr_any}
 use Rattle.omny_audit.proofs.BegunAudits.{begun_so_far}
 use Rattle.program_manners.specs.Refusals.{Refuses}
-use Rattle.program_manners.specs.declared.loading.LoadFault.TheVariants.{Unread}
+use Rattle.world.specs.declared.faults.LoadFault.TheVariants.{Unread}
 use Rattle.omny_audit.proofs.ReadLemmas.{at_end}
 use Rattle.omny_audit.proofs.RightFaults.{end_on, later_on, memory_end, memory_on, written_on}
 use Rattle.omny_audit.proofs.full_audit.recount_all.Goals as goal

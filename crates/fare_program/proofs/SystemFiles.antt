@@ -1,0 +1,329 @@
+-- What is loaded in a run over files of the system.
+use Rattle.std.proofs.Common.{◌≡◌, ◌≢◌, ◌∙◌, ◌+◌, ◌<◌, ◌≤◌, ◌==◌, ◌++◌, ◌∷◌, [], ℕ, zero, suc, List}
+use Rattle.std.proofs.Common.{Bool, true, false, cond, Option, None, Some, All, length, map, flat_map}
+use Rattle.std.proofs.Common.{arith, ap, ap₂, refl, sym, subst, inl, inr, append-nil, append_assoc}
+use Rattle.std.proofs.Common.{length-append}
+use Rattle.std.specs.Prelude.{◌⊎◌, MatchBool, slice_get}
+use Rattle.std.specs.List.{AllZip}
+use Rattle.std.specs.List.Sorted.{IsPermutation}
+use Rattle.std.proofs.lemmas.Bool.Decides.{eqb_tells}
+use Rattle.std.proofs.lemmas.List.Elements.{All-head, All-tail, All-weaker}
+use Rattle.std.proofs.lemmas.List.Sorted.{IsPermutation-map, IsPermutation-refl}
+use Rattle.std.proofs.lemmas.Slice.Zip.{AllZip-long}
+use Rattle.tariffs.specs.Fares.{Fares}
+use Rattle.tap_views.specs.UploadEnds.{are_posted}
+use Rattle.tap_views.specs.declared.token.Token.{Token}
+use Rattle.tap_views.specs.declared.upload_end.UploadEnd.{UploadEnd}
+use Rattle.tap_views.specs.declared.upload_end.UploadEnd.TheVariants.{Cut, Posted, Refused, Undrawn}
+use Rattle.shared_books.specs.Drawing.{times}
+use Rattle.fare_service.specs.Headline.{drawn_by}
+use Rattle.fare_service.specs.Shares.{IsWorkOf, Worked, all_works}
+use Rattle.fare_service.proofs.DrawnUploads.{each_drawn_once}
+use Rattle.fare_service.proofs.GatherLemmas.{each_work}
+use Rattle.fare_service.proofs.PlainLists.{count_other}
+use Rattle.world.specs.Origins.{IsFrom, Origin, file, loads_from}
+use Rattle.fare_program.specs.Causes.{table_files}
+use Rattle.fare_program.specs.FilesLoaded.{AreLoaded, AreReadAhead, AreReadAsDrawn, AreReadInOrder}
+use Rattle.fare_program.specs.FilesLoaded.{LoadsFiles, load_at, loads_of, names_to_load, text_at}
+use Rattle.fare_program.specs.Options.{Asked}
+use Rattle.fare_program.specs.Program.{LoadsTable, RunsService, ShowsAsked, ShowsLiveRun}
+use Rattle.fare_program.specs.Settling.{ShowsSettled}
+use Rattle.fare_program.specs.SystemFiles.{ChargesFiles, RunsChargeFiles, loads_under}
+use Rattle.fare_program.proofs.Counts.{in_some_order, places}
+use Rattle.program_manners.specs.Loads.{Loaded, LoadsAll, LoadsOne}
+use Rattle.program_manners.specs.TableLoads.{LoadsLater, LoadsTables}
+use Rattle.program_manners.specs.TableWords.{TableNames, file_named}
+
+-- what a source that tells its loads has loaded after these
+record Grew (before : List Loaded) (after : Option (List Loaded)) (more : List Loaded) : Type 0 where
+  pub now : List Loaded
+  pub is : after ≡ Some now
+  pub grown : now ≡ before ++ more
+
+grew : (before : List Loaded) (after : Option (List Loaded)) (more : List Loaded)
+    → LoadsAll (Some before) after more → Grew before after more
+grew before None more loads = absurd loads
+grew before (Some now) more loads = record { now = now; is = refl; grown = loads }
+
+-- ---- tables
+later_loaded : (fares : Fares) (words : List (List ℕ)) (before : List Loaded)
+    (after : Option (List Loaded)) (texts : List (List ℕ)) (all : Fares)
+    → LoadsLater fares words (Some before) after texts all
+    → Grew before after (loads_under (map file_named words) texts)
+later_loaded fares [] before after texts all (none, same, still) =
+    record { now = before; is = still; grown = sym (append-nil before) }
+later_loaded fares (word ∷ words) before after texts all
+    (text, rest, between, next, one, follows, later, are) =
+    let first = grew before between _ one in
+    let more = later_loaded next words first.now after rest all
+    (subst (λ (t : Option (List Loaded)). LoadsLater next words t after rest all) first.is later) in
+    record {
+      now = more.now;
+      is = more.is;
+      grown = more.grown
+          ∙ ap (λ (ls : List Loaded). ls ++ loads_under (map file_named words) rest) first.grown
+          ∙ append_assoc before _ _
+          ∙ ap (λ (ts : List (List ℕ)). before ++ loads_under (map file_named (word ∷ words)) ts)
+          (sym are);
+    }
+
+tables_loaded : (tables : TableNames) (before : List Loaded) (after : Option (List Loaded))
+    (texts : List (List ℕ)) (fares : Fares) → LoadsTables tables (Some before) after texts fares
+    → Grew before after (loads_under (table_files (Some tables)) texts)
+tables_loaded tables before after texts fares loads =
+    let first = grew before loads.between _ loads.loads_first in
+    let more = later_loaded loads.alone tables.later first.now after loads.rest fares
+    (subst (λ (t : Option (List Loaded)). LoadsLater loads.alone tables.later t after loads.rest
+    fares) first.is loads.loads_later) in
+    record {
+      now = more.now;
+      is = more.is;
+      grown = more.grown
+          ∙ ap (λ (ls : List Loaded). ls ++ loads_under (map file_named tables.later) loads.rest)
+          first.grown ∙ append_assoc before _ _
+          ∙ ap (λ (ts : List (List ℕ)). before ++ loads_under (table_files (Some tables)) ts)
+          (sym loads.are_texts);
+    }
+
+-- ---- files
+-- loads under these names, of these bytes
+loads_are : (names : List (List ℕ)) (loads : List Loaded) (files : List (List ℕ))
+    → map (λ load. load.name) loads ≡ map Some names → map (λ load. load.bytes) loads ≡ files
+    → (loads ≡ loads_under names files) × (length files ≡ length names)
+loads_are [] [] files named bytes = (refl, ap length (sym bytes))
+loads_are [] (load ∷ loads) files named bytes = cc
+loads_are (name ∷ names) [] files named bytes = cc
+loads_are (name ∷ names) (load ∷ loads) [] named bytes = cc
+loads_are (name ∷ names) (load ∷ loads) (bytes ∷ files) named same =
+    let first : load.name ≡ Some name = cc in
+    let rest : map (λ load. load.name) loads ≡ map Some names = cc in
+    let content : load.bytes ≡ bytes = cc in
+    let others : map (λ load. load.bytes) loads ≡ files = cc in
+    let (are, number) = loads_are names loads files rest others in (
+      ap₂ (λ (l : Loaded) (ls : List Loaded). l ∷ ls)
+          (λ i. record { name = first i; bytes = content i }) are,
+      ap suc number,
+    )
+
+named_some : (names : List (List ℕ)) → 0 < length names → names_to_load names ≡ map Some names
+named_some [] some = absurd (omega (arith, some))
+named_some (name ∷ names) some = refl
+
+module _ (origin : List ℕ → Origin) (of_system : (name : List ℕ) → origin name ≡ file name) where
+  in_order : (names files : List (List ℕ)) → loads_of origin names files ≡ loads_under names files
+  in_order [] files = refl
+  in_order (name ∷ names) [] = refl
+  in_order (name ∷ names) (bytes ∷ files) =
+      ap₂ (λ (o : Origin) (ls : List Loaded). loads_from o bytes ++ ls) (of_system name)
+      (in_order names files)
+
+  abbrev load_of : List (List ℕ) → List (List ℕ) → ℕ → Loaded
+  load_of names files place = record { name = Some (text_at names place); bytes = text_at files place }
+
+  as_drawn : (names files : List (List ℕ)) (drawn : List ℕ)
+      → flat_map (load_at origin names files) drawn ≡ map (load_of names files) drawn
+  as_drawn names files [] = refl
+  as_drawn names files (place ∷ drawn) =
+      ap₂ (λ (o : Origin) (ls : List Loaded). loads_from o (text_at files place) ++ ls)
+      (of_system (text_at names place)) (as_drawn names files drawn)
+
+-- the loads of all places are those under the names
+all_places : (name_of bytes_of : ℕ → List ℕ) (start : ℕ) (names files : List (List ℕ))
+    → length files ≡ length names
+    → ((place : ℕ) → place < length names → name_of (start + place) ≡ text_at names place)
+    → ((place : ℕ) → place < length names → bytes_of (start + place) ≡ text_at files place)
+    → map (λ place. record { name = Some (name_of place); bytes = bytes_of place })
+    (places start names) ≡ loads_under names files
+all_places name_of bytes_of start [] files number names_are files_are = refl
+all_places name_of bytes_of start (name ∷ names) [] number names_are files_are =
+    absurd (omega (arith, number))
+all_places name_of bytes_of start (name ∷ names) (bytes ∷ files) number names_are files_are =
+    let first : start ≡ start + 0 = omega arith in
+    let named : name_of start ≡ name = ap name_of first ∙ names_are 0 (omega arith) in
+    let same : bytes_of start ≡ bytes = ap bytes_of first ∙ files_are 0 (omega arith) in
+    ap₂ (λ (l : Loaded) (ls : List Loaded). l ∷ ls)
+    (λ i. record { name = Some (named i); bytes = same i })
+    (all_places name_of bytes_of (suc start) names files (omega (arith, number))
+    (λ place within.
+    let next : suc start + place ≡ start + suc place = omega arith in
+    ap name_of next ∙ names_are (suc place) (omega (arith, within)))
+    (λ place within.
+    let next : suc start + place ≡ start + suc place = omega arith in
+    ap bytes_of next ∙ files_are (suc place) (omega (arith, within))))
+
+-- ---- what was drawn in a run that is well
+posted_at : (ends : List UploadEnd) (place : ℕ) → are_posted ends ≡ true → place < length ends
+    → (taps : ℕ) × (slice_get ends place ≡ Some (Posted taps))
+posted_at [] place posted few = absurd (omega (arith, few))
+posted_at (Posted taps ∷ ends) zero posted few = (taps, refl)
+posted_at (Posted taps ∷ ends) (suc place) posted few =
+    posted_at ends place posted (omega (arith, few))
+posted_at (Refused taps offset fault ∷ ends) place posted few = absurd (cc)
+posted_at (Cut taps ∷ ends) place posted few = absurd (cc)
+posted_at (Undrawn ∷ ends) place posted few = absurd (cc)
+
+not_outside : (number : ℕ) (works : List Worked) (place : ℕ) → All (λ w. w.upload < number) works
+    → number ≤ place → times place (map (λ w. w.upload) works) ≡ 0
+not_outside number [] place each more = refl
+not_outside number (w ∷ works) place each more =
+    by_test (eqb_tells w.upload place)
+    (not_outside number works place (All-tail (λ (x : Worked). x.upload < number) w works each) more)
+  where
+    here : w.upload < number
+    here = All-head (λ (x : Worked). x.upload < number) w works each
+
+    by_test : (((w.upload == place) ≡ true) × (w.upload ≡ place))
+        ⊎ (((w.upload == place) ≡ false) × (w.upload ≢ place))
+        → times place (map (λ x. x.upload) works) ≡ 0
+        → times place (map (λ x. x.upload) (w ∷ works)) ≡ 0
+    by_test (inl (is, same)) rest = absurd (omega (arith, here, same, more))
+    by_test (inr (is, apart)) rest =
+        count_other place w.upload (map (λ x. x.upload) works) is ∙ rest
+
+-- each is there once
+drawn_once : (asked : Asked) (fares : Fares) (files : List (List ℕ)) (drawn : List ℕ)
+    (token : Option Token) (text : List ℕ)
+    → (is : ShowsLiveRun asked fares files drawn token text true) → (place : ℕ)
+    → place < length files → times place drawn ≡ 1
+drawn_once asked fares files drawn token text is place within =
+    let headline = is.run.2 in
+    let (taps, there) = posted_at is.outcome.ends place (sym is.is_well)
+    (omega (arith, within, headline.uploads)) in
+    ap (times place) is.drawn_are
+    ∙ each_drawn_once fares asked.shards files is.run.0 is.outcome headline place (Posted taps) there
+    (λ same. cc)
+
+none_outside : (asked : Asked) (fares : Fares) (files : List (List ℕ)) (drawn : List ℕ)
+    (token : Option Token) (text : List ℕ)
+    → (is : ShowsLiveRun asked fares files drawn token text true) → (place : ℕ)
+    → length files ≤ place → times place drawn ≡ 0
+none_outside asked fares files drawn token text is place more =
+    ap (times place) is.drawn_are
+    ∙ not_outside (length files) (all_works is.run.0) place
+    (All-weaker (IsWorkOf asked.shards files) (λ w. w.upload < length files)
+    (λ w work. work.within) (all_works is.run.0)
+    (each_work (record { table = fares; shards = asked.shards; uploads = files }) is.run.0
+    is.run.2.worked))
+    more
+
+-- ---- the whole
+record FilesLoaded (asked : Asked) (between : List Loaded) (after : Option (List Loaded))
+    (files : List (List ℕ)) : Type 0 where
+  pub loads : List Loaded
+  pub number : length files ≡ length asked.files
+  pub order : MatchBool asked.settle (loads ≡ loads_under asked.files files)
+      (IsPermutation (loads_under asked.files files) loads)
+  pub is_loaded : LoadsAll (Some between) after loads
+
+in_either : (settle : Bool) (loads all : List Loaded) → loads ≡ all
+    → MatchBool settle (loads ≡ all) (IsPermutation all loads)
+in_either true loads all same = same
+in_either false loads all same =
+    subst (λ (ls : List Loaded). IsPermutation all ls) (sym same) (IsPermutation-refl all)
+
+module _ (asked : Asked) (origin : List ℕ → Origin)
+    (of_system : (name : List ℕ) → origin name ≡ file name) (between : List Loaded)
+    (after : Option (List Loaded)) (fares : Fares) (files : List (List ℕ)) (drawn : List ℕ)
+    (token : Option Token) (text : List ℕ) where
+  abbrev Order : Bool → List Loaded → Type 0
+  Order settle loads = MatchBool settle (loads ≡ loads_under asked.files files)
+      (IsPermutation (loads_under asked.files files) loads)
+
+  read_ahead : (settle : Bool)
+      → MatchBool settle (AreReadInOrder origin asked.files (Some between) after files)
+      (AreReadAsDrawn origin asked.files (Some between) after files drawn)
+      → MatchBool settle (ShowsSettled asked fares files token text true)
+      (ShowsLiveRun asked fares files drawn token text true)
+      → (loads : List Loaded) × (length files ≡ length asked.files) × Order settle loads
+      × LoadsAll (Some between) after loads
+  read_ahead true read shows = (
+    loads_of origin asked.files files,
+    AllZip-long _ asked.files files read.from,
+    in_order origin of_system asked.files files,
+    read.loads,
+  )
+  read_ahead false read shows =
+      let names = asked.files in
+      let number : length files ≡ length names = read.number in
+      let places_are : IsPermutation (places 0 names) drawn =
+      in_some_order names drawn
+      (λ place within. drawn_once asked fares files drawn token text shows place
+      (omega (arith, within, number)))
+      (λ place more. none_outside asked fares files drawn token text shows place
+      (omega (arith, more, number))) in
+      let moved = IsPermutation-map (load_of origin of_system names files) (places 0 names) drawn
+      places_are in
+      let all : map (load_of origin of_system names files) (places 0 names)
+      ≡ loads_under names files =
+      all_places (text_at names) (text_at files) 0 names files number
+      (λ place within. let here : 0 + place ≡ place = omega arith in ap (text_at names) here)
+      (λ place within. let here : 0 + place ≡ place = omega arith in ap (text_at files) here) in (
+        flat_map (load_at origin names files) drawn,
+        number,
+        subst (λ (ls : List Loaded). IsPermutation (loads_under names files) ls)
+            (sym (as_drawn origin of_system names files drawn))
+            (subst (λ (ls : List Loaded). IsPermutation ls
+            (map (load_of origin of_system names files) drawn)) all moved),
+        read.loads,
+      )
+
+  files_loaded : 0 < length asked.files → AreLoaded asked origin (Some between) after files drawn
+      → ShowsAsked asked fares files drawn token text true → FilesLoaded asked between after files
+  files_loaded some (inl loaded) shows =
+      let (are, number) = loads_are asked.files loaded.loads files
+      (loaded.named ∙ named_some asked.files some) loaded.bytes in
+      record {
+        loads = loaded.loads;
+        number = number;
+        order = in_either asked.settle loaded.loads (loads_under asked.files files) are;
+        is_loaded = loaded.is_loaded;
+      }
+  files_loaded some (inr read) shows =
+      let (loads, number, order, is_loaded) = read_ahead asked.settle read shows in
+      record { loads = loads; number = number; order = order; is_loaded = is_loaded }
+
+-- fares were loaded from tables
+has_tables : (table : Option TableNames) (before : List Loaded) (between : Option (List Loaded))
+    (fares : Fares) → LoadsTable table (Some before) between (Some fares)
+    → (tables : TableNames) × (table ≡ Some tables) × (texts : List (List ℕ))
+    × LoadsTables tables (Some before) between texts fares
+has_tables None before between fares loads = let none = loads.0 in absurd (cc)
+has_tables (Some tables) before between fares (texts, all, loads, same) =
+    let are : all ≡ fares = cc in (
+      tables,
+      refl,
+      texts,
+      subst (λ (f : Fares). LoadsTables tables (Some before) between texts f) are loads,
+    )
+
+pub charges_files : RunsChargeFiles
+charges_files asked origin before after out out' of_system some run =
+    let (tables, named, texts, mean) = has_tables asked.table before run.between run.fares
+    run.loads_table in
+    let first = tables_loaded tables before run.between texts run.fares mean in
+    let more = files_loaded asked origin of_system first.now (Some after) run.fares run.files
+    run.drawn run.token run.text some
+    (subst (λ (t : Option (List Loaded)). AreLoaded asked origin t (Some after) run.files run.drawn)
+    first.is run.loads_files) run.shows in
+    record {
+      tables = tables;
+      named = named;
+      texts = texts;
+      fares = run.fares;
+      between = first.now;
+      mean = subst (λ (t : Option (List Loaded)). LoadsTables tables (Some before) t texts run.fares)
+          first.is mean;
+      tables_loaded = first.grown ∙ ap (λ (t : Option TableNames). before
+          ++ loads_under (table_files t) texts) (sym named);
+      files = run.files;
+      number = more.number;
+      loads = more.loads;
+      order = more.order;
+      files_loaded = more.is_loaded;
+      token = run.token;
+      is_token = run.is_token;
+      drawn = run.drawn;
+      text = run.text;
+      shows = run.shows;
+      written = run.written;
+    }
