@@ -1,7 +1,7 @@
 //! The peer: what the program does, in Rust without proofs, over std alone, as a measure of its
 //! speed.
 //!
-//! `peer --table F [--workers N] [--shards N] [--token HEX] FILE...` posts the files to books and prints the report,
+//! `peer --table F [--workers N] [--shards N] [--token HEX] [--live] FILE...` posts the files to books and prints the report,
 //! or the statement of one token. It claims nothing and proves nothing; its tables have no zone.
 
 mod account;
@@ -45,6 +45,7 @@ fn words() -> Option<Words> {
             "--workers" => workers = args.next()?.parse().ok()?,
             "--shards" => shards = args.next()?.parse().ok()?,
             "--token" => token = Some(table::token_of(&args.next()?)?),
+            "--live" => {}
             _ => files.push(word),
         }
     }
@@ -79,7 +80,7 @@ fn run(words: &Words) -> Result<bool, String> {
 
 fn main() -> ExitCode {
     let Some(words) = words() else {
-        eprintln!("usage: peer --table F [--workers N] [--shards N] [--token HEX] FILE...");
+        eprintln!("usage: peer --table F [--workers N] [--shards N] [--token HEX] [--live] FILE...");
         return ExitCode::from(2);
     };
     match run(&words) {

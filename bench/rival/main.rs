@@ -83,6 +83,8 @@ fn words() -> Option<Words> {
             "--sorted" if way == Way::Settle => way = Way::Sorted,
             "--ledger" if way == Way::Sorted => way = Way::Ledger,
             "--settle" | "--sorted" | "--ledger" => return None,
+            "--live" if matches!(way, Way::Stream | Way::Shards) => {}
+            "--live" => return None,
             "--list" => way = Way::List,
             "--workers" => workers = args.next()?.parse().ok()?,
             "--shards" => shards = args.next()?.parse().ok()?,

@@ -8,9 +8,10 @@ end
 
 complete -c omny_cli -f
 complete -c omny_cli -l table -x -k -d 'The fare table, and those from a date on' -a '(__omny_cli_files .toml)'
-complete -c omny_cli -l list -d 'List the taps, and charge nothing'
 complete -c omny_cli -l settle -d 'Put the taps of all uploads in order before they are charged'
+complete -c omny_cli -l live -d 'Charge taps as files are drawn, without a note'
 complete -c omny_cli -l sorted -d 'Merge files that are in order already, with --settle'
+complete -c omny_cli -l list -d 'List the taps, and charge nothing'
 complete -c omny_cli -l workers -x -d 'How many threads post the uploads' -a '(seq 16)'
 complete -c omny_cli -l shards -x -d 'Over how many shards the accounts are spread' \
     -a '1 2 4 8 16 32 64'

@@ -8,7 +8,7 @@ use Rattle.program_manners.specs.Loads.{Loaded}
 use Rattle.program_manners.specs.TableWords.{TableNames}
 use Rattle.world.specs.Origins.{Origin}
 use Rattle.fare_program.specs.Fault.{charge_mistake_of, explain_mistake, first_of_two}
-use Rattle.fare_program.specs.Fault.{ledger_mistake, mistake}
+use Rattle.fare_program.specs.Fault.{ledger_mistake, live_mistake, mistake}
 use Rattle.fare_program.specs.Fault.{settle_mistake, sorted_mistake, sorted_mistake_of}
 use Rattle.fare_program.specs.Fault.{token_mistake, traced_mistake, traced_mistake_of}
 use Rattle.fare_program.specs.Options.{Asked}
@@ -49,7 +49,8 @@ charges : (asked : Asked) → mistake asked ≡ None → asked.sorted ≡ true
 charges asked right sorted =
     let (token, one) = neither (token_mistake asked) _ right in
     let (settle, two) = neither (settle_mistake asked) _ one in
-    let (ledger, three) = neither (ledger_mistake asked) _ two in
+    let (alone, rest) = neither (live_mistake asked) _ two in
+    let (ledger, three) = neither (ledger_mistake asked) _ rest in
     let (explain, four) = neither (explain_mistake asked) _ three in
     let (live, five) = neither (sorted_mistake asked) (traced_mistake asked) four in
     has_table_named asked.settle asked.list asked.table
@@ -76,7 +77,8 @@ pub traced_table : (asked : Asked) → mistake asked ≡ None → asked.traced �
 traced_table asked right traced =
     let (token, one) = neither (token_mistake asked) _ right in
     let (settle, two) = neither (settle_mistake asked) _ one in
-    let (ledger, three) = neither (ledger_mistake asked) _ two in
+    let (alone, rest) = neither (live_mistake asked) _ two in
+    let (ledger, three) = neither (ledger_mistake asked) _ rest in
     let (explain, four) = neither (explain_mistake asked) _ three in
     let (live, five) = neither (sorted_mistake asked) (traced_mistake asked) four in
     (has_table_named asked.settle asked.list asked.table (traced_settles asked.traced asked.ledger

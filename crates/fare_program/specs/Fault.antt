@@ -13,7 +13,8 @@ use Rattle.fare_program.specs.Options.{Asked}
 use Rattle.fare_program.specs.SortedFaults.{late_text, sorted_text, unopened_text}
 use Rattle.fare_program.specs.declared.fault.Fault.{Fault}
 use Rattle.fare_program.specs.declared.fault.Fault.TheVariants.{Digits, NoTable, SettleNoTable}
-use Rattle.fare_program.specs.declared.fault.Fault.TheVariants.{SettleList, LedgerNoTable}
+use Rattle.fare_program.specs.declared.fault.Fault.TheVariants.{SettleList, LiveSettle}
+use Rattle.fare_program.specs.declared.fault.Fault.TheVariants.{LedgerNoTable}
 use Rattle.fare_program.specs.declared.fault.Fault.TheVariants.{LedgerList, ExplainNoToken}
 use Rattle.fare_program.specs.declared.fault.Fault.TheVariants.{ExplainList, ExplainLedger}
 use Rattle.fare_program.specs.declared.fault.Fault.TheVariants.{SortedNoSettle, SortedNoFile}
@@ -37,6 +38,7 @@ fault_text Digits = codes "fault: --token needs 32 hexadecimal digits"
 fault_text NoTable = codes "fault: --token needs --table"
 fault_text SettleNoTable = codes "fault: --settle needs --table"
 fault_text SettleList = codes "fault: --settle cannot be used with --list"
+fault_text LiveSettle = codes "fault: --live cannot be used with --settle"
 fault_text LedgerNoTable = codes "fault: --ledger needs --table"
 fault_text LedgerList = codes "fault: --ledger cannot be used with --list"
 fault_text ExplainNoToken = codes "fault: --explain needs --token"
@@ -70,6 +72,7 @@ status_of Digits = 2
 status_of NoTable = 2
 status_of SettleNoTable = 2
 status_of SettleList = 2
+status_of LiveSettle = 2
 status_of LedgerNoTable = 2
 status_of LedgerList = 2
 status_of ExplainNoToken = 2
@@ -113,6 +116,16 @@ charge_mistake_of untabled listed true true (Some tables) = Some listed
 abbrev pub settle_mistake : Asked → Option Fault
 settle_mistake asked =
     charge_mistake_of SettleNoTable SettleList asked.settle asked.list asked.table
+
+-- what is wrong with a live run if one is meant: that the taps are to be settled
+abbrev pub live_mistake_of : Bool → Bool → Option Fault
+live_mistake_of true true = Some LiveSettle
+live_mistake_of true false = None
+live_mistake_of false settle = None
+
+-- what is wrong with `--live` among these words
+abbrev pub live_mistake : Asked → Option Fault
+live_mistake asked = live_mistake_of asked.live asked.settle
 
 -- what is wrong with the ledger if it is asked for
 abbrev pub ledger_mistake : Asked → Option Fault
@@ -166,13 +179,14 @@ first_of_two None other = other
 first_of_two (Some fault) other = Some fault
 
 -- what is wrong with what is asked for, if anything, but for the dates of tables: the token is
--- looked at first, then settling, then the ledger, then the explained statement, then sorted files,
--- then a traced ledger
+-- looked at first, then settling, then a live run, then the ledger, then the explained statement,
+-- then sorted files, then a traced ledger
 abbrev pub mistake : Asked → Option Fault
 mistake asked =
     first_of_two (token_mistake asked) (first_of_two (settle_mistake asked)
-    (first_of_two (ledger_mistake asked) (first_of_two (explain_mistake asked)
-    (first_of_two (sorted_mistake asked) (traced_mistake asked)))))
+    (first_of_two (live_mistake asked) (first_of_two (ledger_mistake asked)
+    (first_of_two (explain_mistake asked)
+    (first_of_two (sorted_mistake asked) (traced_mistake asked))))))
 
 -- the first word of a fare table that has a wrong date, or none if one is wanted
 abbrev pub wrong_date : Asked → Option (List ℕ × DateFault)

@@ -37,6 +37,10 @@ token_option = option_rule (codes "token")
 abbrev pub settle_flag : Rule
 settle_flag = flag_rule (codes "settle")
 
+-- `--live`
+abbrev pub live_flag : Rule
+live_flag = flag_rule (codes "live")
+
 -- `--sorted`
 abbrev pub sorted_flag : Rule
 sorted_flag = flag_rule (codes "sorted")
@@ -61,9 +65,9 @@ file_argument = positional_rule (codes "FILE") Append
 abbrev pub app_of_options : App
 app_of_options =
     with_rule (with_rule (with_rule (with_rule (with_rule (with_rule (with_rule (with_rule
-    (with_rule (with_rule (with_rule (with_rule (named_app (codes "omny_cli"))
-    table_option) list_flag) workers_option) shards_option) token_option) settle_flag) sorted_flag)
-    ledger_flag) explain_flag) traced_flag) list_option) null_flag
+    (with_rule (with_rule (with_rule (with_rule (with_rule (named_app (codes "omny_cli"))
+    table_option) settle_flag) live_flag) sorted_flag) list_flag) workers_option) shards_option)
+    token_option) ledger_flag) explain_flag) traced_flag) list_option) null_flag
 
 -- all words that the program takes
 unfoldable pub program : App
@@ -110,6 +114,7 @@ pub record Asked : Type 0 where
   pub shards : ℕ
   pub token : Option Text
   pub settle : Bool
+  pub live : Bool
   pub sorted : Bool
   pub ledger : Bool
   pub explain : Bool
@@ -125,6 +130,7 @@ asked_by words = record {
   shards = number_of (codes "shards") (matches_of program words);
   token = token_named words;
   settle = is_given (codes "settle") (matches_of program words);
+  live = is_given (codes "live") (matches_of program words);
   sorted = is_given (codes "sorted") (matches_of program words);
   ledger = is_given (codes "ledger") (matches_of program words);
   explain = is_given (codes "explain") (matches_of program words);

@@ -4,6 +4,7 @@ pub mod ChargedAhead
 pub mod ChargedSorted
 pub mod Fault
 pub mod Listing
+pub mod Notes
 pub mod Options
 pub mod PostedFiles
 pub mod Settling

@@ -35,7 +35,9 @@ const NOTES: &str = "What is printed:
              moment in milliseconds since 1970-01-01T00:00Z, and live (later than every known tap
              of its token before it), stale (not so) or unknown (the table lacks its validator)
 With --settle all taps are posted in one order, so that what is printed depends on the taps alone.
-Without it the order of the files and the number of workers can change what a token pays.
+Without it the order of the files and the number of workers can change what a token pays. Of several
+files a note on the standard error says so, and how many taps came too late. With --live it is left
+out: such a run is meant.
 With --sorted beside it each file has its taps in that order already, as `omny_tools sort` makes it.
 The files are read in pieces and merged, so that little memory is taken. A file that is out of order
 or has a layout fault ends the run.
@@ -76,6 +78,9 @@ const TOKEN_HELP: &str = "Print the statement of this token, 32 hexadecimal digi
 /// The help of `--settle`.
 const SETTLE_HELP: &str = "Post all taps in order of token, moment and validator; needs --table";
 
+/// The help of `--live`.
+const LIVE_HELP: &str = "Charge taps as FILEs are drawn, whose order counts then, without a note";
+
 /// The help of `--sorted`.
 const SORTED_HELP: &str = "Merge FILEs that `omny_tools sort` made, of any length; needs --settle";
 
@@ -97,20 +102,22 @@ fn command<'a>(alloc: Global) -> Result<Command<'a>, AllocError>
     ensures { IfOk result (λ command. app_of command ≡ program) }
 {
     let table = repeated_arg(alloc, "table", "F", TABLE_HELP);
+    let settle = flag_arg(alloc, "settle", SETTLE_HELP);
+    let live = flag_arg(alloc, "live", LIVE_HELP);
+    let sorted = flag_arg(alloc, "sorted", SORTED_HELP);
     let list = flag_arg(alloc, "list", LIST_HELP);
     let workers = number_arg(alloc, "workers", 16, "2", WORKERS_HELP);
     let shards = number_arg(alloc, "shards", 64, "8", SHARDS_HELP);
     let token = option_arg(alloc, "token", "HEX", TOKEN_HELP);
-    let settle = flag_arg(alloc, "settle", SETTLE_HELP);
-    let sorted = flag_arg(alloc, "sorted", SORTED_HELP);
     let command = new_command(alloc, "omny_cli", ABOUT, NOTES)
         .arg(table)?
+        .arg(settle)?
+        .arg(live)?
+        .arg(sorted)?
         .arg(list)?
         .arg(workers)?
         .arg(shards)?
-        .arg(token)?
-        .arg(settle)?
-        .arg(sorted)?;
+        .arg(token)?;
     with_texts(alloc, command)
 }
 
@@ -179,6 +186,7 @@ impl<'a> Options<'a> {
             shards: number_in(&matches, "shards"),
             token: matches.get_str("token"),
             settle: flag_in(&matches, "settle"),
+            live: flag_in(&matches, "live"),
             sorted: flag_in(&matches, "sorted"),
             ledger: flag_in(&matches, "ledger"),
             explain: flag_in(&matches, "explain"),

@@ -34,6 +34,8 @@ pub(crate) enum Fault<'a> {
     SettleNoTable,
     /// The taps are to be settled, and to be listed.
     SettleList,
+    /// A live run is meant, and the taps are to be settled.
+    LiveSettle,
     /// The ledger is asked for without a fare table.
     LedgerNoTable,
     /// The ledger is asked for, and a listing.
@@ -185,7 +187,7 @@ impl<'a> Fault<'a> {
     {
         match self {
             Fault::Digits | Fault::NoTable => 2,
-            Fault::SettleNoTable | Fault::SettleList => 2,
+            Fault::SettleNoTable | Fault::SettleList | Fault::LiveSettle => 2,
             Fault::LedgerNoTable | Fault::LedgerList => 2,
             Fault::ExplainNoToken | Fault::ExplainList | Fault::ExplainLedger => 2,
             Fault::SortedNoSettle | Fault::SortedNoFile => 2,
@@ -273,6 +275,7 @@ impl fmt::Display for Fault<'_> {
             Fault::NoTable => f.write_str("fault: --token needs --table"),
             Fault::SettleNoTable => f.write_str("fault: --settle needs --table"),
             Fault::SettleList => f.write_str("fault: --settle cannot be used with --list"),
+            Fault::LiveSettle => f.write_str("fault: --live cannot be used with --settle"),
             Fault::LedgerNoTable => f.write_str("fault: --ledger needs --table"),
             Fault::LedgerList => f.write_str("fault: --ledger cannot be used with --list"),
             Fault::ExplainNoToken => f.write_str("fault: --explain needs --token"),

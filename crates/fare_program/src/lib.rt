@@ -17,7 +17,8 @@
 //! | `posting` | the text that is asked for of files, posted as they are or settled |
 //! | `output` | texts written out whole |
 //! | `fault` | why the program gives up, and the line that says so |
-//! | `note` | what a person should know of a run before it begins |
+//! | `note` | what a person should know of a run |
+//! | `remarks` | what is noted of what was charged, for whoever watches the run |
 //! | `noting` | loaded uploads whose charging is noted, for whoever watches the run |
 //! | `program` | the whole |
 #![tactic(auto)]
@@ -36,6 +37,7 @@ mod options;
 mod output;
 mod posting;
 mod program;
+mod remarks;
 mod run;
 mod settle;
 mod settled_token;

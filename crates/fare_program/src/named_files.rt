@@ -152,11 +152,13 @@ fn charge_named<'a, R: Threads + Wait + RandomSource + Sync, D: Disk + Sync, W: 
         sizes,
     };
     if options.settle {
-        return charge_settled(rt, alloc, options, table, token, &uploads, calls, out);
+        return charge_settled(rt, alloc, disk, options, table, token, &uploads, calls, out);
     }
     let own = table.try_clone(alloc)?;
     let keeper = NotingGatekeeper::new(disk, sizes);
-    charge_lent(rt, alloc, options, own, token, uploads, &keeper, calls, out)
+    charge_lent(
+        rt, alloc, disk, options, own, token, uploads, &keeper, calls, out,
+    )
 }
 
 /// Charges the named files while they are read, and writes what is asked for, if all files may be

@@ -1,7 +1,8 @@
-//! What a person should know of a run before it begins.
+//! What a person should know of a run.
 ghost use Rattle.std.specs.Prelude.{◌≡◌, ◌⊎◌, Some, None, IfOk, is_some, map, string_bytes, true};
 ghost use Rattle.fare_program.specs.Fault.{mistake, wrong_date};
 ghost use Rattle.fare_program.specs.Notes.{note_of, note_text};
+ghost use Rattle.fare_program.specs.inside.Notes.{follows_order};
 ghost use Rattle.fare_program.specs.Options.{Parses, asked_by};
 ghost use Rattle.fare_program.specs.inside.Options.{asked_of};
 
@@ -12,19 +13,25 @@ use std::alloc::Global;
 use std::fmt;
 use tap_views::NoMemory;
 
-/// What a person should know of a run before it begins. Its `Display` is the line without its line
-/// feed. No run prints it itself.
+/// What a person should know of a run. Its `Display` is the line without its line feed. No run
+/// prints it itself.
 #[derive(Clone, Copy, Debug, PartialEq, Eq)]
 pub enum Note {
     /// No FILE is named, so that the standard input is read.
     ReadsInput,
     /// Several files are charged as they are drawn, so that their order can change the bill.
     FollowsFileOrder,
+    /// So many taps came after a tap of their token that is as late or later.
+    CameLate(u64),
+    /// These taps were not counted.
+    LateUncounted,
+    /// No file has the token that is asked for.
+    UnknownToken,
 }
 
 impl Note {
-    /// The note on what the words ask for, if there is one. There is none on words that are no
-    /// command line, or that have a mistake or a wrong date of a table.
+    /// The note on what the words ask for before the run begins, if there is one. There is none on
+    /// words that are no command line, or that have a mistake or a wrong date of a table.
     pub fn of(alloc: Global, words: &[String]) -> Result<Option<Note>, NoMemory>
         ensures right { Parses (map string_bytes words.now)
             → mistake (asked_by (map string_bytes words.now)) ≡ None
@@ -51,12 +58,17 @@ impl Note {
 fn note_on(options: &Options<'_>) -> Option<Note>
     ensures { result ≡ note_of (asked_of options.now) }
 {
-    match options.files.len() {
-        0 => Some(Note::ReadsInput),
-        1 => None,
-        _ if options.list || options.settle || options.table.is_none() => None,
-        _ => Some(Note::FollowsFileOrder),
+    if options.files.is_empty() {
+        return Some(Note::ReadsInput);
     }
+    None
+}
+
+/// Whether a run that is charged depends on the order of its files, and none is meant.
+pub(crate) fn follows_order(options: &Options<'_>) -> bool
+    ensures { result ≡ follows_order (asked_of options.now) }
+{
+    options.files.len() > 1 && !options.settle && !options.live
 }
 
 impl fmt::Display for Note {
@@ -70,6 +82,14 @@ impl fmt::Display for Note {
             Note::FollowsFileOrder => f.write_str(
                 "note: the order of the files can change this bill. With --settle it cannot",
             ),
+            Note::CameLate(taps) => write!(
+                f,
+                "note: {taps} of the taps came after a tap of their token that is as late or later, and cost nothing"
+            ),
+            Note::LateUncounted => f.write_str(
+                "note: how many taps came after a later tap of their token is not known: out of memory",
+            ),
+            Note::UnknownToken => f.write_str("note: no tap of the token was found"),
         }
     }
 }

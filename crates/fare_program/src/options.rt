@@ -18,6 +18,8 @@ pub(crate) struct Options<'a> {
     pub(crate) token: Option<&'a str>,
     /// Whether the taps are settled: put into their one order before they are posted.
     pub(crate) settle: bool,
+    /// Whether a live run is meant: one whose taps are charged as the uploads are drawn.
+    pub(crate) live: bool,
     /// Whether the files are in canonical order, and are read in pieces and merged.
     pub(crate) sorted: bool,
     /// Whether the ledger is wanted: of all tokens, or of the one that is asked for.

@@ -11,6 +11,7 @@ ghost use Rattle.fare_program.specs.Program.{ShowsAsked, ShowsOf, ShowsStatement
 use crate::fault::Fault;
 use crate::noting::{NotedUploads, NotingGatekeeper, sizes_in};
 use crate::options::Options;
+use crate::remarks::note_outcome;
 use crate::run::{are_posted, post_live};
 use crate::settle::charge_settled;
 use fare_service::{Gatekeeper, LentUploads, Outcome, write_explained, write_ledger};
@@ -113,16 +114,18 @@ fn print_asked<'a, R: Threads + Sync, W: Write>(
 }
 
 /// Posts uploads that are lent, as they are, and writes what is asked for. Says whether each was
-/// posted whole.
+/// posted whole. What a person should know of them is noted on the disk.
 pub(crate) fn charge_lent<
     'a,
     R: Threads + Wait + RandomSource + Sync,
+    D: Disk,
     U: LentUploads + Drop + Sync,
     G: Gatekeeper + Sync,
     W: Write,
 >(
     rt: &R,
     alloc: Global,
+    disk: &D,
     options: &Options<'a>,
     table: FareTable,
     token: Option<Token>,
@@ -148,6 +151,7 @@ pub(crate) fn charge_lent<
         → Keeps (W.contents out.old) (W.contents out.new)) }
 {
     let outcome = post_live(rt, alloc, table, options, uploads, keeper)?;
+    note_outcome(alloc, disk, options, &outcome, token);
     let printed = print_asked(rt, alloc, options, &outcome, token, out);
     let well = are_posted(outcome.ends());
     calls.join(outcome.into_calls());
@@ -186,13 +190,16 @@ pub(crate) fn charge<'a, R: Threads + Wait + RandomSource + Sync, D: Disk + Sync
     // nothing is read from outside
     let mut calls = Trace::new();
     if options.settle {
-        return charge_settled(rt, alloc, options, &table, token, &uploads, &mut calls, out);
+        return charge_settled(
+            rt, alloc, disk, options, &table, token, &uploads, &mut calls, out,
+        );
     }
     let sizes = sizes_in(alloc, &files)?;
     let keeper = NotingGatekeeper::new(disk, &sizes);
     charge_lent(
         rt,
         alloc,
+        disk,
         options,
         table,
         token,

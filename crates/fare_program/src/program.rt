@@ -7,7 +7,8 @@ ghost use Rattle.std.specs.Io.KnownBytes.{Appends, Keeps};
 ghost use Rattle.fare_program.specs.Causes.{IsNameReported, IsRightFault};
 ghost use Rattle.fare_program.specs.inside.Causes.{IsOfOutput};
 ghost use Rattle.fare_program.specs.Fault.{IsLate, charge_mistake_of, explain_mistake, fault_text};
-ghost use Rattle.fare_program.specs.Fault.{mistake, sorted_mistake, status_of, token_mistake};
+ghost use Rattle.fare_program.specs.Fault.{live_mistake, mistake, sorted_mistake, status_of};
+ghost use Rattle.fare_program.specs.Fault.{token_mistake};
 ghost use Rattle.fare_program.specs.Fault.{traced_mistake, wrong_date};
 ghost use Rattle.fare_program.specs.inside.Fault.{IsLoadLine, IsWhyOf};
 ghost use Rattle.fare_program.specs.Options.{Asked, AsksForText, Parses, asked_by};
@@ -207,6 +208,21 @@ fn check_charged<'a>(
     Ok(())
 }
 
+/// Looks whether a live run may be meant, if one is: the taps are not to be settled.
+fn check_live<'a>(options: &Options<'a>) -> Result<(), Fault<'a>>
+    ensures right { OnOk result (live_mistake (asked_of options.now) ≡ None) }
+    ensures fault { IfErr result (λ fault. live_mistake (asked_of options.now) ≡ Some fault) }
+    ensures status { IfErr result (λ fault. status_of fault ≡ 2) }
+{
+    if !options.live {
+        return Ok(());
+    }
+    if options.settle {
+        return Err(Fault::LiveSettle);
+    }
+    Ok(())
+}
+
 /// Looks whether the statement may be explained, if that is asked for: there is a token, and
 /// neither a listing nor the ledger is asked for.
 fn check_explain<'a>(options: &Options<'a>) -> Result<(), Fault<'a>>
@@ -305,6 +321,7 @@ pub(crate) fn checked<'a>(options: &Options<'a>) -> Result<Option<Token>, Fault<
         Fault::SettleNoTable,
         Fault::SettleList,
     )?;
+    check_live(options)?;
     check_charged(
         options,
         options.ledger,

@@ -15,6 +15,7 @@ use crate::options::Options;
 use crate::run::are_posted;
 use crate::settled_token::write_token;
 use fare_table::FareTable;
+use file_sources::Disk;
 use settled_texts::write_settled_ledger;
 use settlement::{SettledTaps, Uploads, laws, settled_taps};
 use std::alloc::Global;
@@ -94,10 +95,18 @@ fn charge_all<'a, R: Threads + RandomSource + Sync, U: Uploads + Sync, W: Write>
     write_bill(rt, alloc, table, options.workers, uploads, calls, out)
 }
 
-/// Settles the uploads, and writes what is asked for. Says whether each file was posted whole.
-pub(crate) fn charge_settled<'a, R: Threads + RandomSource + Sync, U: Uploads + Sync, W: Write>(
+/// Settles the uploads, and writes what is asked for. Says whether each file was posted whole. If
+/// no upload has the token that is asked for, that is noted on the disk.
+pub(crate) fn charge_settled<
+    'a,
+    R: Threads + RandomSource + Sync,
+    D: Disk,
+    U: Uploads + Sync,
+    W: Write,
+>(
     rt: &R,
     alloc: Global,
+    disk: &D,
     options: &Options<'a>,
     table: &FareTable,
     token: Option<Token>,
@@ -122,7 +131,7 @@ pub(crate) fn charge_settled<'a, R: Threads + RandomSource + Sync, U: Uploads + 
         → Keeps (W.contents out.old) (W.contents out.new)) }
 {
     match token {
-        Some(token) => write_token(rt, alloc, options, table, token, uploads, calls, out),
+        Some(token) => write_token(rt, alloc, disk, options, table, token, uploads, calls, out),
         None => charge_all(rt, alloc, options, table, uploads, calls, out),
     }
 }

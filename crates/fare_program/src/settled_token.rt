@@ -17,8 +17,10 @@ ghost use Rattle.fare_program.specs.inside.Options.{asked_of};
 
 use crate::fault::Fault;
 use crate::options::Options;
+use crate::remarks::note_taps;
 use crate::run::are_posted;
 use fare_table::FareTable;
+use file_sources::Disk;
 use settled_texts::{write_token_explained, write_token_ledger, write_token_statement};
 use settlement::{TokenTaps, Uploads, laws, settled_taps_of};
 use std::alloc::Global;
@@ -103,9 +105,10 @@ pub(crate) fn write_text<'a, W: Write>(
 
 /// Writes what is asked for of the token: of the taps of the uploads no others are kept. Says
 /// whether each file was posted whole.
-pub(crate) fn write_token<'a, R: Threads + Sync, U: Uploads + Sync, W: Write>(
+pub(crate) fn write_token<'a, R: Threads + Sync, D: Disk, U: Uploads + Sync, W: Write>(
     rt: &R,
     alloc: Global,
+    disk: &D,
     options: &Options<'a>,
     table: &FareTable,
     token: Token,
@@ -132,6 +135,7 @@ pub(crate) fn write_token<'a, R: Threads + Sync, U: Uploads + Sync, W: Write>(
     let TokenTaps { ends, taps } = settled_taps_of(rt, alloc, uploads, token, calls)?;
     // proof: the taps, posted alone, are the token's entries in the settled history
     laws::posted_taps();
+    note_taps(disk, &taps);
     write_text(alloc, options, table, token, &taps, out)?;
     Ok(are_posted(&ends))
 }

@@ -12,6 +12,7 @@ ghost use Rattle.fare_program.specs.inside.Options.{asked_of};
 use crate::bill::write_billed;
 use crate::fault::Fault;
 use crate::options::Options;
+use crate::remarks::note_taps;
 use crate::settled_token::write_text;
 use fare_table::FareTable;
 use file_sources::Disk;
@@ -118,9 +119,10 @@ fn write_ledger<'a, R: Threads + Sync, F: Placed + Sync, W: Write>(
 }
 
 /// Writes what is asked for of the token: of the taps of the files no others are kept.
-fn write_token<'a, R: Threads + Sync, F: Placed + Sync, W: Write>(
+fn write_token<'a, R: Threads + Sync, D: Disk, F: Placed + Sync, W: Write>(
     rt: &R,
     alloc: Global,
+    disk: &D,
     options: &Options<'a>,
     table: &FareTable,
     token: Token,
@@ -142,6 +144,7 @@ fn write_token<'a, R: Threads + Sync, F: Placed + Sync, W: Write>(
         Ok(made) => {
             // proof: the taps, posted alone, are the token's entries in the settled history
             laws::posted_taps();
+            note_taps(disk, &made.taps);
             write_text(alloc, options, table, token, &made.taps, out)?;
             Ok(())
         }
@@ -177,9 +180,10 @@ fn charge_all<'a, R: Threads + RandomSource + Sync, F: Placed + Sync, W: Write>(
 }
 
 /// Charges the files and writes what is asked for.
-fn charge_sorted<'a, R: Threads + RandomSource + Sync, F: Placed + Sync, W: Write>(
+fn charge_sorted<'a, R: Threads + RandomSource + Sync, D: Disk, F: Placed + Sync, W: Write>(
     rt: &R,
     alloc: Global,
+    disk: &D,
     options: &Options<'a>,
     table: &FareTable,
     token: Option<Token>,
@@ -200,7 +204,7 @@ fn charge_sorted<'a, R: Threads + RandomSource + Sync, F: Placed + Sync, W: Writ
         → Keeps (W.contents out.old) (W.contents out.new)) }
 {
     match token {
-        Some(token) => write_token(rt, alloc, options, table, token, files, out),
+        Some(token) => write_token(rt, alloc, disk, options, table, token, files, out),
         None => charge_all(rt, alloc, options, table, files, out),
     }
 }
@@ -236,6 +240,6 @@ pub(crate) fn work_sorted<'a, R: Threads + RandomSource + Sync, D: Disk, W: Writ
 {
     let Some(table) = table else { unreachable!() };
     let files = open_files(alloc, disk, &options.files)?;
-    charge_sorted(rt, alloc, options, &table, token, &files, out)?;
+    charge_sorted(rt, alloc, disk, options, &table, token, &files, out)?;
     Ok(true)
 }

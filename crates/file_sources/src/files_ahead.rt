@@ -57,6 +57,13 @@ pub trait Disk {
 
     /// Notes that so much more of it is charged.
     fn note_charged(&self, _more: Amount) {}
+
+    /// Notes that several uploads are charged as they are drawn, and how many of their taps came
+    /// after a tap of their token that is as late or later; none if memory is refused to count them.
+    fn note_live(&self, _late: Option<u64>) {}
+
+    /// Notes that no upload has the token that is asked for.
+    fn note_absent(&self) {}
 }
 
 /// How much of what was uploaded.

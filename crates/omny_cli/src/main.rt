@@ -1,6 +1,7 @@
 //! The program: `fare_program` over the words, with the names of a list if they name one, the
-//! files, the standard input and the outputs of the system. If the standard error is a terminal, a
-//! note there says what one should know of the run, and a line says what a long run does.
+//! files, the standard input and the outputs of the system. After the run notes on the standard error
+//! say what one should know of its text. If the standard error is a terminal, a note says before that
+//! the standard input is read, and a line says what a long run does.
 //!
 //! | module | what it does |
 //! |---|---|
@@ -13,9 +14,9 @@ mod system;
 
 use fare_program::{Complaints, Host, Note, Output, list_words, unread_words, words_of};
 use program_manners::{Escaping, take_list};
-use run_progress::{Hushing, Steps, Ticker, Watched};
+use run_progress::{Findings, Hushing, Steps, Ticker, Watched};
 use std::fs;
-use std::io::{IsTerminal, Write};
+use std::io::{IsTerminal, Stderr, Write};
 use std::process::ExitCode;
 use system::run_system;
 use world::Recorded;
@@ -50,6 +51,21 @@ fn named_words<E: Write>(rt: &HostRuntime, err: &mut Complaints<E>) -> Result<Ve
     Ok(more.unwrap_or(words))
 }
 
+/// Prints what a person should know of a run that made a text.
+fn report_findings(findings: Findings, err: &mut Complaints<Stderr>) {
+    if let Some(late) = findings.live {
+        err.report_line(Note::FollowsFileOrder);
+        match late {
+            Some(0) => {}
+            Some(taps) => err.report_line(Note::CameLate(taps)),
+            None => err.report_line(Note::LateUncounted),
+        }
+    }
+    if findings.is_absent {
+        err.report_line(Note::UnknownToken);
+    }
+}
+
 /// Whether the standard output is a file, which no terminal shows. It is asked by the name that the
 /// system has for it: if there is none, it is taken for no file.
 fn writes_to_file(rt: &HostRuntime) -> bool {
@@ -79,5 +95,6 @@ fn main(rt: HostRuntime) -> ExitCode {
     );
     let (escaping, _calls) = err.into_writer().into_writer().into_parts();
     escaping.finish();
+    report_findings(ticker.findings(&rt), &mut Complaints::new(rt.stderr()));
     ExitCode::from(status)
 }

@@ -3,6 +3,7 @@
 //!
 //! | module | what it does |
 //! |---|---|
+//! | `findings` | what it finds that a person should know of |
 //! | `meter` | counts of work that is done by some threads while another reads them |
 //! | `progress` | how far a run is |
 //! | `pace` | how long its work takes still |
@@ -11,6 +12,7 @@
 //! | `hushing` | writers that take the line away first |
 #![tactic(auto)]
 
+mod findings;
 mod hushing;
 mod meter;
 mod pace;
@@ -18,6 +20,7 @@ mod progress;
 mod ticker;
 mod watched;
 
+pub use findings::Findings;
 pub use hushing::Hushing;
 pub use progress::Steps;
 pub use ticker::Ticker;

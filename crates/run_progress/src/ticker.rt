@@ -1,6 +1,7 @@
 //! A line on a terminal that says what a long run does: it is shown from the first second on, and
 //! is gone before anything else is written.
 
+use crate::findings::Findings;
 use crate::meter::Meters;
 use crate::pace::Pace;
 use crate::progress::{Sight, Steps};
@@ -35,6 +36,7 @@ fn millis_of(passed: Duration) -> u64 {
 pub struct Ticker {
     pub(crate) steps: Mutex<Steps>,
     pub(crate) meters: Meters,
+    pub(crate) findings: Mutex<Findings>,
     /// The line, which one thread at a time writes.
     line: Mutex<Line>,
     /// Rung when the line is taken away for good.
@@ -47,6 +49,10 @@ impl Ticker {
         Ticker {
             steps: Mutex::new(steps),
             meters: Meters::new(),
+            findings: Mutex::new(Findings {
+                live: None,
+                is_absent: false,
+            }),
             line: Mutex::new(Line {
                 shown: TerminalLine::new(err),
                 is_over: !is_terminal,
@@ -106,6 +112,11 @@ impl Ticker {
             steps,
             readings: self.meters.read(),
         }
+    }
+
+    /// What the run has found so far.
+    pub fn findings<R: Wait>(&self, rt: &R) -> Findings {
+        *self.findings.lock(rt)
     }
 
     /// Takes the line away for good.

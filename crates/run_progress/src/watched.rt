@@ -130,6 +130,14 @@ impl<'a, R: Wait, D: Disk> Disk for WatchedDisk<'a, R, D> {
         let (meter, more) = self.ticker.meters.of(more);
         meter.add(more);
     }
+
+    fn note_live(&self, late: Option<u64>) {
+        self.ticker.findings.lock(self.rt).live = Some(late);
+    }
+
+    fn note_absent(&self) {
+        self.ticker.findings.lock(self.rt).is_absent = true;
+    }
 }
 
 impl<R: Wait, S: FileSource + Drop> FileSource for Watched<'_, R, S> {

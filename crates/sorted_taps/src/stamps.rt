@@ -20,14 +20,14 @@ pub fn stamps_of<F: Placed>(alloc: Global, files: &[F]) -> Result<Vec<FileStamp>
     Ok(stamps)
 }
 
-/// Whether the files have the lengths of these stamps, and were not written since. What else the
-/// system notes of a file may be another: its names, for instance, since a file that is replaced by
-/// a rename is read as it was. A file whose stamp cannot be read was written.
+/// Whether the files have these stamps. So a file whose bytes were written since has not, also if
+/// its time of the last write was set back; nor has one that was renamed or replaced. A file whose
+/// stamp cannot be read has not.
 pub fn have_stamps<F: Placed>(files: &[F], stamps: &[FileStamp]) -> bool {
     for (file, old) in files.iter().zip(stamps) {
         match file.stamp() {
             Ok(stamp) => {
-                if stamp.bytes != old.bytes || stamp.modified != old.modified {
+                if stamp != *old {
                     return false;
                 }
             }

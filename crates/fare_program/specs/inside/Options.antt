@@ -16,6 +16,7 @@ asked_of options = record {
   shards = options.shards;
   token = option_map (λ t. t.now) options.token;
   settle = options.settle;
+  live = options.live;
   sorted = options.sorted;
   ledger = options.ledger;
   explain = options.explain;

@@ -40,60 +40,48 @@ returns-clause-kinds c =
 
 -- no other option has the name
 only_workers : (j : ℕ) (e : Rule) → j < length program.top.rules
-    → bytes_eq (slice_index_or program.top.rules j e).id (codes "workers") ≡ true → j ≡ 2
+    → bytes_eq (slice_index_or program.top.rules j e).id (codes "workers") ≡ true → j ≡ 5
 unfolding program
 only_workers zero e lt same = absurd (true≢false (sym same))
 only_workers (suc zero) e lt same = absurd (true≢false (sym same))
-only_workers (suc (suc zero)) e lt same = refl
+only_workers (suc (suc zero)) e lt same = absurd (true≢false (sym same))
 only_workers (suc (suc (suc zero))) e lt same = absurd (true≢false (sym same))
 only_workers (suc (suc (suc (suc zero)))) e lt same = absurd (true≢false (sym same))
-only_workers (suc (suc (suc (suc (suc zero))))) e lt same = absurd (true≢false (sym same))
+only_workers (suc (suc (suc (suc (suc zero))))) e lt same = refl
 only_workers (suc (suc (suc (suc (suc (suc zero)))))) e lt same = absurd (true≢false (sym same))
-only_workers (suc (suc (suc (suc (suc (suc (suc zero))))))) e lt same =
-    absurd (true≢false (sym same))
-only_workers (suc (suc (suc (suc (suc (suc (suc (suc zero)))))))) e lt same =
-    absurd (true≢false (sym same))
-only_workers (suc (suc (suc (suc (suc (suc (suc (suc (suc zero))))))))) e lt same =
-    absurd (true≢false (sym same))
-only_workers (suc (suc (suc (suc (suc (suc (suc (suc (suc (suc zero)))))))))) e lt same =
-    absurd (true≢false (sym same))
-only_workers (suc (suc (suc (suc (suc (suc (suc (suc (suc (suc (suc zero))))))))))) e lt same =
-    absurd (true≢false (sym same))
-only_workers (suc (suc (suc (suc (suc (suc (suc (suc (suc (suc (suc (suc zero)))))))))))) e lt
-    same = absurd (true≢false (sym same))
-only_workers (suc (suc (suc (suc (suc (suc (suc (suc (suc (suc (suc (suc (suc j))))))))))))) e lt
-    same = absurd (omega arith)
+only_workers (suc (suc (suc (suc (suc (suc (suc zero))))))) e lt same = absurd (true≢false (sym same))
+only_workers (suc (suc (suc (suc (suc (suc (suc (suc zero)))))))) e lt same = absurd (true≢false (sym same))
+only_workers (suc (suc (suc (suc (suc (suc (suc (suc (suc zero))))))))) e lt same = absurd (true≢false (sym same))
+only_workers (suc (suc (suc (suc (suc (suc (suc (suc (suc (suc zero)))))))))) e lt same = absurd (true≢false (sym same))
+only_workers (suc (suc (suc (suc (suc (suc (suc (suc (suc (suc (suc zero))))))))))) e lt same = absurd (true≢false (sym same))
+only_workers (suc (suc (suc (suc (suc (suc (suc (suc (suc (suc (suc (suc zero)))))))))))) e lt same = absurd (true≢false (sym same))
+only_workers (suc (suc (suc (suc (suc (suc (suc (suc (suc (suc (suc (suc (suc zero))))))))))))) e lt same = absurd (true≢false (sym same))
+only_workers (suc (suc (suc (suc (suc (suc (suc (suc (suc (suc (suc (suc (suc (suc j)))))))))))))) e lt same = absurd (omega arith)
 
 only_shards : (j : ℕ) (e : Rule) → j < length program.top.rules
-    → bytes_eq (slice_index_or program.top.rules j e).id (codes "shards") ≡ true → j ≡ 3
+    → bytes_eq (slice_index_or program.top.rules j e).id (codes "shards") ≡ true → j ≡ 6
 unfolding program
 only_shards zero e lt same = absurd (true≢false (sym same))
 only_shards (suc zero) e lt same = absurd (true≢false (sym same))
 only_shards (suc (suc zero)) e lt same = absurd (true≢false (sym same))
-only_shards (suc (suc (suc zero))) e lt same = refl
+only_shards (suc (suc (suc zero))) e lt same = absurd (true≢false (sym same))
 only_shards (suc (suc (suc (suc zero)))) e lt same = absurd (true≢false (sym same))
 only_shards (suc (suc (suc (suc (suc zero))))) e lt same = absurd (true≢false (sym same))
-only_shards (suc (suc (suc (suc (suc (suc zero)))))) e lt same = absurd (true≢false (sym same))
-only_shards (suc (suc (suc (suc (suc (suc (suc zero))))))) e lt same =
-    absurd (true≢false (sym same))
-only_shards (suc (suc (suc (suc (suc (suc (suc (suc zero)))))))) e lt same =
-    absurd (true≢false (sym same))
-only_shards (suc (suc (suc (suc (suc (suc (suc (suc (suc zero))))))))) e lt same =
-    absurd (true≢false (sym same))
-only_shards (suc (suc (suc (suc (suc (suc (suc (suc (suc (suc zero)))))))))) e lt same =
-    absurd (true≢false (sym same))
-only_shards (suc (suc (suc (suc (suc (suc (suc (suc (suc (suc (suc zero))))))))))) e lt same =
-    absurd (true≢false (sym same))
-only_shards (suc (suc (suc (suc (suc (suc (suc (suc (suc (suc (suc (suc zero)))))))))))) e lt same =
-    absurd (true≢false (sym same))
-only_shards (suc (suc (suc (suc (suc (suc (suc (suc (suc (suc (suc (suc (suc j))))))))))))) e lt
-    same = absurd (omega arith)
+only_shards (suc (suc (suc (suc (suc (suc zero)))))) e lt same = refl
+only_shards (suc (suc (suc (suc (suc (suc (suc zero))))))) e lt same = absurd (true≢false (sym same))
+only_shards (suc (suc (suc (suc (suc (suc (suc (suc zero)))))))) e lt same = absurd (true≢false (sym same))
+only_shards (suc (suc (suc (suc (suc (suc (suc (suc (suc zero))))))))) e lt same = absurd (true≢false (sym same))
+only_shards (suc (suc (suc (suc (suc (suc (suc (suc (suc (suc zero)))))))))) e lt same = absurd (true≢false (sym same))
+only_shards (suc (suc (suc (suc (suc (suc (suc (suc (suc (suc (suc zero))))))))))) e lt same = absurd (true≢false (sym same))
+only_shards (suc (suc (suc (suc (suc (suc (suc (suc (suc (suc (suc (suc zero)))))))))))) e lt same = absurd (true≢false (sym same))
+only_shards (suc (suc (suc (suc (suc (suc (suc (suc (suc (suc (suc (suc (suc zero))))))))))))) e lt same = absurd (true≢false (sym same))
+only_shards (suc (suc (suc (suc (suc (suc (suc (suc (suc (suc (suc (suc (suc (suc j)))))))))))))) e lt same = absurd (omega arith)
 
 workers_given : (c : Command) (m : ArgMatches) → app_of c ≡ program → IsParsedFrom c m
     → HasNumber 16 (codes "workers") (rows_of (found_of m))
 unfolding program clap_on_literals
 workers_given c m same p =
-    number_given c program m 2 workers_option 16 same p refl refl (omega arith) refl refl refl refl
+    number_given c program m 5 workers_option 16 same p refl refl (omega arith) refl refl refl refl
     (omega arith) only_workers
     (λ none. true≢false (sym (ap is_empty none)))
     (λ auto. elim auto [
@@ -105,7 +93,7 @@ shards_given : (c : Command) (m : ArgMatches) → app_of c ≡ program → IsPar
     → HasNumber 64 (codes "shards") (rows_of (found_of m))
 unfolding program clap_on_literals
 shards_given c m same p =
-    number_given c program m 3 shards_option 64 same p refl refl (omega arith) refl refl refl refl
+    number_given c program m 6 shards_option 64 same p refl refl (omega arith) refl refl refl refl
     (omega arith) only_shards
     (λ none. true≢false (sym (ap is_empty none)))
     (λ auto. elim auto [
