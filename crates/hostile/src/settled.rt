@@ -14,6 +14,7 @@ use std::marker::Sync;
 use std::random::RandomSource;
 use std::thread::Threads;
 use tap_views::{Token, UploadEnd};
+use world::Trace;
 
 /// How many threads a case may start: as `omny_tools sort` does.
 const WORKERS: u32 = 4;
@@ -78,7 +79,7 @@ fn bills<R: Threads + RandomSource + Sync>(rt: &R, alloc: Global, uploads: &[Vec
     let table = table(alloc)?;
     let seed = HashSeed::new(rt)?;
     let loaded = LoadedUploads { all: uploads };
-    is_billed(&settled_bill(rt, alloc, &table, seed, &loaded, WORKERS)?)
+    is_billed(&settled_bill(rt, alloc, &table, seed, &loaded, WORKERS, &mut Trace::new())?)
 }
 
 /// `settled_bill`. Would catch one that always gives up, or does so for good after a refusal.

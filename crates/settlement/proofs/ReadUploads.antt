@@ -1,7 +1,8 @@
 -- Uploads that were read one after another.
 use Rattle.std.proofs.Common.{◌≡◌, ℕ, ◌+◌, ◌-◌, ◌<◌, ◌≤◌, List, ◌∷◌, ◌++◌, All, length, map, get_or}
 use Rattle.std.proofs.Common.{[], ap, ◌∙◌, sym, subst, arith, inl, inr, length-append}
-use Rattle.std.specs.Prelude.{◌⊎◌}
+use Rattle.std.proofs.Common.{append-nil, append_assoc}
+use Rattle.std.specs.Prelude.{◌⊎◌, suc}
 use Rattle.std.proofs.lemmas.Bool.{cases_lt}
 use Rattle.std.proofs.lemmas.List.{get_or_append_left, get_or-append-add, map-append}
 use Rattle.std.proofs.lemmas.List.Elements.{All-append, All-cons, All-head, All-nil, All-tail}
@@ -19,32 +20,56 @@ use Rattle.tap_views.specs.UploadEnds.{IsPlainEnd, end_by}
 use Rattle.tap_views.specs.declared.upload_end.UploadEnd.{UploadEnd}
 use Rattle.tap_views.specs.declared.token.Token.{Token}
 use Rattle.tap_views.proofs.Lists.{AllZip-append}
-use Rattle.settlement.specs.Reading.{AreRead}
+use Rattle.world.specs.Origins.{IsFrom, IsLent, Origin, loads_from, with_loads}
+use Rattle.world.specs.Run.{Run, nothing_yet, with_all}
+use Rattle.world.proofs.Laws.{joined_loads, more_loads, no_loads}
+use Rattle.settlement.specs.Reading.{AreRead, loads_in_order}
 use Rattle.settlement.specs.inside.OwnTaps.{AreOwnAdded, AreOwnBetween}
 use Rattle.settlement.specs.inside.SplitTaps.{HasGoodTokens, AreAddedBetween, AreInPartsBetween}
 use Rattle.settlement.proofs.Ends.{plain_end, taps_added}
 use Rattle.settlement.proofs.Lists.{both_split}
 use Rattle.settlement.proofs.OnlyTaps.{both_own, no_own, upload_own}
 
-pub none_read : (may_be : ℕ → List ℕ → Type 0) (start : ℕ) → AreRead may_be start start []
-none_read may_be start = record {
+loads_append : (origin : ℕ → Origin) (start : ℕ) (xs ys : List (List ℕ))
+    → loads_in_order origin start (xs ++ ys)
+    ≡ loads_in_order origin start xs ++ loads_in_order origin (start + length xs) ys
+loads_append origin start [] ys =
+    let same : start ≡ start + 0 = omega arith in ap (λ n. loads_in_order origin n ys) same
+loads_append origin start (x ∷ xs) ys =
+    let same : suc start + length xs ≡ start + suc (length xs) = omega arith in
+    let one = loads_from (origin start) x in
+    ap (λ zs. one ++ zs)
+    (loads_append origin (suc start) xs ys
+    ∙ ap (λ n. loads_in_order origin (suc start) xs ++ loads_in_order origin n ys) same)
+    ∙ sym (append_assoc one (loads_in_order origin (suc start) xs)
+    (loads_in_order origin (start + suc (length xs)) ys))
+
+pub none_read : (origin : ℕ → Origin) (start : ℕ) (r : Run) → AreRead origin start start [] r r
+none_read origin start r = record {
   number = omega arith;
   each = λ at below. absurd (omega (arith, below));
+  loads = sym (no_loads r);
 }
 
--- the files of two runs, one behind the other
-pub both_read : (may_be : ℕ → List ℕ → Type 0) (start middle end : ℕ) (front back : List (List ℕ))
-    → AreRead may_be start middle front → AreRead may_be middle end back
-    → AreRead may_be start end (front ++ back)
-both_read may_be start middle end front back one other = record {
+-- the files of two runs, one after the other
+pub both_read : (origin : ℕ → Origin) (start middle end : ℕ) (front back : List (List ℕ))
+    (r s t : Run) → AreRead origin start middle front r s → AreRead origin middle end back s t
+    → AreRead origin start end (front ++ back) r t
+both_read origin start middle end front back r s t one other = record {
   number = omega (arith, one.number, other.number, length-append front back);
   each = λ at below. by_place at below (cases_lt at (length front));
+  loads = other.loads
+      ∙ ap (λ x. with_loads x (loads_in_order origin middle back)) one.loads
+      ∙ more_loads r (loads_in_order origin start front) (loads_in_order origin middle back)
+      ∙ ap (λ n. with_loads r
+      (loads_in_order origin start front ++ loads_in_order origin n back)) (sym one.number)
+      ∙ ap (with_loads r) (sym (loads_append origin start front back));
 }
   where
     by_place : (at : ℕ) → at < length (front ++ back) → (at < length front) ⊎ (length front ≤ at)
-        → may_be (start + at) (get_or (front ++ back) at [])
+        → IsFrom (origin (start + at)) (get_or (front ++ back) at [])
     by_place at below (inl before) =
-        subst (may_be (start + at)) (sym (get_or_append_left front back [] at before))
+        subst (IsFrom (origin (start + at))) (sym (get_or_append_left front back [] at before))
         (one.each at before)
     by_place at below (inr past) =
         let k = at - length front in
@@ -53,20 +78,42 @@ both_read may_be start middle end front back one other = record {
         let inside : k < length back = omega (arith, past, below, length-append front back) in
         let same : get_or (front ++ back) at [] ≡ get_or back k [] =
         ap (λ n. get_or (front ++ back) n []) (sym here) ∙ get_or-append-add front back k [] in
-        subst (λ n. may_be n (get_or (front ++ back) at [])) there
-        (subst (may_be (middle + k)) (sym same) (other.each k inside))
+        subst (λ n. IsFrom (origin n) (get_or (front ++ back) at [])) there
+        (subst (IsFrom (origin (middle + k))) (sym same) (other.each k inside))
 
 -- one file more
-pub one_read : (may_be : ℕ → List ℕ → Type 0) (upload : ℕ) (file : List ℕ) → may_be upload file
-    → AreRead may_be upload (upload + 1) (file ∷ [])
-one_read may_be upload file is = record {
+pub one_read : (origin : ℕ → Origin) (upload : ℕ) (bytes : List ℕ) (r s : Run)
+    → IsLent (origin upload) r s bytes → AreRead origin upload (upload + 1) (bytes ∷ []) r s
+one_read origin upload bytes r s lent = record {
   number = omega arith;
   each = λ at below.
       let first : 0 ≡ at = omega (arith, below) in
       let same : upload ≡ upload + 0 = omega arith in
-      subst (λ n. may_be (upload + n) (get_or (file ∷ []) n [])) first
-      (subst (λ n. may_be n file) same is);
+      subst (λ n. IsFrom (origin (upload + n)) (get_or (bytes ∷ []) n [])) first
+      (subst (λ n. IsFrom (origin n) bytes) same lent.from);
+  loads = lent.loads
+      ∙ ap (with_loads r) (sym (append-nil (loads_from (origin upload) bytes)));
 }
+
+-- the files that a thread read, once its calls are joined
+pub joined_read : (origin : ℕ → Origin) (start end : ℕ) (files : List (List ℕ)) (r s t : Run)
+    → AreRead origin start end files nothing_yet s → t ≡ with_all r s
+    → AreRead origin start end files r t
+joined_read origin start end files r s t read joined = record {
+  number = read.number;
+  each = read.each;
+  loads = joined ∙ ap (with_all r) read.loads
+      ∙ joined_loads r (loads_in_order origin start files);
+}
+
+-- the files that two threads read
+both_joined : (origin : ℕ → Origin) (start middle end : ℕ) (front back : List (List ℕ))
+    (r s t : Run) → AreRead origin start middle front nothing_yet r
+    → AreRead origin middle end back nothing_yet s → t ≡ with_all r s
+    → AreRead origin start end (front ++ back) nothing_yet t
+both_joined origin start middle end front back r s t one other joined =
+    both_read origin start middle end front back nothing_yet r t one
+    (joined_read origin middle end back r s t other joined)
 
 -- the tokens of all good taps have 16 bytes
 pub all_tokens : (files : List (List ℕ)) (taps : List (List Tap)) → All HasGoodTokens files
@@ -81,29 +128,30 @@ all_tokens (f ∷ files) (t ∷ taps) tokens each =
     (all_tokens files taps (All-tail HasGoodTokens f files tokens) each.1))
 
 -- ---- taps that were added to parts
-pub no_run : (may_be : ℕ → List ℕ → Type 0) (start : ℕ) (part_of : List ℕ → ℕ)
-    (parts : List (List TapFields)) → AreAddedBetween may_be start start part_of parts parts []
-no_run may_be start part_of parts = record {
+pub no_run : (origin : ℕ → Origin) (start : ℕ) (part_of : List ℕ → ℕ)
+    (parts : List (List TapFields)) (r : Run)
+    → AreAddedBetween origin start start part_of parts parts [] r r
+no_run origin start part_of parts r = record {
   files = [];
-  read = none_read may_be start;
+  read = none_read origin start r;
   tokens = All-nil HasGoodTokens;
   added = record { taps = []; of_uploads = tt; added = none_added part_of parts; ended = tt };
 }
 
-pub run_more : (may_be : ℕ → List ℕ → Type 0) (start upload : ℕ) (part_of : List ℕ → ℕ)
+pub run_more : (origin : ℕ → Origin) (start upload : ℕ) (part_of : List ℕ → ℕ)
     (old now new : List (List TapFields)) (ends : List UploadEnd) (file : List ℕ)
-    (added : UploadTaps)
-    (end : UploadEnd) → AreAddedBetween may_be start upload part_of old now ends
-    → may_be upload file
-    → HasGoodTokens file → IsUploadAddedBy part_of file now new added
-    → end ≡ end_by added.taps added.fault
-    → AreAddedBetween may_be start (upload + 1) part_of old new (ends ++ end ∷ [])
-run_more may_be start upload part_of old now new ends file added end run is tokens one ended =
+    (added : UploadTaps) (end : UploadEnd) (r s t : Run)
+    → AreAddedBetween origin start upload part_of old now ends r s
+    → IsLent (origin upload) s t file → HasGoodTokens file
+    → IsUploadAddedBy part_of file now new added → end ≡ end_by added.taps added.fault
+    → AreAddedBetween origin start (upload + 1) part_of old new (ends ++ end ∷ []) r t
+run_more origin start upload part_of old now new ends file added end r s t run is tokens one
+    ended =
     let more = taps_of_batches one.batches in
     record {
       files = run.files ++ file ∷ [];
-      read = both_read may_be start upload (upload + 1) run.files (file ∷ []) run.read
-          (one_read may_be upload file is);
+      read = both_read origin start upload (upload + 1) run.files (file ∷ []) r s t run.read
+          (one_read origin upload file s t is);
       tokens = All-append HasGoodTokens run.files (file ∷ []) run.tokens
           (All-cons HasGoodTokens file [] tokens (All-nil HasGoodTokens));
       added = record {
@@ -116,51 +164,53 @@ run_more may_be start upload part_of old now new ends file added end run is toke
       };
     }
 
-pub both_runs : (may_be : ℕ → List ℕ → Type 0) (start middle end : ℕ) (part_of : List ℕ → ℕ)
+pub both_runs : (origin : ℕ → Origin) (start middle end : ℕ) (part_of : List ℕ → ℕ)
     (parts : ℕ) (lists more : List (List (List TapFields))) (ends later : List UploadEnd)
-    → AreInPartsBetween may_be start middle part_of parts lists ends
-    → AreInPartsBetween may_be middle end part_of parts more later
-    → AreInPartsBetween may_be start end part_of parts (lists ++ more) (ends ++ later)
-both_runs may_be start middle end part_of parts lists more ends later one other = record {
-  files = one.files ++ other.files;
-  read = both_read may_be start middle end one.files other.files one.read other.read;
-  tokens = All-append HasGoodTokens one.files other.files one.tokens other.tokens;
-  inside = both_split part_of parts one.files other.files lists more ends later one.inside
-      other.inside;
-}
+    (r s t : Run) → AreInPartsBetween origin start middle part_of parts lists ends nothing_yet r
+    → AreInPartsBetween origin middle end part_of parts more later nothing_yet s
+    → t ≡ with_all r s
+    → AreInPartsBetween origin start end part_of parts (lists ++ more) (ends ++ later) nothing_yet t
+both_runs origin start middle end part_of parts lists more ends later r s t one other joined =
+    record {
+      files = one.files ++ other.files;
+      read = both_joined origin start middle end one.files other.files r s t one.read other.read joined;
+      tokens = All-append HasGoodTokens one.files other.files one.tokens other.tokens;
+      inside = both_split part_of parts one.files other.files lists more ends later one.inside
+          other.inside;
+    }
 
 -- ---- taps of one token
-pub no_run_own : (may_be : ℕ → List ℕ → Type 0) (start : ℕ) (token : Token)
-    → AreOwnBetween may_be start start token [] []
-no_run_own may_be start token = record {
+pub no_run_own : (origin : ℕ → Origin) (start : ℕ) (token : Token) (r : Run)
+    → AreOwnBetween origin start start token [] [] r r
+no_run_own origin start token r = record {
   files = [];
-  read = none_read may_be start;
+  read = none_read origin start r;
   tokens = All-nil HasGoodTokens;
   are = no_own token;
 }
 
-pub run_own_more : (may_be : ℕ → List ℕ → Type 0) (start upload : ℕ) (token : Token)
+pub run_own_more : (origin : ℕ → Origin) (start upload : ℕ) (token : Token)
     (old new : List TapFields) (ends : List UploadEnd) (file : List ℕ) (end : UploadEnd)
-    → AreOwnBetween may_be start upload token old ends → may_be upload file → HasGoodTokens file
-    → AreOwnAdded token file old new end
-    → AreOwnBetween may_be start (upload + 1) token new (ends ++ end ∷ [])
-run_own_more may_be start upload token old new ends file end run is tokens one = record {
+    (r s t : Run) → AreOwnBetween origin start upload token old ends r s
+    → IsLent (origin upload) s t file → HasGoodTokens file → AreOwnAdded token file old new end
+    → AreOwnBetween origin start (upload + 1) token new (ends ++ end ∷ []) r t
+run_own_more origin start upload token old new ends file end r s t run is tokens one = record {
   files = run.files ++ file ∷ [];
-  read = both_read may_be start upload (upload + 1) run.files (file ∷ []) run.read
-      (one_read may_be upload file is);
+  read = both_read origin start upload (upload + 1) run.files (file ∷ []) r s t run.read
+      (one_read origin upload file s t is);
   tokens = All-append HasGoodTokens run.files (file ∷ []) run.tokens
       (All-cons HasGoodTokens file [] tokens (All-nil HasGoodTokens));
   are = upload_own token run.files file old new ends end run.are one;
 }
 
-pub both_runs_own : (may_be : ℕ → List ℕ → Type 0) (start middle end : ℕ) (token : Token)
-    (own more : List TapFields) (ends later : List UploadEnd)
-    → AreOwnBetween may_be start middle token own ends
-    → AreOwnBetween may_be middle end token more later
-    → AreOwnBetween may_be start end token (own ++ more) (ends ++ later)
-both_runs_own may_be start middle end token own more ends later one other = record {
+pub both_runs_own : (origin : ℕ → Origin) (start middle end : ℕ) (token : Token)
+    (own more : List TapFields) (ends later : List UploadEnd) (r s t : Run)
+    → AreOwnBetween origin start middle token own ends nothing_yet r
+    → AreOwnBetween origin middle end token more later nothing_yet s → t ≡ with_all r s
+    → AreOwnBetween origin start end token (own ++ more) (ends ++ later) nothing_yet t
+both_runs_own origin start middle end token own more ends later r s t one other joined = record {
   files = one.files ++ other.files;
-  read = both_read may_be start middle end one.files other.files one.read other.read;
+  read = both_joined origin start middle end one.files other.files r s t one.read other.read joined;
   tokens = All-append HasGoodTokens one.files other.files one.tokens other.tokens;
   are = both_own token one.files other.files own more ends later one.are other.are;
 }

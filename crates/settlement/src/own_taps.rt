@@ -5,6 +5,7 @@ ghost use denote.Param.Send.{IsSync};
 ghost use Rattle.tap_views.specs.Encoding.{fields_of};
 ghost use Rattle.settlement.specs.Posted.{only};
 ghost use Rattle.settlement.specs.inside.OwnTaps.{AreOwnAdded, AreOwnBetween};
+ghost use Rattle.world.specs.Run.{nothing_yet};
 
 use crate::memory::release;
 use crate::split_taps::{good_tokens, middle_of};
@@ -14,12 +15,15 @@ use std::marker::Sync;
 use std::thread;
 use std::thread::Threads;
 use tap_views::{Batch, TapFields, Token, UploadEnd, good_batches};
+use world::Trace;
 
 #[derive(Drop)]
 pub(crate) struct OwnTaps {
     /// They are in the order of the uploads.
     pub(crate) taps: Vec<TapFields>,
     pub(crate) ends: Vec<UploadEnd>,
+    /// By which the uploads were read.
+    pub(crate) calls: Trace,
 }
 
 /// Adds the token's taps in a batch, in their order.
@@ -64,14 +68,15 @@ fn own_taps<U: Uploads>(
 ) -> Result<OwnTaps, AllocError>
     requires order { start ≤ end }
     requires within { end ≤ U.number uploads.now }
-    ensures { IfOk result (λ own. AreOwnBetween (U.may_be uploads.now) start end token
-        own.taps.items own.ends.items) }
+    ensures { IfOk result (λ own. AreOwnBetween (U.origin uploads.now) start end token
+        own.taps.items own.ends.items nothing_yet own.calls.run) }
 {
     let mut taps = Vec::new(alloc);
     let mut ends = Vec::new(alloc);
+    let mut calls = Trace::new();
     let mut room = Vec::new(alloc);
     for number in start..end {
-        let upload = uploads.read(number, room)?;
+        let upload = uploads.read(number, room, &mut calls)?;
         // proof: its tokens have 16 bytes
         good_tokens(&upload);
         let end_of_upload = add_upload(token, upload.as_slice(), &mut taps)?;
@@ -79,7 +84,7 @@ fn own_taps<U: Uploads>(
         room = upload;
     }
     release(room);
-    Ok(OwnTaps { taps, ends })
+    Ok(OwnTaps { taps, ends, calls })
 }
 
 /// Collects the token's taps from the uploads from one number on and below another: no other tap is
@@ -97,8 +102,8 @@ pub(crate) fn own_by_threads<R: Threads + Sync, U: Uploads + Sync>(
 ) -> Result<OwnTaps, AllocError>
     requires order { start ≤ end }
     requires within { end ≤ U.number uploads.now }
-    ensures { IfOk result (λ own. AreOwnBetween (U.may_be uploads.now) start end token
-        own.taps.items own.ends.items) }
+    ensures { IfOk result (λ own. AreOwnBetween (U.origin uploads.now) start end token
+        own.taps.items own.ends.items nothing_yet own.calls.run) }
 {
     if halvings == 0 {
         return own_taps(alloc, token, uploads, start, end);
@@ -108,18 +113,19 @@ pub(crate) fn own_by_threads<R: Threads + Sync, U: Uploads + Sync>(
     let first = move || -> Result<OwnTaps, AllocError>
         requires { IsSync R.row × IsSync U.row × (start ≤ middle)
             × (middle ≤ U.number uploads.now) }
-        ensures { IfOk result (λ own. AreOwnBetween (U.may_be uploads.entry.now) start middle
-            token own.taps.items own.ends.items) }
+        ensures { IfOk result (λ own. AreOwnBetween (U.origin uploads.entry.now) start middle
+            token own.taps.items own.ends.items nothing_yet own.calls.run) }
     { own_by_threads(rt, alloc, token, uploads, start, middle, fewer) };
     let second = move || -> Result<OwnTaps, AllocError>
         requires { IsSync R.row × IsSync U.row × (middle ≤ end) × (end ≤ U.number uploads.now) }
-        ensures { IfOk result (λ own. AreOwnBetween (U.may_be uploads.entry.now) middle end
-            token own.taps.items own.ends.items) }
+        ensures { IfOk result (λ own. AreOwnBetween (U.origin uploads.entry.now) middle end
+            token own.taps.items own.ends.items nothing_yet own.calls.run) }
     { own_by_threads(rt, alloc, token, uploads, middle, end, fewer) };
     let (own, more) = thread::join(rt, first, second);
     let mut own = own?;
     let mut more = more?;
     own.taps.append(&mut more.taps)?;
     own.ends.append(&mut more.ends)?;
+    own.calls.join(more.calls);
     Ok(own)
 }

@@ -26,6 +26,7 @@ use std::thread::Threads;
 use tap_parts::{TokenRanges, sort};
 use tap_views::{NoMemory, TapFields, Token, UploadEnd};
 use tariffs::FareTable;
+use world::Trace;
 
 /// How many bytes of uploads go to one part: some 40,000 taps. More parts make the split slower,
 /// larger ones the order.
@@ -87,21 +88,20 @@ fn split<R: Threads + Sync, U: Uploads + Sync>(
     rt: &R,
     alloc: Global,
     uploads: &U,
+    calls: &mut Trace,
 ) -> Result<SplitUploads, NoMemory>
     ensures { IfOk result (λ made. (files : List (List ℕ))
-        × AreRead (U.may_be uploads.now) 0 (U.number uploads.now) files
+        × AreRead (U.origin uploads.now) 0 (U.number uploads.now) files
+        calls.old.run calls.new.run
         × AreSplit files made.ends.items made.parts.items) }
 {
     let ranges = ranges_for(alloc, uploads)?;
-    let SplitTaps { lists, ends } = split_by_threads(
-        rt,
-        alloc,
-        &ranges,
-        uploads,
-        0,
-        uploads.len(),
-        HALVINGS,
-    )?;
+    let SplitTaps {
+        lists,
+        ends,
+        calls: made,
+    } = split_by_threads(rt, alloc, &ranges, uploads, 0, uploads.len(), HALVINGS)?;
+    calls.join(made);
     let parts = pieces_of(alloc, lists, ranges.len())?;
     Ok(SplitUploads { ends, parts })
 }
@@ -115,8 +115,9 @@ pub struct Billed {
 }
 
 /// The bill of the settled history of uploads, by `workers` threads: account by account, with no
-/// book and no entry kept. It does not depend on the number of workers. An error is want of memory,
-/// or that an upload cannot be read.
+/// book and no entry kept. It does not depend on the number of workers. The system calls by
+/// which the uploads are read are appended to `calls`. An error is out of memory, or that an upload
+/// cannot be read.
 pub fn settled_bill<R: Threads + Sync, U: Uploads + Sync>(
     rt: &R,
     alloc: Global,
@@ -124,14 +125,16 @@ pub fn settled_bill<R: Threads + Sync, U: Uploads + Sync>(
     seed: HashSeed,
     uploads: &U,
     workers: u32,
+    calls: &mut Trace,
 ) -> Result<Billed, NoMemory>
     ensures { IfOk result (λ made. (files : List (List ℕ))
-        × AreRead (U.may_be uploads.now) 0 (U.number uploads.now) files
+        × AreRead (U.origin uploads.now) 0 (U.number uploads.now) files
+        calls.old.run calls.new.run
         × ArePlainEnds files made.ends.items × ((history : List Entry)
         × IsSettledHistory table.now files history
         × IsBillOf history made.bill × (length history ≤ 2 ^ 95))) }
 {
-    let SplitUploads { ends, parts } = split(rt, alloc, uploads)?;
+    let SplitUploads { ends, parts } = split(rt, alloc, uploads, calls)?;
     let bill = bill_by_threads(rt, alloc, table, seed, uploads, &parts, workers)?;
     Ok(Billed { ends, bill })
 }
@@ -151,20 +154,23 @@ fn halvings_for(workers: u32) -> u32 {
 
 /// The good taps of uploads in canonical order. Four threads read the uploads and split the taps by
 /// part, and `workers` threads, 64 at most, put the parts' taps into order. If one is refused,
-/// another does its work. An error is want of memory, or that an upload cannot be read. The bytes
-/// of a part are given back as soon as its list is made.
+/// another does its work. The system calls by which the uploads are read are appended to `calls`. An
+/// error is out of memory, or that an upload cannot be read. The bytes of a part are given back as
+/// soon as its list is made.
 pub fn settled_taps<R: Threads + Sync, U: Uploads + Sync>(
     rt: &R,
     alloc: Global,
     uploads: &U,
     workers: u32,
+    calls: &mut Trace,
 ) -> Result<SettledTaps, NoMemory>
     ensures { IfOk result (λ made. (files : List (List ℕ))
-        × AreRead (U.may_be uploads.now) 0 (U.number uploads.now) files
+        × AreRead (U.origin uploads.now) 0 (U.number uploads.now) files
+        calls.old.run calls.new.run
         × ArePlainEnds files made.ends.items
         × AreSettledTaps files (flat_map (λ list. list.items) made.lists.items)) }
 {
-    let SplitUploads { ends, parts } = split(rt, alloc, uploads)?;
+    let SplitUploads { ends, parts } = split(rt, alloc, uploads, calls)?;
     let lists = lists_by_threads(rt, alloc, parts, halvings_for(workers))?;
     Ok(SettledTaps { ends, lists })
 }
@@ -187,30 +193,29 @@ fn sorted(taps: Vec<TapFields>) -> Vec<TapFields>
 }
 
 /// The good taps of one token in canonical order: no other tap is kept. Four threads read the
-/// uploads; if one is refused, another does its work. An error is want of memory, or that an upload
-/// cannot be read.
+/// uploads; if one is refused, another does its work. The system calls by which the uploads are read
+/// are appended to `calls`. An error is out of memory, or that an upload cannot be read.
 pub fn settled_taps_of<R: Threads + Sync, U: Uploads + Sync>(
     rt: &R,
     alloc: Global,
     uploads: &U,
     token: Token,
+    calls: &mut Trace,
 ) -> Result<TokenTaps, NoMemory>
     ensures order { IfOk result (λ made. (files : List (List ℕ))
-        × AreRead (U.may_be uploads.now) 0 (U.number uploads.now) files
+        × AreRead (U.origin uploads.now) 0 (U.number uploads.now) files
+        calls.old.run calls.new.run
         × ArePlainEnds files made.ends.items
         × AreSettledTapsOf files token made.taps.items) }
     ensures early { IfOk result (λ made. AreEarly (λ tap. tap.moment) made.taps.items) }
     ensures its { IfOk result (λ made. All (λ tap. token_of_tap tap ≡ token) made.taps.items) }
 {
-    let OwnTaps { taps, ends } = own_by_threads(
-        rt,
-        alloc,
-        token,
-        uploads,
-        0,
-        uploads.len(),
-        HALVINGS,
-    )?;
+    let OwnTaps {
+        taps,
+        ends,
+        calls: made,
+    } = own_by_threads(rt, alloc, token, uploads, 0, uploads.len(), HALVINGS)?;
+    calls.join(made);
     let taps = sorted(taps);
     Ok(TokenTaps { ends, taps })
 }

@@ -5,6 +5,7 @@ ghost use denote.Param.Send.{IsSync};
 ghost use Rattle.tap_parts.specs.Ranges.{range_of_token};
 ghost use Rattle.settlement.specs.inside.SplitTaps.{HasGoodTokens, AreAddedBetween};
 ghost use Rattle.settlement.specs.inside.SplitTaps.{AreInPartsBetween};
+ghost use Rattle.world.specs.Run.{nothing_yet};
 
 use crate::memory::release;
 use crate::uploads::Uploads;
@@ -16,6 +17,7 @@ use std::{slice, thread};
 use tap_parts::{Parts, TokenRanges};
 use tap_views::laws::one_reading_each;
 use tap_views::{TAP2_TAP_BYTES, UploadEnd};
+use world::Trace;
 
 #[derive(Drop)]
 pub(crate) struct SplitTaps {
@@ -23,6 +25,8 @@ pub(crate) struct SplitTaps {
     /// first.
     pub(crate) lists: Vec<Parts>,
     pub(crate) ends: Vec<UploadEnd>,
+    /// By which the uploads were read.
+    pub(crate) calls: Trace,
 }
 
 /// About how many bytes the uploads from one number on and below another have. If they have more
@@ -52,17 +56,18 @@ fn add_all<U: Uploads>(
     uploads: &U,
     start: usize,
     end: usize,
+    calls: &mut Trace,
 ) -> Result<Vec<UploadEnd>, AllocError>
     requires room { length ranges.now < length parts.old }
     requires order { start ≤ end }
     requires within { end ≤ U.number uploads.now }
-    ensures { IfOk result (λ ends. AreAddedBetween (U.may_be uploads.now) start end
-        (range_of_token ranges.now) parts.old parts.new ends.items) }
+    ensures { IfOk result (λ ends. AreAddedBetween (U.origin uploads.now) start end
+        (range_of_token ranges.now) parts.old parts.new ends.items calls.old.run calls.new.run) }
 {
     let mut ends = Vec::new(alloc);
     let mut room = Vec::new(alloc);
     for number in start..end {
-        let upload = uploads.read(number, room)?;
+        let upload = uploads.read(number, room, calls)?;
         // proof: its tokens have 16 bytes
         good_tokens(&upload);
         let added = parts.add_upload(ranges, upload.as_slice())?;
@@ -84,16 +89,18 @@ fn split_uploads<U: Uploads>(
 ) -> Result<SplitTaps, AllocError>
     requires order { start ≤ end }
     requires within { end ≤ U.number uploads.now }
-    ensures { IfOk result (λ split. AreInPartsBetween (U.may_be uploads.now) start end
-        (range_of_token ranges.now) (length ranges.now + 1) split.lists.items split.ends.items) }
+    ensures { IfOk result (λ split. AreInPartsBetween (U.origin uploads.now) start end
+        (range_of_token ranges.now) (length ranges.now + 1) split.lists.items split.ends.items
+        nothing_yet split.calls.run) }
 {
     let parts = ranges.len();
     let share = bytes_of(uploads, start, end) / TAP2_TAP_BYTES / parts as usize;
     let mut list = Parts::with_room(alloc, parts, share + share / 2)?;
-    let ends = add_all(alloc, ranges, &mut list, uploads, start, end)?;
+    let mut calls = Trace::new();
+    let ends = add_all(alloc, ranges, &mut list, uploads, start, end, &mut calls)?;
     let mut lists = Vec::new(alloc);
     lists.push(list)?;
-    Ok(SplitTaps { lists, ends })
+    Ok(SplitTaps { lists, ends, calls })
 }
 
 /// Where the uploads from one number on and below another have half of their bytes, about.
@@ -128,8 +135,9 @@ pub(crate) fn split_by_threads<R: Threads + Sync, U: Uploads + Sync>(
 ) -> Result<SplitTaps, AllocError>
     requires order { start ≤ end }
     requires within { end ≤ U.number uploads.now }
-    ensures { IfOk result (λ split. AreInPartsBetween (U.may_be uploads.now) start end
-        (range_of_token ranges.now) (length ranges.now + 1) split.lists.items split.ends.items) }
+    ensures { IfOk result (λ split. AreInPartsBetween (U.origin uploads.now) start end
+        (range_of_token ranges.now) (length ranges.now + 1) split.lists.items split.ends.items
+        nothing_yet split.calls.run) }
 {
     if halvings == 0 {
         return split_uploads(alloc, ranges, uploads, start, end);
@@ -139,20 +147,21 @@ pub(crate) fn split_by_threads<R: Threads + Sync, U: Uploads + Sync>(
     let first = move || -> Result<SplitTaps, AllocError>
         requires { IsSync R.row × IsSync U.row × (start ≤ middle)
             × (middle ≤ U.number uploads.now) }
-        ensures { IfOk result (λ split. AreInPartsBetween (U.may_be uploads.entry.now) start middle
+        ensures { IfOk result (λ split. AreInPartsBetween (U.origin uploads.entry.now) start middle
             (range_of_token ranges.entry.now) (length ranges.entry.now + 1) split.lists.items
-            split.ends.items) }
+            split.ends.items nothing_yet split.calls.run) }
     { split_by_threads(rt, alloc, ranges, uploads, start, middle, fewer) };
     let second = move || -> Result<SplitTaps, AllocError>
         requires { IsSync R.row × IsSync U.row × (middle ≤ end) × (end ≤ U.number uploads.now) }
-        ensures { IfOk result (λ split. AreInPartsBetween (U.may_be uploads.entry.now) middle end
+        ensures { IfOk result (λ split. AreInPartsBetween (U.origin uploads.entry.now) middle end
             (range_of_token ranges.entry.now) (length ranges.entry.now + 1) split.lists.items
-            split.ends.items) }
+            split.ends.items nothing_yet split.calls.run) }
     { split_by_threads(rt, alloc, ranges, uploads, middle, end, fewer) };
     let (split, more) = thread::join(rt, first, second);
     let mut split = split?;
     let mut more = more?;
     split.lists.append(&mut more.lists)?;
     split.ends.append(&mut more.ends)?;
+    split.calls.join(more.calls);
     Ok(split)
 }

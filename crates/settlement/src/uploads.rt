@@ -1,18 +1,18 @@
 //! Uploads that are read one by one, as their turns come.
 
-ghost use Rattle.std.specs.Prelude.{◌≡◌, ◌<◌, Some, length, map, slice_get, IfOk};
-
 use std::alloc::AllocError;
+use world::Trace;
 
 /// Uploads that are read one by one, by several threads at once.
 pub trait Uploads {
-    ghost use Rattle.std.specs.Prelude.{◌≡◌, ◌<◌, ℕ, List, IfOk};
+    ghost use Rattle.std.specs.Prelude.{◌≡◌, ◌<◌, ℕ, IfOk};
+    ghost use Rattle.world.specs.Origins.{IsLent, Origin};
 
     // How many uploads there are.
     ghost number: { Self → ℕ };
 
-    // What an upload may be read as: the one of this number, from 0.
-    ghost may_be: { Self → ℕ → List ℕ → Type 0 };
+    // Where the bytes of an upload come from: of the one of this number, from 0.
+    ghost origin: { Self → ℕ → Origin };
 
     /// How many uploads there are.
     fn len(&self) -> usize
@@ -25,11 +25,13 @@ pub trait Uploads {
     /// speed and memory depend on them.
     fn push_sample(&self, upload: usize, sample: &mut Vec<u128>) -> Result<(), AllocError>;
 
-    /// The bytes of an upload. They may be read into the memory of `room`. An error is want of
-    /// memory, or that the upload cannot be read.
-    fn read(&self, upload: usize, room: Vec<u8>) -> Result<Vec<u8>, AllocError>
+    /// The bytes of an upload. They may be read into the memory of `room`. The system calls by
+    /// which they are read are appended to `calls`. An error is out of memory, or that the upload
+    /// cannot be read.
+    fn read(&self, upload: usize, room: Vec<u8>, calls: &mut Trace) -> Result<Vec<u8>, AllocError>
         requires { upload < number self.now }
-        ensures { IfOk result (λ bytes. may_be self.now upload bytes.items) };
+        ensures { IfOk result (λ bytes.
+            IsLent (origin self.now upload) calls.old.run calls.new.run bytes.items) };
 
     /// Notes how many good taps are to be charged, before the first one is. It serves whoever
     /// watches the run: nothing else depends on it.
@@ -46,12 +48,13 @@ pub struct LoadedUploads<'a> {
 }
 
 impl Uploads for LoadedUploads<'_> {
-    ghost use Rattle.std.specs.Prelude.{◌≡◌, Some, length, map, slice_get};
+    ghost use Rattle.std.specs.Prelude.{[], length, map, slice_index_or};
+    ghost use Rattle.world.specs.Origins.{memory};
 
     ghost number = { λ uploads. length uploads.all.now };
 
-    ghost may_be = { λ uploads upload bytes.
-        slice_get (map (λ u. u.items) uploads.all.now) upload ≡ Some bytes };
+    ghost origin = { λ uploads upload.
+        memory (slice_index_or (map (λ u. u.items) uploads.all.now) upload []) };
 
     fn len(&self) -> usize {
         self.all.len()
@@ -71,7 +74,12 @@ impl Uploads for LoadedUploads<'_> {
         }
     }
 
-    fn read(&self, upload: usize, room: Vec<u8>) -> Result<Vec<u8>, AllocError> {
+    fn read(
+        &self,
+        upload: usize,
+        room: Vec<u8>,
+        _calls: &mut Trace,
+    ) -> Result<Vec<u8>, AllocError> {
         let mut bytes = room;
         bytes.clear();
         bytes.extend_from_slice(&self.all[upload])?;

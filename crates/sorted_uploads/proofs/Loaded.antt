@@ -1,7 +1,8 @@
 -- Uploads that are loaded are read as what they are.
-use Rattle.std.proofs.Common.{◌≡◌, ℕ, List, Some, Vec, Global, length, map, subst, sym}
-use Rattle.std.specs.Prelude.{slice_get}
+use Rattle.std.proofs.Common.{◌≡◌, ℕ, List, [], Vec, Global, get_or, length, map, subst, sym}
 use Rattle.std.proofs.lemmas.List.{length-map}
+use Rattle.world.specs.Origins.{memory}
+use Rattle.world.specs.Run.{Run}
 use Rattle.settlement.specs.Reading.{AreRead}
 use Rattle.settlement.proofs.LoadedFiles.{loaded_files}
 
@@ -10,10 +11,9 @@ abbrev pub bytes_in : Vec ℕ Global → List ℕ
 bytes_in upload = upload.items
 
 pub same_files : (uploads : List (Vec ℕ Global)) (files : List (List ℕ))
-    → AreRead (λ upload bytes. slice_get (map bytes_in uploads) upload ≡ Some bytes) 0
-    (length uploads) files
-    → files ≡ map bytes_in uploads
-same_files uploads files read =
-    loaded_files (map bytes_in uploads) files
-    (subst (λ n. AreRead (λ upload bytes. slice_get (map bytes_in uploads) upload ≡ Some bytes) 0 n
-    files) (sym (length-map uploads bytes_in)) read)
+    (r s : Run) → AreRead (λ upload. memory (get_or (map bytes_in uploads) upload [])) 0
+    (length uploads) files r s → files ≡ map bytes_in uploads
+same_files uploads files r s read =
+    loaded_files (map bytes_in uploads) files r s
+    (subst (λ n. AreRead (λ upload. memory (get_or (map bytes_in uploads) upload [])) 0 n files r s)
+    (sym (length-map uploads bytes_in)) read)

@@ -18,6 +18,7 @@ use std::io::Write;
 use std::marker::Sync;
 use std::thread::Threads;
 use tap_views::{NoMemory, UploadEnd};
+use world::Trace;
 
 /// Writes the good taps of the uploads as one file: in canonical order, in `TAP1` batches of 512,
 /// the last of fewer if need be. Returns how each upload ends. All taps are in memory. `workers`
@@ -64,5 +65,5 @@ fn settled_loaded<R: Threads + Sync>(
         (flat_map (λ list. list.items) settled.lists.items)) }
 {
     let loaded = LoadedUploads { all: uploads };
-    settled_taps(rt, alloc, &loaded, workers)
+    settled_taps(rt, alloc, &loaded, workers, &mut Trace::new())
 }

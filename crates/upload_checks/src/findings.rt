@@ -14,6 +14,7 @@ use std::alloc::{AllocError, Global};
 use std::marker::Sync;
 use std::thread::Threads;
 use tap_views::{MomentSpan, NoMemory, TapFields, UploadEnd};
+use world::Trace;
 
 /// What is found in uploads.
 #[derive(Drop)]
@@ -80,7 +81,7 @@ pub fn look<R: Threads + Sync>(
         AreFindings within span (map (λ upload. upload.items) uploads.now) found) }
 {
     let loaded = LoadedUploads { all: uploads };
-    let SettledTaps { ends, lists } = settled_taps(rt, alloc, &loaded, workers)?;
+    let SettledTaps { ends, lists } = settled_taps(rt, alloc, &loaded, workers, &mut Trace::new())?;
     let all = lists.as_slice();
     let doubles = doubles_of(alloc, all, within)?;
     let Outside { before, after, .. } = outside_of(alloc, all, span)?;

@@ -1,11 +1,12 @@
--- What reads and writes behind others leave.
+-- What reads, loads and writes after others leave.
 use Rattle.std.specs.Prelude.{◌≡◌, ◌⊎◌, ◌==◌, ℕ, true, false, ◌+◌, List, [], ◌++◌, take, drop}
-use Rattle.std.proofs.Common.{sym, ◌∙◌, ap, inl, inr}
+use Rattle.std.proofs.Common.{append-nil, sym, ◌∙◌, ap, inl, inr, refl}
 use Rattle.std.proofs.lemmas.Bool.Decides.{eqb_tells}
 use Rattle.std.proofs.lemmas.List.{append_assoc}
 use Rattle.std.proofs.Math.Seq.{take-add}
-use Rattle.world.specs.Run.{Calls, Load, Run, after_read}
-use Rattle.world.specs.Run.{with_said, with_written}
+use Rattle.world.specs.Origins.{with_loads}
+use Rattle.world.specs.Run.{Calls, Load, Run, after_read, nothing_yet}
+use Rattle.world.specs.Run.{with_all, with_said, with_written}
 
 pub written_twice : (r : Run) (p : List ℕ) (i n : ℕ)
     → with_written (with_written r (take i p)) (take n (drop i p)) ≡ with_written r (take (i + n) p)
@@ -17,6 +18,22 @@ written_twice r p i n =
 pub said_twice : (r : Run) (xs ys : List ℕ)
     → with_said (with_said r xs) ys ≡ with_said r (xs ++ ys)
 said_twice r xs ys = ap (λ all. record r { said = all }) (append_assoc r.said xs ys)
+
+pub no_loads : (r : Run) → with_loads r [] ≡ r
+no_loads r = ap (λ xs. record r { loads = xs }) (append-nil r.loads)
+
+pub more_loads : (r : Run) (xs ys : List Load)
+    → with_loads (with_loads r xs) ys ≡ with_loads r (xs ++ ys)
+more_loads r xs ys = ap (λ all. record r { loads = all }) (append_assoc r.loads xs ys)
+
+-- the loads of a thread that did nothing else
+pub joined_loads : (r : Run) (xs : List Load)
+    → with_all r (with_loads nothing_yet xs) ≡ with_loads r xs
+joined_loads r xs =
+    rw (append-nil r.unread)
+    (rw (append-nil r.too_long)
+    (rw (append-nil r.written)
+    (rw (append-nil r.said) (rw (append-nil r.made) (rw (append-nil r.unmade) refl)))))
 
 abbrev with_more : Load → List ℕ → Load
 with_more x given = record { name = x.name; bytes = x.bytes ++ given }

@@ -8,6 +8,8 @@ use Rattle.tap_views.specs.declared.token.Token.{Token}
 use Rattle.tap_parts.specs.Parts.{taps_of_uploads}
 use Rattle.tap_views.specs.UploadEnds.{ArePlainEnds, IsPlainEnd}
 use Rattle.tap_views.specs.declared.upload_end.UploadEnd.{UploadEnd}
+use Rattle.world.specs.Origins.{Origin}
+use Rattle.world.specs.Run.{Run}
 use Rattle.settlement.specs.Posted.{only}
 use Rattle.settlement.specs.Reading.{AreRead}
 use Rattle.settlement.specs.inside.SplitTaps.{HasGoodTokens}
@@ -30,10 +32,11 @@ pub record AreOwnTaps (token : Token) (uploads : List (List ℕ)) (own : List Ta
   pub are : own ≡ only token (map fields_of (taps_of_uploads taps))
   pub ended : ArePlainEnds uploads ends
 
--- of the uploads from one number on and below another, the list has the token's good taps
-pub record AreOwnBetween (may_be : ℕ → List ℕ → Type 0) (start end : ℕ) (token : Token)
-    (own : List TapFields) (ends : List UploadEnd) : Type 0 where
+-- of the uploads from one number on and below another, which were read, the list has the token's
+-- good taps
+pub record AreOwnBetween (origin : ℕ → Origin) (start end : ℕ) (token : Token)
+    (own : List TapFields) (ends : List UploadEnd) (before after : Run) : Type 0 where
   pub files : List (List ℕ)
-  pub read : AreRead may_be start end files
+  pub read : AreRead origin start end files before after
   pub tokens : All HasGoodTokens files
   pub are : AreOwnTaps token files own ends

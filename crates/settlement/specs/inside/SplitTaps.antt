@@ -10,6 +10,8 @@ use Rattle.tap_views.specs.UploadEnds.{ArePlainEnds}
 use Rattle.tap_views.specs.declared.upload_end.UploadEnd.{UploadEnd}
 use Rattle.tap_parts.specs.Parts.{taps_of_uploads}
 use Rattle.tap_parts.specs.Canonical.{HasTokenBytes}
+use Rattle.world.specs.Origins.{Origin}
+use Rattle.world.specs.Run.{Run}
 use Rattle.settlement.specs.Reading.{AreRead}
 
 -- the taps that a part has in several lists of parts, list after list
@@ -47,17 +49,18 @@ HasGoodTokens upload =
     (taps : List Tap) → AreGoodTaps upload taps → All HasTokenBytes (map fields_of taps)
 
 -- of the uploads from one number on and below another, all that were read were added
-pub record AreAddedBetween (may_be : ℕ → List ℕ → Type 0) (start end : ℕ) (part_of : List ℕ → ℕ)
-    (old new : List (List TapFields)) (ends : List UploadEnd) : Type 0 where
+pub record AreAddedBetween (origin : ℕ → Origin) (start end : ℕ) (part_of : List ℕ → ℕ)
+    (old new : List (List TapFields)) (ends : List UploadEnd) (before after : Run) : Type 0 where
   pub files : List (List ℕ)
-  pub read : AreRead may_be start end files
+  pub read : AreRead origin start end files before after
   pub tokens : All HasGoodTokens files
   pub added : AreAllAdded part_of files old new ends
 
--- of the uploads from one number on and below another, the good taps lie in parts
-pub record AreInPartsBetween (may_be : ℕ → List ℕ → Type 0) (start end : ℕ) (part_of : List ℕ → ℕ)
-    (parts : ℕ) (lists : List (List (List TapFields))) (ends : List UploadEnd) : Type 0 where
+-- of the uploads from one number on and below another, which were read, the good taps lie in parts
+pub record AreInPartsBetween (origin : ℕ → Origin) (start end : ℕ) (part_of : List ℕ → ℕ)
+    (parts : ℕ) (lists : List (List (List TapFields))) (ends : List UploadEnd)
+    (before after : Run) : Type 0 where
   pub files : List (List ℕ)
-  pub read : AreRead may_be start end files
+  pub read : AreRead origin start end files before after
   pub tokens : All HasGoodTokens files
   pub inside : AreInParts part_of parts files lists ends

@@ -18,19 +18,20 @@ pub loop-number-init : goal.loop-number-init
 loop-number-init g c = record {
   order = c.requires.order;
   run = subst
-      (λ (ends : List UploadEnd). AreAddedBetween (g.U.Uploads.may_be c.args.uploads.now)
+      (λ (ends : List UploadEnd). AreAddedBetween (g.U.Uploads.origin c.args.uploads.now)
       c.args.start
-      c.args.start (range_of_token c.args.ranges.now) c.args.parts.now c.args.parts.now ends)
+      c.args.start (range_of_token c.args.ranges.now) c.args.parts.now c.args.parts.now ends
+      c.args.calls.now.run c.args.calls.now.run)
       (sym c.new-ends.ensures.items)
-      (no_run (g.U.Uploads.may_be c.args.uploads.now) c.args.start
+      (no_run (g.U.Uploads.origin c.args.uploads.now) c.args.start
       (range_of_token c.args.ranges.now)
-      c.args.parts.now);
+      c.args.parts.now c.args.calls.now.run);
 }
 
 pub loop-number-preserved : goal.loop-number-preserved
 loop-number-preserved g c =
     let inv = c.loop-number.invariant in
-    let may_be = g.U.Uploads.may_be c.args.uploads.now in
+    let origin = g.U.Uploads.origin c.args.uploads.now in
     let part_of = range_of_token c.args.ranges.now in
     let upload = c.in_ok-upload.upload in
     let added = c.in_ok-added.added in
@@ -40,12 +41,13 @@ loop-number-preserved g c =
     record {
       order = omega (arith, c.loop-number-test.true);
       run = subst
-          (λ (ends : List UploadEnd). AreAddedBetween may_be c.args.start (c.loop-number.number + 1)
+          (λ (ends : List UploadEnd). AreAddedBetween origin c.args.start (c.loop-number.number + 1)
           part_of
-          c.args.parts.now c.add_upload.new.self ends) (sym c.in_ok-push.ensures.items)
-          (run_more may_be c.args.start c.loop-number.number part_of c.args.parts.now
+          c.args.parts.now c.add_upload.new.self ends c.args.calls.now.run c.read.new.calls.run) (sym c.in_ok-push.ensures.items)
+          (run_more origin c.args.start c.loop-number.number part_of c.args.parts.now
           c.loop-number.parts
           c.add_upload.new.self c.loop-number.ends.items upload.items added c.by_fault.result
+          c.args.calls.now.run c.loop-number.calls.run c.read.new.calls.run
           inv.run
           c.in_ok-upload.ensures c.good_tokens.ensures one c.by_fault.ensures);
     }

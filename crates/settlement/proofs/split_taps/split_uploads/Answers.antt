@@ -5,6 +5,8 @@ use Rattle.tap_views.specs.Encoding.{fields_of}
 use Rattle.tap_views.specs.declared.encoder.TapFields.{TapFields}
 use Rattle.tap_parts.specs.Parts.{taps_at}
 use Rattle.tap_parts.specs.Ranges.{range_of_token}
+use Rattle.world.specs.Run.{Calls, nothing_yet}
+use Rattle.settlement.specs.Reading.{AreRead}
 use Rattle.settlement.specs.inside.SplitTaps.{AreInPartsBetween}
 use Rattle.tap_parts.specs.Parts.{taps_of_uploads}
 use Rattle.settlement.proofs.split_taps.split_uploads.Goals as goal
@@ -20,11 +22,12 @@ returns g c =
     let list = c.add_all.new.parts in
     let P : List (List TapFields) → Type 0 = λ l. length l ≡ parts in
     let lists = c.in_ok-push.ensures.items ∙ ap (λ ls. ls ++ list ∷ []) c.new-lists.ensures.items in
-    subst (λ ls. AreInPartsBetween (g.U.Uploads.may_be c.args.uploads.now) c.args.start c.args.end
-    (range_of_token bounds) parts ls c.in_ok-ends.ends.items)
+    subst (λ ls. AreInPartsBetween (g.U.Uploads.origin c.args.uploads.now) c.args.start c.args.end
+    (range_of_token bounds) parts ls c.in_ok-ends.ends.items nothing_yet c.add_all.new.calls.run)
     (sym lists) (record {
       files = run.files;
-      read = run.read;
+      read = subst (λ (calls : Calls). AreRead (g.U.Uploads.origin c.args.uploads.now) c.args.start
+          c.args.end run.files calls.run c.add_all.new.calls.run) c.new-calls.ensures run.read;
       tokens = run.tokens;
       inside = record {
         taps = all.taps;

@@ -1,8 +1,8 @@
-use Rattle.std.proofs.Common.{◌≡◌, ◌∙◌, ℕ, List, Some, ap, flat_map, map, subst, sym}
+use Rattle.std.proofs.Common.{◌≡◌, ◌∙◌, ℕ, List, [], ap, get_or, flat_map, map, subst, sym}
 use Rattle.std.specs.List.{filter}
-use Rattle.std.specs.Prelude.{slice_get}
 use Rattle.std.proofs.lemmas.List.{length-map}
 use Rattle.tap_views.specs.UploadEnds.{ArePlainEnds}
+use Rattle.world.specs.Origins.{memory}
 use Rattle.settlement.specs.Reading.{AreRead}
 use Rattle.settlement.specs.SettledTaps.{AreSettledTaps}
 use Rattle.settlement.proofs.LoadedFiles.{loaded_files}
@@ -19,9 +19,11 @@ returns g c =
     let uploads = c.args.uploads.now in
     let (files, read, ended, settled) = c.in_ok-ends.ensures in
     let all : List (List ℕ) = map (λ upload. upload.items) uploads in
+    let before = c.new.result.run in
+    let after = c.settled_taps.new.calls.run in
     let number = sym (length-map uploads (λ upload. upload.items)) in
-    let same : files ≡ all = loaded_files all files
-    (subst (λ n. AreRead (λ upload bytes. slice_get all upload ≡ Some bytes) 0 n files) number
+    let same : files ≡ all = loaded_files all files before after
+    (subst (λ n. AreRead (λ upload. memory (get_or all upload [])) 0 n files before after) number
     read) in
     let ends = c.in_ok-ends.field-0.ends.items in
     let order = flat_map taps_in c.in_ok-ends.field-0.lists.items in
