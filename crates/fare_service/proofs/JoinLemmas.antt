@@ -14,11 +14,12 @@ use Rattle.shared_books.specs.declared.turns.rule.Mark.{Mark}
 use Rattle.shared_books.specs.Drawing.{Drawing, DrawerView, IsJoinedDrawer}
 use Rattle.shared_books.specs.Marks.{visits_of, joined_marks}
 use Rattle.shared_books.specs.Passes.{SharedBookView, PassView, IsJoined}
+use Rattle.world.specs.Run.{Run, with_all}
 use Rattle.fare_service.specs.Claims.{claims_at}
 use Rattle.fare_service.specs.Headline.{by_worker}
 use Rattle.fare_service.specs.ShareView.{ShareView}
 use Rattle.fare_service.specs.inside.Joining.{AreSigns, AreJoined, AreJoinedAt, AreSignedAt}
-use Rattle.fare_service.specs.inside.Joining.{Belongs, IsJoinedOf}
+use Rattle.fare_service.specs.inside.Joining.{Belongs, IsJoinedOf, with_runs}
 use Rattle.fare_service.specs.Shares.{books_of, marks_at, made_visits_at}
 use Rattle.fare_service.proofs.PlaceLemmas.{place_more}
 use Rattle.fare_service.proofs.Signing.{signed, signs_more, earlier_stay, new_own, merged-nil}
@@ -223,6 +224,12 @@ joined_first drawing books nobody share some is = record {
       (omega arith)
       (All-nil (λ s. length (marks_at shard s.passes) ≤ length (marks_at shard share.passes)));
 }
+
+-- one share more
+pub runs_more : (run : Run) (shares : List ShareView) (share : ShareView)
+    → with_runs run (shares ++ share ∷ []) ≡ with_all (with_runs run shares) share.run
+runs_more run [] share = refl
+runs_more run (s ∷ shares) share = runs_more (with_all run s.run) shares share
 
 pub heads : {A : Type 0} (xs : List A) (a b : A) (more rest : List A)
     → xs ++ a ∷ more ≡ xs ++ b ∷ rest → a ≡ b

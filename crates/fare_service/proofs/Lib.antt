@@ -7,6 +7,7 @@ pub mod AnswerLemmas
 pub mod BatchLemmas
 pub mod ClaimLemmas
 pub mod CloseLemmas
+pub mod DrawnUploads
 pub mod EndingLemmas
 pub mod FullLemmas
 pub mod GatherLemmas

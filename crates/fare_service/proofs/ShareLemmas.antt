@@ -268,19 +268,19 @@ pub fresh_share : (service : ServiceView) (drawer : DrawerView) (passes : List P
     → run ≡ nothing_yet → IsShareOf service (holding drawer passes totals done run)
 fresh_share service drawer passes totals done run drawn_from drawn books own zero_totals none
     unread = record {
-  drawer = drawn_from;
-  passes = books;
-  works = [];
-  keeps = record {
-    each = All-nil (IsWorked service);
-    drawn = drawn;
-    done = none;
-    visits = own;
-    totals = zero_totals;
-    loads = unread;
-  };
-  room = omega (arith, ap (λ s. s.taps) zero_totals, no_taps);
-}
+      drawer = drawn_from;
+      passes = books;
+      works = [];
+      keeps = record {
+        each = All-nil (IsWorked service);
+        drawn = drawn;
+        done = none;
+        visits = own;
+        totals = zero_totals;
+        loads = unread;
+      };
+      room = omega (arith, ap (λ s. s.taps) zero_totals, no_taps);
+    }
 
 pub fresh : (drawer : DrawerView) (passes : List PassView) (totals : Sums) (done : List Done)
     (run : Run) → drawer.drawn ≡ [] → ((shard : ℕ) → made_visits_at shard passes ≡ [])

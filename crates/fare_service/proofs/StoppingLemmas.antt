@@ -74,12 +74,11 @@ pub stopped_went_on : (service : ServiceView) (old new : ShareView) → StoppedW
 stopped_went_on service old new s = (s.before ++ option_to_list s.last, s.worked)
 
 pub going_start : (service : ServiceView) (share : ShareView) → Going service share share
-going_start service share =
-    (
-      [],
-      worked_none service share share refl refl refl refl refl refl,
-      All-nil (MayGoOn share.passes),
-    )
+going_start service share = (
+  [],
+  worked_none service share share refl refl refl refl refl refl,
+  All-nil (MayGoOn share.passes),
+)
 
 -- an upload that was drawn, lent and posted
 module _ (service : ServiceView) (old : ShareView) (drawer drawer' : DrawerView)

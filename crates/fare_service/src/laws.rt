@@ -1,8 +1,10 @@
 //! Laws of the definitions and of what was gathered, each as the contract of a small function.
 
+mod draws;
 mod places;
 mod schedules;
 
+pub use draws::drawn_once;
 pub use histories::laws::plain_history;
 pub use places::{posted_taps, posting_order};
 pub use schedules::{

@@ -119,7 +119,7 @@ impl Outcome {
 
     /// The calls of the system by which the uploads were lent.
     pub fn into_calls(self) -> Trace
-        ensures { result.run ≡ self.entry.run }
+        ensures { result.run ≡ self.run }
     {
         let Outcome {
             books: _,

@@ -1,6 +1,7 @@
 //! How a caller of `run` uses the laws.
 
-ghost use Rattle.std.specs.Prelude.{◌≡◌, All, IfOk, List, Some, map};
+ghost use Rattle.std.specs.Prelude.{◌≡◌, All, IfOk, List, map};
+ghost use Rattle.world.specs.Origins.{memory};
 ghost use Rattle.histories.specs.declared.entry.Entry.{Entry};
 ghost use Rattle.fare_service.specs.Plain.{AreApart, WasNotCut};
 ghost use Rattle.histories.specs.Plain.{IsPlain};
@@ -30,7 +31,7 @@ fn run<R: Threads + Wait + Sync, G: Gatekeeper + Sync>(
     keeper: &G,
 ) -> Result<Outcome, RunFault>
     requires share { IsShareOf service share }
-    requires uploads { service.uploads ≡ map (λ upload. Some upload.items) uploads.now }
+    requires uploads { service.uploads ≡ map (λ upload. memory upload.items) uploads.now }
     ensures { IfOk result (λ outcome. All WasNotCut outcome.ends
         → (history : List Entry)
         (plain : IsPlain service.entry.table (map (λ upload. upload.items) uploads.now) history)

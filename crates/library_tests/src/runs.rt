@@ -1,6 +1,7 @@
 //! The sample table and uploads, and runs over them.
 
-ghost use Rattle.std.specs.Prelude.{◌≡◌, IfOk, Some, map};
+ghost use Rattle.std.specs.Prelude.{◌≡◌, IfOk, map};
+ghost use Rattle.world.specs.Origins.{memory};
 ghost use Rattle.fare_service.specs.Shares.{IsShareOf};
 
 use fare_service::{Gatekeeper, Outcome, Service, Share, UploadEnd};
@@ -47,7 +48,7 @@ pub(crate) fn opened<'a, R: RandomSource>(
     shards: u32,
 ) -> Result<(Service<&'a [Vec<u8>]>, Share), Fail>
     ensures uploads { IfOk result
-        (λ r. r.0.uploads ≡ map (λ upload. Some upload.items) uploads.now) }
+        (λ r. r.0.uploads ≡ map (λ upload. memory upload.items) uploads.now) }
     ensures share { IfOk result (λ r. IsShareOf r.0 r.1) }
 {
     let table = FareTable::read(alloc, SAMPLE.as_bytes())?;

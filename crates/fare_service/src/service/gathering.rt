@@ -111,9 +111,9 @@ fn join_shares(
             done: _,
             calls: own,
         } = share;
-        calls.join(own);
         draw.join(&mut drawer, other);
         join_passes(books, &mut passes, posting.passes);
+        calls.join(own);
     }
     (drawer, passes)
 }

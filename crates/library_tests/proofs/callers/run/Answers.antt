@@ -1,5 +1,5 @@
 use Rattle.std.proofs.Common.{ℕ, List, Vec, Global, subst}
-use Rattle.std.specs.Prelude.{Option}
+use Rattle.world.specs.Origins.{Origin}
 use Rattle.fare_service.specs.ServiceView.{shards_of}
 use Rattle.fare_service.specs.Headline.{Headline}
 use Rattle.fare_service.specs.Lending.{AreLentAs}
@@ -10,7 +10,7 @@ pub returns : goal.returns
 returns g c = λ whole history plain apart.
     let service = c.args.service in
     let over = c.in_ok-outcome.ensures.headline in
-    let L : List (Option (List ℕ)) → Type 0 = λ us. AreLentAs us over.files in
+    let L : List Origin → Type 0 = λ us. AreLentAs us over.files in
     let same = known_files (λ (u : Vec ℕ Global). u.items) c.args.uploads.now over.files
     (subst L c.requires.uploads over.lent) in
     let H : List (List ℕ) → Type 0 =

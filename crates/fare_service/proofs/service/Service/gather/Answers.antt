@@ -7,7 +7,7 @@ use Rattle.fare_service.specs.declared.faults.GatherFault.{GatherFault}
 use Rattle.fare_service.specs.Claims.{HaveAllClaims}
 use Rattle.fare_service.specs.Closing.{ReportsFirst}
 use Rattle.fare_service.specs.Faults.{IsForMemory}
-use Rattle.fare_service.specs.inside.Joining.{with_all_done}
+use Rattle.fare_service.specs.inside.Joining.{with_all_done, with_runs}
 use Rattle.fare_service.specs.ServiceView.{ServiceView, shards_of}
 use Rattle.fare_service.specs.ShareView.{ShareView}
 use Rattle.fare_service.specs.Shares.{IsShareOf}
@@ -17,7 +17,7 @@ use Rattle.fare_service.proofs.EndingLemmas.{full_made}
 use Rattle.fare_service.proofs.GatheredShares.{has_gathered}
 use Rattle.fare_service.proofs.GatheredWork.{given_of}
 use Rattle.fare_service.proofs.GatherLemmas.{reported_undrawn, undrawn_last, is_outcome}
-use Rattle.fare_service.proofs.GatherLemmas.{done_within}
+use Rattle.fare_service.proofs.GatherLemmas.{done_within, loads_all}
 use Rattle.fare_service.proofs.HeadlineLemmas.{headline_of}
 use Rattle.fare_service.proofs.service.Service.gather.Goals as goal
 use Rattle.tap_views.proofs.Choices.{IfErr_handed_on}
@@ -30,7 +30,7 @@ ends_of-requires g c =
       drawing = c.self.inside.draw;
       books =
           c.self.inside.books.items;
-      uploads = g.U.LentUploads.known c.self.inside.uploads;
+      uploads = g.U.LentUploads.origins c.self.inside.uploads;
     } in
     let S : ServiceView → Type 0 = λ h. All (IsShareOf h) c.args.shares.items in
     let all : All (IsShareOf service) c.args.shares.items =
@@ -48,7 +48,7 @@ added-totals-requires g c =
       drawing = c.self.inside.draw;
       books =
           c.self.inside.books.items;
-      uploads = g.U.LentUploads.known c.self.inside.uploads;
+      uploads = g.U.LentUploads.origins c.self.inside.uploads;
     } in
     let S : ServiceView → Type 0 = λ h. All (IsShareOf h) c.args.shares.items in
     let all : All (IsShareOf service) c.args.shares.items =
@@ -89,7 +89,7 @@ invariant_of-result g c =
       drawing = c.self.inside.draw;
       books =
           c.self.inside.books.items;
-      uploads = g.U.LentUploads.known c.self.inside.uploads;
+      uploads = g.U.LentUploads.origins c.self.inside.uploads;
     } in
     let S : ServiceView → Type 0 = λ h. All (IsShareOf h) c.args.shares.items in
     let all : All (IsShareOf service) c.args.shares.items =
@@ -113,7 +113,7 @@ invariant_of-result g c =
     is_outcome service c.self.invariant c.args.shares.items c.close_with.new.closed.items
     c.in_ok-close_with.ensures.ok c.in_ok-ends.ends.items
     (c.in_ok-ends.ensures.number ∙ number) (map sums_of c.in_ok-workers.workers.items)
-    (sums_of c.added-totals.result)
+    (sums_of c.added-totals.result) c.close_with.new.calls.run
     (c.added-totals.ensures ∙ ap (λ ts. add_all (map sums_of ts)) c.as_slice-4.ensures.value
     ∙ sym same)
 
@@ -125,7 +125,7 @@ returns-clause-headline g c =
       drawing = c.self.inside.draw;
       books =
           c.self.inside.books.items;
-      uploads = g.U.LentUploads.known c.self.inside.uploads;
+      uploads = g.U.LentUploads.origins c.self.inside.uploads;
     } in
     let S : ServiceView → Type 0 = λ h. All (IsShareOf h) c.args.shares.items in
     let all : All (IsShareOf service) c.args.shares.items =
@@ -155,11 +155,12 @@ returns-clause-headline g c =
       workers =
           map sums_of c.in_ok-workers.workers.items;
       totals = sums_of c.added-totals.result;
+      run = c.close_with.new.calls.run;
     }) in
     let o = has_gathered service c.self.invariant c.args.shares.items all closed work
     c.in_ok-ends.ends.items reported
     (c.in_ok-ends.ensures.number ∙ number) (map sums_of c.in_ok-workers.workers.items) workers
-    (sums_of c.added-totals.result) in
+    (sums_of c.added-totals.result) c.close_with.new.calls.run in
     subst H c.self.view_is (record {
       files = o.files;
       lent = o.lent;
@@ -170,6 +171,9 @@ returns-clause-headline g c =
           ∙ sym same)
           (λ shard book at. (work.books shard book at).limits)
           (undrawn_last service c.args.shares.items o.works o.kept closed work);
+      loads = c.in_ok-close_with.ensures.calls
+          ∙ (ap (λ calls. with_runs calls.run c.args.shares.items) c.new-calls.ensures
+          ∙ loads_all service c.args.shares.items o.works o.kept);
     })
 
 pub returns-clause-undrawn : goal.returns-clause-undrawn
@@ -180,7 +184,7 @@ returns-clause-undrawn g c =
       drawing = c.self.inside.draw;
       books =
           c.self.inside.books.items;
-      uploads = g.U.LentUploads.known c.self.inside.uploads;
+      uploads = g.U.LentUploads.origins c.self.inside.uploads;
     } in
     let S : ServiceView → Type 0 = λ h. All (IsShareOf h) c.args.shares.items in
     let all : All (IsShareOf service) c.args.shares.items =
@@ -203,7 +207,7 @@ returns-clause-full g c =
       drawing = c.self.inside.draw;
       books =
           c.self.inside.books.items;
-      uploads = g.U.LentUploads.known c.self.inside.uploads;
+      uploads = g.U.LentUploads.origins c.self.inside.uploads;
     } in
     let S : ServiceView → Type 0 = λ h. All (IsShareOf h) c.args.shares.items in
     let all : All (IsShareOf service) c.args.shares.items =

@@ -28,24 +28,24 @@ returns-clause-share g c =
       drawing = c.in_ok-draw.draw;
       books =
           c.in_ok-books.books.items;
-      uploads = g.U.LentUploads.known c.args.uploads;
+      uploads = g.U.LentUploads.origins c.args.uploads;
     } in
     let P : List PassView → Type 0 = λ ps. (shard : ℕ) → made_visits_at shard ps ≡ [] in
     fresh_share service c.in_ok-draw.drawer c.in_ok-books.passes.items (sums_of c.new-3.result)
-    c.new-4.result.items
+    c.new-4.result.items c.new-5.result.run
     (ap (λ d. d.drawn_from) c.in_ok-draw.ensures.drawer)
     (ap (λ d. d.drawn) c.in_ok-draw.ensures.drawer)
     (ap books_of c.in_ok-books.ensures.passes ∙ books_new c.in_ok-books.books.items)
     (subst P (sym c.in_ok-books.ensures.passes) (λ shard. own_new shard c.in_ok-books.books.items))
-    c.new-3.ensures c.new-4.ensures.items
+    c.new-3.ensures c.new-4.ensures.items (ap (λ calls. calls.run) c.new-5.ensures)
 
 pub returns-clause-fresh : goal.returns-clause-fresh
 returns-clause-fresh g c =
     let P : List PassView → Type 0 = λ ps. (shard : ℕ) → made_visits_at shard ps ≡ [] in
     fresh c.in_ok-draw.drawer c.in_ok-books.passes.items (sums_of c.new-3.result)
-    c.new-4.result.items (ap (λ d. d.drawn) c.in_ok-draw.ensures.drawer)
+    c.new-4.result.items c.new-5.result.run (ap (λ d. d.drawn) c.in_ok-draw.ensures.drawer)
     (subst P (sym c.in_ok-books.ensures.passes) (λ shard. own_new shard c.in_ok-books.books.items))
-    c.new-3.ensures c.new-4.ensures.items
+    c.new-3.ensures c.new-4.ensures.items (ap (λ calls. calls.run) c.new-5.ensures)
 
 pub returns-clause-claims : goal.returns-clause-claims
 returns-clause-claims g c =

@@ -1,10 +1,12 @@
 use Rattle.std.proofs.Common.{◌≡◌, [], ◌++◌, ◌∷◌, ℕ, length, inr, refl, sym, ◌∙◌, ap, subst, arith}
-use Rattle.std.proofs.Common.{false, Ok, Err}
+use Rattle.std.proofs.Common.{List, false, Ok, Err}
 use Rattle.std.specs.Prelude.{OnOk, Result}
 use Rattle.std.specs.Result.{is_err}
 use Rattle.histories.specs.Sums.{sums_of}
 use Rattle.fare_service.specs.ShareView.{ShareView}
+use Rattle.fare_service.specs.Lending.{origin_at}
 use Rattle.fare_service.specs.Shares.{IsShareOf, WentOn}
+use Rattle.world.specs.Origins.{Origin, IsFrom, IsLent, loads_from, with_loads}
 use Rattle.fare_service.proofs.ShareLemmas.{holding, next_share, worked_none}
 use Rattle.fare_service.proofs.StoppingLemmas.{Going, going_start, going_next, cut_next, none_next}
 use Rattle.fare_service.proofs.StoppingLemmas.{stopped_went_on}
@@ -16,24 +18,26 @@ ok_holds (Err e) good holds = absurd (cc)
 
 pub returns-in_default-clause-went_on : goal.returns-in_default-clause-went_on
 returns-in_default-clause-went_on g c =
-    ([], worked_none c.args.self.now c.args.share c.args.share refl refl refl refl refl)
+    ([], worked_none c.args.self.now c.args.share c.args.share refl refl refl refl refl refl)
 
 pub returns-then-is_err-clause-went_on : goal.returns-then-is_err-clause-went_on
 returns-then-is_err-clause-went_on g c =
     let start = ap
-    (holding c.share.inside.drawer c.share.inside.posting.passes.items
-    (sums_of c.share.inside.posting.totals)) c.reserve.ensures.items ∙ c.share.view_is in
+    (λ done. holding c.share.inside.drawer c.share.inside.posting.passes.items
+    (sums_of c.share.inside.posting.totals) done c.share.inside.calls.run)
+    c.reserve.ensures.items ∙ c.share.view_is in
     let W : ShareView → Type 0 = WentOn c.args.self.now c.args.share in
     subst W (sym start)
-    ([], worked_none c.args.self.now c.args.share c.args.share refl refl refl refl refl)
+    ([], worked_none c.args.self.now c.args.share c.args.share refl refl refl refl refl refl)
 
 -- room for the results of all uploads was taken
 pub loop-init : goal.loop-init
 loop-init g c =
     let service = c.args.self.now in
     let start = ap
-    (holding c.share.inside.drawer c.share.inside.posting.passes.items
-    (sums_of c.share.inside.posting.totals)) c.reserve.ensures.items ∙ c.share.view_is in
+    (λ done. holding c.share.inside.drawer c.share.inside.posting.passes.items
+    (sums_of c.share.inside.posting.totals) done c.share.inside.calls.run)
+    c.reserve.ensures.items ∙ c.share.view_is in
     let S : ShareView → Type 0 = IsShareOf service in
     let G : ShareView → Type 0 = Going service c.args.share in
     let room = ok_holds c.reserve.result (sym c.if-is_err.ensures.value) c.reserve.ensures.ok in
@@ -52,21 +56,28 @@ loop-preserved g c =
     let done = c.post_drawn-goes_on.ensures in
     let drawn = ap (λ d. d.drawn) e.2
     ∙ ap (λ (u : ℕ). c.loop.drawer.drawn ++ u ∷ []) (sym done.upload) in
+    let L : List Origin → Type 0 = λ us. IsLent (origin_at us c.in-Some-next_number.upload)
+    c.loop.calls.run c.lend.new.calls.run c.in-Some-lend.file.now in
+    let lent = (subst L (ap (λ h. h.uploads) c.self.view_is) c.in-Some-lend.ensures.lent).loads
+    ∙ ap (λ (u : ℕ). with_loads c.loop.calls.run
+    (loads_from (origin_at c.args.self.now.uploads u) c.in-Some-lend.file.now)) (sym done.upload) in
     record {
       share = next_share c.args.self.now c.loop.drawer c.next_number.new.drawer
           c.loop.posting.passes.items c.post_drawn-goes_on.new.posting.passes.items
           (sums_of c.loop.posting.totals) (sums_of c.post_drawn-goes_on.new.posting.totals)
-          c.loop.done.items c.push_reserved.new.self.items next.upload next.end
+          c.loop.done.items c.push_reserved.new.self.items next.upload c.in-Some-lend.file.now
+          next.end c.loop.calls.run c.lend.new.calls.run
           (holding c.loop.drawer c.loop.posting.passes.items (sums_of c.loop.posting.totals)
-          c.loop.done.items) refl c.loop.invariant.share
+          c.loop.done.items c.loop.calls.run) refl c.loop.invariant.share
           (ap (λ d. d.claims) e.2) drawn (ap (λ d. d.drawn_from) e.2)
-          c.push_reserved.ensures.items done.worked done.few;
+          c.push_reserved.ensures.items done.worked done.few lent;
       going = going_next c.args.self.now c.args.share c.loop.drawer c.next_number.new.drawer
           c.loop.posting.passes.items c.post_drawn-goes_on.new.posting.passes.items
           (sums_of c.loop.posting.totals) (sums_of c.post_drawn-goes_on.new.posting.totals)
-          c.loop.done.items c.push_reserved.new.self.items next
+          c.loop.done.items c.push_reserved.new.self.items c.in-Some-lend.file.now c.loop.calls.run
+          c.lend.new.calls.run next
           c.loop.invariant.going (ap (λ d. d.claims) e.2) drawn
-          c.push_reserved.ensures.items done.worked done.full
+          c.push_reserved.ensures.items done.worked lent done.full
           (done.goes_on c.if-not-goes_on.false);
       clock = done.clock ∙ c.loop.invariant.clock;
       runs = done.runs ∙ c.loop.invariant.runs;
@@ -88,7 +99,7 @@ returns-in_default-next_number-clause-stopped g c =
     let none = c.in_default-next_number.ensures.none in
     inr (none_next c.args.self.now c.loop.drawer c.next_number.new.drawer
     c.loop.posting.passes.items (sums_of c.loop.posting.totals) c.loop.done.items
-    (ap (λ d. d.claims) none) (ap (λ d. d.drawn) none) c.args.share c.loop.invariant.going
+    c.loop.calls.run (ap (λ d. d.claims) none) (ap (λ d. d.drawn) none) c.args.share c.loop.invariant.going
     (ap (λ d. d.seen) none))
 
 -- the last upload was cut
@@ -99,15 +110,21 @@ returns-then-not-goes_on-clause-share g c =
     let done = c.post_drawn-goes_on.ensures in
     let drawn = ap (λ d. d.drawn) e.2
     ∙ ap (λ (u : ℕ). c.loop.drawer.drawn ++ u ∷ []) (sym done.upload) in
+    let L : List Origin → Type 0 = λ us. IsLent (origin_at us c.in-Some-next_number.upload)
+    c.loop.calls.run c.lend.new.calls.run c.in-Some-lend.file.now in
+    let lent = (subst L (ap (λ h. h.uploads) c.self.view_is) c.in-Some-lend.ensures.lent).loads
+    ∙ ap (λ (u : ℕ). with_loads c.loop.calls.run
+    (loads_from (origin_at c.args.self.now.uploads u) c.in-Some-lend.file.now)) (sym done.upload) in
     next_share c.args.self.now c.loop.drawer c.next_number.new.drawer c.loop.posting.passes.items
     c.post_drawn-goes_on.new.posting.passes.items
     (sums_of c.loop.posting.totals) (sums_of c.post_drawn-goes_on.new.posting.totals)
     c.loop.done.items
-    c.push_reserved.new.self.items next.upload next.end
+    c.push_reserved.new.self.items next.upload c.in-Some-lend.file.now next.end c.loop.calls.run
+    c.lend.new.calls.run
     (holding c.loop.drawer c.loop.posting.passes.items (sums_of c.loop.posting.totals)
-    c.loop.done.items) refl c.loop.invariant.share
+    c.loop.done.items c.loop.calls.run) refl c.loop.invariant.share
     (ap (λ d. d.claims) e.2) drawn (ap (λ d. d.drawn_from) e.2)
-    c.push_reserved.ensures.items done.worked done.few
+    c.push_reserved.ensures.items done.worked done.few lent
 
 pub returns-then-not-goes_on-clause-went_on : goal.returns-then-not-goes_on-clause-went_on
 returns-then-not-goes_on-clause-went_on g c =
@@ -116,14 +133,19 @@ returns-then-not-goes_on-clause-went_on g c =
     let done = c.post_drawn-goes_on.ensures in
     let drawn = ap (λ d. d.drawn) e.2
     ∙ ap (λ (u : ℕ). c.loop.drawer.drawn ++ u ∷ []) (sym done.upload) in
+    let L : List Origin → Type 0 = λ us. IsLent (origin_at us c.in-Some-next_number.upload)
+    c.loop.calls.run c.lend.new.calls.run c.in-Some-lend.file.now in
+    let lent = (subst L (ap (λ h. h.uploads) c.self.view_is) c.in-Some-lend.ensures.lent).loads
+    ∙ ap (λ (u : ℕ). with_loads c.loop.calls.run
+    (loads_from (origin_at c.args.self.now.uploads u) c.in-Some-lend.file.now)) (sym done.upload) in
     stopped_went_on c.args.self.now c.args.share _
     (cut_next c.args.self.now c.args.share c.loop.drawer c.next_number.new.drawer
     c.loop.posting.passes.items c.post_drawn-goes_on.new.posting.passes.items
     (sums_of c.loop.posting.totals) (sums_of c.post_drawn-goes_on.new.posting.totals)
     c.loop.done.items
-    c.push_reserved.new.self.items next
+    c.push_reserved.new.self.items c.in-Some-lend.file.now c.loop.calls.run c.lend.new.calls.run next
     c.loop.invariant.going (ap (λ d. d.claims) e.2) drawn
-    c.push_reserved.ensures.items done.worked done.full
+    c.push_reserved.ensures.items done.worked lent done.full
     (done.stops c.if-not-goes_on.true))
 
 pub returns-then-not-goes_on-clause-stopped : goal.returns-then-not-goes_on-clause-stopped
@@ -133,12 +155,23 @@ returns-then-not-goes_on-clause-stopped g c =
     let done = c.post_drawn-goes_on.ensures in
     let drawn = ap (λ d. d.drawn) e.2
     ∙ ap (λ (u : ℕ). c.loop.drawer.drawn ++ u ∷ []) (sym done.upload) in
+    let L : List Origin → Type 0 = λ us. IsLent (origin_at us c.in-Some-next_number.upload)
+    c.loop.calls.run c.lend.new.calls.run c.in-Some-lend.file.now in
+    let lent = (subst L (ap (λ h. h.uploads) c.self.view_is) c.in-Some-lend.ensures.lent).loads
+    ∙ ap (λ (u : ℕ). with_loads c.loop.calls.run
+    (loads_from (origin_at c.args.self.now.uploads u) c.in-Some-lend.file.now)) (sym done.upload) in
     inr
     (cut_next c.args.self.now c.args.share c.loop.drawer c.next_number.new.drawer
     c.loop.posting.passes.items c.post_drawn-goes_on.new.posting.passes.items
     (sums_of c.loop.posting.totals) (sums_of c.post_drawn-goes_on.new.posting.totals)
     c.loop.done.items
-    c.push_reserved.new.self.items next
+    c.push_reserved.new.self.items c.in-Some-lend.file.now c.loop.calls.run c.lend.new.calls.run next
     c.loop.invariant.going (ap (λ d. d.claims) e.2) drawn
-    c.push_reserved.ensures.items done.worked done.full
+    c.push_reserved.ensures.items done.worked lent done.full
     (done.stops c.if-not-goes_on.true))
+
+pub post_drawn-goes_on-requires-clause-lent : goal.post_drawn-goes_on-requires-clause-lent
+post_drawn-goes_on-requires-clause-lent g c =
+    let F : List Origin → Type 0 =
+    λ us. IsFrom (origin_at us c.in-Some-next_number.upload) c.in-Some-lend.file.now in
+    subst F (ap (λ h. h.uploads) c.self.view_is) c.in-Some-lend.ensures.lent.from

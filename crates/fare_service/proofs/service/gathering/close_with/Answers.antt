@@ -1,4 +1,4 @@
-use Rattle.std.proofs.Common.{◌+◌, List, ◌∷◌, length, sym, ◌∙◌, subst, arith}
+use Rattle.std.proofs.Common.{◌≡◌, ◌+◌, List, ◌∷◌, length, sym, ◌∙◌, ap, subst, arith}
 use Rattle.std.proofs.lemmas.List.{nil_from_length}
 use Rattle.std.specs.Prelude.{Result, IfErr}
 use Rattle.std.specs.Vec.{vec_len}
@@ -6,7 +6,7 @@ use Rattle.shared_books.specs.Passes.{SharedBookView}
 use Rattle.fare_service.specs.declared.faults.GatherFault.{GatherFault}
 use Rattle.fare_service.specs.Closing.{ReportsFirst}
 use Rattle.fare_service.specs.inside.Closing.{IsClosedWork}
-use Rattle.fare_service.specs.inside.Joining.{IsJoinedOf}
+use Rattle.fare_service.specs.inside.Joining.{IsJoinedOf, with_runs}
 use Rattle.fare_service.proofs.CloseLemmas.{split_first, closed_none, closed_all, held_drawn}
 use Rattle.fare_service.proofs.CloseLemmas.{joined_whole, some_shares, none_there}
 use Rattle.fare_service.proofs.CloseLemmas.{first_missing, first_unseen, first_drawn, first_undrawn}
@@ -44,10 +44,29 @@ returns-in-Ok-finish-clause-ok c =
     c.join_shares-drawer.result.1.items in
     let all = joined_whole c.args.draw c.args.books.items c.args.shares.items c.remove-first.result
     c.remove-first.new.self.items c.join_shares-drawer.result.0 c.join_shares-drawer.result.1.items
-    split (subst B c.as_slice.ensures.value c.join_shares-drawer.ensures) in
+    split (subst B c.as_slice.ensures.value c.join_shares-drawer.ensures.joined) in
     closed_all c.args.draw c.args.books.items c.args.shares.items c.join_shares-drawer.result.0
     c.join_shares-drawer.result.1.items c.close_all.new.closed.items c.in-Ok-finish.field-0
     all ok.ok ok.number done.0 done.2
+
+pub returns-then-is_empty-clause-calls : goal.returns-then-is_empty-clause-calls
+returns-then-is_empty-clause-calls c =
+    OnOk_any c.match-finish_unseen.result
+    (c.args.calls.now.run ≡ with_runs c.args.calls.now.run c.args.shares.items)
+    (ap (with_runs c.args.calls.now.run) (sym (nil_from_length c.args.shares.items
+    (sym c.args.shares.ok.0
+    ∙ none_there c.is_empty.result (vec_len c.args.shares) c.is_empty.ensures c.if-is_empty.true))))
+
+pub returns-in-Ok-finish-clause-calls : goal.returns-in-Ok-finish-clause-calls
+returns-in-Ok-finish-clause-calls c =
+    let split = split_first c.args.shares.items c.remove-first.result c.remove-first.new.self.items
+    (omega (
+      arith,
+      c.args.shares.ok.0,
+      some_shares c.is_empty.result (vec_len c.args.shares) c.is_empty.ensures c.if-is_empty.false,
+    ))
+    c.remove-first.ensures.value c.remove-first.ensures.items in
+    c.join_shares-drawer.ensures.calls ∙ ap (with_runs c.args.calls.now.run) (sym split)
 
 pub returns-in-Err-finish-clause-fault : goal.returns-in-Err-finish-clause-fault
 returns-in-Err-finish-clause-fault c =
@@ -65,7 +84,7 @@ returns-in-Err-finish-clause-fault c =
     c.join_shares-drawer.result.1.items in
     let all = joined_whole c.args.draw c.args.books.items c.args.shares.items c.remove-first.result
     c.remove-first.new.self.items c.join_shares-drawer.result.0 c.join_shares-drawer.result.1.items
-    split (subst B c.as_slice.ensures.value c.join_shares-drawer.ensures) in (
+    split (subst B c.as_slice.ensures.value c.join_shares-drawer.ensures.joined) in (
       missing.0 ∙ held_drawn c.args.draw c.args.books.items (length c.args.shares.items)
           c.args.shares.items c.join_shares-drawer.result.0 c.join_shares-drawer.result.1.items all,
       missing.1,
@@ -112,7 +131,7 @@ returns-in-Err-close_all-clause-first c =
     c.join_shares-drawer.result.1.items in
     let all = joined_whole c.args.draw c.args.books.items c.args.shares.items c.remove-first.result
     c.remove-first.new.self.items c.join_shares-drawer.result.0 c.join_shares-drawer.result.1.items
-    split (subst B c.as_slice.ensures.value c.join_shares-drawer.ensures) in
+    split (subst B c.as_slice.ensures.value c.join_shares-drawer.ensures.joined) in
     first_missing c.args.draw c.args.books.items c.args.draw.numbers c.args.shares.items
     c.join_shares-drawer.result.0 c.join_shares-drawer.result.1.items c.close_all.new.closed.items
     c.in-Err-close_all.fault
@@ -135,7 +154,7 @@ returns-in-Err-finish-clause-first c =
     c.join_shares-drawer.result.1.items in
     let all = joined_whole c.args.draw c.args.books.items c.args.shares.items c.remove-first.result
     c.remove-first.new.self.items c.join_shares-drawer.result.0 c.join_shares-drawer.result.1.items
-    split (subst B c.as_slice.ensures.value c.join_shares-drawer.ensures) in
+    split (subst B c.as_slice.ensures.value c.join_shares-drawer.ensures.joined) in
     first_drawn c.args.draw c.args.books.items c.args.shares.items c.join_shares-drawer.result.0
     c.join_shares-drawer.result.1.items c.close_all.new.closed.items c.in-Err-finish.missing.held
     c.in-Err-finish.missing.drawn
@@ -172,7 +191,7 @@ returns-in-Err-close_all-clause-claims c =
     c.join_shares-drawer.result.1.items in
     let all = joined_whole c.args.draw c.args.books.items c.args.shares.items c.remove-first.result
     c.remove-first.new.self.items c.join_shares-drawer.result.0 c.join_shares-drawer.result.1.items
-    split (subst B c.as_slice.ensures.value c.join_shares-drawer.ensures) in
+    split (subst B c.as_slice.ensures.value c.join_shares-drawer.ensures.joined) in
     lacks_whole c.args.draw c.args.books.items (length c.args.shares.items) c.args.shares.items
     c.join_shares-drawer.result.0 c.join_shares-drawer.result.1.items c.in-Err-close_all.fault all
     c.in-Err-close_all.ensures.claims
@@ -193,6 +212,6 @@ returns-in-Err-finish-clause-claims c =
     c.join_shares-drawer.result.1.items in
     let all = joined_whole c.args.draw c.args.books.items c.args.shares.items c.remove-first.result
     c.remove-first.new.self.items c.join_shares-drawer.result.0 c.join_shares-drawer.result.1.items
-    split (subst B c.as_slice.ensures.value c.join_shares-drawer.ensures) in
+    split (subst B c.as_slice.ensures.value c.join_shares-drawer.ensures.joined) in
     drawer_whole c.args.draw c.args.books.items (length c.args.shares.items) c.args.shares.items
     c.join_shares-drawer.result.0 c.join_shares-drawer.result.1.items all missing
