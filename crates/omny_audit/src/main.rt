@@ -42,6 +42,7 @@ use program::main_over;
 use program_manners::{Complaints, Output, take_list, unread_words, words_of};
 use std::io::Write;
 use std::process::ExitCode;
+use world::Recorded;
 
 /// The words of the command line with the names of the list that they name, if they name one. The
 /// error is the status, when it was reported why there are none.
@@ -64,7 +65,7 @@ fn main(rt: HostRuntime) -> ExitCode {
             rt.alloc(),
             &words,
             &mut Host::new(&rt),
-            &mut Output::new(rt.stdout()),
+            &mut Output::new(Recorded::new(rt.stdout())),
             &mut err,
         ),
         Err(status) => status,

@@ -28,8 +28,8 @@ fn run<
     out: &mut Output<W>,
     err: &mut Complaints<E>,
 ) -> u8
-    ensures { IsRun (map string_bytes words.now) (D.bytes_under disk.now) (S.loaded source.old)
-        (S.loaded source.new) (S.refused source.new) (W.contents out.old.writer)
+    ensures { IsRun (map string_bytes words.now) (D.bytes_under disk.now) (D.origin disk.now)
+        (S.loaded source.old) (S.loaded source.new) (S.refused source.new) (W.contents out.old.writer)
         (W.contents out.new.writer)
         (E.contents err.old.writer) (E.contents err.new.writer) out.new.end out.new.is_flushed
         err.new.failed (err.new ≡ err.old) result }
@@ -57,8 +57,8 @@ pub fn run_beside_line<
     out: &mut Output<W>,
     err: &mut Complaints<E>,
 ) -> u8
-    ensures { IsRun (map string_bytes words.now) (D.bytes_under disk.now) (S.loaded source.old)
-        (S.loaded source.new) (S.refused source.new) (W.contents out.old.writer)
+    ensures { IsRun (map string_bytes words.now) (D.bytes_under disk.now) (D.origin disk.now)
+        (S.loaded source.old) (S.loaded source.new) (S.refused source.new) (W.contents out.old.writer)
         (W.contents out.new.writer)
         (E.contents err.old.writer) (E.contents err.new.writer) out.new.end out.new.is_flushed
         err.new.failed (err.new ≡ err.old) result }

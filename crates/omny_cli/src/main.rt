@@ -4,18 +4,21 @@
 //!
 //! | module | what it does |
 //! |---|---|
+//! | `system` | a run over the files and the outputs of the system: what binds the program |
 //! | `beside` | a run with the line of `run_progress` beside it |
 #![tactic(auto)]
 
 mod beside;
+mod system;
 
-use beside::run_beside_line;
 use fare_program::{Complaints, Host, Note, Output, list_words, unread_words, words_of};
 use program_manners::take_list;
-use run_progress::{Hushing, Steps, Ticker, Watched, WatchedDisk};
+use run_progress::{Hushing, Steps, Ticker, Watched};
 use std::fs;
 use std::io::IsTerminal;
 use std::process::ExitCode;
+use system::run_system;
+use world::Recorded;
 
 /// The ticker of the run that the words ask for. If the standard error is a terminal, the note on
 /// them is printed there, if there is one.
@@ -55,13 +58,15 @@ fn main(rt: HostRuntime) -> ExitCode {
         Err(status) => return ExitCode::from(status),
     };
     let ticker = ticker_for(&rt, &words);
-    ExitCode::from(run_beside_line(
+    let out = Recorded::new(rt.stdout());
+    let err = Recorded::new(rt.stderr());
+    ExitCode::from(run_system(
+        &rt,
         &rt,
         &words,
         &ticker,
-        &WatchedDisk::new(&rt, &ticker),
         &mut Watched::new(&rt, &ticker, Host::new(&rt)),
-        &mut Output::new(Hushing::new(&rt, &ticker, rt.stdout(), writes_to_file(&rt))),
-        &mut Complaints::new(Hushing::new(&rt, &ticker, rt.stderr(), false)),
+        &mut Output::new(Hushing::new(&rt, &ticker, out, writes_to_file(&rt))),
+        &mut Complaints::new(Hushing::new(&rt, &ticker, err, false)),
     ))
 }

@@ -13,6 +13,7 @@ use std::io::Write;
 use std::marker::Sync;
 use std::thread::Threads;
 use tool_program::{Fault, main_over, say};
+use world::Recorded;
 
 /// What a terminal shows beside a run, and under which names files are begun, by the subcommand.
 #[derive(Clone, Copy)]
@@ -63,7 +64,8 @@ pub(crate) fn run<R: Threads + Sync, E: Write>(
         say(err, &Fault::NoMemory);
         return 1;
     };
-    let Ok(mut out) = collect(rt, Watching::new(io::writer(rt), progress)) else {
+    let written = Recorded::new(Watching::new(io::writer(rt), progress));
+    let Ok(mut out) = collect(rt, written) else {
         say(err, &Fault::NoMemory);
         return 1;
     };

@@ -29,17 +29,22 @@ impl<'a, R: Wait, S: Drop> Watched<'a, R, S> {
     }
 }
 
-/// The disk of a runtime, whose reads are noted.
+/// A disk whose reads are noted. It gives what the one below gives.
 #[derive(Clone, Copy)]
-pub struct WatchedDisk<'a, R: Wait> {
+pub struct WatchedDisk<'a, R: Wait, D> {
     rt: &'a R,
     ticker: &'a Ticker,
+    from: &'a D,
 }
 
-impl<'a, R: Wait> WatchedDisk<'a, R> {
-    /// The runtime's disk, whose reads the ticker shows.
-    pub fn new(rt: &'a R, ticker: &'a Ticker) -> WatchedDisk<'a, R> {
-        WatchedDisk { rt, ticker }
+impl<'a, R: Wait, D> WatchedDisk<'a, R, D> {
+    ghost use Rattle.std.specs.Prelude.{◌≡◌};
+
+    /// The disk `from`, whose reads the ticker shows.
+    pub fn new(rt: &'a R, ticker: &'a Ticker, from: &'a D) -> WatchedDisk<'a, R, D>
+        ensures { result.from ≡ from.entry }
+    {
+        WatchedDisk { rt, ticker, from }
     }
 }
 
@@ -65,15 +70,15 @@ impl<F: Placed + Drop> Placed for WatchedFile<'_, F> {
     }
 }
 
-impl<'a, R: Disk + Wait> Disk for WatchedDisk<'a, R> {
-    type File = WatchedFile<'a, R::File>;
+impl<'a, R: Wait, D: Disk> Disk for WatchedDisk<'a, R, D> {
+    type File = WatchedFile<'a, D::File>;
 
-    ghost bytes_under = { λ w name. R.bytes_under w.rt.now name };
+    ghost bytes_under = { λ w name. D.bytes_under w.from.now name };
 
-    ghost origin = { λ w name. R.origin w.rt.now name };
+    ghost origin = { λ w name. D.origin w.from.now name };
 
-    fn open_placed(&self, name: &str) -> Result<WatchedFile<'a, R::File>, Unopened> {
-        let from = self.rt.open_placed(name)?;
+    fn open_placed(&self, name: &str) -> Result<WatchedFile<'a, D::File>, Unopened> {
+        let from = self.from.open_placed(name)?;
         let meter = &self.ticker.meters.sorted;
         if let Ok(stamp) = from.stamp() {
             meter.extend(stamp.bytes);
@@ -83,7 +88,7 @@ impl<'a, R: Disk + Wait> Disk for WatchedDisk<'a, R> {
     }
 
     fn size_ahead(&self, name: &str) -> Option<u64> {
-        let size = self.rt.size_ahead(name);
+        let size = self.from.size_ahead(name);
         self.ticker.steps.lock(self.rt).look(size.is_some());
         size
     }
@@ -94,12 +99,12 @@ impl<'a, R: Disk + Wait> Disk for WatchedDisk<'a, R> {
         name: &str,
         sample: &mut Vec<u128>,
     ) -> Result<(), AllocError> {
-        self.rt.push_sample(alloc, name, sample)
+        self.from.push_sample(alloc, name, sample)
     }
 
     fn read(&self, alloc: Global, name: String) -> Result<Loaded, LoadFault> {
         self.ticker.steps.lock(self.rt).begin_ahead();
-        let file = self.rt.read(alloc, name)?;
+        let file = self.from.read(alloc, name)?;
         self.ticker.steps.lock(self.rt).end_ahead();
         Ok(file)
     }
@@ -111,7 +116,7 @@ impl<'a, R: Disk + Wait> Disk for WatchedDisk<'a, R> {
         calls: &mut Trace,
     ) -> Result<Vec<u8>, LoadFault> {
         self.ticker.steps.lock(self.rt).begin_ahead();
-        let bytes = self.rt.read_into(name, room, calls)?;
+        let bytes = self.from.read_into(name, room, calls)?;
         self.ticker.steps.lock(self.rt).end_settled();
         Ok(bytes)
     }

@@ -1,0 +1,62 @@
+//! A run over the files, the standard input and the outputs of the system.
+ghost use Rattle.std.specs.Prelude.{◌≡◌, [], None, Some, map, string_bytes};
+ghost use Rattle.world.specs.Origins.{file};
+ghost use Rattle.world.specs.Run.{no_calls};
+ghost use Rattle.program_manners.specs.Refusals.{IsShown, refusal_of};
+ghost use Rattle.fare_program.specs.Options.{Parses, asked_by};
+ghost use Rattle.fare_program.specs.Runs.{IsRun};
+ghost use Rattle.fare_program.specs.SystemFiles.{ChargesFiles};
+ghost use Rattle.omny_cli.specs.Charges.{ChargesNamed};
+
+use crate::beside::run_beside_line;
+use fare_program::{Complaints, Host, Output};
+use run_progress::{Hushing, Ticker, Watched, WatchedDisk};
+use std::io::{Stderr, Stdout};
+use std::marker::Sync;
+use std::random::RandomSource;
+use std::sync::Wait;
+use std::thread::Threads;
+use std::time::Clock;
+use world::Recorded;
+
+/// Runs the whole program over the files, the standard input, the standard output and the standard
+/// error of the system, of which nothing was read and to which nothing was written yet. What was
+/// loaded, written and reported is what the system calls tell.
+pub fn run_system<R: Threads + Wait + Clock + RandomSource + Sync + AllocGlobal>(
+    rt: &R,
+    system: &HostRuntime,
+    words: &[String],
+    ticker: &Ticker,
+    source: &mut Watched<'_, R, Host<'_, HostRuntime>>,
+    out: &mut Output<Hushing<'_, R, Recorded<Stdout>>>,
+    err: &mut Complaints<Hushing<'_, R, Recorded<Stderr>>>,
+) -> u8
+    requires unread { source.old.from.loads.trace ≡ no_calls }
+    requires unwritten { out.old.writer.to.trace ≡ no_calls }
+    requires unsaid { err.old.writer.to.trace ≡ no_calls }
+    // With status 0 the output has the text of exactly the bytes that the named files gave.
+    ensures charged { Parses (map string_bytes words.now) → result ≡ 0
+        → ChargesNamed (asked_by (map string_bytes words.now))
+        → ChargesFiles (asked_by (map string_bytes words.now)) []
+        source.new.from.loads.trace.run.loads (Some []) (Some out.new.writer.to.trace.run.written) }
+    // Each promise of a run, with what the system calls tell.
+    ensures run { IsRun (map string_bytes words.now) (λ _. None) file (Some [])
+        (Some source.new.from.loads.trace.run.loads)
+        (Some (refusal_of source.new.from.loads.last.value)) (Some [])
+        (Some out.new.writer.to.trace.run.written) (Some [])
+        (Some err.new.writer.to.trace.run.written) out.new.end out.new.is_flushed err.new.failed
+        (err.new ≡ err.old) result }
+    // A fault of a file is one that a system call of this run gave.
+    ensures refused { ∥ IsShown source.new.from.loads.trace.run
+        (refusal_of source.new.from.loads.last.value) ∥₁ }
+{
+    run_beside_line(
+        rt,
+        words,
+        ticker,
+        &WatchedDisk::new(rt, ticker, system),
+        source,
+        out,
+        err,
+    )
+}
