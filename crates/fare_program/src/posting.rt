@@ -152,11 +152,17 @@ pub(crate) fn charge_lent<
 {
     let outcome = post_live(rt, alloc, table, options, uploads, keeper)?;
     note_outcome(alloc, disk, options, &outcome, token);
-    let printed = print_asked(rt, alloc, options, &outcome, token, out);
     let well = are_posted(outcome.ends());
-    calls.join(outcome.into_calls());
-    printed?;
-    Ok(well)
+    match print_asked(rt, alloc, options, &outcome, token, out) {
+        Ok(()) => {
+            calls.join(outcome.into_calls());
+            Ok(well)
+        }
+        Err(fault) => {
+            calls.join(outcome.into_calls());
+            Err(fault)
+        }
+    }
 }
 
 /// Posts the files, settled if that is asked for, and writes what is asked for. Says whether each

@@ -8,13 +8,13 @@ use Rattle.world.specs.Run.{Calls, Run, with_all}
 use Rattle.fare_program.proofs.PostedTexts.{live_asked}
 use Rattle.fare_program.proofs.posting.charge_lent.Goals as goal
 
-pub returns-clause-ok : goal.returns-clause-ok
-returns-clause-ok g c =
+pub returns-in-Ok-clause-ok : goal.returns-in-Ok-clause-ok
+returns-in-Ok-clause-ok g c =
     let asked = asked_of c.args.options.now in
     let uploads = g.U.LentUploads.origins c.args.uploads in
     let outcome = c.in_ok-outcome.outcome in
     let (files, live) = c.in_ok-outcome.ensures.live in
-    let written = rw c.in_ok-printed.was at c.print_asked-printed.ensures.ok in
+    let written = c.in-Ok.ensures.ok in
     let well = c.are_posted-well.ensures ∙ ap are_posted c.ends.ensures in (
       files,
       drawn_by live.run.0,
@@ -32,17 +32,13 @@ returns-clause-ok g c =
     )
 
 -- ---- what a write that failed left
-pub returns-in_err-printed-clause-begun : goal.returns-in_err-printed-clause-begun
-returns-in_err-printed-clause-begun g c =
+pub returns-clause-begun : goal.returns-clause-begun
+returns-clause-begun g c = λ write.
     let asked = asked_of c.args.options.now in
     let uploads = g.U.LentUploads.origins c.args.uploads in
     let outcome = c.in_ok-outcome.outcome in
     let (files, live) = c.in_ok-outcome.ensures.live in
-    let p = err_from_is_err_and c.from_residual-in_err-printed.result
-    c.from_residual-in_err-printed.ensures.1 in
-    rw p.1 (λ write.
-    let begun = rw c.in_err-printed.was at c.print_asked-printed.ensures.begun in
-    let written = begun (sym p.2 ∙ write) in (
+    let written = c.in-Err.ensures.begun write in (
       are_posted outcome.ends,
       files,
       drawn_by live.run.0,
@@ -51,13 +47,13 @@ returns-in_err-printed-clause-begun g c =
         lent = live.lent;
         run = outcome.run;
         loaded = live.loaded;
-        appended = ap (λ (k : Calls). k.run) c.join.ensures
-            ∙ ap (λ (r : Run). with_all c.args.calls.now.run r) c.into_calls.ensures;
+        appended = ap (λ (k : Calls). k.run) c.join-in-Err.ensures
+            ∙ ap (λ (r : Run). with_all c.args.calls.now.run r) c.into_calls-in-Err.ensures;
       },
       live_asked asked c.args.table files (drawn_by live.run.0) c.args.token written.0
           (are_posted outcome.ends) uploads outcome c.requires written.1 refl live refl,
       written.2,
-    ))
+    )
 
 -- what is posted does not write
 pub returns-in_err-outcome-clause-begun : goal.returns-in_err-outcome-clause-begun
