@@ -39,7 +39,7 @@ are_settled taps = not (is_some (early_line taps))
 abbrev pub OrdersDecide : Type 0
 OrdersDecide = (taps : List TapFields) → (early_line taps ≡ None) ↔ IsSorted tap_cmp taps
 
--- the last tap of these, behind this one
+-- the last tap of these, which come after this one
 abbrev pub last_of : Option TapFields → List TapFields → Option TapFields
 last_of last [] = last
 last_of last (tap ∷ taps) = last_of (Some tap) taps

@@ -56,7 +56,7 @@ impl TapOrder {
         }
     }
 
-    /// The order with one tap more. 2^64 lines are taken for want of memory.
+    /// The order with one tap more. 2^64 lines count as out of memory.
     pub(crate) fn with(self, tap: &TapFields) -> Result<TapOrder, AllocError>
         ensures { IfOk result (λ order. (taps : List ATap) → IsOrderOf taps self
             → IsOrderOf (taps ++ tap.now ∷ []) order) }

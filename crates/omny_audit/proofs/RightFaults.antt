@@ -97,7 +97,7 @@ module _ (tables : TableNames) (ledger : Option (List ℕ)) (before after : Opti
   right_of_ledger refused_before NoMemory is end = tt
 
 module _ (loaded : Option (List Loaded)) (refused : Option (Option (List ℕ) × LoadFault)) where
-  -- a refused file, or want of memory, is a fault of uploads
+  -- a refused file, or out of memory, is a fault of uploads
   pub upload_refused : (fault : Fault) → IsRefusal refused fault → IsUploadFault loaded refused fault
   upload_refused (File file) is = is
   upload_refused NoMemory is = is

@@ -84,7 +84,7 @@ IsReportLine ends fares ledger (Some report) false rest fits = (rest ≡ []) × 
 IsReportLine ends fares ledger (Some report) true rest fits =
     IsReportFinding ends fares ledger report rest fits
 
--- what is found of the report, if there is one, and behind it the lines of uploads that have a
+-- what is found of the report, if there is one, and after it the lines of uploads that have a
 -- layout fault
 pub record AreLastLines (ends : Option (List UploadEnd)) (fares : Fares) (ledger : List ℕ)
     (report : Option (List ℕ)) (legal : Bool) (rest : List ℕ) (well : Bool) : Type 0 where
@@ -97,7 +97,7 @@ pub record AreLastLines (ends : Option (List UploadEnd)) (fares : Fares) (ledger
 -- What is found of a ledger's file, of which these lines were read, if it is traced: what is found
 -- of the ledger that is read of it, beside the good taps of the uploads, if there are uploads;
 -- behind it what is found of the columns, if the ledger is traced, and legal or asked for all its
--- lines; and behind it what is found of the report, if there is one, and of the uploads. All is well
+-- lines; and after it what is found of the report, if there is one, and of the uploads. All is well
 -- if all of this is.
 pub record IsAudit (how : Manner) (fares : Fares) (wanted : Option Wanted) (file : List ℕ)
     (read : List ReadLine) (good : Option (List TapFields)) (report : Option (List ℕ))
