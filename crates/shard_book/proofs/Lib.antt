@@ -4,6 +4,7 @@ pub mod ChunkLemmas
 pub mod CountingLemmas
 pub mod HistoryLemmas
 pub mod KeptLemmas
+pub mod LateLemmas
 pub mod PackedLemmas
 pub mod RunLemmas
 pub mod SoundLemmas

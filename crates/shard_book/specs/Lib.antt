@@ -1,5 +1,6 @@
 pub mod Book
 pub mod Difference
+pub mod Late
 pub mod Visits
 pub mod Windows
 pub mod inside

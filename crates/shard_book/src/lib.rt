@@ -7,6 +7,7 @@
 mod accounts;
 mod book;
 mod difference;
+mod late;
 pub mod laws;
 mod packed;
 mod post_run;
@@ -21,5 +22,6 @@ pub use histories::{
     Entry, HashSeed, Lines, Replies, Statement, Tally, TokenSum, TokenSums, Totals, ValidatorSum,
     ValidatorTallies, totals_of_entries,
 };
+pub use late::late_taps;
 pub use run_end::RunEnd;
 pub use sums::{sums_by_validator, token_sums_of_books};

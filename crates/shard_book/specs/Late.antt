@@ -1,0 +1,28 @@
+-- Taps that came after a tap of their token that is as late or later.
+use Rattle.std.specs.Prelude.{ℕ, ◌+◌, ◌==◌, ◌&&◌, Bool, not, List, [], ◌∷◌, ◌++◌}
+use Rattle.std.specs.Prelude.{if◌then◌else◌}
+use Rattle.std.specs.List.{list_any}
+use Rattle.histories.specs.declared.entry.Entry.{Entry}
+use Rattle.histories.specs.Sums.{is_stale}
+use Rattle.tap_views.specs.Token.{token_eq}
+
+-- whether two entries are of equal taps: of one token, at one moment, at one validator
+abbrev pub are_twins : Entry → Entry → Bool
+are_twins entry other =
+    token_eq entry.token other.token
+    && (entry.moment == other.moment && entry.validator == other.validator)
+
+-- whether the entry is stale, and no equal tap is among these before it
+abbrev pub is_late : List Entry → Entry → Bool
+is_late before entry =
+    is_stale entry.answer && not (list_any (λ earlier. are_twins earlier entry) before)
+
+-- how many of the entries that follow these are stale and follow no equal tap
+abbrev pub late_after : List Entry → List Entry → ℕ
+late_after before [] = 0
+late_after before (entry ∷ entries) =
+    (if is_late before entry then 1 else 0) + late_after (before ++ entry ∷ []) entries
+
+-- how many entries of the history are stale and follow no equal tap
+abbrev pub late_taps : List Entry → ℕ
+late_taps entries = late_after [] entries

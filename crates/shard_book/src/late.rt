@@ -1,0 +1,129 @@
+//! Taps that came after a tap of their token that is as late or later.
+ghost use Rattle.std.specs.Prelude.{◌≡◌, ◌+◌, ◌&&◌, ◌++◌, ◌∷◌, List, [], IfOk, OnOk};
+ghost use Rattle.std.specs.Prelude.{if◌then◌else◌};
+ghost use Rattle.std.specs.List.{list_any};
+ghost use Rattle.histories.specs.Sums.{is_stale};
+ghost use Rattle.histories.specs.declared.entry.Entry.{Entry};
+ghost use Rattle.shard_book.specs.Book.{all_entries};
+ghost use Rattle.shard_book.specs.Late.{late_after, late_taps};
+ghost use Rattle.shard_book.specs.inside.Late.{AreLeft, AreStale, IsTaken, key_eq, key_of};
+
+use crate::book::ShardBook;
+use account_rule::Answer;
+use histories::{Entry, HashSeed};
+use indexmap::IndexSet;
+use std::alloc::Global;
+use tap_views::{NoMemory, Token};
+
+/// What equal taps share.
+#[derive(Clone, Copy, Debug, PartialEq, Eq, Hash)]
+struct TapKey {
+    token: Token,
+    moment: u64,
+    validator: u32,
+}
+
+impl TapKey {
+    fn of(entry: &Entry) -> TapKey
+        ensures { result ≡ key_of entry.now }
+    {
+        TapKey {
+            token: entry.token,
+            moment: entry.moment,
+            validator: entry.validator,
+        }
+    }
+}
+
+/// Whether the entry is stale.
+fn is_stale(entry: &Entry) -> bool
+    ensures { result ≡ is_stale entry.now.answer }
+{
+    matches!(entry.answer, Answer::Stale)
+}
+
+/// Adds the tap of the entry, if that is stale.
+fn add_if_stale(keys: &mut IndexSet<TapKey, HashSeed>, entry: &Entry) -> Result<(), NoMemory>
+    ensures { OnOk result ((before : List Entry) → AreStale before keys.old.keys
+        → AreStale (before ++ entry.now ∷ []) keys.new.keys) }
+{
+    if is_stale(entry) {
+        keys.insert(TapKey::of(entry))?;
+    }
+    Ok(())
+}
+
+/// Adds the taps of the book's stale entries.
+fn add_stale(keys: &mut IndexSet<TapKey, HashSeed>, book: &ShardBook) -> Result<(), NoMemory>
+    ensures { OnOk result ((before : List Entry) → AreStale before keys.old.keys
+        → AreStale (before ++ book.now.entries) keys.new.keys) }
+{
+    for i in 0..book.len() {
+        let entry = book.entry(i);
+        add_if_stale(keys, &entry)?;
+    }
+    Ok(())
+}
+
+/// Takes the tap of the entry from the set. Says whether it was there and the entry is stale.
+fn take_late(keys: &mut IndexSet<TapKey, HashSeed>, entry: &Entry) -> bool
+    ensures late { result
+        ≡ (list_any (key_eq (key_of entry.now)) keys.old.keys && is_stale entry.now.answer) }
+    ensures taken { IsTaken (key_of entry.now) keys.old.keys keys.new.keys }
+{
+    let is_first = keys.swap_remove(&TapKey::of(entry));
+    is_first && is_stale(entry)
+}
+
+/// One more, if it is to be counted. More than 2^64 are reported as want of memory.
+fn add_one(count: u64, is_late: bool) -> Result<u64, NoMemory>
+    ensures { IfOk result (λ sum. sum ≡ count + (if is_late then 1 else 0)) }
+{
+    if !is_late {
+        return Ok(count);
+    }
+    match count.checked_add(1) {
+        Some(sum) => Ok(sum),
+        None => Err(NoMemory),
+    }
+}
+
+/// Counts the book's stale entries that follow no equal tap, on top of `count`, and takes the taps
+/// of its entries from the set.
+fn count_late(
+    keys: &mut IndexSet<TapKey, HashSeed>,
+    book: &ShardBook,
+    count: u64,
+) -> Result<u64, NoMemory>
+    ensures { IfOk result (λ total. (before after : List Entry)
+        → AreLeft (before ++ book.now.entries ++ after) before keys.old.keys
+        → AreLeft (before ++ book.now.entries ++ after) (before ++ book.now.entries) keys.new.keys
+        × (total ≡ count + late_after before book.now.entries)) }
+{
+    let mut total = count;
+    for i in 0..book.len() {
+        let entry = book.entry(i);
+        let is_late = take_late(keys, &entry);
+        total = add_one(total, is_late)?;
+    }
+    Ok(total)
+}
+
+/// How many entries of the books are stale and follow no equal tap: they came after a tap of their
+/// token that is as late or later. It takes memory for the stale ones alone.
+pub fn late_taps(alloc: Global, books: &[ShardBook]) -> Result<u64, NoMemory>
+    ensures { IfOk result (λ count. count ≡ late_taps (all_entries books.now)) }
+{
+    let Some(first) = books.first() else {
+        return Ok(0);
+    };
+    let mut keys = IndexSet::with_hasher(alloc, first.seed());
+    for book in books {
+        add_stale(&mut keys, book)?;
+    }
+    let mut count = 0;
+    for counted in books {
+        count = count_late(&mut keys, counted, count)?;
+    }
+    Ok(count)
+}
