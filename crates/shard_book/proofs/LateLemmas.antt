@@ -64,10 +64,10 @@ late_by true seen false first is kept = absurd (let no : false ≡ true = is ref
 key-same : (entry : Entry) → key_eq (key_of entry) (key_of entry) ≡ true
 key-same entry =
     and_two
-    (and_two
     (and_two (eq-eqb entry.token.high entry.token.high refl)
-    (eq-eqb entry.token.low entry.token.low refl)) (eq-eqb entry.moment entry.moment refl))
-    (eq-eqb entry.validator entry.validator refl)
+    (eq-eqb entry.token.low entry.token.low refl))
+    (and_two (eq-eqb entry.moment entry.moment refl)
+    (eq-eqb entry.validator entry.validator refl))
 
 -- ---- sets of stale taps
 pub stale-more : (before : List Entry) (entry : Entry) (old new : List TapKey)

@@ -9,8 +9,8 @@ use Rattle.tap_views.specs.Token.{token_eq}
 -- whether two entries are of equal taps: of one token, at one moment, at one validator
 abbrev pub are_twins : Entry → Entry → Bool
 are_twins entry other =
-    token_eq entry.token other.token && entry.moment == other.moment
-    && entry.validator == other.validator
+    token_eq entry.token other.token
+    && (entry.moment == other.moment && entry.validator == other.validator)
 
 -- whether the entry is stale, and no equal tap is among these before it
 abbrev pub is_late : List Entry → Entry → Bool

@@ -13,7 +13,7 @@ key_of entry =
 
 -- whether two taps are equal
 abbrev pub key_eq : TapKey → TapKey → Bool
-key_eq a b = token_eq a.token b.token && a.moment == b.moment && a.validator == b.validator
+key_eq a b = token_eq a.token b.token && (a.moment == b.moment && a.validator == b.validator)
 
 -- whether one of the entries is stale and of this tap
 abbrev pub has_stale : List Entry → TapKey → Bool

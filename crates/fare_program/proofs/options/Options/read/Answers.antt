@@ -20,10 +20,11 @@ returns-clause-asked c =
     let token = c.get_str.ensures ∙ first_value-rows found (codes "token")
     ∙ ap (first_of (codes "token")) rows in
     let settle = c.flag_in-2.ensures ∙ ap (is_given (codes "settle")) rows in
-    let sorted = c.flag_in-3.ensures ∙ ap (is_given (codes "sorted")) rows in
-    let ledger = c.flag_in-4.ensures ∙ ap (is_given (codes "ledger")) rows in
-    let explain = c.flag_in-5.ensures ∙ ap (is_given (codes "explain")) rows in
-    let traced = c.flag_in-6.ensures ∙ ap (is_given (codes "traced")) rows in
+    let live = c.flag_in-3.ensures ∙ ap (is_given (codes "live")) rows in
+    let sorted = c.flag_in-4.ensures ∙ ap (is_given (codes "sorted")) rows in
+    let ledger = c.flag_in-5.ensures ∙ ap (is_given (codes "ledger")) rows in
+    let explain = c.flag_in-6.ensures ∙ ap (is_given (codes "explain")) rows in
+    let traced = c.flag_in-7.ensures ∙ ap (is_given (codes "traced")) rows in
     let files = c.in_ok-names_in.ensures ∙ ap (λ r. unwrap_or (all_of (codes "FILE") r) []) rows in
     λ i. record {
       table = table i;
@@ -32,6 +33,7 @@ returns-clause-asked c =
       shards = shards i;
       token = token i;
       settle = settle i;
+      live = live i;
       sorted = sorted i;
       ledger = ledger i;
       explain = explain i;
