@@ -1,4 +1,4 @@
-use Rattle.std.proofs.Common.{ℕ, List, subst, sym}
+use Rattle.std.proofs.Common.{ℕ, List, length, subst, sym}
 use Rattle.tariffs.specs.Fares.{Fares}
 use Rattle.fare_service.specs.Claims.{HasAllClaims}
 use Rattle.fare_service.specs.ServiceView.{ServiceView, shards_of}
@@ -32,3 +32,7 @@ of_run-requires-clause-claims g c =
     c.in-Err-run.ensures.claims
     (subst (λ (n : ℕ). HasAllClaims n c.in-Ok.opened.1) (sym c.in-Ok.ensures.shards)
     c.in-Ok.ensures.claims)
+
+pub returns-in-Err-run-clause-fault : goal.returns-in-Err-run-clause-fault
+returns-in-Err-run-clause-fault g c =
+    c.of_run.ensures (length (g.U.LentUploads.origins c.args.uploads))

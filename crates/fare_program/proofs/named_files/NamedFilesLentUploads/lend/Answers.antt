@@ -1,4 +1,4 @@
-use Rattle.std.proofs.Common.{◌<◌, ℕ, List, arith, length, subst, sym}
+use Rattle.std.proofs.Common.{◌<◌, ℕ, Bor, List, arith, length, subst, sym}
 use Rattle.std.proofs.lemmas.List.{length-map}
 use Rattle.world.specs.Origins.{IsLent, Origin}
 use Rattle.fare_service.specs.Lending.{IsOutside}
@@ -7,13 +7,24 @@ use Rattle.fare_program.proofs.ReadAhead.{is_outside, named_at, outside_lent}
 use Rattle.fare_program.proofs.named_files.NamedFilesLentUploads.lend.Goals as goal
 
 pub read-requires : goal.read-requires
-read-requires g c = omega (arith, c.requires, length-map c.args.self.now.names.now _)
+read-requires g c =
+    let origin = g.D.Disk.origin c.args.self.now.disk.now in
+    omega (
+      arith,
+      c.requires,
+      length-map c.args.self.now.names.now (λ (n : Bor (List ℕ)). unless_memory (origin n.now)),
+    )
 
 pub returns-clause-lent : goal.returns-clause-lent
 returns-clause-lent g c =
     let names = c.args.self.now.names.now in
     let origin = g.D.Disk.origin c.args.self.now.disk.now in
-    let few : c.args.upload < length names = omega (arith, c.requires, length-map names _) in
+    let few : c.args.upload < length names =
+    omega (
+      arith,
+      c.requires,
+      length-map names (λ (n : Bor (List ℕ)). unless_memory (origin n.now)),
+    ) in
     let same = named_at (λ name. unless_memory (origin name)) names c.args.upload few in
     subst (λ (o : Origin). IsLent o c.args.calls.now.run c.read.new.calls.run c.as_slice.result.now)
     (sym same) (outside_lent _ _ _ _
@@ -24,7 +35,12 @@ pub returns-in_default-clause-none : goal.returns-in_default-clause-none
 returns-in_default-clause-none g c =
     let names = c.args.self.now.names.now in
     let origin = g.D.Disk.origin c.args.self.now.disk.now in
-    let few : c.args.upload < length names = omega (arith, c.requires, length-map names _) in
+    let few : c.args.upload < length names =
+    omega (
+      arith,
+      c.requires,
+      length-map names (λ (n : Bor (List ℕ)). unless_memory (origin n.now)),
+    ) in
     let same = named_at (λ name. unless_memory (origin name)) names c.args.upload few in (
       c.requires,
       subst (λ (o : Origin). IsOutside o) (sym same) (is_outside _),
