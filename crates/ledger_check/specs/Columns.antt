@@ -23,7 +23,7 @@ has_traced_head text = bytes_eq (take (length traced_head) text) traced_head
 
 -- whether the text begins with the head line of a ledger that is not traced
 abbrev pub has_plain_head : List ℕ → Bool
-has_plain_head text = bytes_eq (take (length head_text) text) head_text
+has_plain_head text = bytes_eq head_text (take (length head_text) text)
 
 -- whether the text begins with the head line of a ledger, traced or not
 abbrev pub has_ledger_head : List ℕ → Bool
