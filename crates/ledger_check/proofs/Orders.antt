@@ -1,7 +1,7 @@
 -- The order of taps with one more, and what it decides.
 use Rattle.std.proofs.Common.{◌≡◌, ◌∙◌, ℕ, ◌+◌, ◌<◌, ◌≤◌, Bool, true, false, List, [], ◌∷◌, ◌++◌}
 use Rattle.std.proofs.Common.{length, ap, Option, None, Some, refl, sym, arith, if◌then◌else◌}
-use Rattle.std.proofs.Common.{add-one, get_or, subst, zero, suc}
+use Rattle.std.proofs.Common.{add-one, add-zero, get_or, subst, zero, suc}
 use Rattle.std.specs.Option.{option_or}
 use Rattle.std.specs.List.Sorted.{IsSorted}
 use Rattle.std.specs.Ordering.{is_lt}
@@ -25,7 +25,8 @@ pub early-push : (number : ℕ) (last : Option TapFields) (taps : List TapFields
     → first_early number last (taps ++ tap ∷ [])
     ≡ option_or (first_early number last taps)
     (if comes_before tap (last_of last taps) then Some (number + length taps) else None)
-early-push number last [] tap = refl
+early-push number last [] tap =
+    ap (λ (n : ℕ). if comes_before tap last then Some n else None) (sym (add-zero number))
 early-push number last (first ∷ taps) tap =
     let count : (number + 1) + length taps ≡ number + length (first ∷ taps) = omega arith in
     one_more (comes_before first last) number (first_early (number + 1) (Some first) taps)
@@ -45,8 +46,8 @@ none_parts false number rest is = (refl, is)
 
 none_joined : (early : Bool) (number : ℕ) (rest : Option ℕ) → early ≡ false → rest ≡ None
     → (if early then Some number else rest) ≡ None
-none_joined true number rest no is = absurd (cc)
-none_joined false number rest no is = is
+none_joined true number rest apart is = absurd (cc)
+none_joined false number rest apart is = is
 
 sorted_at : (number : ℕ) (first : TapFields) (taps : List TapFields)
     → first_early number (Some first) taps ≡ None

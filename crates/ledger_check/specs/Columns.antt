@@ -21,10 +21,13 @@ traced_head = codes
 abbrev pub has_traced_head : List ℕ → Bool
 has_traced_head text = bytes_eq (take (length traced_head) text) traced_head
 
+-- whether the text begins with the head line of a ledger that is not traced
+abbrev pub has_plain_head : List ℕ → Bool
+has_plain_head text = bytes_eq head_text (take (length head_text) text)
+
 -- whether the text begins with the head line of a ledger, traced or not
 abbrev pub has_ledger_head : List ℕ → Bool
-has_ledger_head text =
-    bytes_eq (take (length head_text) text) head_text || has_traced_head text
+has_ledger_head text = has_plain_head text || has_traced_head text
 
 -- what stands before the last comma of a text and behind it, if it has one behind this byte
 abbrev pub with_byte : ℕ → List ℕ → Option (List ℕ × List ℕ) → Option (List ℕ × List ℕ)

@@ -5,7 +5,7 @@ ghost use Rattle.std.specs.Prelude.{length, nat_le, nat_lt, option_map, true};
 ghost use Rattle.std.specs.List.{list_all};
 ghost use Rattle.ledger_check.specs.Columns.{class_of, cut_line, cut_of};
 ghost use Rattle.ledger_check.specs.Columns.{has_ledger_head, has_traced_head, is_class_name};
-ghost use Rattle.ledger_check.specs.Columns.{is_name_byte};
+ghost use Rattle.ledger_check.specs.Columns.{has_plain_head, is_name_byte};
 ghost use Rattle.ledger_check.specs.Columns.{last_field, number_and_feed, number_below, place_of};
 ghost use Rattle.ledger_check.specs.Columns.{traced_head, upload_of};
 
@@ -35,11 +35,18 @@ pub fn has_traced_head(text: &[u8]) -> bool
     text.starts_with(traced_head_line())
 }
 
+/// Whether the text begins with the head line of a ledger that is not traced.
+fn has_plain_head(text: &[u8]) -> bool
+    ensures { result ≡ has_plain_head text.now }
+{
+    text.starts_with(head_line().as_bytes())
+}
+
 /// Whether the text begins with the head line of a ledger, traced or not.
 pub fn has_ledger_head(text: &[u8]) -> bool
     ensures { result ≡ has_ledger_head text.now }
 {
-    text.starts_with(head_line().as_bytes()) || has_traced_head(text)
+    has_plain_head(text) || has_traced_head(text)
 }
 
 /// What stands before the last comma of the text, and what stands behind it.

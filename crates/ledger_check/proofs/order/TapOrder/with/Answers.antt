@@ -1,4 +1,4 @@
-use Rattle.std.proofs.Common.{◌≡◌, ◌∙◌, ◌+◌, ◌++◌, ◌∷◌, [], ℕ, Option, Some, None, ap, arith}
+use Rattle.std.proofs.Common.{◌≡◌, ◌∙◌, ◌+◌, ◌++◌, ◌∷◌, [], Bool, ℕ, Option, Some, None, ap, arith}
 use Rattle.std.proofs.Common.{length, length-append, sym, if◌then◌else◌}
 use Rattle.std.specs.Option.{option_or}
 use Rattle.tap_views.specs.declared.encoder.TapFields.{TapFields}
@@ -14,8 +14,10 @@ returns c = λ taps is.
     record {
       last = sym (last-push None taps tap);
       lines = omega (arith, is.lines, length-append taps (tap ∷ []));
-      early = c.or.ensures
+      early = c.or-early.ensures
           ∙ ap (λ (n : Option ℕ). option_or order.early n) c.number_if.ensures
+          ∙ ap (λ (b : Bool). option_or order.early (if b then Some c.in-Some.lines else None))
+          c.comes_before-is_early.ensures
           ∙ ap (λ (b : Option TapFields).
           option_or order.early (if comes_before tap b then Some c.in-Some.lines else None)) is.last
           ∙ ap (λ (e : Option ℕ). option_or e
