@@ -22,8 +22,9 @@ use Rattle.fare_service.specs.Shares.{Worked, all_visits, done_of, IsWorked, Kee
 use Rattle.fare_service.specs.Shares.{IsFresh, HasWorked, HasVisited, made_visits_at}
 use Rattle.fare_service.specs.Shares.{made_visits, books_of, loads_of}
 use Rattle.fare_service.specs.Lending.{origin_at}
+use Rattle.world.proofs.Laws.{more_loads, no_loads}
 use Rattle.world.specs.Origins.{Origin, loads_from, with_loads}
-use Rattle.world.specs.Run.{Load, Run, nothing_yet}
+use Rattle.world.specs.Run.{Run, nothing_yet}
 use Rattle.fare_service.specs.inside.Shares.{worked}
 use Rattle.fare_service.proofs.VisitLemmas.{made_none, made_more, entries_to-append, own-others}
 use Rattle.fare_service.proofs.VisitLemmas.{no_taps}
@@ -36,15 +37,6 @@ pub loads_append : (uploads : List Origin) (xs ys : List Worked)
     → loads_of uploads (xs ++ ys) ≡ loads_of uploads xs ++ loads_of uploads ys
 loads_append uploads xs ys =
     flat_map-append (λ w. loads_from (origin_at uploads w.upload) w.file) xs ys
-
--- no load
-with_none : (r : Run) → with_loads r [] ≡ r
-with_none r = ap (λ loads. record r { loads = loads }) (append-nil r.loads)
-
--- some loads, and then others
-with_both : (r : Run) (xs ys : List Load)
-    → with_loads (with_loads r xs) ys ≡ with_loads r (xs ++ ys)
-with_both r xs ys = ap (λ loads. record r { loads = loads }) (append_assoc r.loads xs ys)
 
 -- nothing was done with the share
 pub worked_none : (service : ServiceView) (old new : ShareView)
@@ -63,7 +55,7 @@ worked_none service old new claims drawn done passes totals run =
       done = done ∙ sym (append-nil old.done);
       made = subst P (sym passes)
           (subst T (sym totals) (made_none (shards_of service) old.passes old.totals));
-      loads = run ∙ sym (with_none old.run);
+      loads = run ∙ sym (no_loads old.run);
     }
 
 -- one upload was drawn and posted
@@ -108,7 +100,7 @@ worked_more service a b c xs ys p q =
           (all_visits xs) (all_visits ys) p.made q.made);
       loads = q.loads
           ∙ (ap (λ r. with_loads r (loads_of service.uploads ys)) p.loads
-          ∙ with_both a.run (loads_of service.uploads xs) (loads_of service.uploads ys)
+          ∙ more_loads a.run (loads_of service.uploads xs) (loads_of service.uploads ys)
           ∙ ap (with_loads a.run) (sym (loads_append service.uploads xs ys)));
     }
 

@@ -12,7 +12,7 @@ use Rattle.ledger_check.specs.declared.checker.Verdict.{Verdict}
 use Rattle.ledger_check.specs.declared.checker.Verdict.TheVariants.{Legal, Wants, NoLine}
 use Rattle.ledger_check.proofs.EntryLists.{next-front}
 
-tail_same : (a b : List ℕ) (xs ys : List (List ℕ)) → a ∷ xs ≡ b ∷ ys → xs ≡ ys
+pub tail_same : (a b : List ℕ) (xs ys : List (List ℕ)) → a ∷ xs ≡ b ∷ ys → xs ≡ ys
 tail_same a b xs ys is = cc
 
 -- a text whose first wrong line is known is no ledger

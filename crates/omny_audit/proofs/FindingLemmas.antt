@@ -15,6 +15,7 @@ use Rattle.ledger_check.specs.declared.checker.Verdict.TheVariants.{Legal, NoLin
 use Rattle.ledger_check.specs.Balances.{IsDifference}
 use Rattle.ledger_check.specs.declared.balance.Difference.{Difference}
 use Rattle.tap_views.specs.declared.encoder.TapFields.{TapFields}
+use Rattle.ledger_check.proofs.VerdictLemmas.{tail_same}
 use Rattle.omny_audit.specs.Findings.{agrees, HasGoodTaps, HasOrder, IsDifferenceOf, IsFinding}
 use Rattle.omny_audit.specs.Findings.{IsDifferenceLine, IsRightLedger}
 use Rattle.omny_audit.specs.Text.{IsDifferenceText}
@@ -72,9 +73,6 @@ even_decides differ fares text (Some good) true rest well decide (Some differenc
   λ right. absurd
       (differ good (map tap_of_entry right.0) difference (of right.0 right.1) right.2),
 )
-
-tail_same : (a b : List ℕ) (xs ys : List (List ℕ)) → a ∷ xs ≡ b ∷ ys → xs ≡ ys
-tail_same a b xs ys is = cc
 
 -- which line a true verdict reports as earlier than the one before it
 early_is : (fares : Fares) (text : List ℕ) (verdict : Verdict) (entries : List Entry)
