@@ -1,7 +1,5 @@
 //! A writer that takes the line away before it writes to where the line is.
 
-ghost use Rattle.std.specs.Prelude.{◌≡◌};
-
 use crate::ticker::Ticker;
 use std::io;
 use std::io::Write;
@@ -32,12 +30,10 @@ impl<'a, R: Wait, W: Write + Drop> Hushing<'a, R, W> {
             is_over: is_file,
         }
     }
-}
 
-impl<R: Wait, W: Write + Drop> Hushing<'_, R, W> {
     /// The writer below, when all is written.
     pub fn into_writer(self) -> W
-        ensures { result ≡ self.to }
+        ensures { result ≡ self.entry.to }
     {
         let Hushing {
             rt: _,
