@@ -4,13 +4,13 @@ use Rattle.fare_program.proofs.named_files.charge_ahead.Goals as goal
 
 pub returns-in-Ok-clause-done : goal.returns-in-Ok-clause-done
 returns-in-Ok-clause-done g c =
-    charged_joined _ _ _ _ _ _ _ _ _ _ _ c.new-calls.ensures c.join.ensures.loaded
-    (sym c.in-Some.is) c.in-Ok.ensures.ok
+    charged_joined _ _ _ _ _ c.charge_named.new.calls.run _ _ _ _ _ c.new-calls.ensures
+    c.join.ensures.loaded (sym c.in-Some.is) c.in-Ok.ensures.ok
 
 pub returns-in-Err-Write-clause-begun : goal.returns-in-Err-Write-clause-begun
 returns-in-Err-Write-clause-begun g c =
     let (well, is) = c.in-Err-Write.ensures.begun c.in-Err-Write.field-0-is in (
       well,
-      charged_joined _ _ _ _ _ _ _ _ _ _ _ c.new-calls.ensures c.join-in-Err.ensures.loaded
-          (sym c.in-Some.is) is,
+      charged_joined _ _ _ _ _ c.charge_named.new.calls.run _ _ _ _ _ c.new-calls.ensures
+          c.join-in-Err-Write.ensures.loaded (sym c.in-Some.is) is,
     )

@@ -32,8 +32,8 @@ returns-in-Ok-clause-ok g c =
     )
 
 -- ---- what a write that failed left
-pub returns-clause-begun : goal.returns-clause-begun
-returns-clause-begun g c = λ write.
+pub returns-in-Err-clause-begun : goal.returns-in-Err-clause-begun
+returns-in-Err-clause-begun g c = λ write.
     let asked = asked_of c.args.options.now in
     let uploads = g.U.LentUploads.origins c.args.uploads in
     let outcome = c.in_ok-outcome.outcome in

@@ -1,8 +1,8 @@
-use Rattle.std.proofs.Common.{◌<◌, ℕ, Bor, List, arith, length, subst, sym}
+use Rattle.std.proofs.Common.{◌<◌, ℕ, Bor, List, arith, length, map, subst, sym}
 use Rattle.std.proofs.lemmas.List.{length-map}
 use Rattle.world.specs.Origins.{IsLent, Origin}
 use Rattle.fare_service.specs.Lending.{IsOutside}
-use Rattle.fare_program.specs.FilesLoaded.{unless_memory}
+use Rattle.fare_program.specs.FilesLoaded.{text_at, unless_memory}
 use Rattle.fare_program.proofs.ReadAhead.{is_outside, named_at, outside_lent}
 use Rattle.fare_program.proofs.named_files.NamedFilesLentUploads.lend.Goals as goal
 
@@ -26,10 +26,13 @@ returns-clause-lent g c =
       length-map names (λ (n : Bor (List ℕ)). unless_memory (origin n.now)),
     ) in
     let same = named_at (λ name. unless_memory (origin name)) names c.args.upload few in
-    subst (λ (o : Origin). IsLent o c.args.calls.now.run c.read.new.calls.run c.as_slice.result.now)
-    (sym same) (outside_lent _ _ _ _
-    (subst (λ (bytes : List ℕ). IsLent _ c.args.calls.now.run c.read.new.calls.run bytes)
-    (sym c.as_slice.ensures.value) c.in-Ok.ensures))
+    let old = c.args.calls.now.run in
+    let new = c.read.new.calls.run in
+    let from = origin (text_at (map (λ (n : Bor (List ℕ)). n.now) names) c.args.upload) in
+    subst (λ (o : Origin). IsLent o old new c.as_slice.result.now) (sym same)
+    (outside_lent from old new c.as_slice.result.now
+    (subst (λ (bytes : List ℕ). IsLent from old new bytes) (sym c.as_slice.ensures.value)
+    c.in-Ok.ensures))
 
 pub returns-in_default-clause-none : goal.returns-in_default-clause-none
 returns-in_default-clause-none g c =
@@ -43,5 +46,6 @@ returns-in_default-clause-none g c =
     ) in
     let same = named_at (λ name. unless_memory (origin name)) names c.args.upload few in (
       c.requires,
-      subst (λ (o : Origin). IsOutside o) (sym same) (is_outside _),
+      subst (λ (o : Origin). IsOutside o) (sym same)
+          (is_outside (origin (text_at (map (λ (n : Bor (List ℕ)). n.now) names) c.args.upload))),
     )
