@@ -174,8 +174,8 @@ fn task_over<R: Threads + Sync, S: Source, D: PlacedFiles, K: Sink, W: Write, E:
 /// at any offset. Files are made in the sink, text goes to `out`, and mistakes, faults and warnings
 /// to `err`. `seed` is random, so that no file can choose names of devices that are found slowly.
 /// `table` prints the changes of clocks after `moment`, unless the words name another one. Gives
-/// the status: 0 if all is well, 1 after a fault, 2 if the words are no command line, 3 if an
-/// upload has a layout fault and yet all is written.
+/// the status: 0 if all is well, 1 after a fault or if no row is a tap, 2 if the words are no
+/// command line, 3 if an upload has a layout fault or rows were refused, and yet all is written.
 pub fn main_over<R: Threads + Sync, S: Source, D: PlacedFiles, K: Sink, W: Write, E: Write>(
     threads: &R,
     alloc: Global,
@@ -201,7 +201,7 @@ pub fn main_over<R: Threads + Sync, S: Source, D: PlacedFiles, K: Sink, W: Write
     ensures helped { ¬ Parses (map string_bytes words.now) → result ≡ 0
         → AsksForText (map string_bytes words.now) × (err.new ≡ err.old) }
 
-    // With status 3 it was done, and an upload has a layout fault.
+    // With status 3 it was done, and an upload has a layout fault or rows were refused.
     ensures partly { Parses (map string_bytes words.now) → result ≡ 3
         → IsPartlyDone (asked_by (map string_bytes words.now)) (run_of (S.loaded source.old)
         (S.loaded source.new) (S.refused source.new) (D.bytes_under files.now) (K.made sink.old)
@@ -209,8 +209,8 @@ pub fn main_over<R: Threads + Sync, S: Source, D: PlacedFiles, K: Sink, W: Write
         (W.contents out.new.writer) out.new.end out.new.is_flushed (E.contents err.old.writer)
         (E.contents err.new.writer) err.new.failed) }
 
-    // With status 1 the right fault was reported, or the text has the layout fault of an upload.
-    // Only want of memory, while the words are read, may come before it.
+    // With status 1 the right fault was reported, or the text has the layout fault of an upload, or
+    // no row is a tap. Only being out of memory, while the words are read, may come before it.
     ensures given_up { Parses (map string_bytes words.now) → result ≡ 1
         → IsGivenUp (asked_by (map string_bytes words.now)) (run_of (S.loaded source.old)
         (S.loaded source.new) (S.refused source.new) (D.bytes_under files.now) (K.made sink.old)
