@@ -19,10 +19,10 @@ returns-clause-ok g c =
       record {
         history = history;
         is_settled = c.posted_taps.ensures.history fares files made.order made.settled;
-        shows = written.1 files history (own_is ∙ ap (posted fares) (sym c.deref.ensures.value));
+        shows = written.1 files history (own_is ∙ ap (posted fares) (sym c.deref-2.ensures.value));
         ends = c.in_ok-ends.field-0.ends.items;
         ended = ended;
-        is_well = c.are_posted.ensures ∙ ap are_posted c.deref-2.ensures.value;
+        is_well = c.are_posted.ensures ∙ ap are_posted c.deref-3.ensures.value;
       },
       written.2,
     )
@@ -47,7 +47,7 @@ returns-in_err-write_text-clause-begun g c =
       record {
         history = history;
         is_settled = c.posted_taps.ensures.history fares files made.order made.settled;
-        shows = written.1 files history (own_is ∙ ap (posted fares) (sym c.deref.ensures.value));
+        shows = written.1 files history (own_is ∙ ap (posted fares) (sym c.deref-2.ensures.value));
         ends = c.in_ok-ends.field-0.ends.items;
         ended = ended;
         is_well = refl;
