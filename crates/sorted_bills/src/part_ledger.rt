@@ -70,7 +70,8 @@ pub fn write_part_ledger<F: Placed, W: Write>(
     let mut window = vec![in alloc; 0u8; WINDOW_BYTES]?;
     let clock = table.clock(alloc)?;
     let mut text = head_with_room(alloc, STRIDE_ROOM_BYTES)?;
-    let BegunPart { places, mut taker } = begin_part(alloc, files, from, &mut window)?;
+    let begun = begin_part(alloc, files, from, &mut window)?;
+    let BegunPart { places, mut taker } = begun;
     let mut explainer = Explainer::of(from.unwrap_or(least_token()));
     let mut left = u64::MAX;
     explain_below(

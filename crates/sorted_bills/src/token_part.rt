@@ -9,7 +9,7 @@ ghost use Rattle.histories.specs.declared.entry.Entry.{Entry};
 ghost use Rattle.settlement.specs.Bills.{IsBillOf};
 ghost use Rattle.sorted_taps.specs.Places.{ArePlaced, AreSpanned, DoSpan};
 ghost use Rattle.sorted_taps.specs.Reading.{window_bytes};
-ghost use Rattle.sorted_bills.specs.Faults.{IsBillFault};
+ghost use Rattle.sorted_bills.specs.Faults.{IsBeforeText, IsBillFault};
 ghost use Rattle.sorted_bills.specs.Parts.{IsPartOf};
 ghost use Rattle.sorted_bills.specs.inside.Taken.{AreTapsTaken, IsReady};
 
@@ -59,7 +59,8 @@ pub(crate) fn begin_part<F: Placed>(
         → map F.bytes files.now ≡ map Some all
         → ArePlaced all begun.places.items begun.taker.merge.readers.items) }
 {
-    let PlacedReaders { places, readers } = readers_from(alloc, files, from, window)?;
+    let placed = readers_from(alloc, files, from, window)?;
+    let PlacedReaders { places, readers } = placed;
     let room = vec![in alloc; 0u8; WINDOW_BYTES]?;
     let merge = Merge::of(alloc, readers)?;
     let taker = Taker::of(alloc, merge, room)?;
@@ -85,6 +86,7 @@ pub(crate) fn end_part<F: Placed>(
         → DoSpan all places.now readers.now spans.items) }
     ensures fault { IfErr result (λ fault. (all : List (List ℕ)) → IsBillFault all fault) }
     ensures unwritten { IfErr result (λ fault. fault ≢ BillFault.Write) }
+    ensures late { IfErr result (λ fault. IsBeforeText fault → ⊥) }
 {
     match spans_to(alloc, files, places, readers, below, window)? {
         Some(spans) => Ok(spans),
@@ -112,7 +114,8 @@ fn bill_part<F: Placed>(
     ensures unwritten { IfErr result (λ fault. fault ≢ BillFault.Write) }
 {
     let mut window = vec![in alloc; 0u8; WINDOW_BYTES]?;
-    let BegunPart { places, mut taker } = begin_part(alloc, files, from, &mut window)?;
+    let begun = begin_part(alloc, files, from, &mut window)?;
+    let BegunPart { places, mut taker } = begun;
     let mut so_far = OpenBill::new(alloc, seed, from.unwrap_or(least_token()));
     charge(alloc, table, files, below, &mut taker, &mut so_far)?;
     let numbers = taker.merge.numbers(alloc)?;
@@ -203,16 +206,12 @@ fn spans_of_part<F: Placed>(
     ensures unwritten { IfErr result (λ fault. fault ≢ BillFault.Write) }
 {
     let mut window = vec![in alloc; 0u8; WINDOW_BYTES]?;
-    let BegunPart { places, mut taker } = begin_part(alloc, files, from, &mut window)?;
+    let begun = begin_part(alloc, files, from, &mut window)?;
+    let BegunPart { places, mut taker } = begun;
     pass_taps(files, below, &mut taker)?;
-    end_part(
-        alloc,
-        files,
-        &places,
-        taker.merge.readers(),
-        below,
-        &mut window,
-    )
+    let readers = taker.merge.readers();
+    let spans = end_part(alloc, files, &places, readers, below, &mut window)?;
+    Ok(spans)
 }
 
 /// Where a part lies in each file: its taps with tokens from one on and below another, or without a

@@ -89,7 +89,8 @@ pub fn readers_from<F: Placed>(
     let mut places = Vec::new(alloc);
     let mut readers = Vec::new(alloc);
     for file in files {
-        let PlacedReader { place, reader } = placed_reader(alloc, file, from, window)?;
+        let placed = placed_reader(alloc, file, from, window)?;
+        let PlacedReader { place, reader } = placed;
         places.push(place)?;
         readers.push(reader)?;
     }
@@ -152,7 +153,9 @@ pub fn spans_to<F: Placed>(
     let mut spans = Vec::new(alloc);
     for at in 0..files.len() {
         let file = &files[at];
-        let Some(span) = span_to(alloc, file, places[at], &readers[at], below, window)? else {
+        let reader = &readers[at];
+        let place = places[at];
+        let Some(span) = span_to(alloc, file, place, reader, below, window)? else {
             return Ok(None);
         };
         spans.push(span)?;
