@@ -24,9 +24,11 @@ pub record IsBegun (before after : Option (List ℕ)) (Whole : Option (List ℕ)
 abbrev pub IsSortedLedger : Asked → Type 0
 IsSortedLedger asked = (asked.sorted ≡ true) × (asked.ledger ≡ true) × (asked.token ≡ None)
 
--- If that is asked for, what is known of the files is bytes, as of all files that can be read.
+-- No part is asked for. If that ledger is, what is known of the files is bytes, as of all files
+-- that can be read.
 abbrev pub AreOfBytes : Asked → (List ℕ → Option (List ℕ)) → Type 0
-AreOfBytes asked under = IsSortedLedger asked → KnownAreBytes (map under asked.files)
+AreOfBytes asked under =
+    (asked.tokens ≡ None) × (IsSortedLedger asked → KnownAreBytes (map under asked.files))
 
 -- What stands is a beginning: with some bytes more behind it, what is asked for would have been
 -- done.
