@@ -1,0 +1,4 @@
+pub mod HeadTexts
+pub mod WholeTexts
+pub mod Opening
+pub mod Copying
