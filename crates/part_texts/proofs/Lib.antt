@@ -2,3 +2,8 @@ pub mod HeadTexts
 pub mod WholeTexts
 pub mod Opening
 pub mod Copying
+pub mod HeadLines
+pub mod Leads
+pub mod ShownSections
+pub mod ShownFronts
+pub mod ShownReports

@@ -1,5 +1,5 @@
 -- The lines of a report are read back: the line of a value says this value, and no other line does.
-use Rattle.std.proofs.Common.{◌≡◌, ℕ, ◌+◌, ◌*◌, ◌<◌, ◌≤◌, ◌^◌, ◌&&◌, Bool, true, false, List, [], ◌∷◌, ◌++◌}
+use Rattle.std.proofs.Common.{◌≡◌, ℕ, zero, suc, ◌+◌, ◌*◌, ◌<◌, ◌≤◌, ◌^◌, ◌&&◌, Bool, true, false, List, [], ◌∷◌, ◌++◌}
 use Rattle.std.proofs.Common.{Option, Some, None, option_map, codes, cond, nat_eq, nat_le, nat_lt}
 use Rattle.std.proofs.Common.{refl, sym, ap, subst, ◌∙◌, append_assoc, arith}
 use Rattle.std.specs.Fmt.{decimal}
@@ -14,9 +14,17 @@ use Rattle.tap_views.specs.declared.token.Token.{Token}
 use Rattle.line_forms.specs.Forms.{IsBehind, IsForm, IsThen, said_by, then_read, behind_read, value_if}
 use Rattle.line_forms.specs.FormLaws.{behind_law, line_complete, line_sound, number_law, then_law, wide_64}
 use Rattle.line_forms.specs.Numbers.{BeginsWithNoDigit, IsNumber}
-use Rattle.report_texts.specs.Forms.{Counted, count_at, counts_read, head_in, sums_by, sums_with, token_line_in, token_read, totals_in, validator_if, validator_in}
-use Rattle.report_texts.specs.FormLaws.{IsCount, IsCountedText, IsCountsText, IsTokenDigits, count_form, counts_law, begins, some_one, token_law, value_if_some, begins_chosen}
-use Rattle.report_texts.specs.Numbers.{AreCounts, IsTokenSum, IsValidatorSum}
+use Rattle.report_texts.specs.Forms.{Counted, count_at, counts_read, end_in, end_or, fault_by, head_in, refused_by, refused_in, sums_by, sums_with, token_line_in, token_read, totals_in, upload_if, upload_in, validator_if, validator_in}
+use Rattle.report_texts.specs.FormLaws.{IsCount, IsCountedText, IsCountsText, IsTokenDigits, count_form, counts_law, begins, begins_then, some_one, token_law, value_if_some, begins_chosen}
+use Rattle.report_texts.specs.Numbers.{AreCounts, IsNameAlone, IsTokenSum, IsUploadEnd, IsValidatorSum}
+use Rattle.report_texts.specs.Report.{upload_line}
+use Rattle.report_texts.specs.inside.EndWords.{end_words, fault_number}
+use Rattle.report_texts.proofs.EndTexts.{refused_spelt, small_number}
+use Rattle.tap_views.specs.declared.fault.LayoutFault.{LayoutFault}
+use Rattle.tap_views.specs.declared.fault.LayoutFault.TheVariants.{Short, Magic, Flags, TooMany}
+use Rattle.tap_views.specs.declared.fault.LayoutFault.TheVariants.{Length, Moment}
+use Rattle.tap_views.specs.declared.upload_end.UploadEnd.{UploadEnd}
+use Rattle.tap_views.specs.declared.upload_end.UploadEnd.TheVariants.{Posted, Refused, Cut, Undrawn}
 
 -- ---- the texts of counts
 -- the counts of sums, in their order
@@ -236,3 +244,136 @@ token_sound line sum e =
           ∙ ap (λ (x : List ℕ). (codes "token " ++ encode_lower (bytes_of sum.0)) ++ x) counts)
           ∙ sym (key_line (codes "token ") (encode_lower (bytes_of sum.0)) sum.1),
     )
+
+-- ---- uploads
+-- the layout fault of a name is found
+fault_found : (fault : LayoutFault) → IsNameAlone fault → fault_by (fault_number fault) ≡ Some fault
+fault_found (Short have) is = ap (λ n. Some (Short n)) (sym is)
+fault_found Magic is = refl
+fault_found Flags is = refl
+fault_found (TooMany count) is = ap (λ n. Some (TooMany n)) (sym is)
+fault_found (Length want have) is =
+    ap (λ n. Some (Length n 0)) (sym is.0) ∙ ap (λ n. Some (Length want n)) (sym is.1)
+fault_found (Moment index) is = ap (λ n. Some (Moment n)) (sym is)
+
+abbrev RefusedText : ℕ × (ℕ × ℕ) → List ℕ
+RefusedText n = (codes " refused " ++ decimal n.0)
+    ++ ((codes " at " ++ decimal n.1.0) ++ (codes " L" ++ decimal n.1.1))
+
+refused_form : IsForm (IsThen (IsCount (codes " refused ")) (IsThen (IsCount (codes " at "))
+    (IsCount (codes " L")))) BeginsWithNoDigit (then_read (count_at (codes " refused "))
+    (then_read (count_at (codes " at ")) (count_at (codes " L"))))
+refused_form =
+    then_law (count_form (codes " refused "))
+    (then_law (count_form (codes " at ")) (count_form (codes " L")) (begins (codes " L") (λ rest. refl)))
+    (begins_then (codes " at ") (begins (codes " at ") (λ rest. refl)))
+
+refused_line : (taps offset : ℕ) (fault : LayoutFault) → end_words (Refused taps offset fault)
+    ≡ RefusedText (taps, (offset, fault_number fault)) ++ 10 ∷ []
+refused_line taps offset fault =
+    refused_spelt taps offset fault
+    ∙ joined (codes " refused ") (decimal taps) (codes " at ") (decimal offset) (codes " L")
+    (decimal (fault_number fault)) (10 ∷ [])
+  where
+    joined : (r t a o l n e : List ℕ) → r ++ (t ++ (a ++ (o ++ (l ++ (n ++ e)))))
+        ≡ ((r ++ t) ++ ((a ++ o) ++ (l ++ n))) ++ e
+    joined r t a o l n e = simp append_assoc
+
+end_complete : (end : UploadEnd) → IsUploadEnd end → end_in (end_words end) ≡ Some end
+end_complete (Posted taps) fits =
+    ap (λ r. end_or r (refused_in (end_words (Posted taps)))) (head_complete (codes " posted ") taps fits)
+end_complete (Refused taps offset fault) fits =
+    ap refused_by (ap (said_by (then_read (count_at (codes " refused "))
+    (then_read (count_at (codes " at ")) (count_at (codes " L"))))) (refused_line taps offset fault)
+    ∙ line_complete refused_form refl (taps, (offset, fault_number fault))
+    (RefusedText (taps, (offset, fault_number fault)))
+    (_, _, count_says (codes " refused ") taps fits.0,
+    (_, _, count_says (codes " at ") offset fits.1.0,
+    count_says (codes " L") (fault_number fault) (small_number fault), refl), refl))
+    ∙ ap (option_map (λ fault. Refused taps offset fault)) (fault_found fault fits.1.1)
+end_complete (Cut taps) fits = absurd fits
+end_complete Undrawn fits = absurd fits
+
+upload_spelt : (upload : ℕ) (end : UploadEnd)
+    → upload_line upload end ≡ (codes "upload " ++ decimal upload) ++ end_words end
+unfolding upload_line
+upload_spelt upload end = sym (append_assoc (codes "upload ") (decimal upload) (end_words end))
+
+pub upload_complete : (upload : ℕ) (end : UploadEnd) → upload < 2 ^ 64 → IsUploadEnd end
+    → upload_in (upload_line upload end) ≡ Some (upload, end)
+upload_complete upload end small fits =
+    ap upload_in (upload_spelt upload end)
+    ∙ ap upload_if ((count_form (codes "upload ")).complete upload (codes "upload " ++ decimal upload)
+    (end_words end) (count_says (codes "upload ") upload small) refl)
+    ∙ ap (option_map (λ (end : UploadEnd). (upload, end))) (end_complete end fits)
+
+-- ---- and no other lines say so
+option_some : {A B : Type 0} (f : A → B) (r : Option A) (b : B) → option_map f r ≡ Some b
+    → (a : A) × (r ≡ Some a) × (f a ≡ b)
+option_some f None b e = absurd (cc)
+option_some f (Some a) b e = (a, refl, some_one e)
+
+fault_named : (number : ℕ) (fault : LayoutFault) → fault_by number ≡ Some fault
+    → IsNameAlone fault × (number ≡ fault_number fault)
+fault_named zero fault e = absurd (cc)
+fault_named (suc zero) fault e = subst (λ f. IsNameAlone f × (1 ≡ fault_number f)) (some_one e) (refl, refl)
+fault_named (suc (suc zero)) fault e =
+    subst (λ f. IsNameAlone f × (2 ≡ fault_number f)) (some_one e) (tt, refl)
+fault_named (suc (suc (suc zero))) fault e =
+    subst (λ f. IsNameAlone f × (3 ≡ fault_number f)) (some_one e) (tt, refl)
+fault_named (suc (suc (suc (suc zero)))) fault e =
+    subst (λ f. IsNameAlone f × (4 ≡ fault_number f)) (some_one e) (refl, refl)
+fault_named (suc (suc (suc (suc (suc zero))))) fault e =
+    subst (λ f. IsNameAlone f × (5 ≡ fault_number f)) (some_one e) ((refl, refl), refl)
+fault_named (suc (suc (suc (suc (suc (suc zero)))))) fault e =
+    subst (λ f. IsNameAlone f × (6 ≡ fault_number f)) (some_one e) (refl, refl)
+fault_named (suc (suc (suc (suc (suc (suc (suc number))))))) fault e = absurd (cc)
+
+refused_sound : (r : Option (ℕ × (ℕ × ℕ))) (text : List ℕ) (end : UploadEnd)
+    → said_by (then_read (count_at (codes " refused ")) (then_read (count_at (codes " at "))
+    (count_at (codes " L")))) text ≡ r → refused_by r ≡ Some end
+    → IsUploadEnd end × (text ≡ end_words end)
+refused_sound None text end is e = absurd (cc)
+refused_sound (Some n) text end is e =
+    let (fault, found, same) = option_some (λ fault. Refused n.0 n.1.0 fault) (fault_by n.1.1) end e in
+    let (name, number) = fault_named n.1.1 fault found in
+    let (line, (a, b, taps, (c, d, offset, last, two), one), shown) = line_sound refused_form text n is in
+    subst (λ (x : UploadEnd). IsUploadEnd x × (text ≡ end_words x)) same (
+      (taps.1.0.0, (offset.1.0.0, name)),
+      shown ∙ ap (λ (x : List ℕ). x ++ 10 ∷ [])
+          (one ∙ ap (λ (x : List ℕ). x ++ b) (count_shown (codes " refused ") n.0 a taps)
+          ∙ ap (λ (x : List ℕ). (codes " refused " ++ decimal n.0) ++ x)
+          (two ∙ ap (λ (x : List ℕ). x ++ d) (count_shown (codes " at ") n.1.0 c offset)
+          ∙ ap (λ (x : List ℕ). (codes " at " ++ decimal n.1.0) ++ x)
+          (count_shown (codes " L") n.1.1 d last ∙ ap (λ k. codes " L" ++ decimal k) number)))
+          ∙ sym (refused_line n.0 n.1.0 fault),
+    )
+
+end_sound : (r : Option ℕ) (text : List ℕ) (end : UploadEnd) → head_in (codes " posted ") text ≡ r
+    → end_or r (refused_in text) ≡ Some end → IsUploadEnd end × (text ≡ end_words end)
+end_sound (Some taps) text end is e =
+    let (small, shown) = head_sound (codes " posted ") text taps is in
+    subst (λ (x : UploadEnd). IsUploadEnd x × (text ≡ end_words x)) (some_one e) (small, shown)
+end_sound None text end is e = refused_sound _ text end refl e
+
+upload_some : (r : Option (ℕ × List ℕ)) (line : List ℕ) (upload : ℕ) (end : UploadEnd)
+    → count_at (codes "upload ") line ≡ r → upload_if r ≡ Some (upload, end)
+    → (upload < 2 ^ 64) × IsUploadEnd end × (line ≡ upload_line upload end)
+upload_some None line upload end is e = absurd (cc)
+upload_some (Some parts) line upload end is e =
+    let (found, one, both) = option_some (λ (end : UploadEnd). (parts.0, end)) (end_in parts.1) (upload, end) e
+    in
+    let (fits, words) = end_sound _ parts.1 found refl one in
+    let (text, says, shown) = (count_form (codes "upload ")).sound line parts.0 parts.1 is in
+    subst (λ (x : ℕ × UploadEnd). (x.0 < 2 ^ 64) × IsUploadEnd x.1 × (line ≡ upload_line x.0 x.1)) both (
+      says.1.0.0,
+      fits,
+      shown ∙ ap (λ (x : List ℕ). x ++ parts.1) (count_shown (codes "upload ") parts.0 text says)
+          ∙ ap (λ (x : List ℕ). (codes "upload " ++ decimal parts.0) ++ x) words
+          ∙ sym (upload_spelt parts.0 found),
+    )
+
+pub upload_sound : (line : List ℕ) (upload : ℕ) (end : UploadEnd)
+    → upload_in line ≡ Some (upload, end)
+    → (upload < 2 ^ 64) × IsUploadEnd end × (line ≡ upload_line upload end)
+upload_sound line upload end e = upload_some _ line upload end refl e

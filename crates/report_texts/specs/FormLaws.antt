@@ -67,7 +67,7 @@ begins word no value text rest is =
     subst (λ (x : List ℕ). BeginsWithNoDigit (x ++ rest)) (sym is.1.1)
     (subst BeginsWithNoDigit (sym (append_assoc word is.0 rest)) (no (is.0 ++ rest)))
 
-begins_then : {B : Type 0} {says : B → List ℕ → Type 0} (word : List ℕ)
+pub begins_then : {B : Type 0} {says : B → List ℕ → Type 0} (word : List ℕ)
     → IsFirst BeginsWithNoDigit (IsCount word)
     → IsFirst BeginsWithNoDigit (IsThen (IsCount word) says)
 begins_then word first value text rest is =
