@@ -1,6 +1,7 @@
 //! The text of a report: how it is written, and how its lines are read.
 #![tactic(auto)]
 
+pub mod forms;
 mod front;
 mod line;
 mod report;

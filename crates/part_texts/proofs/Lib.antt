@@ -1,0 +1,9 @@
+pub mod HeadTexts
+pub mod WholeTexts
+pub mod Opening
+pub mod Copying
+pub mod HeadLines
+pub mod Leads
+pub mod ShownSections
+pub mod ShownFronts
+pub mod ShownReports
