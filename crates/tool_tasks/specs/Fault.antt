@@ -18,7 +18,8 @@ use Rattle.tool_tasks.specs.declared.fault.Fault.{Fault}
 use Rattle.tool_tasks.specs.declared.fault.Fault.TheVariants.{Changed, Closed, Devices, Exists}
 use Rattle.tool_tasks.specs.declared.fault.Fault.TheVariants.{FareTable}
 use Rattle.tool_tasks.specs.declared.fault.Fault.TheVariants.{Layout, Line, NoMemory, OutOfOrder}
-use Rattle.tool_tasks.specs.declared.fault.Fault.TheVariants.{Rows, SomeChanged, TapTable}
+use Rattle.tool_tasks.specs.declared.fault.Fault.TheVariants.{Rows, SomeChanged, SomeUnread}
+use Rattle.tool_tasks.specs.declared.fault.Fault.TheVariants.{TapTable}
 use Rattle.tool_tasks.specs.declared.fault.Fault.TheVariants.{TooLong, TooManyOpen, Unmade, Unread}
 use Rattle.tool_tasks.specs.declared.fault.Fault.TheVariants.{Unsettled, Write}
 
@@ -37,6 +38,7 @@ layout_text word offset fault = codes "fault: " ++ (called word ++ (codes " at "
 -- the line of a fault
 abbrev pub fault_text : Fault → List ℕ
 fault_text (Unread word) = codes "fault: cannot read " ++ called word.now
+fault_text SomeUnread = codes "fault: cannot read a file"
 fault_text (TooLong word) = codes "fault: " ++ (called word.now ++ codes " is too long")
 fault_text (TooManyOpen word) =
     codes "fault: cannot open " ++ (called word.now ++ codes ": too many files are open")

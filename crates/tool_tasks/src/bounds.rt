@@ -1,27 +1,28 @@
 //! `bounds`: the tokens at which to divide a run over sorted uploads into parts.
 ghost use Rattle.std.specs.Prelude.{◌≡◌, ◌≤◌, ◌++◌, IfOk, OnOk, flat_map, length, string_bytes};
 ghost use Rattle.std.specs.Prelude.{true};
+ghost use Rattle.sorted_taps.specs.Ranges.{DoTokensRise};
 ghost use Rattle.tool_tasks.specs.Bounds.{PrintsBounds, bound_line};
 ghost use Rattle.tool_tasks.specs.Fault.{IsFaultReported};
 ghost use Rattle.tool_tasks.specs.declared.fault.Fault.{Fault as AFault};
 
 use crate::fault::{Fault, finish, say};
-use crate::merge_sorted::fault_of_file;
-use crate::names::word_at;
 use crate::placed::{PlacedFiles, open_placed};
 use fare_texts::{Digits, write_bytes};
 use program_manners::{Complaints, Output};
-use sorted_taps::{FileFault, bounds_of_parts};
+use sorted_taps::{SortedFault, bounds_of_parts};
 use std::alloc::{AllocError, Global};
 use std::io::Write;
 use tap_views::Token;
 use tool_words::BoundsWords;
 
-/// Why the uploads that these words name were not sampled.
-fn fault_of<'a>(uploads: &[&'a str], fault: FileFault) -> Fault<'a> {
-    match word_at(uploads, fault.index) {
-        Some(word) => fault_of_file(word, fault.fault),
-        None => Fault::NoMemory,
+/// Why the uploads were not sampled.
+fn fault_of<'a>(fault: SortedFault) -> Fault<'a> {
+    match fault {
+        SortedFault::NoMemory => Fault::NoMemory,
+        SortedFault::OutOfOrder { .. } | SortedFault::Layout { .. } | SortedFault::Unread => {
+            Fault::SomeUnread
+        }
     }
 }
 
@@ -33,12 +34,12 @@ fn bounds_in<'a, D: PlacedFiles>(
     disk: &D,
 ) -> Result<Vec<Token>, Fault<'a>>
     ensures few { IfOk result (λ bounds. length bounds.items ≤ most) }
-    ensures rising { IfOk result (λ bounds. AreRisingTokens bounds.items) }
+    ensures rising { IfOk result (λ bounds. DoTokensRise bounds.items) }
 {
     let files = open_placed(alloc, disk, uploads)?;
     match bounds_of_parts(alloc, &files, most) {
         Ok(bounds) => Ok(bounds),
-        Err(fault) => Err(fault_of(uploads, fault)),
+        Err(fault) => Err(fault_of(fault)),
     }
 }
 

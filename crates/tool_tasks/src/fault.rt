@@ -25,6 +25,8 @@ use tap_views::{LayoutFault, NoMemory};
 pub enum Fault<'a> {
     /// The file could not be opened, or not be read to its end.
     Unread(&'a str),
+    /// A file could not be read.
+    SomeUnread,
     /// The file is longer than it may be.
     TooLong(&'a str),
     /// The file could not be opened, since the system has too many open.
@@ -143,6 +145,7 @@ impl fmt::Display for Fault<'_> {
     fn fmt<W: fmt::Write>(&self, f: &mut fmt::Formatter<W>) -> fmt::Result {
         match self {
             Fault::Unread(word) => write!(f, "fault: cannot read {}", Name(word)),
+            Fault::SomeUnread => f.write_str("fault: cannot read a file"),
             Fault::TooLong(word) => write!(f, "fault: {} is too long", Name(word)),
             Fault::TooManyOpen(word) => {
                 write!(

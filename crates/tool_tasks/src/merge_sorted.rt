@@ -21,7 +21,7 @@ use std::io::Write;
 use tap_views::UploadEnd;
 
 /// Why the file that the word names is refused.
-pub(crate) fn fault_of_file<'a>(word: &'a str, fault: SortedFault) -> Fault<'a>
+fn fault_of_file<'a>(word: &'a str, fault: SortedFault) -> Fault<'a>
     ensures { IsFileFault word.entry.now fault result }
 {
     match fault {
