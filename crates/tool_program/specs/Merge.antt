@@ -1,8 +1,7 @@
 -- What `merge` does: of the words of its parts.
 use Rattle.std.specs.Prelude.{◌≡◌, ◌⊎◌, ⊤, ℕ, List, Err, Ok, Option, Some, slice_get}
 use Rattle.std.specs.Io.KnownBytes.{Appends}
-use Rattle.part_texts.specs.Merge.{merge_of}
-use Rattle.part_texts.specs.declared.fault.MergeFault.TheVariants as merged
+use Rattle.part_texts.specs.Merged.{merge_of}
 use Rattle.program_manners.specs.Loads.{Loaded}
 use Rattle.program_manners.specs.declared.output.WriteEnd.{WriteEnd}
 use Rattle.program_manners.specs.declared.output.WriteEnd.TheVariants as writes
@@ -10,7 +9,8 @@ use Rattle.world.specs.declared.faults.LoadFault.{LoadFault}
 use Rattle.tool_tasks.specs.Fault.{IsRefusal}
 use Rattle.tool_tasks.specs.Source.{HasOpened}
 use Rattle.tool_tasks.specs.declared.fault.Fault.{Fault}
-use Rattle.tool_tasks.specs.declared.fault.Fault.TheVariants.{Closed, Line, NoMemory, Unread, Write}
+use Rattle.tool_tasks.specs.declared.fault.Fault.TheVariants.{Closed, Line, NoMemory, TooLong}
+use Rattle.tool_tasks.specs.declared.fault.Fault.TheVariants.{Unread, Write}
 
 -- what was written is the whole of these texts of parts
 pub record WritesWhole (texts : List (List ℕ)) (out out' : Option (List ℕ)) : Type 0 where
@@ -27,12 +27,14 @@ pub record MergesParts (words : List (List ℕ)) (loaded loaded' : Option (List 
 
 -- The fault is the right one of texts that were opened under these words: the line, of the text of
 -- the word that is named, at which they have no whole, and why; a text that could not be read to its
--- end; a write that failed, as the writer remembers it. Memory may be refused at any time.
+-- end, or has too many lines; a write that failed, as the writer remembers it. Memory may be refused at any time.
 abbrev pub IsRightMergeFault : List (List ℕ) → List (List ℕ) → Option WriteEnd → Fault → Type 0
 IsRightMergeFault words texts end (Line word number why) = (text : ℕ)
     × (slice_get words text ≡ Some word.now)
-    × (merge_of texts ≡ Err (merged.Line text number why))
+    × (merge_of texts ≡ Err (text, (number, why)))
 IsRightMergeFault words texts end (Unread word) =
+    (text : ℕ) × (slice_get words text ≡ Some word.now)
+IsRightMergeFault words texts end (TooLong word) =
     (text : ℕ) × (slice_get words text ≡ Some word.now)
 IsRightMergeFault words texts end Write = end ≡ Some writes.Refused
 IsRightMergeFault words texts end Closed = end ≡ Some writes.Closed

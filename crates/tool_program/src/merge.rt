@@ -27,6 +27,10 @@ fn fault_of<'a>(words: &[&'a str], fault: MergeFault, end: Option<WriteEnd>) -> 
             Some(word) => Fault::Unread(word),
             None => Fault::NoMemory,
         },
+        MergeFault::TooLong(text) => match word_at(words, text) {
+            Some(word) => Fault::TooLong(word),
+            None => Fault::NoMemory,
+        },
         MergeFault::Write => Fault::of_write(end),
         MergeFault::NoMemory => Fault::NoMemory,
     }
@@ -47,7 +51,10 @@ fn merge_texts<'a, R: BufRead + Drop, W: Write>(
     ensures flushed { OnOk result (out.new.is_flushed ≡ true) }
 {
     match part_texts::merge(alloc, texts, out) {
-        Ok(()) => finish(out),
+        Ok(()) => match finish(out) {
+            Ok(()) => Ok(()),
+            Err(unwritten) => Err(unwritten),
+        },
         Err(fault) => match finish(out) {
             Ok(()) => Err(fault_of(words, fault, out.end())),
             Err(unwritten) => Err(unwritten),
