@@ -14,9 +14,4 @@ mod program;
 
 pub use merge::merge_over;
 pub use program::main_over;
-pub use tool_tasks::{
-    AtTap, Cause, Escaped, Fault, MakeFault, Name, NewFault, PlacedFiles, Remedy, Shown, Sink,
-    SortWords, Source, WrongDevices, WrongRows, WrongTapTable, bounds_over, corrections_over,
-    decode_over, encode_over, encode_rows_over, finish, good_part_over, look_over,
-    merge_sorted_over, push_moment, say, sort_over, table_over, upload_text, uploads_over,
-};
+pub use tool_tasks::{Fault, MakeFault, Name, NewFault, PlacedFiles, Shown, Sink, Source, say};

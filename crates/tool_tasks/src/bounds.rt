@@ -76,7 +76,10 @@ fn print<'a, D: PlacedFiles, W: Write>(
     let bounds = bounds_in(alloc, words.parts - 1, &words.uploads, disk)?;
     let text = lines_of(alloc, &bounds)?;
     match write_bytes(text.as_bytes(), out) {
-        Ok(()) => finish(out),
+        Ok(()) => match finish(out) {
+            Ok(()) => Ok(()),
+            Err(unwritten) => Err(unwritten),
+        },
         Err(_) => Err(Fault::of_write(out.end())),
     }
 }
