@@ -41,7 +41,7 @@ class Run:
         self.texts = ["report", "ledger"][:1 + self.ledger]
 
     def count(self, kind):
-        """How many tasks of a kind there are. Of posts there may be fewer, once bounds are there."""
+        """How many tasks of a kind there are: of posts fewer than planned, if bounds are few."""
         if kind == "post" and not self.left("bounds") and not self.damaged("bounds"):
             return len(self.bounds()) + 1
         return {"sort": self.groups, "post": self.parts}.get(kind, 1)
@@ -98,8 +98,8 @@ class Run:
         files = "\0".join(self.files()).encode()
         if digest("table.toml") != self.table:
             raise Fault(f"{self.folder}/table.toml is damaged: plan in a new folder")
-        done = subprocess.run(["bin/omny_cli", "--table", "table.toml", "--settle", "--sorted", *words,
-                               "--files-from", "-", "-0"], input=files, **where)
+        words = ["--settle", "--sorted", *words, "--files-from", "-", "-0"]
+        done = subprocess.run(["bin/omny_cli", "--table", "table.toml", *words], input=files, **where)
         self.files()
         return done
 
@@ -181,8 +181,8 @@ def digest(name):
 
 
 def sum_of(file, task):
-    """What tells a file of a task from another one: the SHA-256 of a text that a merge reads. Of a
-    sorted file, which each post reads, and of the bill, the size and the time of the last change."""
+    """What tells a file of a task from another one: the SHA-256 of a text that a task reads once.
+    Of a sorted file, which each post reads, and of the bill its size and the time of its change."""
     if task.startswith(("posts/", "bounds")):
         return digest(file)
     found = os.stat(file)
