@@ -99,7 +99,8 @@ class Run:
         if digest("table.toml") != self.table:
             raise Fault(f"{self.folder}/table.toml is damaged: plan in a new folder")
         words = ["--settle", "--sorted", *words, "--files-from", "-", "-0"]
-        done = subprocess.run(["bin/omny_cli", "--table", "table.toml", *words], input=files, **where)
+        words = ["bin/omny_cli", "--table", "table.toml", *words]
+        done = subprocess.run(words, input=files, **where)
         self.files()
         return done
 
