@@ -15,7 +15,7 @@ ghost use Rattle.ledger_check.specs.inside.Fronts.{HasFront, IsFrontOf};
 
 use crate::bytes::{field, same_bytes, split_at_byte};
 use crate::moment::read_moment;
-use crate::tap::{Tap, read_long_number, read_small_number, read_token};
+use crate::tap::{Tap, read_small_number, read_token};
 use fare_texts::write_moment;
 use itoa::Buffer;
 use std::alloc::AllocError;
@@ -102,21 +102,6 @@ pub(crate) fn exact_number(digits: &[u8]) -> Option<u32>
     let number = read_small_number(digits)?;
     let mut buffer = Buffer::new();
     if buffer.format(number).as_bytes() == digits {
-        Some(number)
-    } else {
-        None
-    }
-}
-
-/// The number of at most 64 bits that the digits write, if they are written as the number is.
-pub(crate) fn exact_long_number(digits: &[u8]) -> Option<u64>
-    ensures { MatchOption result
-        ((number : ℕ) → number < 2 ^ 64 → ¬ (digits.now ≡ decimal number))
-        (λ number. (number < 2 ^ 64) × (digits.now ≡ decimal number)) }
-{
-    let number = read_long_number(digits)?;
-    let mut buffer = Buffer::new();
-    if digits == buffer.format(number).as_bytes() {
         Some(number)
     } else {
         None

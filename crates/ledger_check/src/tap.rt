@@ -65,17 +65,6 @@ pub fn read_small_number(digits: &[u8]) -> Option<u32>
     }
 }
 
-/// A number of at most 64 bits.
-pub(crate) fn read_long_number(digits: &[u8]) -> Option<u64>
-    ensures found { (number : ℕ) → number < 2 ^ 64 → digits.now ≡ decimal number
-        → result ≡ Some number }
-{
-    match std::str::from_utf8(digits) {
-        Ok(digits) => digits.parse::<u64>().ok(),
-        Err(_) => None,
-    }
-}
-
 /// The tap of the line, from its first fields; what follows the validator is not read. `None` if no
 /// entry has this line.
 pub(crate) fn read_tap(line: &[u8]) -> Option<Tap>
