@@ -42,7 +42,7 @@ impl Tap {
 }
 
 /// The token of 32 hexadecimal digits.
-pub(crate) fn read_token(digits: &[u8]) -> Option<Token>
+pub fn read_token(digits: &[u8]) -> Option<Token>
     ensures fits { IfSome result Fits }
     ensures found { (token : Token) → Fits token → digits.now ≡ encode_lower (bytes_of token)
         → result ≡ Some token }
