@@ -30,5 +30,6 @@ mod SumsFit
 pub mod LedgerTokens
 mod TokenMoves
 mod Tokens
+mod TracedLines
 mod Validators
 mod Wholes

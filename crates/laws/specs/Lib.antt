@@ -4,4 +4,5 @@ pub mod Files
 pub mod Sizes
 pub mod Split
 pub mod TapSets
+pub mod Traced
 pub mod Written

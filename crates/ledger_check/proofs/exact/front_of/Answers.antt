@@ -13,8 +13,9 @@ returns-clause-some c =
         number_field = two.0;
         moment_field = three.0;
         validator_field = four.0;
+        ends_field = four.1;
         shown = one.1 ∙ ap (λ (t : List ℕ). c.in_ok-token.token.now ++ 44 ∷ t) (two.1
             ∙ ap (λ (t : List ℕ). c.in_ok-_number._number.now ++ 44 ∷ t) (three.1
-            ∙ ap (λ (t : List ℕ). c.in_ok-moment.moment.now ++ 44 ∷ t) four.1));
+            ∙ ap (λ (t : List ℕ). c.in_ok-moment.moment.now ++ 44 ∷ t) four.2));
       },
     )
