@@ -8,11 +8,14 @@ use shard_book::HashSeed;
 use sorted_bills::{part_bill, part_spans, write_part_ledger, write_sorted_ledger};
 use sorted_taps::{FileSpan, Place, bounds_of_parts};
 use std::alloc::Global;
+use std::marker::Sync;
+use std::random::RandomSource;
 use std::test::Fail;
+use std::thread::Threads;
 use tap_views::{TapFields, Token, UploadEnd, encode};
 
 /// A sorted file in batches of this many taps: a token for each number, with as many taps.
-fn file_of(alloc: Global, numbers: &[usize], batch: usize) -> Result<Vec<u8>, Fail> {
+fn file_of(alloc: Global, numbers: &[u64], batch: usize) -> Result<Vec<u8>, Fail> {
     let mut taps = Vec::new(alloc);
     let mut last = 0u8;
     for number in numbers {
@@ -20,37 +23,66 @@ fn file_of(alloc: Global, numbers: &[usize], batch: usize) -> Result<Vec<u8>, Fa
             taps.push(TapFields {
                 token: bytes_of(last),
                 validator: SUBWAY,
-                moment: START + 60_000 * place as u64,
+                moment: START.saturating_add(place.saturating_mul(60_000)),
             })?;
         }
-        last += 2;
+        last = last.saturating_add(2);
     }
     let mut bytes = Vec::new(alloc);
-    for chunk in taps.chunks(batch) {
+    for chunk in taps.chunks(batch.max(1)) {
         bytes.extend_from_slice(&encode(alloc, chunk)?)?;
     }
     Ok(bytes)
 }
 
-/// The text behind its first line.
-fn body(text: &[u8]) -> &[u8] {
-    match text.iter().position(|byte| *byte == b'\n') {
-        Some(place) => &text[place + 1..],
-        None => text,
+/// Adds the text behind its first line, or all of it.
+fn add_lines(text: &mut Vec<u8>, ledger: &[u8], with_head: bool) -> Result<(), Fail> {
+    let mut is_body = with_head;
+    for byte in ledger {
+        if is_body {
+            text.push(*byte)?;
+        }
+        is_body |= *byte == b'\n';
+    }
+    Ok(())
+}
+
+/// Whether the spans begin at these places.
+fn begin_at(spans: &[FileSpan], places: &[Option<Place>]) -> bool {
+    for (span, place) in spans.iter().zip(places) {
+        if Some(span.from) != *place {
+            return false;
+        }
+    }
+    spans.len() == places.len()
+}
+
+/// Counts the taps of a part.
+fn count(counts: &mut [u64], ends: &[UploadEnd]) {
+    for (count, end) in counts.iter_mut().zip(ends) {
+        if let UploadEnd::Posted { taps } = end {
+            *count = count.saturating_add(*taps);
+        }
     }
 }
 
-/// The places at which the spans end.
-fn ends_of(alloc: Global, spans: &[FileSpan]) -> Result<Vec<Option<Place>>, Fail> {
-    let mut ends = Vec::new(alloc);
-    for span in spans {
-        ends.push(span.to)?;
+/// Whether the files end with these numbers of taps, and the places are their ends.
+fn are_whole(counts: &[u64], ends: &[UploadEnd], places: &[Option<Place>]) -> bool {
+    for (count, end) in counts.iter().zip(ends) {
+        if *end != (UploadEnd::Posted { taps: *count }) {
+            return false;
+        }
     }
-    Ok(ends)
+    for place in places {
+        if place.is_some() {
+            return false;
+        }
+    }
+    counts.len() == ends.len() && counts.len() == places.len()
 }
 
 /// The parts between the bounds join, and have together the taps and the ledger of the files.
-fn check<R: std::thread::Threads + std::random::RandomSource + std::marker::Sync>(
+fn do_join<R: Threads + RandomSource + Sync>(
     rt: &R,
     alloc: Global,
     files: &[InMemory<'_>],
@@ -67,41 +99,25 @@ fn check<R: std::thread::Threads + std::random::RandomSource + std::marker::Sync
         places.push(Some(Place { offset: 0, skip: 0 }))?;
         counts.push(0u64)?;
     }
+    let mut from = None;
     for part in 0..bounds.len() + 1 {
-        let from = match part.checked_sub(1) {
-            Some(before) => bounds.get(before).copied(),
-            None => None,
-        };
         let below = bounds.get(part).copied();
         let spans = part_spans(alloc, files, from, below)?;
         let made = part_bill(alloc, &table, seed, files, from, below)?;
-        if made.spans != spans {
+        if made.spans != spans || !begin_at(&spans, &places) {
             return Ok(false);
         }
-        for at in 0..spans.len() {
-            if Some(spans[at].from) != places[at] {
-                return Ok(false);
-            }
-            if let UploadEnd::Posted { taps } = made.billed.ends[at] {
-                counts[at] += taps;
-            }
-        }
-        places = ends_of(alloc, &spans)?;
+        count(&mut counts, &made.billed.ends);
         let mut ledger = Vec::new(alloc);
         write_part_ledger(alloc, &table, files, from, below, &spans, &mut ledger)?;
-        if part == 0 {
-            text.extend_from_slice(&ledger)?;
-        } else {
-            text.extend_from_slice(body(&ledger))?;
+        add_lines(&mut text, &ledger, part == 0)?;
+        places.clear();
+        for span in &spans {
+            places.push(span.to)?;
         }
+        from = below;
     }
-    for at in 0..files.len() {
-        let end = UploadEnd::Posted { taps: counts[at] };
-        if places[at] != None || whole_ends[at] != end {
-            return Ok(false);
-        }
-    }
-    Ok(text == whole)
+    Ok(are_whole(&counts, &whole_ends, &places) && text == whole)
 }
 
 /// Files in batches of 512 and of other sizes, an empty one, one of one token, and one whose tokens
@@ -124,12 +140,12 @@ fn parts_join_to_the_whole(rt: HostRuntime) -> Result<(), Fail> {
         InMemory { all: &low },
         InMemory { all: b"" },
     ];
-    assert!(rt; check(&rt, alloc, &files, &[])?);
-    assert!(rt; check(&rt, alloc, &files, &[token(0)])?);
-    assert!(rt; check(&rt, alloc, &files, &[token(6)])?);
-    assert!(rt; check(&rt, alloc, &files, &[token(7)])?);
-    assert!(rt; check(&rt, alloc, &files, &[token(255)])?);
-    assert!(rt; check(&rt, alloc, &files, &[token(6), token(7), token(8)])?);
+    assert!(rt; do_join(&rt, alloc, &files, &[])?);
+    assert!(rt; do_join(&rt, alloc, &files, &[token(0)])?);
+    assert!(rt; do_join(&rt, alloc, &files, &[token(6)])?);
+    assert!(rt; do_join(&rt, alloc, &files, &[token(7)])?);
+    assert!(rt; do_join(&rt, alloc, &files, &[token(255)])?);
+    assert!(rt; do_join(&rt, alloc, &files, &[token(6), token(7), token(8)])?);
     assert!(rt;
         check(
             &rt,
@@ -140,7 +156,7 @@ fn parts_join_to_the_whole(rt: HostRuntime) -> Result<(), Fail> {
     );
     let bounds = bounds_of_parts(alloc, &files, 4)?;
     assert!(rt; !bounds.is_empty());
-    assert!(rt; check(&rt, alloc, &files, &bounds)?);
+    assert!(rt; do_join(&rt, alloc, &files, &bounds)?);
     assert!(rt; bounds_of_parts(alloc, &files[4..5], 4)?.is_empty());
     Ok(())
 }

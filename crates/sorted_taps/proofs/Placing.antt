@@ -1,12 +1,12 @@
 -- Taps between places: what readers pass that begin at one place and come to another.
 use Rattle.std.proofs.Common.{◌≡◌, ℕ, suc, zero, ◌+◌, ◌<◌, ◌≤◌, List, [], ◌∷◌, ◌++◌, length, map}
 use Rattle.std.proofs.Common.{take, drop, get_or, refl, sym, ap, subst, ◌∙◌, arith, All, None, Some}
-use Rattle.std.proofs.Common.{append_assoc, append-nil, length-append}
+use Rattle.std.proofs.Common.{append_assoc, append-nil, length-append, false}
 use Rattle.std.specs.Prelude.{Option, flat_map}
 use Rattle.std.specs.List.Sorted.{IsSorted}
 use Rattle.std.specs.Ordering.{is_lt}
 use Rattle.std.proofs.Math.ListN.{get_or-append}
-use Rattle.std.proofs.Math.Seq.{drop-append_seam, drop-length}
+use Rattle.std.proofs.Math.Seq.{drop-append_seam, drop-length, get_or-append_seam}
 use Rattle.std.proofs.lemmas.List.{get_or_default}
 use Rattle.tap_views.specs.Encoding.{fields_of}
 use Rattle.tap_views.specs.Files.{IsFile, taps_of_batches}
@@ -17,9 +17,9 @@ use Rattle.tap_parts.specs.Canonical.{tap_cmp, IsCanonical}
 use Rattle.sorted_taps.specs.Fronts.{AreBatches}
 use Rattle.sorted_taps.specs.Merged.{BeginsNotBefore}
 use Rattle.sorted_taps.specs.Merges.{AreTaken}
-use Rattle.sorted_taps.specs.Places.{ArePlaced, AreSpanned, DoSpan, IsAt, IsLeftAt, IsLeftBehind}
-use Rattle.sorted_taps.specs.Places.{IsPlaced, IsSpanned}
-use Rattle.sorted_taps.specs.Readers.{ahead}
+use Rattle.sorted_taps.specs.Places.{ArePlaced, AreSpanned, DoSpan, IsAt, IsLeftBehind}
+use Rattle.sorted_taps.specs.Places.{IsPlaced, IsPlacedAnew, IsSpanned, first_place}
+use Rattle.sorted_taps.specs.Readers.{ahead, StandsIn}
 use Rattle.sorted_taps.specs.Reading.{AreTapsBetween}
 use Rattle.sorted_taps.specs.Stands.{StandAs, StandsAs}
 use Rattle.sorted_taps.specs.declared.places.FileSpan.{FileSpan}
@@ -28,8 +28,9 @@ use Rattle.sorted_taps.specs.declared.reader.TapReader.{TapReader}
 use Rattle.sorted_taps.proofs.Batches.{batches_join}
 use Rattle.sorted_taps.proofs.Behind.{behind_read, none_of_nothing}
 use Rattle.sorted_taps.proofs.Between.{between_more}
+use Rattle.sorted_taps.proofs.Files.{each_more}
 use Rattle.sorted_taps.proofs.Merging.{merged_canonical, none_before, sorted_cons, tail}
-use Rattle.sorted_taps.proofs.Taking.{HasPassed, passed_lengths, some_of, taken_passed}
+use Rattle.sorted_taps.proofs.Taking.{HasPassed, lies_of, passed_lengths, some_of, taken_passed}
 
 -- ---- parts of sorted lists
 pub sorted_back : (xs ys : List TapFields) → IsSorted tap_cmp (xs ++ ys) → IsSorted tap_cmp ys
@@ -211,11 +212,8 @@ pub record AreMergedBetween (files : List (List ℕ)) (spans : List FileSpan) (t
   pub counted : map (λ (reader : TapReader). reader.passed) readers ≡ map length lists
 
 -- anything, for where no file is
-abbrev no_place : Place
-no_place = record { offset = 0; skip = 0 }
-
 abbrev no_span : FileSpan
-no_span = record { from = no_place; to = None }
+no_span = record { from = first_place; to = None }
 
 -- taps that were taken by readers that began at places and came to others
 pub taken_between : (files : List (List ℕ)) (places : List Place) (begin end : List TapReader)
@@ -233,15 +231,15 @@ taken_between files places begin end spans taps begun many placed taken ends =
     × ((get_or end k d).passed ≡ length (get_or lists k [])) =
     λ k s d inside.
     let in_begin : k < length begin = omega (arith, inside, begun) in
-    let (at, none) = placed.each k no_place d in_begin in
-    let (from, to) = ends.each k no_place d s (omega (arith, inside, many)) in
+    let (at, none) = placed.each k first_place d in_begin in
+    let (from, to) = ends.each k first_place d s (omega (arith, inside, many)) in
     let one = passed.each k d in_begin in
     let file = get_or files k [] in
     let more = one.number in (
       spanned_one file (get_or spans k s) (get_or begin k d) (get_or end k d)
           (get_or lists k [])
           (subst (λ p. IsPlaced file p (get_or begin k d)) (sym from) at) one to,
-      passed_sorted file (get_or places k no_place) (get_or begin k d) (get_or end k d)
+      passed_sorted file (get_or places k first_place) (get_or begin k d) (get_or end k d)
           (get_or lists k []) at one,
       omega (arith, more, none),
     ) in
@@ -288,4 +286,41 @@ span_alike files places ones others spans stand many ends = record {
         at_alike (get_or files k []) (get_or spans k s).to (get_or ones k d) (get_or others k d)
             (stand.each k d (omega (arith, inside, many))) to,
       );
+}
+
+-- ---- one file more
+pub placed_more : (files : List (List ℕ)) (places : List Place) (readers : List TapReader)
+    (place : Place) (reader : TapReader) → length places ≡ length readers
+    → ArePlaced files places readers → IsPlacedAnew (get_or files (length readers) []) place reader
+    → ArePlaced files (places ++ place ∷ []) (readers ++ reader ∷ [])
+placed_more files places readers place reader number placed at = record {
+  each = λ k p d inside. each_more
+      (λ k r. (p : Place)
+      → IsPlacedAnew (get_or files k []) (get_or (places ++ place ∷ []) k p) r)
+      readers reader
+      (λ k d low p. subst (λ q. IsPlacedAnew (get_or files k []) q (get_or readers k d))
+      (sym (get_or-append places (place ∷ []) p k (omega (arith, low, number))))
+      (placed.each k p d low))
+      (λ p. subst (λ q. IsPlacedAnew (get_or files (length readers) []) q reader)
+      (sym (ap (λ n. get_or (places ++ place ∷ []) n p) (sym number)
+      ∙ get_or-append_seam places place [] p)) at) k d inside p;
+}
+
+-- at the begin of a file
+pub placed_first : (all : List ℕ) (reader : TapReader) → StandsIn all 0 [] reader
+    → IsPlacedAnew all first_place reader
+placed_first all reader stands =
+    (record { passed = []; skip = refl; stands = lies_of all 0 [] reader stands }, stands.number)
+
+pub span_more : (files : List (List ℕ)) (places : List Place) (readers : List TapReader)
+    (spans : List FileSpan) (span : FileSpan) → DoSpan files places readers spans
+    → ((p : Place) → span.from ≡ get_or places (length spans) p)
+    → ((d : TapReader) → IsAt (get_or files (length spans) []) span.to
+    (get_or readers (length spans) d))
+    → DoSpan files places readers (spans ++ span ∷ [])
+span_more files places readers spans span are from to = record {
+  each = λ k p d s inside. each_more
+      (λ k (one : FileSpan). (p : Place) (d : TapReader)
+      → (one.from ≡ get_or places k p) × IsAt (get_or files k []) one.to (get_or readers k d))
+      spans span (λ k s low p d. are.each k p d s low) (λ p d. (from p, to d)) k s inside p d;
 }

@@ -62,12 +62,15 @@ pub record IsPlaced (all : List ℕ) (place : Place) (reader : TapReader) : Type
   pub skip : place.skip ≡ length passed
   pub stands : StandsIn all place.offset passed (record reader { passed = length passed })
 
--- each of the files has a place, at which its reader stands and has counted no tap
+-- the reader stands at the place, and counts the taps that it passes from there on
+abbrev pub IsPlacedAnew : List ℕ → Place → TapReader → Type 0
+IsPlacedAnew all place reader = IsPlaced all place reader × (reader.passed ≡ 0)
+
+-- each of the files has a place, and a reader there
 pub record ArePlaced (files : List (List ℕ)) (places : List Place) (readers : List TapReader)
     : Type 0 where
   pub each : (k : ℕ) (p : Place) (d : TapReader) → k < length readers
-      → IsPlaced (get_or files k []) (get_or places k p) (get_or readers k d)
-      × ((get_or readers k d).passed ≡ 0)
+      → IsPlacedAnew (get_or files k []) (get_or places k p) (get_or readers k d)
 
 -- the reader stands at the place, or at no tap if there is none
 abbrev pub IsAt : List ℕ → Option Place → TapReader → Type 0

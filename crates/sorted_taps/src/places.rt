@@ -1,8 +1,7 @@
 //! Places in sorted files, at which parts of them begin and end.
 
-ghost use Rattle.std.specs.Prelude.{◌≡◌, ◌≤◌, ◌<◌, ℕ, List, length, map, get_or, IfOk, IfSome};
-ghost use Rattle.std.specs.Prelude.{None, Some};
-ghost use Rattle.sorted_taps.specs.Places.{ArePlaced, DoSpan, IsAt, IsPlaced, first_place};
+ghost use Rattle.std.specs.Prelude.{◌≡◌, ◌≤◌, ℕ, List, length, map, IfOk, IfSome, Some};
+ghost use Rattle.sorted_taps.specs.Places.{ArePlaced, DoSpan, IsAt, IsPlacedAnew};
 ghost use Rattle.sorted_taps.specs.Reading.{window_bytes};
 
 use crate::fault::SortedFault;
@@ -52,10 +51,8 @@ fn placed_reader<F: Placed>(
     window: &mut [u8],
 ) -> Result<PlacedReader, SortedFault>
     requires { window_bytes ≤ length window.old }
-    ensures counted { IfOk result (λ made. made.reader.passed ≡ 0) }
-    ensures placed { IfOk result (λ made. IfSome (F.bytes file.now)
-        (λ all. IsPlaced all made.place made.reader)) }
-    ensures first { IfOk result (λ made. from ≡ None → made.place ≡ first_place) }
+    ensures { IfOk result (λ made. IfSome (F.bytes file.now)
+        (λ all. IsPlacedAnew all made.place made.reader)) }
 {
     match from {
         Some(token) => reader_from(alloc, file, token, u64::MAX, window),
@@ -154,8 +151,8 @@ pub fn spans_to<F: Placed>(
     for at in 0..files.len() {
         let file = &files[at];
         let reader = &readers[at];
-        let place = places[at];
-        let Some(span) = span_to(alloc, file, place, reader, below, window)? else {
+        let place = &places[at];
+        let Some(span) = span_to(alloc, file, *place, reader, below, window)? else {
             return Ok(None);
         };
         spans.push(span)?;

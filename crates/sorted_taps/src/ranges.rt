@@ -3,8 +3,8 @@
 //! The guesses suit files of batches of 512 taps that are in order. Nothing rests on them: whether
 //! ranges lie one behind the other is seen where they are joined.
 
-ghost use Rattle.std.specs.Prelude.{◌≡◌, ◌≤◌, IfOk, IfSome, length};
-ghost use Rattle.sorted_taps.specs.Places.{IsPlaced};
+ghost use Rattle.std.specs.Prelude.{◌≤◌, IfOk, IfSome, length};
+ghost use Rattle.sorted_taps.specs.Places.{IsPlacedAnew};
 ghost use Rattle.sorted_taps.specs.Reading.{window_bytes};
 
 use crate::fault::SortedFault;
@@ -92,9 +92,8 @@ pub(crate) fn reader_from<F: Placed>(
     window: &mut [u8],
 ) -> Result<PlacedReader, SortedFault>
     requires { window_bytes ≤ length window.old }
-    ensures counted { IfOk result (λ made. made.reader.passed ≡ 0) }
-    ensures placed { IfOk result (λ made. IfSome (F.bytes file.now)
-        (λ all. IsPlaced all made.place made.reader)) }
+    ensures { IfOk result (λ made. IfSome (F.bytes file.now)
+        (λ all. IsPlacedAnew all made.place made.reader)) }
 {
     let offset = offset_below(file, token)?;
     let mut reader = TapReader::at(alloc, file, offset, window)?;

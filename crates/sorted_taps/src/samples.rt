@@ -2,7 +2,10 @@
 //!
 //! The sample suits files of batches of 512 taps. Nothing but speed rests on it.
 
-ghost use Rattle.std.specs.Prelude.{◌≤◌, IfOk, length};
+ghost use Rattle.std.specs.Prelude.{◌≡◌, ◌+◌, ◌-◌, ◌<◌, ◌≤◌, IfOk, IsTrue, OnOk, get_or, length};
+ghost use Rattle.std.specs.declared.cmp.Ordering.TheVariants.{Less};
+ghost use Rattle.tap_views.specs.Token.{token_cmp};
+ghost use Rattle.tap_views.specs.declared.token.Token.{Token as AToken};
 ghost use Rattle.sorted_taps.specs.Ranges.{DoTokensRise};
 
 use crate::fault::SortedFault;
@@ -69,6 +72,29 @@ fn sample_of<F: Placed>(alloc: Global, files: &[F], most: u64) -> Result<Vec<Tok
     Ok(tokens)
 }
 
+/// Whether the token is above the last bound, or above the least token if there is no bound.
+fn is_above(bounds: &[Token], least: Token, token: Token) -> bool
+    ensures { IsTrue result → (d : AToken) → 0 < length bounds.now
+        → token_cmp (get_or bounds.now (length bounds.now - 1) d) token ≡ Less }
+{
+    match bounds.last() {
+        Some(last) => *last < token,
+        None => least < token,
+    }
+}
+
+/// Adds the token if it is above the last bound, or above the least token if there is no bound.
+fn push_above(bounds: &mut Vec<Token>, least: Token, token: Token) -> Result<(), AllocError>
+    requires { DoTokensRise bounds.old.items }
+    ensures few { OnOk result (length bounds.new.items ≤ length bounds.old.items + 1) }
+    ensures rise { OnOk result (DoTokensRise bounds.new.items) }
+{
+    if is_above(bounds, least, token) {
+        bounds.push(token)?;
+    }
+    Ok(())
+}
+
 /// At most `most` of the tokens, which rise, at equal distances: each once, and not the first one.
 fn picked(alloc: Global, tokens: &[Token], most: u32) -> Result<Vec<Token>, AllocError>
     ensures few { IfOk result (λ bounds. length bounds.items ≤ most) }
@@ -78,14 +104,10 @@ fn picked(alloc: Global, tokens: &[Token], most: u32) -> Result<Vec<Token>, Allo
     let Some(least) = tokens.first() else {
         return Ok(bounds);
     };
-    let mut last = *least;
     for bound in 0..most {
         let at = (tokens.len() as u64).saturating_mul(bound as u64 + 1) / (most as u64 + 1);
         if let Some(token) = tokens.get(at as usize) {
-            if last < *token {
-                last = *token;
-                bounds.push(last)?;
-            }
+            push_above(&mut bounds, *least, *token)?;
         }
     }
     Ok(bounds)

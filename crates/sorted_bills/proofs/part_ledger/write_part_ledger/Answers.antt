@@ -12,6 +12,8 @@ use Rattle.settlement.specs.Posted.{posted}
 use Rattle.settled_texts.proofs.Rows.{posted_falls}
 use Rattle.sorted_taps.specs.Places.{DoSpan}
 use Rattle.sorted_taps.specs.declared.places.FileSpan.{FileSpan}
+use Rattle.sorted_taps.specs.declared.places.Place.{Place}
+use Rattle.sorted_taps.specs.declared.reader.TapReader.{TapReader}
 use Rattle.sorted_taps.proofs.Files.{known_number}
 use Rattle.sorted_taps.proofs.Placing.{span_alike, taken_between}
 use Rattle.sorted_bills.specs.inside.Explained.{AreExplainedSoFar, IsBegunSoFar}
@@ -65,8 +67,9 @@ returns-clause-ok g c =
           let many = c.in_ok-made.ensures.number in
           let made = c.in_ok-made.made.items in
           let ends : DoSpan all places end made =
-          rw (sym c.deref.ensures.value, sym c.readers.ensures)
-          (c.in_ok-made.ensures.spanned all are) in
+          subst (λ (rs : List TapReader). DoSpan all places rs made) c.readers.ensures
+          (subst (λ (ps : List Place). DoSpan all ps c.readers.result.now made)
+          c.deref.ensures.value (c.in_ok-made.ensures.spanned all are)) in
           let between = taken_between all places begin way.to spans explained.taps
           (omega (arith, number, readers))
           (ap length (sym same) ∙ many ∙ number)

@@ -1,9 +1,12 @@
 -- The taps that were taken lie between the places of the spans.
-use Rattle.std.proofs.Common.{ℕ, List, [], map, length, sym, ap, ◌∙◌, arith, ◌^◌, refl, ◌≡◌}
+use Rattle.std.proofs.Common.{ℕ, List, [], map, length, sym, ap, subst, ◌∙◌, arith, ◌^◌, refl, ◌≡◌}
 use Rattle.std.proofs.lemmas.Result.{err_from_is_err_and}
 use Rattle.tap_views.specs.declared.upload_end.UploadEnd.TheVariants.{Posted}
 use Rattle.settlement.specs.Posted.{posted}
 use Rattle.settlement.proofs.TokenRuns.{posted_length}
+use Rattle.sorted_taps.specs.Places.{DoSpan}
+use Rattle.sorted_taps.specs.declared.places.Place.{Place}
+use Rattle.sorted_taps.specs.declared.reader.TapReader.{TapReader}
 use Rattle.sorted_taps.proofs.Files.{known_number}
 use Rattle.sorted_taps.proofs.Placing.{taken_between}
 use Rattle.sorted_bills.proofs.Counted.{late_no_write, late_says_nothing}
@@ -37,8 +40,10 @@ returns-clause-billed g c =
           let between = taken_between all c.in_ok-begun.begun.places.items begin new spans made.taps
           (omega (arith, number, readers)) (omega (arith, number, many))
           (c.in_ok-begun.ensures.placed all are) (made.taken.taken all are)
-          (rw (sym c.deref-2.ensures.value, sym c.readers.ensures)
-          (c.in_ok-spans.ensures.spanned all are)) in (
+          (subst (λ (rs : List TapReader). DoSpan all c.in_ok-begun.begun.places.items rs spans)
+          c.readers.ensures
+          (subst (λ (ps : List Place). DoSpan all ps c.readers.result.now spans)
+          c.deref-2.ensures.value (c.in_ok-spans.ensures.spanned all are))) in (
             between.lists,
             record {
               taps = made.taps;

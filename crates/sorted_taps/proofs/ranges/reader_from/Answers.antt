@@ -1,6 +1,5 @@
-use Rattle.std.proofs.Common.{List, [], ◌∷◌, ◌++◌, arith, refl, subst, sym, ◌∙◌, length, ◌≡◌}
+use Rattle.std.proofs.Common.{List, [], ◌∷◌, ◌++◌, arith, ap, subst, sym, ◌∙◌, length}
 use Rattle.tap_views.specs.declared.encoder.TapFields.{TapFields}
-use Rattle.sorted_taps.specs.Places.{IsPlaced}
 use Rattle.sorted_taps.specs.Readers.{IsAdvanced, StandsIn}
 use Rattle.sorted_taps.specs.declared.reader.TapReader.{TapReader}
 use Rattle.sorted_taps.proofs.Known.{known_map, known_map2}
@@ -26,16 +25,20 @@ loop-preserved g c =
           c.loop.invariant.stands c.in_ok-advance.ensures.kept;
     }
 
-pub returns-in_default-clause-placed : goal.returns-in_default-clause-placed
-returns-in_default-clause-placed g c =
+pub returns-in_default : goal.returns-in_default
+returns-in_default g c =
     let offset = c.in_ok-offset.offset in
     let old = c.loop.reader in
     known_map (λ all. (passed : List TapFields) × StandsIn all offset passed old) _
     (g.F.Placed.bytes c.args.file.now)
-    (λ all stands. record {
-      passed = stands.0;
-      skip = c.passed-skip.ensures ∙ stands.1.number;
-      stands = subst
-          (λ (r : TapReader). StandsIn all offset stands.0 (record r { passed = length stands.0 }))
-          (sym c.count_anew.ensures) (lies_of all offset stands.0 old stands.1);
-    }) c.loop.invariant.stands
+    (λ all stands. (
+      record {
+        passed = stands.0;
+        skip = c.passed-skip.ensures ∙ stands.1.number;
+        stands = subst
+            (λ (r : TapReader). StandsIn all offset stands.0
+            (record r { passed = length stands.0 })) (sym c.count_anew.ensures)
+            (lies_of all offset stands.0 old stands.1);
+      },
+      ap (λ (r : TapReader). r.passed) c.count_anew.ensures,
+    )) c.loop.invariant.stands
