@@ -4,7 +4,6 @@ pub mod Books
 mod CentsFit
 mod Exchanged
 mod FieldsFit
-mod KeySums
 pub mod Lacking
 mod LedgerLines
 mod Lines

@@ -20,7 +20,7 @@ use crate::head::span_in;
 use crate::spans::{FileSpan, Place};
 use fare_texts::head_line;
 use histories::{Totals, ValidatorSum};
-use line_folds::fold::{Fold, Refusal};
+use line_folds::{Fold, Refusal};
 use report_texts::Wrong;
 use report_texts::forms::{head_in, totals_in, upload_in, validator_in};
 use std::alloc::{AllocError, Global};

@@ -10,16 +10,13 @@ ghost use Rattle.report_texts.specs.declared.wrong.Wrong.TheVariants.{Form};
 use crate::fronts::{added, are_same};
 use fare_texts::write_out;
 use histories::Totals;
-use line_folds::lines::Stop;
+use line_folds::{NextLine, ReadFault, Stop, next_line};
 use line_forms::form::FormOf;
 use report_texts::Wrong;
 use report_texts::forms::{TokenDigits, token_line_in};
 use std::alloc::Global;
-use std::io::{BufRead, ErrorKind, Write};
+use std::io::{BufRead, Write};
 use tap_views::Token;
-
-/// How many bytes a line has at most, with its line feed.
-const MAX_LINE_BYTES: usize = 1_024;
 
 /// What the lines of a part so far leave.
 #[derive(Clone, Copy, Debug, PartialEq, Eq)]
@@ -165,18 +162,15 @@ pub(crate) fn copy_lines<R: BufRead, W: Write>(
 {
     let mut line = Vec::new(alloc);
     for number in first..u64::MAX {
-        line.clear();
-        match from.read_until(b'\n', &mut line) {
-            Ok(_) => {}
-            Err(error) if error.kind() == ErrorKind::OutOfMemory => return Err(Stop::NoMemory),
-            Err(_) => return Err(Stop::Unread),
-        }
-        if line.is_empty() {
-            return Ok(number);
-        }
-        if line.len() > MAX_LINE_BYTES {
-            let why = Wrong::Form;
-            return Err(Stop::Line { number, why });
+        match next_line(from, &mut line) {
+            Ok(NextLine::Whole) => {}
+            Ok(NextLine::Long) => {
+                let why = Wrong::Form;
+                return Err(Stop::Line { number, why });
+            }
+            Ok(NextLine::End) => return Ok(number),
+            Err(ReadFault::Unread) => return Err(Stop::Unread),
+            Err(ReadFault::NoMemory) => return Err(Stop::NoMemory),
         }
         match section.behind(&line) {
             Ok(next) => *section = next,

@@ -6,7 +6,7 @@ use Rattle.std.specs.List.Sorted.{IsStrictlySortedBy}
 use Rattle.std.specs.Ordering.{eq_by_cmp, is_eq, nat_cmp}
 use Rattle.std.specs.Set.{is_member}
 use Rattle.std.specs.declared.cmp.Ordering.{Ordering}
-use Rattle.std.specs.declared.cmp.Ordering.TheVariants.{Less}
+use Rattle.std.specs.declared.cmp.Ordering.TheVariants.{Less, Equal}
 use Rattle.std.proofs.Common.{refl, sym, ◌∙◌, ap, arith, inl, inr}
 use Rattle.std.proofs.lemmas.Bool.{true≢false}
 use Rattle.std.proofs.lemmas.Bool.Decides.{nat_tests}
@@ -21,11 +21,22 @@ use Rattle.histories.specs.Rising.{rising}
 use Rattle.histories.specs.Sums.{Sums, add_all, add_sums, sums}
 use Rattle.histories.specs.SumsByKey.{entries_of_validator, sums_by_token, sums_by_validator}
 use Rattle.histories.specs.SumsByKey.{token_of, tokens, validator_of, validators}
-use Rattle.histories.proofs.SameEntries.{RisingNumbers, RisingTokens}
-use Rattle.histories.proofs.SumsLemmas.{add_assoc, none_add}
-use Rattle.part_reports.specs.Reports.{added}
-use Rattle.part_reports.proofs.SumsAdded.{same_key}
-use Rattle.laws.proofs.Validators.{SumsAdd}
+use Rattle.histories.proofs.RisingLemmas.{rising-is}
+use Rattle.histories.proofs.SumsLemmas.{add_assoc, none_add, sums-append}
+use Rattle.std.proofs.lemmas.Cmp.{nat_cmp_total}
+
+abbrev SumsAdd : Type 0
+SumsAdd = (before after : List Entry) → sums (before ++ after) ≡ add_sums (sums before) (sums after)
+
+-- the sums of keys, added up
+abbrev pub all_added : {K : Type 0} → List (K × Sums) → Sums
+all_added list = add_all (map (λ sum. sum.1) list)
+
+same_key : (k : ℕ) → is_eq (nat_cmp k k) ≡ true
+same_key k = grind (arith, nat_tests)
+
+number_ties : (a b : ℕ) → nat_cmp a b ≡ Equal → a ≡ b
+number_ties a b tied = grind (arith, nat_tests)
 
 -- ---- sums
 
@@ -208,22 +219,20 @@ seconds : {K : Type 0} (f : K → Sums) (keys : List K)
 seconds f [] = refl
 seconds f (k ∷ keys) = ap (λ rest. f k ∷ rest) (seconds f keys)
 
-pub validators_add : RisingNumbers → SumsAdd → (entries : List Entry)
-    → sums entries ≡ added (sums_by_validator entries)
+pub validators_add : (entries : List Entry) → sums entries ≡ all_added (sums_by_validator entries)
 unfolding sums_by_validator validators entries_of_validator
-validators_add numbers law entries =
+validators_add entries =
     let keys = rising nat_cmp (map validator_of entries) in
-    let risen = (numbers (map validator_of entries) keys).1 refl in
-    sym (keys_add nat_cmp validator_of is_at number_reports number_above same_key law keys entries
-    risen.rises risen.same)
+    let risen = rising-is nat_cmp_total number_ties (map validator_of entries) in
+    sym (keys_add nat_cmp validator_of is_at number_reports number_above same_key sums-append keys
+    entries risen.rises risen.same)
     ∙ ap add_all (sym (seconds (λ k. sums (filter (is_at k) entries)) keys))
 
-pub tokens_add : RisingTokens → SumsAdd → (entries : List Entry)
-    → sums entries ≡ added (sums_by_token entries)
+pub tokens_add : (entries : List Entry) → sums entries ≡ all_added (sums_by_token entries)
 unfolding sums_by_token tokens own
-tokens_add names law entries =
+tokens_add entries =
     let keys = rising token_cmp (map token_of entries) in
-    let risen = (names (map token_of entries) keys).1 refl in
-    sym (keys_add token_cmp token_of is_of token_reports token_above token_same law keys entries
-    risen.rises risen.same)
+    let risen = rising-is token_cmp-total token_cmp-ties (map token_of entries) in
+    sym (keys_add token_cmp token_of is_of token_reports token_above token_same sums-append keys
+    entries risen.rises risen.same)
     ∙ ap add_all (sym (seconds (λ k. sums (filter (is_of k) entries)) keys))
