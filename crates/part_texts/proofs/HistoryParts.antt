@@ -32,7 +32,7 @@ use Rattle.part_texts.specs.HistoryParts.{AreRight, DoRise, Fits, HistoryPart, a
 use Rattle.part_texts.specs.Merged.{merge_of}
 use Rattle.part_texts.specs.Places.{AreWhole, DoJoin, first_place}
 use Rattle.part_texts.specs.Sections.{is_token_above}
-use Rattle.part_texts.specs.Shown.{IsNextPart, IsRight, PartReport, SoFar, adds_to, all_fit, are_joined, are_next_parts, are_posted_to, do_rise, do_tokens_rise, is_none_behind, last_of, nothing_so_far, part_text, sum_up, tokens_of}
+use Rattle.part_texts.specs.Shown.{IsNextPart, IsRight, PartReport, SoFar, adds_to, are_joined, are_next_parts, are_posted_to, do_rise, do_tokens_rise, is_none_behind, last_of, nothing_so_far, part_text, sum_up, tokens_of}
 use Rattle.part_texts.specs.declared.spans.Place.{Place}
 use Rattle.part_texts.specs.declared.spans.FileSpan.{FileSpan}
 use Rattle.part_texts.proofs.KeySums.{all_added, tokens_add, validators_add}
@@ -436,13 +436,13 @@ same_number a b same = grind (arith, nat_tests, same)
 -- what the parts so far are, and that the others follow
 record GoesOn (files : ℕ) (taps : List ℕ) (history : List Entry) (last : Option Token)
     (parts : List HistoryPart) : Type 0 where
-  number : all_fit (λ p. length p.spans ≡ files) parts
+  number : AllByRecursion (λ p. length p.spans ≡ files) parts
   uploads : length taps ≡ files
   posted : sum_up taps ≡ length history
   rise : DoRise (histories_of parts)
   above : AreBelow (map token_of history) (map token_of (whole_history parts))
   below : LastIsBelow last (map token_of (whole_history parts))
-  fit : all_fit Fits parts
+  fit : AllByRecursion Fits parts
   few : length (history ++ whole_history parts) < 2 ^ 64
 
 tokens_both : (xs ys : List Entry) → map token_of (xs ++ ys) ≡ map token_of xs ++ map token_of ys

@@ -10,3 +10,4 @@ pub mod ShownReports
 pub mod KeySums
 pub mod Tables
 pub mod HistoryParts
+pub mod ShownLedgers

@@ -1,12 +1,13 @@
 -- Parts of a history, and the texts of their reports.
 use Rattle.std.specs.Prelude.{◌≡◌, ◌+◌, ◌<◌, ◌^◌, ℕ, List, [], ◌∷◌, ◌++◌, flat_map, length, map}
+use Rattle.std.specs.List.{AllByRecursion}
 use Rattle.tap_views.specs.TokenOrder.{AreBelow}
 use Rattle.histories.specs.Sums.{sums}
 use Rattle.histories.specs.SumsByKey.{sums_by_token, sums_by_validator, token_of}
 use Rattle.histories.specs.declared.entry.Entry.{Entry}
 use Rattle.report_texts.specs.Numbers.{AreCounts, IsTokenSum, IsValidatorSum}
 use Rattle.part_texts.specs.Places.{AreWhole}
-use Rattle.part_texts.specs.Shown.{PartReport, SpanFits, all_fit, sum_up}
+use Rattle.part_texts.specs.Shown.{PartReport, SpanFits, sum_up}
 use Rattle.part_texts.specs.declared.spans.FileSpan.{FileSpan}
 
 -- where a part lies in each file, how many taps each file has there, and the history of the taps
@@ -51,18 +52,18 @@ whole_history parts = flat_map (λ entries. entries) (histories_of parts)
 -- the numbers of the part's report fit 64 bits
 pub record Fits (p : HistoryPart) : Type 0 where
   pub files : length p.spans < 2 ^ 64
-  pub spans : all_fit SpanFits p.spans
+  pub spans : AllByRecursion SpanFits p.spans
   pub uploads : length p.taps ≡ length p.spans
   pub posted : sum_up p.taps ≡ length p.history
   pub totals : AreCounts (sums p.history)
-  pub validators : all_fit IsValidatorSum (sums_by_validator p.history)
-  pub tokens : all_fit IsTokenSum (sums_by_token p.history)
+  pub validators : AllByRecursion IsValidatorSum (sums_by_validator p.history)
+  pub tokens : AllByRecursion IsTokenSum (sums_by_token p.history)
 
 -- The parts have as many files each, join from the files' begins to their ends, and rise by token.
 -- All of them have fewer than 2^64 taps, and their numbers fit.
 pub record AreRight (files : ℕ) (parts : List HistoryPart) : Type 0 where
-  pub number : all_fit (λ p. length p.spans ≡ files) parts
+  pub number : AllByRecursion (λ p. length p.spans ≡ files) parts
   pub whole : AreWhole (map (λ p. p.spans) parts)
   pub rise : DoRise (histories_of parts)
-  pub fit : all_fit Fits parts
+  pub fit : AllByRecursion Fits parts
   pub few : length (whole_history parts) < 2 ^ 64
