@@ -4,6 +4,7 @@ use Rattle.std.specs.List.{AllByRecursion}
 use Rattle.std.specs.List.Sorted.{IsPermutation}
 use Rattle.std.proofs.Common.{refl, sym, ap, subst, ◌∙◌, arith, length-append}
 use Rattle.std.proofs.lemmas.List.{length-map}
+use Rattle.std.proofs.lemmas.List.Sorted.{length_permutation}
 use Rattle.std.proofs.lemmas.List.Elements.{All-cons, All-head, All-nil, All-tail, recursion_from_All}
 use Rattle.tap_views.specs.Token.{Fits as TokenFits}
 use Rattle.tap_views.specs.declared.encoder.TapFields.{TapFields}
@@ -92,7 +93,7 @@ module _ (fares : Fares) (bounds : HaveBoundedTerms fares) (files : List (List �
     where
       moved : (is : IsPartOf fares files part.spans part.lists part.history)
           → length (flat_map (λ list. list) part.lists) ≡ length is.taps
-      moved is = length-IsPermutation (flat_map (λ list. list) part.lists) is.taps is.canonical.moved
+      moved is = sym (length_permutation (flat_map (λ list. list) part.lists) is.taps is.canonical.moved)
 
   -- ---- all parts
   all_spans : (parts : List PartView) → ArePartsOf fares files parts

@@ -84,9 +84,9 @@ front_leads first last ledger ends next p may few fit files joined =
     (header_taken first last ledger n next may)
 
 stopped : (number : ℕ) (s : FrontsView) (lines : List (List ℕ)) → front_done s ≡ true
-    → run front_done (bounded Form front_step) number s lines ≡ Ok (number, (s, lines))
+    → run front_done (bounded Form front_step) number s lines ≡ Ok (number, s, lines)
 stopped number s [] done = refl
-stopped number s (line ∷ lines) done = ap (λ b. cond b (Ok (number, (s, line ∷ lines))) _) done
+stopped number s (line ∷ lines) done = ap (λ b. cond b (Ok (number, s, line ∷ lines)) _) done
 
 -- the part whose front is read
 abbrev pub ledger_opened : ℕ → PartLedger → OpenView
@@ -147,7 +147,7 @@ fronts_shown was_first was_last stage ends last opens [] are =
     (was_first, was_last, stage, ends, [], tt,
     ap (λ os. Ok (ledger_at was_first was_last true stage ends, os)) (sym (append-nil opens)))
 fronts_shown was_first was_last stage ends last opens (p ∷ ps)
-    (few, fit, files, lines, follow, next, joined, others) =
+    (next, few, fit, files, lines, follow, joined, others) =
     let first = nat_eq (length opens) 0 in
     let final = is_none_behind ps in
     let open = ledger_opened (1 + front_count p) p in
@@ -225,7 +225,7 @@ sections_shown place first ends last [] [] are opened_all = (last, refl)
 sections_shown place first ends last [] (open ∷ opens) are opened_all = absurd opened_all
 sections_shown place first ends last (p ∷ ps) [] are opened_all = absurd opened_all
 sections_shown place first ends last (p ∷ ps) (open ∷ opens)
-    (few, fit, files, lines, follow, next, joined, more) (number, shown, others) =
+    (next, few, fit, files, lines, follow, joined, more) (number, shown, others) =
     let (end, rest) = sections_shown (place + 1) false next (last_entry last p.entries) ps opens more others
     in
     (
@@ -252,7 +252,7 @@ pub ledgers_merge : (p : PartLedger) (ps : List PartLedger)
     → are_next_ledgers true [] None (p ∷ ps)
     → merge_of (map ledger_text (p ∷ ps))
     ≡ Ok (head_text ++ flat_map (λ part. lines_of_entries part.entries) (p ∷ ps))
-ledgers_merge p ps (few, fit, files, lines, follow, next, joined, others) =
+ledgers_merge p ps (next, few, fit, files, lines, follow, joined, others) =
     let open = ledger_opened (1 + front_count p) p in
     let final = is_none_behind ps in
     let (f, l, end, all_ends, more, opened_rest, same) =
@@ -260,7 +260,7 @@ ledgers_merge p ps (few, fit, files, lines, follow, next, joined, others) =
     let opened_all : are_opened (p ∷ ps) (open ∷ more) = (1 + front_count p, refl, opened_rest) in
     let s = ledger_at f l true end all_ends in
     let (last, sections) = sections_shown 0 true [] None (p ∷ ps) (open ∷ more)
-    (few, fit, files, lines, follow, next, joined, others) opened_all in
+    (next, few, fit, files, lines, follow, joined, others) opened_all in
     ap (λ r. and_then r merged)
     (ap (λ b. and_then (front_of 0 (ledger_at true b false Head []) (ledger_text p))
     (λ read. fronts_of read.0 ([] ++ read.1 ∷ []) (map ledger_text ps))) (none_left ps)

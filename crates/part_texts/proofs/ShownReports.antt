@@ -139,10 +139,10 @@ front_leads first last old so_far before after p is =
     (sym is.tokens) eight
 
 stopped : (number : ℕ) (s : FrontsView) (lines : List (List ℕ)) → front_done s ≡ true
-    → run front_done (bounded Form front_step) number s lines ≡ Ok (number, (s, lines))
+    → run front_done (bounded Form front_step) number s lines ≡ Ok (number, s, lines)
 stopped number s [] done = refl
 stopped number s (line ∷ lines) done =
-    ap (λ b. cond b (Ok (number, (s, line ∷ lines))) _) done
+    ap (λ b. cond b (Ok (number, s, line ∷ lines)) _) done
 
 -- the part whose front is read
 abbrev pub opened_at : ℕ → PartReport → OpenView

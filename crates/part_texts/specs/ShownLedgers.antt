@@ -52,8 +52,8 @@ last_entry last (entry ∷ more) = last_entry (Some entry.token) more
 abbrev pub are_next_ledgers : Bool → List (Option Place) → Option Token → List PartLedger → Type 0
 are_next_ledgers first ends last [] = Unit {0}
 are_next_ledgers first ends last (p ∷ ps) =
-    (length p.spans < 2 ^ 64) × AllByRecursion SpanFits p.spans
+    (next : List (Option Place)) × (length p.spans < 2 ^ 64) × AllByRecursion SpanFits p.spans
     × ((first || nat_eq (length p.spans) (length ends)) ≡ true)
     × AllByRecursion IsEntryLine p.entries × do_follow true last p.entries
-    × ((next : List (Option Place)) × are_joined first (is_none_behind ps) ends p.spans next
-    × are_next_ledgers false next (last_entry last p.entries) ps)
+    × are_joined first (is_none_behind ps) ends p.spans next
+    × are_next_ledgers false next (last_entry last p.entries) ps
