@@ -1,5 +1,5 @@
 -- Columns: what stands up to a comma or a line feed.
-use Rattle.std.specs.Prelude.{◌≡◌, ◌==◌, ◌&&◌, ◌||◌, ℕ, Bool, true, false, List, [], ◌∷◌, Option, not, take, drop}
+use Rattle.std.specs.Prelude.{◌≡◌, ◌==◌, ◌&&◌, ◌||◌, ℕ, Bool, true, List, [], ◌∷◌, not, take, drop}
 use Rattle.std.specs.List.{position_or_len}
 use Rattle.line_forms.specs.Forms.{Reader, value_if}
 use Rattle.line_forms.specs.Numbers.{with_rest}

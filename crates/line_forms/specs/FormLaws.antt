@@ -3,7 +3,6 @@ use Rattle.std.proofs.Common.{◌≡◌, ◌==◌, ℕ, suc, ◌+◌, ◌<◌, �
 use Rattle.std.proofs.Common.{[], ◌∷◌, ◌++◌, length, take, drop, refl, sym, ap, subst, ◌∙◌, arith, append_assoc, Decides, option_map, Bor}
 use Rattle.std.specs.Char.{is_ascii_digit}
 use Rattle.std.specs.Fmt.{decimal}
-use Rattle.std.specs.List.{position_or_len}
 use Rattle.std.specs.Str.{all_ascii_digits, bytes_eq}
 use Rattle.std.specs.Str.Parse.{digits_value}
 use Rattle.std.proofs.lemmas.Bool.{false≢true, and_from, and_parts}
@@ -26,7 +25,7 @@ pub is_none : {A : Type 0} (r : Option A) → ((a : A) → ¬ (r ≡ Some a)) �
 is_none None f = refl
 is_none (Some a) f = absurd (f a refl)
 
-some_one : {A : Type 0} {a b : A} → Some a ≡ Some b → a ≡ b
+pub some_one : {A : Type 0} {a b : A} → Some a ≡ Some b → a ≡ b
 some_one e = cc
 
 -- ---- words
