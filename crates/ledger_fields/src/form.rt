@@ -30,16 +30,26 @@ pub fn row_fields(line: &[u8]) -> Option<RowFields<'_>>
     let reason = Then(Behind(b",", Field::Word), Behind(b",", Field::PastMoment));
     let window = Then(
         Behind(b",", Field::PastMoment),
-        Then(Behind(b",", Field::LaterMoment), Then(Behind(b",", Field::Ride), reason)),
+        Then(
+            Behind(b",", Field::LaterMoment),
+            Then(Behind(b",", Field::Ride), reason),
+        ),
     );
     let charge = Then(
         Behind(b",", Field::Word),
-        Then(Behind(b",", Field::Word), Then(Behind(b",", Number32), window)),
+        Then(
+            Behind(b",", Field::Word),
+            Then(Behind(b",", Number32), window),
+        ),
     );
-    let tap = Then(Behind(b",", Field::Moment), Then(Behind(b",", Number32), charge));
+    let tap = Then(
+        Behind(b",", Field::Moment),
+        Then(Behind(b",", Number32), charge),
+    );
     let form = Then(Field::Token, Then(Behind(b",", Number64), tap));
-    let (token, (_number, (moment, (validator, (_mode, (answer, (cents, rest))))))) =
-        line_of(&form, line)?;
+    let (token, (_number, (moment, (validator, (_mode, (answer, (cents, rest))))))) = line_of(
+        &form, line,
+    )?;
     let (_start, (_end, (_ride, (reason, _points_at)))) = rest;
     Some(RowFields {
         token,
