@@ -1,15 +1,17 @@
 //! The lines of a part behind its front: those of tokens, or those of a ledger's entries.
 
-ghost use Rattle.std.specs.Prelude.{◌≡◌, IfSome, false};
+ghost use Rattle.std.specs.Prelude.{◌≡◌, IfSome, false, option_map};
 ghost use Rattle.line_folds.specs.Folds.{HasWritten, StopsAs, bounded, lines_of, run, written};
-ghost use Rattle.part_texts.specs.EntryLines.{entry_token_in};
+ghost use Rattle.part_texts.specs.EntryLines.{entry_token_in, first_of};
 ghost use Rattle.part_texts.specs.Sections.{IsNext, entry_step, is_token_above, may_follow};
 ghost use Rattle.part_texts.specs.Sections.{section_end, section_step, section_view, token_step};
+ghost use Rattle.report_texts.specs.Forms.{token_read};
 ghost use Rattle.report_texts.specs.declared.wrong.Wrong.TheVariants.{Form};
 
 use crate::fronts::{added, are_same};
 use fare_texts::write_out;
 use histories::Totals;
+use ledger_fields::row_fields;
 use line_folds::{NextLine, ReadFault, Stop, next_line};
 use line_forms::form::FormOf;
 use report_texts::Wrong;
@@ -35,11 +37,21 @@ pub(crate) struct Section {
 }
 
 /// The token in front of the line.
-fn entry_token_in(line: &[u8]) -> Option<Token>
-    ensures { result ≡ entry_token_in line.now }
+fn front_token(line: &[u8]) -> Option<Token>
+    ensures { result ≡ option_map first_of (token_read line.now) }
 {
     let (token, _) = TokenDigits.read(line)?;
     Some(token)
+}
+
+/// The token in front of the line, if the line has the form of a ledger's line.
+fn entry_token_in(line: &[u8]) -> Option<Token>
+    ensures { result ≡ entry_token_in line.now }
+{
+    match row_fields(line) {
+        Some(_) => front_token(line),
+        None => None,
+    }
 }
 
 fn is_token_above(last: Option<Token>, token: Token) -> bool
