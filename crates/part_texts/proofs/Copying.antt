@@ -39,7 +39,7 @@ ok_one e = cc
 
 -- what a run that goes through writes are all lines
 all_written : (number : ℕ) (s : SectionView) (lines : List (List ℕ))
-    (end : ℕ × (SectionView × List (List ℕ)))
+    (end : ℕ × SectionView × List (List ℕ))
     → run never (bounded Form section_step) number s lines ≡ Ok end
     → written never (bounded Form section_step) line_itself s lines ≡ flat_map (λ line. line) lines
 all_written number s [] end ran = refl
@@ -132,7 +132,7 @@ module _ {R : Type 0} (remaining : R → Option (List ℕ)) (place : ℕ) (last 
             ∙ ap (end_or (place, (number, Form)) end) ends,
         refl,
         subst (Appends before after)
-            (all_written open.number start (lines_of rest) (number, (end, lines_of behind)) ran
+            (all_written open.number start (lines_of rest) (number, end, lines_of behind) ran
             ∙ ap (λ (v : OpenView). flat_map (λ line. line) v.lines) same) all,
       )
 
@@ -166,7 +166,7 @@ module _ {R : Type 0} (remaining : R → Option (List ℕ)) (place : ℕ) (last 
       through (run never (bounded Form section_step) open.number start (lines_of rest)) refl
       (sym (said_by_run view rest same) ∙ ok)
     where
-      through : (ran : Result (ℕ × (SectionView × List (List ℕ))) (ℕ × Wrong))
+      through : (ran : Result (ℕ × SectionView × List (List ℕ)) (ℕ × Wrong))
           → run never (bounded Form section_step) open.number start (lines_of rest) ≡ ran
           → section_ended place ran ≡ Ok s
           → AppendsPrefix before after (flat_map (λ line. line) view.lines)

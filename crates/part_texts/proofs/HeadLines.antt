@@ -17,7 +17,8 @@ use Rattle.part_texts.specs.declared.spans.FileSpan.{FileSpan}
 
 place_begins : (w : List ℕ) → ((rest : List ℕ) → BeginsWithNoDigit (w ++ rest))
     → IsFirst BeginsWithNoDigit (IsPlaceText w)
-place_begins w no place text rest is = begins_then w (begins w no) is.0 text rest is.1.0
+place_begins w none place text rest is =
+    begins_then (IsCount (codes " skip ")) w (begins w none) is.0 text rest is.1
 
 to_begins : IsFirst BeginsWithNoDigit IsToText
 to_begins None text rest is =
@@ -26,9 +27,9 @@ to_begins (Some place) text rest is = place_begins (codes " to ") (λ rest. refl
 
 then_begins : IsFirst BeginsWithNoDigit (IsThen (IsPlaceText (codes " from ")) IsToText)
 then_begins value text rest is =
-    subst (λ (x : List ℕ). BeginsWithNoDigit (x ++ rest)) (sym is.1.1.1.1)
-    (subst BeginsWithNoDigit (sym (append_assoc is.0 is.1.0 rest))
-    (place_begins (codes " from ") (λ rest. refl) value.0 is.0 (is.1.0 ++ rest) is.1.1.0))
+    subst (λ (x : List ℕ). BeginsWithNoDigit (x ++ rest)) (sym is.4)
+    (subst BeginsWithNoDigit (sym (append_assoc is.0 is.1 rest))
+    (place_begins (codes " from ") (λ rest. refl) value.0 is.0 (is.1 ++ rest) is.2))
 
 span_form : IsForm (IsThen (IsCount (codes "file ")) (IsThen (IsPlaceText (codes " from ")) IsToText))
     BeginsWithNoDigit

@@ -48,7 +48,7 @@ module _ {S W : Type 0} (done : S → Bool) (long : W) (step : S → List ℕ �
       → step s line ≡ Ok t → Leads done long step s line 1 t
   by_line s t line is goes taken number rest =
       ap (run done (bounded long step) number s) (first_line 1000 line rest is)
-      ∙ ap (λ b. cond b (Ok (number, (s, line ∷ lines_of rest)))
+      ∙ ap (λ b. cond b (Ok (number, s, line ∷ lines_of rest))
       (carry (λ next. run done (bounded long step) (number + 1) next (lines_of rest))
       (λ why. (number, why)) (bounded long step s line))) goes
       ∙ ap (carry (λ next. run done (bounded long step) (number + 1) next (lines_of rest))

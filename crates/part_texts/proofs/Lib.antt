@@ -7,3 +7,7 @@ pub mod Leads
 pub mod ShownSections
 pub mod ShownFronts
 pub mod ShownReports
+pub mod KeySums
+pub mod Tables
+pub mod HistoryParts
+pub mod ShownLedgers

@@ -35,7 +35,7 @@ front_ok place number s new text left (rest, is, ran) done = (
   is,
   ap (front_end place) ran
       ∙ ap (λ b. cond {A = Result (FrontsView × OpenView) WrongLine} b
-      (Ok (new, opened (number, (new, lines_of rest)))) (Err (place, (number, Form)))) done,
+      (Ok (new, opened (number, new, lines_of rest))) (Err (place, (number, Form)))) done,
 )
 
 pub front_short : (place number : ℕ) (s new : FrontsView) (text : List ℕ) (left : Option (List ℕ))
@@ -45,7 +45,7 @@ pub front_short : (place number : ℕ) (s new : FrontsView) (text : List ℕ) (l
 front_short place number s new text left (rest, is, ran) done =
     ap (front_end place) ran
     ∙ ap (λ b. cond {A = Result (FrontsView × OpenView) WrongLine} b
-    (Ok (new, opened (number, (new, lines_of rest)))) (Err (place, (number, Form)))) done
+    (Ok (new, opened (number, new, lines_of rest))) (Err (place, (number, Form)))) done
 
 pub front_fault : (place : ℕ) (s new : FrontsView) (text : List ℕ) (left : Option (List ℕ))
     (stop : Stop Wrong)
@@ -136,7 +136,7 @@ next_front remaining now mid opens views more others place count text at all is 
 view_of : {R : Type 0} (remaining : R → Option (List ℕ)) (open : Open R) (next : FrontsView)
     (rest : List ℕ) → remaining open.from ≡ Some rest → open.is_ledger ≡ next.is_ledger
     → open.left ≡ left_at next.stage → sums_of open.part ≡ next.part
-    → open_view remaining open ≡ Some (opened (open.number, (next, lines_of rest)))
+    → open_view remaining open ≡ Some (opened (open.number, next, lines_of rest))
 view_of remaining open next rest is ledger left part =
     ap (option_map (λ (text : List ℕ). record {
       is_ledger = open.is_ledger;
@@ -171,7 +171,7 @@ opens_more remaining all first now mid next opens more_opens open left more r pl
     let whole : count ≡ length opens + (1 + length more) =
     (let l = ap length split in omega (arith, number, l)) in
     let (unread, is, said) = if_some _ (remaining r) text here read in
-    let view = opened (open.number, (next, lines_of unread)) in
+    let view = opened (open.number, next, lines_of unread) in
     (
       others,
       behind,

@@ -4,6 +4,7 @@ use Rattle.std.proofs.Common.{Option, Some, None, Result, Ok, Err, refl, sym, ap
 use Rattle.std.specs.Prelude.{flat_map, nat_eq, nat_lt, nat_le}
 use Rattle.std.proofs.lemmas.Bool.{and_from}
 use Rattle.std.proofs.lemmas.Bool.Decides.{nat_tests}
+use Rattle.std.specs.List.{AllByRecursion}
 use Rattle.histories.specs.Sums.{Sums}
 use Rattle.tap_views.specs.declared.upload_end.UploadEnd.TheVariants.{Posted}
 use Rattle.fare_texts.specs.Counts.{totals_line}
@@ -18,7 +19,7 @@ use Rattle.report_texts.proofs.OneLine.{head_is_one, totals_line_is_one, upload_
 use Rattle.part_texts.specs.Fronts.{FrontsView, is_above, may_end, no_sums, place_eq, plus, posted_in, starts, sums_eq, sums_within, taps_before, with_validator}
 use Rattle.part_texts.specs.FrontSteps.{found_or, front_done, front_step, said, where_holds}
 use Rattle.part_texts.specs.Heads.{part_head, span_line, span_lines}
-use Rattle.part_texts.specs.Shown.{SpanFits, adds_to, all_fit, are_added, are_joined, are_posted_to, do_rise}
+use Rattle.part_texts.specs.Shown.{SpanFits, adds_to, are_added, are_joined, are_posted_to, do_rise}
 use Rattle.part_texts.specs.declared.spans.Place.{Place}
 use Rattle.part_texts.specs.declared.spans.FileSpan.{FileSpan}
 use Rattle.part_texts.specs.declared.fronts.Stage.{Stage}
@@ -50,15 +51,15 @@ either : (b : Bool) → (b || true) ≡ true
 either true = refl
 either false = refl
 
--- ---- the fronts of reports
-module _ (first last : Bool) where
+-- ---- where the fold stands
+module _ (first last ledger : Bool) where
   abbrev pub at : Stage → List (Option Place) → List ℕ → Sums → Sums → Sums → List (ℕ × Sums) → ℕ
       → FrontsView
   at stage ends taps part so_far totals validators tokens = record {
     stage = stage;
     is_first = first;
     is_last = last;
-    is_ledger = false;
+    is_ledger = ledger;
     ends = ends;
     taps = taps;
     part = part;
@@ -112,7 +113,7 @@ module _ (first last : Bool) where
           (and_from _ _ (same_place span.from) ends_well))
 
       pub spans_taken : (files file : ℕ) (ends all : List (Option Place)) (spans : List FileSpan)
-          → file + length spans ≡ files → files < 2 ^ 64 → all_fit SpanFits spans
+          → file + length spans ≡ files → files < 2 ^ 64 → AllByRecursion SpanFits spans
           → are_joined first last ends spans all
           → FrontLeads (at (Files files (length spans)) ends taps part so_far totals validators tokens)
           (span_lines file spans) (length spans)
@@ -135,18 +136,22 @@ module _ (first last : Bool) where
           (spans_taken files (file + 1) (rest ++ span.to ∷ []) all spans (omega (arith, where_is)) small
           fit.1 more))
 
+-- ---- the fronts of reports
+module _ (first last : Bool) where
+  module _ (taps : List ℕ) (part so_far totals : Sums) (validators : List (ℕ × Sums)) (tokens : ℕ)
+    where
       pub uploads_taken : (ends : List (Option Place)) (files : ℕ) → files < 2 ^ 64
-          → FrontLeads (at (Files files 0) ends taps part so_far totals validators tokens)
+          → FrontLeads (at first last false (Files files 0) ends taps part so_far totals validators tokens)
           (number_line (codes "uploads ") files) 1
-          (at (Uploads files files 0) ends taps part so_far totals validators tokens)
+          (at first last false (Uploads files files 0) ends taps part so_far totals validators tokens)
       uploads_taken ends files small =
           by_line front_done Form front_step _ _ (number_line (codes "uploads ") files)
           (head_is_one (codes "uploads ") files refl (omega arith) small) refl
           (ap (λ read. said read (λ uploads. where_holds (nat_eq uploads files && (first || true)) Form
-          (Ok (at (Uploads uploads uploads 0) ends taps part so_far totals validators tokens))))
+          (Ok (at first last false (Uploads uploads uploads 0) ends taps part so_far totals validators tokens))))
           (head_complete (codes "uploads ") files small)
           ∙ ap (λ b. where_holds b Form
-          (Ok (at (Uploads files files 0) ends taps part so_far totals validators tokens)))
+          (Ok (at first last false (Uploads files files 0) ends taps part so_far totals validators tokens)))
           (and_from _ _ (true_itself files) (either first)))
 
   module _ (ends : List (Option Place)) (part so_far totals : Sums) (validators : List (ℕ × Sums))
@@ -155,15 +160,15 @@ module _ (first last : Bool) where
           → upload + suc left ≡ uploads → uploads < 2 ^ 64 → n < 2 ^ 64
           → taps_before first taps ≡ Some (before, rest) → before + n < 2 ^ 64 → posted + n < 2 ^ 64
           → FrontLeads
-          (at (Uploads uploads (suc left) posted) ends taps part so_far totals validators tokens)
+          (at first last false (Uploads uploads (suc left) posted) ends taps part so_far totals validators tokens)
           (upload_line upload (Posted n)) 1
-          (at (Uploads uploads left (posted + n)) ends (rest ++ (before + n) ∷ []) part so_far totals
+          (at first last false (Uploads uploads left (posted + n)) ends (rest ++ (before + n) ∷ []) part so_far totals
           validators tokens)
-      upload_taken uploads left upload posted n before taps rest where_is small fits found all_fits
+      upload_taken uploads left upload posted n before taps rest where_is small fits found AllByRecursions
           sum_fits =
           let few : upload < 2 ^ 64 = omega (arith, where_is, small) in
           let next = λ (sum all : ℕ) (rest : List ℕ).
-          at (Uploads uploads left sum) ends (rest ++ all ∷ []) part so_far totals validators tokens in
+          at first last false (Uploads uploads left sum) ends (rest ++ all ∷ []) part so_far totals validators tokens in
           let behind = λ (taps_in : ℕ).
           found_or Form (taps_before first taps) (λ (before : ℕ × List ℕ).
           found_or OtherTotals (plus before.0 taps_in) (λ all.
@@ -179,7 +184,7 @@ module _ (first last : Bool) where
           found_or OtherTotals (plus before.0 n) (λ all.
           found_or OtherTotals (plus posted n) (λ sum. Ok (next sum all before.1))))) found
           ∙ ap (λ r. found_or OtherTotals r (λ all.
-          found_or OtherTotals (plus posted n) (λ sum. Ok (next sum all rest)))) (plus_fits before n all_fits)
+          found_or OtherTotals (plus posted n) (λ sum. Ok (next sum all rest)))) (plus_fits before n AllByRecursions)
           ∙ ap (λ r. found_or OtherTotals r (λ sum. Ok (next sum (before + n) rest)))
           (plus_fits posted n sum_fits))
 
@@ -187,31 +192,31 @@ module _ (first last : Bool) where
           → upload + length ns ≡ uploads → uploads < 2 ^ 64
           → are_posted_to first taps posted ns all sum
           → FrontLeads
-          (at (Uploads uploads (length ns) posted) ends taps part so_far totals validators tokens)
+          (at first last false (Uploads uploads (length ns) posted) ends taps part so_far totals validators tokens)
           (upload_lines upload (map Posted ns)) (length ns)
-          (at (Uploads uploads 0 sum) ends all part so_far totals validators tokens)
+          (at first last false (Uploads uploads 0 sum) ends all part so_far totals validators tokens)
       posted_taken uploads upload posted sum taps all [] where_is small (same, added) =
           subst (λ t. FrontLeads
-          (at (Uploads uploads 0 posted) ends taps part so_far totals validators tokens) [] 0
-          (at (Uploads uploads 0 sum) ends t part so_far totals validators tokens)) same
+          (at first last false (Uploads uploads 0 posted) ends taps part so_far totals validators tokens) [] 0
+          (at first last false (Uploads uploads 0 sum) ends t part so_far totals validators tokens)) same
           (subst (λ p. FrontLeads
-          (at (Uploads uploads 0 posted) ends taps part so_far totals validators tokens) [] 0
-          (at (Uploads uploads 0 p) ends taps part so_far totals validators tokens)) added
+          (at first last false (Uploads uploads 0 posted) ends taps part so_far totals validators tokens) [] 0
+          (at first last false (Uploads uploads 0 p) ends taps part so_far totals validators tokens)) added
           (by_nothing front_done Form front_step
-          (at (Uploads uploads 0 posted) ends taps part so_far totals validators tokens)))
+          (at first last false (Uploads uploads 0 posted) ends taps part so_far totals validators tokens)))
       posted_taken uploads upload posted sum taps all (n ∷ ns) where_is small
-          (before, rest, found, fits, all_fits, sum_fits, more) =
+          (before, rest, found, fits, AllByRecursions, sum_fits, more) =
           subst (λ k. FrontLeads
-          (at (Uploads uploads (length (n ∷ ns)) posted) ends taps part so_far totals validators tokens)
+          (at first last false (Uploads uploads (length (n ∷ ns)) posted) ends taps part so_far totals validators tokens)
           (upload_lines upload (map Posted (n ∷ ns))) k
-          (at (Uploads uploads 0 sum) ends all part so_far totals validators tokens))
+          (at first last false (Uploads uploads 0 sum) ends all part so_far totals validators tokens))
           (let e : 1 + length ns ≡ length (n ∷ ns) = omega arith in e)
           (by_both front_done Form front_step _
-          (at (Uploads uploads (length ns) (posted + n)) ends (rest ++ (before + n) ∷ []) part so_far
+          (at first last false (Uploads uploads (length ns) (posted + n)) ends (rest ++ (before + n) ∷ []) part so_far
           totals validators tokens)
           _ (upload_line upload (Posted n)) (upload_lines (upload + 1) (map Posted ns)) 1 (length ns)
           (upload_taken uploads (length ns) upload posted n before taps rest where_is small fits found
-          all_fits sum_fits)
+          AllByRecursions sum_fits)
           (posted_taken uploads (upload + 1) (posted + n) sum (rest ++ (before + n) ∷ []) all ns
           (omega (arith, where_is)) small more))
 
@@ -219,10 +224,10 @@ module _ (first last : Bool) where
     pub totals_taken : (uploads posted : ℕ) (old so_far part totals all : Sums)
         (validators : List (ℕ × Sums)) → AreCounts part → posted ≡ part.taps
         → sums_within totals part ≡ Some all
-        → FrontLeads (at (Uploads uploads 0 posted) ends taps old so_far totals validators tokens)
-        (totals_line part) 1 (at AfterTotals ends taps part no_sums all validators tokens)
+        → FrontLeads (at first last false (Uploads uploads 0 posted) ends taps old so_far totals validators tokens)
+        (totals_line part) 1 (at first last false AfterTotals ends taps part no_sums all validators tokens)
     totals_taken uploads posted old so_far part totals all validators fits sum within =
-        let next = λ (part all : Sums). at AfterTotals ends taps part no_sums all validators tokens in
+        let next = λ (part all : Sums). at first last false AfterTotals ends taps part no_sums all validators tokens in
         by_line front_done Form front_step _ _ (totals_line part) (totals_line_is_one part fits) refl
         (ap (λ read. said read (λ (part : Sums). where_holds (nat_eq part.taps posted) OtherTotals
         (found_or OtherTotals (sums_within totals part) (λ all. Ok (next part all)))))
@@ -234,26 +239,26 @@ module _ (first last : Bool) where
 
     pub validators_head_taken : (part so_far totals : Sums) (validators : List (ℕ × Sums)) (left : ℕ)
         → left < 2 ^ 64
-        → FrontLeads (at AfterTotals ends taps part so_far totals validators tokens)
+        → FrontLeads (at first last false AfterTotals ends taps part so_far totals validators tokens)
         (number_line (codes "validators ") left) 1
-        (at (Validators left None) ends taps part so_far totals validators tokens)
+        (at first last false (Validators left None) ends taps part so_far totals validators tokens)
     validators_head_taken part so_far totals validators left small =
         by_line front_done Form front_step _ _ (number_line (codes "validators ") left)
         (head_is_one (codes "validators ") left refl (omega arith) small) refl
         (ap (λ read. said read (λ left.
-        Ok (at (Validators left None) ends taps part so_far totals validators tokens)))
+        Ok (at first last false (Validators left None) ends taps part so_far totals validators tokens)))
         (head_complete (codes "validators ") left small))
 
     validator_taken : (part so_far totals next : Sums) (validators all : List (ℕ × Sums)) (left : ℕ)
         (last_one : Option ℕ) (sum : ℕ × Sums) → IsValidatorSum sum → is_above last_one sum.0 ≡ true
         → sums_within so_far sum.1 ≡ Some next → with_validator validators sum ≡ Some all
         → FrontLeads
-        (at (Validators (suc left) last_one) ends taps part so_far totals validators tokens)
+        (at first last false (Validators (suc left) last_one) ends taps part so_far totals validators tokens)
         (validator_line sum) 1
-        (at (Validators left (Some sum.0)) ends taps part next totals all tokens)
+        (at first last false (Validators left (Some sum.0)) ends taps part next totals all tokens)
     validator_taken part so_far totals next validators all left last_one sum fits above within with_it =
         let made = λ (v : ℕ) (next : Sums) (all : List (ℕ × Sums)).
-        at (Validators left (Some v)) ends taps part next totals all tokens in
+        at first last false (Validators left (Some v)) ends taps part next totals all tokens in
         by_line front_done Form front_step _ _ (validator_line sum) (validator_line_is_one sum fits) refl
         (ap (λ read. said read (λ (sum : ℕ × Sums). where_holds (is_above last_one sum.0) Order
         (found_or OtherTotals (sums_within so_far sum.1) (λ next.
@@ -272,30 +277,30 @@ module _ (first last : Bool) where
     last_key last_one (sum ∷ sums) = last_key (Some sum.0) sums
 
     pub validators_taken : (part so_far totals end : Sums) (validators all : List (ℕ × Sums))
-        (last_one : Option ℕ) (sums : List (ℕ × Sums)) → all_fit IsValidatorSum sums
+        (last_one : Option ℕ) (sums : List (ℕ × Sums)) → AllByRecursion IsValidatorSum sums
         → do_rise last_one sums → adds_to so_far sums end → are_added validators sums all
         → FrontLeads
-        (at (Validators (length sums) last_one) ends taps part so_far totals validators tokens)
+        (at first last false (Validators (length sums) last_one) ends taps part so_far totals validators tokens)
         (flat_map validator_line sums) (length sums)
-        (at (Validators 0 (last_key last_one sums)) ends taps part end totals all tokens)
+        (at first last false (Validators 0 (last_key last_one sums)) ends taps part end totals all tokens)
     validators_taken part so_far totals end validators all last_one [] fit rise adds added =
         subst (λ s. FrontLeads
-        (at (Validators 0 last_one) ends taps part so_far totals validators tokens) [] 0
-        (at (Validators 0 last_one) ends taps part s totals all tokens)) adds
+        (at first last false (Validators 0 last_one) ends taps part so_far totals validators tokens) [] 0
+        (at first last false (Validators 0 last_one) ends taps part s totals all tokens)) adds
         (subst (λ a. FrontLeads
-        (at (Validators 0 last_one) ends taps part so_far totals validators tokens) [] 0
-        (at (Validators 0 last_one) ends taps part so_far totals a tokens)) added
+        (at first last false (Validators 0 last_one) ends taps part so_far totals validators tokens) [] 0
+        (at first last false (Validators 0 last_one) ends taps part so_far totals a tokens)) added
         (by_nothing front_done Form front_step
-        (at (Validators 0 last_one) ends taps part so_far totals validators tokens)))
+        (at first last false (Validators 0 last_one) ends taps part so_far totals validators tokens)))
     validators_taken part so_far totals end validators all last_one (sum ∷ sums) fit rise
         (next, one, more) (with_it, is_with, others) =
         subst (λ k. FrontLeads
-        (at (Validators (length (sum ∷ sums)) last_one) ends taps part so_far totals validators tokens)
+        (at first last false (Validators (length (sum ∷ sums)) last_one) ends taps part so_far totals validators tokens)
         (flat_map validator_line (sum ∷ sums)) k
-        (at (Validators 0 (last_key (Some sum.0) sums)) ends taps part end totals all tokens))
+        (at first last false (Validators 0 (last_key (Some sum.0) sums)) ends taps part end totals all tokens))
         (let e : 1 + length sums ≡ length (sum ∷ sums) = omega arith in e)
         (by_both front_done Form front_step _
-        (at (Validators (length sums) (Some sum.0)) ends taps part next totals with_it tokens)
+        (at first last false (Validators (length sums) (Some sum.0)) ends taps part next totals with_it tokens)
         _ (validator_line sum) (flat_map validator_line sums) 1 (length sums)
         (validator_taken part so_far totals next validators with_it (length sums) last_one sum fit.0
         rise.0 one is_with)
@@ -303,11 +308,11 @@ module _ (first last : Bool) where
 
     pub tokens_head_taken : (part totals : Sums) (validators : List (ℕ × Sums)) (left : ℕ)
         (last_one : Option ℕ) → left < 2 ^ 64 → tokens + left < 2 ^ 64
-        → FrontLeads (at (Validators 0 last_one) ends taps part part totals validators tokens)
+        → FrontLeads (at first last false (Validators 0 last_one) ends taps part part totals validators tokens)
         (number_line (codes "tokens ") left) 1
-        (at (Tokens left) ends taps part part totals validators (tokens + left))
+        (at first last false (Tokens left) ends taps part part totals validators (tokens + left))
     tokens_head_taken part totals validators left last_one small few =
-        let next = λ (left all : ℕ). at (Tokens left) ends taps part part totals validators all in
+        let next = λ (left all : ℕ). at first last false (Tokens left) ends taps part part totals validators all in
         by_line front_done Form front_step _ _ (number_line (codes "tokens ") left)
         (head_is_one (codes "tokens ") left refl (omega arith) small) refl
         (ap (λ read. said read (λ left. where_holds (sums_eq part part) OtherTotals

@@ -46,7 +46,7 @@ lines_joined (byte ∷ text) = joined_with byte text (byte == 10) (lines_joined 
 -- where the fold stands behind the parts so far, at this stage
 abbrev pub behind : Bool → Bool → Stage → Sums → Sums → SoFar → FrontsView
 behind first last stage part so_far s =
-    at first last stage s.ends s.taps part so_far s.totals s.validators s.tokens
+    at first last false stage s.ends s.taps part so_far s.totals s.validators s.tokens
 
 -- what stands before the lines of tokens
 abbrev front_lines : PartReport → List ℕ
@@ -94,23 +94,23 @@ front_leads first last old so_far before after p is =
     let v0 = before.validators in
     let v1 = after.validators in
     let k = before.tokens in
-    let s0 = at first last Head e0 t0 old so_far before.totals v0 k in
-    let s1 = at first last (Files files files) e0 t0 old so_far before.totals v0 k in
-    let s2 = at first last (Files files 0) e1 t0 old so_far before.totals v0 k in
-    let s3 = at first last (Uploads files files 0) e1 t0 old so_far before.totals v0 k in
-    let s4 = at first last (Uploads files 0 p.totals.taps) e1 t1 old so_far before.totals v0 k in
-    let s5 = at first last AfterTotals e1 t1 p.totals no_sums after.totals v0 k in
-    let s6 = at first last (Validators (length p.validators) None) e1 t1 p.totals no_sums after.totals v0 k in
-    let s7 = at first last (Validators 0 (last_key first last e1 t1 k None p.validators)) e1 t1 p.totals
+    let s0 = at first last false Head e0 t0 old so_far before.totals v0 k in
+    let s1 = at first last false (Files files files) e0 t0 old so_far before.totals v0 k in
+    let s2 = at first last false (Files files 0) e1 t0 old so_far before.totals v0 k in
+    let s3 = at first last false (Uploads files files 0) e1 t0 old so_far before.totals v0 k in
+    let s4 = at first last false (Uploads files 0 p.totals.taps) e1 t1 old so_far before.totals v0 k in
+    let s5 = at first last false AfterTotals e1 t1 p.totals no_sums after.totals v0 k in
+    let s6 = at first last false (Validators (length p.validators) None) e1 t1 p.totals no_sums after.totals v0 k in
+    let s7 = at first last false (Validators 0 (last_key first last e1 t1 k None p.validators)) e1 t1 p.totals
     p.totals after.totals v1 k in
-    let s8 = at first last (Tokens (length p.tokens)) e1 t1 p.totals p.totals after.totals v1
+    let s8 = at first last false (Tokens (length p.tokens)) e1 t1 p.totals p.totals after.totals v1
     (k + length p.tokens) in
-    let l1 = head_taken first last t0 old so_far before.totals v0 k e0 files r.files is.files in
-    let l2 = spans_taken first last t0 old so_far before.totals v0 k files 0 e0 e1 p.spans refl r.files
+    let l1 = head_taken first last false t0 old so_far before.totals v0 k e0 files r.files is.files in
+    let l2 = spans_taken first last false t0 old so_far before.totals v0 k files 0 e0 e1 p.spans refl r.files
     r.spans is.joined in
     let l3 = uploads_taken first last t0 old so_far before.totals v0 k e1 files r.files in
     let l4 : FrontLeads s3 (upload_lines 0 (map Posted p.taps)) (length p.taps) s4 =
-    subst (λ n. FrontLeads (at first last (Uploads files n 0) e1 t0 old so_far before.totals v0 k)
+    subst (λ n. FrontLeads (at first last false (Uploads files n 0) e1 t0 old so_far before.totals v0 k)
     (upload_lines 0 (map Posted p.taps)) (length p.taps) s4) r.uploads
     (posted_taken first last e1 old so_far before.totals v0 k files 0 0 p.totals.taps t0 t1 p.taps
     r.uploads r.files is.posted) in
@@ -135,14 +135,14 @@ front_leads first last old so_far before after p is =
     let eight = by_both front_done Form front_step s0 s7 s8 _ _
     ((((((1 + files) + 1) + length p.taps) + 1) + 1) + length p.validators) 1 seven l8 in
     subst (λ n. FrontLeads s0 (front_lines p) (front_count p)
-    (at first last (Tokens (length p.tokens)) e1 t1 p.totals p.totals after.totals v1 n))
+    (at first last false (Tokens (length p.tokens)) e1 t1 p.totals p.totals after.totals v1 n))
     (sym is.tokens) eight
 
 stopped : (number : ℕ) (s : FrontsView) (lines : List (List ℕ)) → front_done s ≡ true
-    → run front_done (bounded Form front_step) number s lines ≡ Ok (number, (s, lines))
+    → run front_done (bounded Form front_step) number s lines ≡ Ok (number, s, lines)
 stopped number s [] done = refl
 stopped number s (line ∷ lines) done =
-    ap (λ b. cond b (Ok (number, (s, line ∷ lines))) _) done
+    ap (λ b. cond b (Ok (number, s, line ∷ lines)) _) done
 
 -- the part whose front is read
 abbrev pub opened_at : ℕ → PartReport → OpenView

@@ -3,6 +3,7 @@ use Rattle.std.proofs.Common.{◌≡◌, ◌∙◌, ◌+◌, ◌-◌, ◌<◌, �
 use Rattle.std.proofs.Common.{Option, Some, None, Result, Ok, Err, refl, sym, ap, subst, arith}
 use Rattle.std.specs.Prelude.{flat_map, nat_eq, nat_lt}
 use Rattle.std.proofs.lemmas.Bool.Decides.{nat_tests}
+use Rattle.std.specs.List.{AllByRecursion}
 use Rattle.histories.specs.Sums.{Sums}
 use Rattle.tap_views.specs.declared.token.Token.{Token}
 use Rattle.fare_texts.specs.ReportLines.{token_line}
@@ -16,7 +17,7 @@ use Rattle.report_texts.specs.declared.wrong.Wrong.TheVariants.{Totals as OtherT
 use Rattle.part_texts.specs.Fronts.{no_sums, sums_eq, sums_within}
 use Rattle.part_texts.specs.FrontSteps.{found_or, said, where_holds}
 use Rattle.part_texts.specs.Sections.{SectionView, is_token_above, section_end, section_step, token_step}
-use Rattle.part_texts.specs.Shown.{adds_to, all_fit, do_tokens_rise, last_of}
+use Rattle.part_texts.specs.Shown.{adds_to, do_tokens_rise, last_of}
 use Rattle.part_texts.proofs.Leads.{Leads, by_both, by_line, by_nothing}
 
 abbrev pub never : SectionView → Bool
@@ -46,7 +47,7 @@ one_taken left last part so_far next sum fits above adds =
     ∙ ap (λ r. found_or OtherTotals r (λ so_far. Ok (tokens_at left (Some sum.0) part so_far))) adds
 
 pub tokens_taken : (last : Option Token) (part so_far all : Sums) (tokens : List (Token × Sums))
-    → all_fit IsTokenSum tokens → do_tokens_rise last tokens → adds_to so_far tokens all
+    → AllByRecursion IsTokenSum tokens → do_tokens_rise last tokens → adds_to so_far tokens all
     → Leads never Form section_step (tokens_at (length tokens) last part so_far)
     (flat_map token_line tokens) (length tokens) (tokens_at 0 (last_of last tokens) part all)
 tokens_taken last part so_far all [] fit rise adds =

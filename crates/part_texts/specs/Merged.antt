@@ -43,20 +43,20 @@ abbrev pub left_at : Stage → ℕ
 left_at (Tokens left) = left
 left_at _ = 0
 
-abbrev pub opened : ℕ × (FrontsView × List (List ℕ)) → OpenView
+abbrev pub opened : ℕ × FrontsView × List (List ℕ) → OpenView
 opened read = record {
-  is_ledger = read.1.0.is_ledger;
-  left = left_at read.1.0.stage;
-  part = read.1.0.part;
+  is_ledger = read.1.is_ledger;
+  left = left_at read.1.stage;
+  part = read.1.part;
   number = read.0;
-  lines = read.1.1;
+  lines = read.2;
 }
 
 -- a part ends behind its front, or later
-abbrev pub front_end : ℕ → Result (ℕ × (FrontsView × List (List ℕ))) (ℕ × Wrong)
+abbrev pub front_end : ℕ → Result (ℕ × FrontsView × List (List ℕ)) (ℕ × Wrong)
     → Result (FrontsView × OpenView) WrongLine
 front_end place (Ok read) =
-    cond (front_done read.1.0) (Ok (read.1.0, opened read)) (Err (place, (read.0, Form)))
+    cond (front_done read.1) (Ok (read.1, opened read)) (Err (place, (read.0, Form)))
 front_end place (Err wrong) = Err (place, wrong)
 
 abbrev pub is_none_left : List (List ℕ) → Bool
@@ -86,9 +86,9 @@ end_or place s None = Ok s
 end_or place s (Some why) = Err (place.0, (place.1.0, why))
 
 -- the lines of a part end where they may
-abbrev pub section_ended : ℕ → Result (ℕ × (SectionView × List (List ℕ))) (ℕ × Wrong)
+abbrev pub section_ended : ℕ → Result (ℕ × SectionView × List (List ℕ)) (ℕ × Wrong)
     → Result SectionView WrongLine
-section_ended place (Ok read) = end_or (place, (read.0, Form)) read.1.0 (section_end read.1.0)
+section_ended place (Ok read) = end_or (place, (read.0, Form)) read.1 (section_end read.1)
 section_ended place (Err wrong) = Err (place, wrong)
 
 -- behind the front of a part, and the last token of the parts before it

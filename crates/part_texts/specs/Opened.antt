@@ -43,7 +43,7 @@ abbrev pub FrontRead : Result (FrontsView × OpenView) WrongLine → FrontsView 
     → Result ℕ MergeFault → Type 0
 FrontRead said new left (Ok number) =
     (rest : List ℕ) × (left ≡ Some rest)
-    × (said ≡ Ok (new, opened (number, (new, lines_of rest))))
+    × (said ≡ Ok (new, opened (number, new, lines_of rest)))
 FrontRead said new left (Err fault) = IsFaultOf said fault
 
 -- the fronts are read as they are defined

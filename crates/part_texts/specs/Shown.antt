@@ -1,6 +1,7 @@
 -- Texts of parts as they are printed, and what they are merged into.
 use Rattle.std.specs.Prelude.{◌≡◌, ◌+◌, ◌<◌, ◌^◌, ◌||◌, ℕ, Bool, true, false, List, [], ◌∷◌, ◌++◌}
 use Rattle.std.specs.Prelude.{Option, Some, None, flat_map, length, map, nat_eq}
+use Rattle.std.specs.List.{AllByRecursion}
 use Rattle.histories.specs.Sums.{Sums}
 use Rattle.tap_views.specs.declared.token.Token.{Token}
 use Rattle.tap_views.specs.declared.upload_end.UploadEnd.TheVariants.{Posted}
@@ -63,10 +64,6 @@ EndFits (Some place) = PlaceFits place
 abbrev pub SpanFits : FileSpan → Type 0
 SpanFits span = PlaceFits span.from × EndFits span.to
 
-abbrev pub all_fit : {A : Type 0} → (A → Type 0) → List A → Type 0
-all_fit P [] = Unit {0}
-all_fit P (x ∷ xs) = P x × all_fit P xs
-
 abbrev pub sum_up : List ℕ → ℕ
 sum_up [] = 0
 sum_up (n ∷ ns) = n + sum_up ns
@@ -74,16 +71,16 @@ sum_up (n ∷ ns) = n + sum_up ns
 -- the numbers of the report fit, and it adds up
 pub record IsRight (p : PartReport) : Type 0 where
   pub files : length p.spans < 2 ^ 64
-  pub spans : all_fit SpanFits p.spans
+  pub spans : AllByRecursion SpanFits p.spans
   pub uploads : length p.taps ≡ length p.spans
   pub posted : sum_up p.taps ≡ p.totals.taps
   pub totals : AreCounts p.totals
   pub validators_number : length p.validators < 2 ^ 64
-  pub validators : all_fit IsValidatorSum p.validators
+  pub validators : AllByRecursion IsValidatorSum p.validators
   pub validators_rise : do_rise None p.validators
   pub validators_add : adds_to no_sums p.validators p.totals
   pub tokens_number : length p.tokens < 2 ^ 64
-  pub tokens : all_fit IsTokenSum p.tokens
+  pub tokens : AllByRecursion IsTokenSum p.tokens
   pub tokens_add : adds_to no_sums p.tokens p.totals
 
 -- the spans, one after the other, join the ends of the parts before: these are the ends behind them

@@ -20,7 +20,7 @@ use crate::head::span_in;
 use crate::spans::{FileSpan, Place};
 use fare_texts::head_line;
 use histories::{Totals, ValidatorSum};
-use line_folds::fold::{Fold, Refusal};
+use line_folds::{Fold, Refusal};
 use report_texts::Wrong;
 use report_texts::forms::{head_in, totals_in, upload_in, validator_in};
 use std::alloc::{AllocError, Global};
@@ -135,7 +135,8 @@ fn next_start(is_first: bool, ends: &mut VecDeque<Option<Place>>) -> Option<Plac
     }
     match ends.pop_front() {
         Some(Some(place)) => Some(place),
-        _ => None,
+        Some(None) => None,
+        None => None,
     }
 }
 
@@ -277,7 +278,9 @@ impl Fronts {
         if !(is_same_place(start, span.from) && may_end(self.is_last, span.to)) {
             return Err(Refusal::Wrong(Wrong::Order));
         }
-        self.ends.push_back(span.to)?;
+        let Ok(()) = self.ends.push_back(span.to) else {
+            return Err(Refusal::NoMemory);
+        };
         self.stage = Stage::Files {
             files,
             left: left - 1,
@@ -355,7 +358,9 @@ impl Fronts {
         let Some(posted) = plus(posted, taps) else {
             return Err(Refusal::Wrong(Wrong::Totals));
         };
-        self.taps.push_back(all)?;
+        let Ok(()) = self.taps.push_back(all) else {
+            return Err(Refusal::NoMemory);
+        };
         self.stage = Stage::Uploads {
             uploads,
             left: left - 1,

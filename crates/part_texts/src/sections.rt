@@ -1,25 +1,24 @@
 //! The lines of a part behind its front: those of tokens, or those of a ledger's entries.
 
-ghost use Rattle.std.specs.Prelude.{◌≡◌, IfSome, false};
+ghost use Rattle.std.specs.Prelude.{◌≡◌, IfSome, false, option_map};
 ghost use Rattle.line_folds.specs.Folds.{HasWritten, StopsAs, bounded, lines_of, run, written};
-ghost use Rattle.part_texts.specs.EntryLines.{entry_token_in};
+ghost use Rattle.part_texts.specs.EntryLines.{entry_token_in, first_of};
 ghost use Rattle.part_texts.specs.Sections.{IsNext, entry_step, is_token_above, may_follow};
 ghost use Rattle.part_texts.specs.Sections.{section_end, section_step, section_view, token_step};
+ghost use Rattle.report_texts.specs.Forms.{token_read};
 ghost use Rattle.report_texts.specs.declared.wrong.Wrong.TheVariants.{Form};
 
 use crate::fronts::{added, are_same};
 use fare_texts::write_out;
 use histories::Totals;
-use line_folds::lines::Stop;
+use ledger_fields::row_fields;
+use line_folds::{NextLine, ReadFault, Stop, next_line};
 use line_forms::form::FormOf;
 use report_texts::Wrong;
 use report_texts::forms::{TokenDigits, token_line_in};
 use std::alloc::Global;
-use std::io::{BufRead, ErrorKind, Write};
+use std::io::{BufRead, Write};
 use tap_views::Token;
-
-/// How many bytes a line has at most, with its line feed.
-const MAX_LINE_BYTES: usize = 1_024;
 
 /// What the lines of a part so far leave.
 #[derive(Clone, Copy, Debug, PartialEq, Eq)]
@@ -38,11 +37,21 @@ pub(crate) struct Section {
 }
 
 /// The token in front of the line.
-fn entry_token_in(line: &[u8]) -> Option<Token>
-    ensures { result ≡ entry_token_in line.now }
+fn front_token(line: &[u8]) -> Option<Token>
+    ensures { result ≡ option_map first_of (token_read line.now) }
 {
     let (token, _) = TokenDigits.read(line)?;
     Some(token)
+}
+
+/// The token in front of the line, if the line has the form of a ledger's line.
+fn entry_token_in(line: &[u8]) -> Option<Token>
+    ensures { result ≡ entry_token_in line.now }
+{
+    match row_fields(line) {
+        Some(_) => front_token(line),
+        None => None,
+    }
 }
 
 fn is_token_above(last: Option<Token>, token: Token) -> bool
@@ -165,18 +174,15 @@ pub(crate) fn copy_lines<R: BufRead, W: Write>(
 {
     let mut line = Vec::new(alloc);
     for number in first..u64::MAX {
-        line.clear();
-        match from.read_until(b'\n', &mut line) {
-            Ok(_) => {}
-            Err(error) if error.kind() == ErrorKind::OutOfMemory => return Err(Stop::NoMemory),
-            Err(_) => return Err(Stop::Unread),
-        }
-        if line.is_empty() {
-            return Ok(number);
-        }
-        if line.len() > MAX_LINE_BYTES {
-            let why = Wrong::Form;
-            return Err(Stop::Line { number, why });
+        match next_line(from, &mut line) {
+            Ok(NextLine::Whole) => {}
+            Ok(NextLine::Long) => {
+                let why = Wrong::Form;
+                return Err(Stop::Line { number, why });
+            }
+            Ok(NextLine::End) => return Ok(number),
+            Err(ReadFault::Unread) => return Err(Stop::Unread),
+            Err(ReadFault::NoMemory) => return Err(Stop::NoMemory),
         }
         match section.behind(&line) {
             Ok(next) => *section = next,

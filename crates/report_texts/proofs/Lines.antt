@@ -28,11 +28,8 @@ use Rattle.tap_views.specs.declared.upload_end.UploadEnd.TheVariants.{Posted, Re
 
 -- ---- the texts of counts
 -- the counts of sums, in their order
-counted_of : Sums → Counted
+abbrev counted_of : Sums → Counted
 counted_of s = (s.taps, (s.paid, (s.transfers, (s.capped, (s.stale, (s.unknown, s.cents))))))
-
-count_text : List ℕ → ℕ → List ℕ
-count_text word n = word ++ decimal n
 
 abbrev counted_text : List ℕ → Counted → List ℕ
 counted_text word n =
@@ -43,7 +40,7 @@ counted_text word n =
 
 count_shown : (word : List ℕ) (n : ℕ) (text : List ℕ) → IsCount word n text
     → text ≡ word ++ decimal n
-count_shown word n text is = is.1.1 ∙ ap (λ (x : List ℕ). word ++ x) is.1.0.1
+count_shown word n text is = is.2 ∙ ap (λ (x : List ℕ). word ++ x) is.1.1
 
 count_says : (word : List ℕ) (n : ℕ) → n < 2 ^ 64 → IsCount word n (word ++ decimal n)
 count_says word n small = (decimal n, (small, refl), refl)
@@ -53,8 +50,8 @@ then_shown : {A B : Type 0} {says : A → List ℕ → Type 0} {says_b : B → L
     → ((b : B) (t : List ℕ) → says_b b t → t ≡ g b) → (v : A × B) (text : List ℕ)
     → IsThen says says_b v text → text ≡ f v.0 ++ g v.1
 then_shown f g first second v text is =
-    is.1.1.1.1 ∙ ap (λ (x : List ℕ). x ++ is.1.0) (first v.0 is.0 is.1.1.0)
-    ∙ ap (λ (x : List ℕ). f v.0 ++ x) (second v.1 is.1.0 is.1.1.1.0)
+    is.4 ∙ ap (λ (x : List ℕ). x ++ is.1) (first v.0 is.0 is.2)
+    ∙ ap (λ (x : List ℕ). f v.0 ++ x) (second v.1 is.1 is.3)
 
 counted_shown : (word : List ℕ) (n : Counted) (text : List ℕ) → IsCountedText word n text
     → text ≡ counted_text word n
@@ -128,10 +125,12 @@ sums_say word s are = (counted_of s, says, sums_made s are)
 counts_of : (n : Counted) (s : Sums) (word text : List ℕ) → IsCountedText word n text
     → sums_by n ≡ Some s → AreCounts s × (text ≡ counted_text word (counted_of s))
 counts_of n s word text is made =
-    let (both, same) = value_if_some _ (sums_with n) s made in
-    let (answers, most) = and_parts _ _ both in
-    let taps : n.0 < 2 ^ 64 = is.1.1.0.1.0.0 in
-    let cents : n.1.1.1.1.1.1 < 2 ^ 64 = is.1.1.1.0.1.1.1.0.1.1.1.0.1.1.1.0.1.1.1.0.1.1.1.0.1.0.0 in
+    let a = nat_eq n.0 (n.1.0 + n.1.1.0 + n.1.1.1.0 + n.1.1.1.1.0 + n.1.1.1.1.1.0) in
+    let b = nat_le n.1.1.1.1.1.1 (n.0 * 4294967295) in
+    let (both, same) = value_if_some (a && b) (sums_with n) s made in
+    let (answers, most) = and_parts a b both in
+    let taps : n.0 < 2 ^ 64 = is.2.1.0 in
+    let cents : n.1.1.1.1.1.1 < 2 ^ 64 = is.3.3.3.3.3.3.1.0 in
     subst (λ (x : Sums). AreCounts x × (text ≡ counted_text word (counted_of x))) same (
       record {
         taps = taps;
@@ -165,7 +164,7 @@ pub head_sound : (word line : List ℕ) (n : ℕ) → head_in word line ≡ Some
     → (n < 2 ^ 64) × (line ≡ number_line word n)
 head_sound word line n e =
     let (text, is, shown) = line_sound (count_form word) line n e in
-    (is.1.0.0, shown ∙ ap (λ (x : List ℕ). x ++ 10 ∷ []) (count_shown word n text is)
+    (is.1.0, shown ∙ ap (λ (x : List ℕ). x ++ 10 ∷ []) (count_shown word n text is)
     ∙ append_assoc word (decimal n) (10 ∷ []))
 
 -- ---- validators
@@ -266,7 +265,7 @@ refused_form : IsForm (IsThen (IsCount (codes " refused ")) (IsThen (IsCount (co
 refused_form =
     then_law (count_form (codes " refused "))
     (then_law (count_form (codes " at ")) (count_form (codes " L")) (begins (codes " L") (λ rest. refl)))
-    (begins_then (codes " at ") (begins (codes " at ") (λ rest. refl)))
+    (begins_then _ (codes " at ") (begins (codes " at ") (λ rest. refl)))
 
 refused_line : (taps offset : ℕ) (fault : LayoutFault) → end_words (Refused taps offset fault)
     ≡ RefusedText (taps, (offset, fault_number fault)) ++ 10 ∷ []
@@ -288,9 +287,9 @@ end_complete (Refused taps offset fault) fits =
     ∙ line_complete refused_form refl (taps, (offset, fault_number fault))
     (RefusedText (taps, (offset, fault_number fault)))
     (_, _, count_says (codes " refused ") taps fits.0,
-    (_, _, count_says (codes " at ") offset fits.1.0,
+    (_, _, count_says (codes " at ") offset fits.1,
     count_says (codes " L") (fault_number fault) (small_number fault), refl), refl))
-    ∙ ap (option_map (λ fault. Refused taps offset fault)) (fault_found fault fits.1.1)
+    ∙ ap (option_map (λ fault. Refused taps offset fault)) (fault_found fault fits.2)
 end_complete (Cut taps) fits = absurd fits
 end_complete Undrawn fits = absurd fits
 
@@ -313,6 +312,21 @@ option_some : {A B : Type 0} (f : A → B) (r : Option A) (b : B) → option_map
 option_some f None b e = absurd (cc)
 option_some f (Some a) b e = (a, refl, some_one e)
 
+skip : {A : Type 0} (b : Bool) (x r : A) → b ≡ false → cond b x r ≡ r
+skip b x r is = ap (λ c. cond c x r) is
+
+no_fault : (number : ℕ) → fault_by (suc (suc (suc (suc (suc (suc (suc number))))))) ≡ None
+no_fault number =
+    let k = suc (suc (suc (suc (suc (suc (suc number)))))) in
+    let t1 : nat_eq k 1 ≡ false = grind (arith, nat_tests) in
+    let t2 : nat_eq k 2 ≡ false = grind (arith, nat_tests) in
+    let t3 : nat_eq k 3 ≡ false = grind (arith, nat_tests) in
+    let t4 : nat_eq k 4 ≡ false = grind (arith, nat_tests) in
+    let t5 : nat_eq k 5 ≡ false = grind (arith, nat_tests) in
+    let t6 : nat_eq k 6 ≡ false = grind (arith, nat_tests) in
+    skip (nat_eq k 1) _ _ t1 ∙ skip (nat_eq k 2) _ _ t2 ∙ skip (nat_eq k 3) _ _ t3
+    ∙ skip (nat_eq k 4) _ _ t4 ∙ skip (nat_eq k 5) _ _ t5 ∙ skip (nat_eq k 6) _ _ t6
+
 fault_named : (number : ℕ) (fault : LayoutFault) → fault_by number ≡ Some fault
     → IsNameAlone fault × (number ≡ fault_number fault)
 fault_named zero fault e = absurd (cc)
@@ -327,7 +341,10 @@ fault_named (suc (suc (suc (suc (suc zero))))) fault e =
     subst (λ f. IsNameAlone f × (5 ≡ fault_number f)) (some_one e) ((refl, refl), refl)
 fault_named (suc (suc (suc (suc (suc (suc zero)))))) fault e =
     subst (λ f. IsNameAlone f × (6 ≡ fault_number f)) (some_one e) (refl, refl)
-fault_named (suc (suc (suc (suc (suc (suc (suc number))))))) fault e = absurd (cc)
+fault_named (suc (suc (suc (suc (suc (suc (suc number))))))) fault e =
+    let none : fault_by (suc (suc (suc (suc (suc (suc (suc number))))))) ≡ None = no_fault number in
+    let both : None ≡ Some fault = sym none ∙ e in
+    absurd (cc)
 
 refused_sound : (r : Option (ℕ × (ℕ × ℕ))) (text : List ℕ) (end : UploadEnd)
     → said_by (then_read (count_at (codes " refused ")) (then_read (count_at (codes " at "))
@@ -339,7 +356,7 @@ refused_sound (Some n) text end is e =
     let (name, number) = fault_named n.1.1 fault found in
     let (line, (a, b, taps, (c, d, offset, last, two), one), shown) = line_sound refused_form text n is in
     subst (λ (x : UploadEnd). IsUploadEnd x × (text ≡ end_words x)) same (
-      (taps.1.0.0, (offset.1.0.0, name)),
+      (taps.1.0, offset.1.0, name),
       shown ∙ ap (λ (x : List ℕ). x ++ 10 ∷ [])
           (one ∙ ap (λ (x : List ℕ). x ++ b) (count_shown (codes " refused ") n.0 a taps)
           ∙ ap (λ (x : List ℕ). (codes " refused " ++ decimal n.0) ++ x)
@@ -358,16 +375,15 @@ end_sound None text end is e = refused_sound _ text end refl e
 
 upload_some : (r : Option (ℕ × List ℕ)) (line : List ℕ) (upload : ℕ) (end : UploadEnd)
     → count_at (codes "upload ") line ≡ r → upload_if r ≡ Some (upload, end)
-    → (upload < 2 ^ 64) × IsUploadEnd end × (line ≡ upload_line upload end)
+    → ((upload < 2 ^ 64) × IsUploadEnd end) × (line ≡ upload_line upload end)
 upload_some None line upload end is e = absurd (cc)
 upload_some (Some parts) line upload end is e =
     let (found, one, both) = option_some (λ (end : UploadEnd). (parts.0, end)) (end_in parts.1) (upload, end) e
     in
     let (fits, words) = end_sound _ parts.1 found refl one in
     let (text, says, shown) = (count_form (codes "upload ")).sound line parts.0 parts.1 is in
-    subst (λ (x : ℕ × UploadEnd). (x.0 < 2 ^ 64) × IsUploadEnd x.1 × (line ≡ upload_line x.0 x.1)) both (
-      says.1.0.0,
-      fits,
+    subst (λ (x : ℕ × UploadEnd). ((x.0 < 2 ^ 64) × IsUploadEnd x.1) × (line ≡ upload_line x.0 x.1)) both (
+      (says.1.0, fits),
       shown ∙ ap (λ (x : List ℕ). x ++ parts.1) (count_shown (codes "upload ") parts.0 text says)
           ∙ ap (λ (x : List ℕ). (codes "upload " ++ decimal parts.0) ++ x) words
           ∙ sym (upload_spelt parts.0 found),
@@ -375,5 +391,5 @@ upload_some (Some parts) line upload end is e =
 
 pub upload_sound : (line : List ℕ) (upload : ℕ) (end : UploadEnd)
     → upload_in line ≡ Some (upload, end)
-    → (upload < 2 ^ 64) × IsUploadEnd end × (line ≡ upload_line upload end)
+    → ((upload < 2 ^ 64) × IsUploadEnd end) × (line ≡ upload_line upload end)
 upload_sound line upload end e = upload_some _ line upload end refl e

@@ -5,6 +5,8 @@ use Rattle.std.proofs.Common.{Option, Some, None, Result, Ok, Err, option_map, c
 use Rattle.std.proofs.Common.{take, drop, length, length-append, get_or, refl, sym, ap, subst, ◌∙◌, append_assoc, arith}
 use Rattle.std.specs.Fmt.{decimal}
 use Rattle.std.specs.Int.{from_be_bytes, w64}
+use Rattle.std.specs.Prelude.{MatchResult}
+use Rattle.std.specs.Result.{is_err}
 use Rattle.std.specs.Str.{bytes_eq}
 use Rattle.std.proofs.lemmas.Bool.{false≢true, and_from, and_parts}
 use Rattle.std.proofs.lemmas.Bool.Decides.{nat_tests}
@@ -23,7 +25,7 @@ use Rattle.tap_views.proofs.TokenLemmas.{high_back, low_back}
 use Rattle.line_forms.specs.Forms.{IsBehind, IsFirst, IsForm, IsThen, Reader, said_by, value_if}
 use Rattle.line_forms.specs.FormLaws.{behind_law, number_law, then_law, wide_64, with_rest_some}
 use Rattle.line_forms.specs.Numbers.{BeginsWithNoDigit, IsNumber, with_rest}
-use Rattle.report_texts.specs.Forms.{Counted, again, chosen, counted_read, counts_read, sums_by, sums_with, token_in, token_read, token_with}
+use Rattle.report_texts.specs.Forms.{Counted, again, chosen, count_at, counted_read, counts_read, sums_by, sums_with, token_in, token_read, token_with}
 use Rattle.report_texts.specs.Numbers.{AreCounts}
 
 -- ---- values that are made of others
@@ -50,36 +52,40 @@ chosen_law {reads = reads} choice form = record {
       let (text, is, shown) = form.sound whole a rest one in
       (text, (a, is, two), shown);
   complete = λ b text rest is ends.
-      ap (chosen choice) (form.complete is.0 text rest is.1.0 ends)
-      ∙ ap (λ r. with_rest r rest) is.1.1;
+      ap (chosen choice) (form.complete is.0 text rest is.1 ends)
+      ∙ ap (λ r. with_rest r rest) is.2;
 }
 
 -- ---- counts
 abbrev pub IsCount : List ℕ → ℕ → List ℕ → Type 0
 IsCount word = IsBehind word (IsNumber (2 ^ 64))
 
-pub count_form : (word : List ℕ) → IsForm (IsCount word) BeginsWithNoDigit _
+pub count_form : (word : List ℕ) → IsForm (IsCount word) BeginsWithNoDigit (count_at word)
 count_form word = behind_law word (number_law (2 ^ 64) wide_64)
 
 pub begins : (word : List ℕ) → ((rest : List ℕ) → BeginsWithNoDigit (word ++ rest))
     → IsFirst BeginsWithNoDigit (IsCount word)
-begins word no value text rest is =
-    subst (λ (x : List ℕ). BeginsWithNoDigit (x ++ rest)) (sym is.1.1)
-    (subst BeginsWithNoDigit (sym (append_assoc word is.0 rest)) (no (is.0 ++ rest)))
+begins word none value text rest is =
+    subst (λ (x : List ℕ). BeginsWithNoDigit (x ++ rest)) (sym is.2)
+    (subst BeginsWithNoDigit (sym (append_assoc word is.0 rest)) (none (is.0 ++ rest)))
 
-pub begins_then : {B : Type 0} {says : B → List ℕ → Type 0} (word : List ℕ)
+pub begins_then : {B : Type 0} (says : B → List ℕ → Type 0) (word : List ℕ)
     → IsFirst BeginsWithNoDigit (IsCount word)
     → IsFirst BeginsWithNoDigit (IsThen (IsCount word) says)
-begins_then word first value text rest is =
-    subst (λ (x : List ℕ). BeginsWithNoDigit (x ++ rest)) (sym is.1.1.1.1)
-    (subst BeginsWithNoDigit (sym (append_assoc is.0 is.1.0 rest))
-    (first value.0 is.0 (is.1.0 ++ rest) is.1.1.0))
+begins_then says word first value text rest is =
+    subst (λ (x : List ℕ). BeginsWithNoDigit (x ++ rest)) (sym is.4)
+    (subst BeginsWithNoDigit (sym (append_assoc is.0 is.1 rest))
+    (first value.0 is.0 (is.1 ++ rest) is.2))
+
+-- the text says the counts behind that of the taps
+abbrev pub IsOtherCounts : ℕ × (ℕ × (ℕ × (ℕ × (ℕ × ℕ)))) → List ℕ → Type 0
+IsOtherCounts =
+    IsThen (IsCount (codes " paid ")) (IsThen (IsCount (codes " transfers "))
+    (IsThen (IsCount (codes " capped ")) (IsThen (IsCount (codes " stale "))
+    (IsThen (IsCount (codes " unknown ")) (IsCount (codes " cents "))))))
 
 abbrev pub IsCountedText : List ℕ → Counted → List ℕ → Type 0
-IsCountedText word =
-    IsThen (IsCount word) (IsThen (IsCount (codes " paid ")) (IsThen (IsCount (codes " transfers "))
-    (IsThen (IsCount (codes " capped ")) (IsThen (IsCount (codes " stale "))
-    (IsThen (IsCount (codes " unknown ")) (IsCount (codes " cents ")))))))
+IsCountedText word = IsThen (IsCount word) IsOtherCounts
 
 counted_law : (word : List ℕ) → IsForm (IsCountedText word) BeginsWithNoDigit (counted_read word)
 counted_law word =
@@ -90,11 +96,11 @@ counted_law word =
     (then_law (count_form (codes " stale "))
     (then_law (count_form (codes " unknown ")) (count_form (codes " cents "))
     (begins (codes " cents ") (λ rest. refl)))
-    (begins_then (codes " unknown ") (begins (codes " unknown ") (λ rest. refl))))
-    (begins_then (codes " stale ") (begins (codes " stale ") (λ rest. refl))))
-    (begins_then (codes " capped ") (begins (codes " capped ") (λ rest. refl))))
-    (begins_then (codes " transfers ") (begins (codes " transfers ") (λ rest. refl))))
-    (begins_then (codes " paid ") (begins (codes " paid ") (λ rest. refl)))
+    (begins_then _ (codes " unknown ") (begins (codes " unknown ") (λ rest. refl))))
+    (begins_then _ (codes " stale ") (begins (codes " stale ") (λ rest. refl))))
+    (begins_then _ (codes " capped ") (begins (codes " capped ") (λ rest. refl))))
+    (begins_then _ (codes " transfers ") (begins (codes " transfers ") (λ rest. refl))))
+    (begins_then _ (codes " paid ") (begins (codes " paid ") (λ rest. refl)))
 
 -- the text says these sums, behind the word
 abbrev pub IsCountsText : List ℕ → Sums → List ℕ → Type 0
@@ -106,8 +112,8 @@ counts_law word = chosen_law sums_by (counted_law word)
 -- such a text begins with no digit
 pub begins_chosen : (word : List ℕ) → ((rest : List ℕ) → BeginsWithNoDigit (word ++ rest))
     → IsFirst BeginsWithNoDigit (IsCountsText word)
-begins_chosen word no value text rest is =
-    begins_then word (begins word no) is.0 text rest is.1.0
+begins_chosen word none value text rest is =
+    begins_then IsOtherCounts word (begins word none) is.0 text rest is.1
 
 -- ---- tokens
 -- the text is the token's digits
@@ -162,8 +168,8 @@ again_some digits (Ok bytes) token is found =
     found in
     let double : length digits ≡ 2 * 16 = decode_sized-ok digits 16 bytes is in
     let ok = decode_of-ok digits bytes (sym (decode_sized-twice digits 16 double) ∙ is) in
-    let long : length bytes ≡ 16 = omega (arith, double, ok.1.1.0) in
-    let (back, fits) = token_made bytes long ok.1.1.1 in
+    let long : length bytes ≡ 16 = omega (arith, double, ok.2) in
+    let (back, fits) = token_made bytes long ok.3 in
     let shown : encode_lower bytes ≡ digits = (bytes_eq-Decides (encode_lower bytes) digits).0 same
     in
     subst (λ (t : Token). IsTokenDigits t digits) made
@@ -172,6 +178,28 @@ again_some digits (Ok bytes) token is found =
 pub token_in_sound : (digits : List ℕ) (token : Token) → token_in digits ≡ Some token
     → IsTokenDigits token digits
 token_in_sound digits token e = again_some digits (decode_sized digits 16) token refl e
+
+-- ---- what the program decodes
+pub again_refused : (digits : List ℕ) (answer : Result (List ℕ) FromHexError)
+    (result : Result Unit FromHexError) (out : List ℕ)
+    → MatchResult answer (λ bs. (result ≡ Ok tt) × (out ≡ bs)) (λ e. result ≡ Err e)
+    → is_err result ≡ true → again digits answer ≡ None
+again_refused digits (Ok bytes) result out gave err =
+    absurd (false≢true (sym (ap is_err gave.0) ∙ err))
+again_refused digits (Err e) result out gave err = refl
+
+pub again_taken : (digits : List ℕ) (answer : Result (List ℕ) FromHexError)
+    (result : Result Unit FromHexError) (out : List ℕ)
+    → MatchResult answer (λ bs. (result ≡ Ok tt) × (out ≡ bs)) (λ e. result ≡ Err e)
+    → is_err result ≡ false
+    → again digits answer ≡ value_if (bytes_eq (encode_lower out) digits) (token_with out)
+again_taken digits (Ok bytes) result out gave err =
+    ap (λ (b : List ℕ). value_if (bytes_eq (encode_lower b) digits) (token_with b)) (sym gave.1)
+again_taken digits (Err e) result out gave err = absurd (false≢true (sym err ∙ ap is_err gave))
+
+pub token_of : (token : Token) (bytes : List ℕ) → bytes_of token ≡ bytes → Fits token
+    → token ≡ token_with bytes
+token_of token bytes is fits = sym (token_back token fits) ∙ ap token_with is
 
 token_front : (b : Bool) (whole : List ℕ) (token : Token) (rest : List ℕ)
     → cond b None (with_rest (token_in (take 32 whole)) (drop 32 whole)) ≡ Some (token, rest)

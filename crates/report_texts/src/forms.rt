@@ -57,7 +57,7 @@ fn totals_by(counts: (u64, (u64, (u64, (u64, (u64, (u64, u64))))))) -> Option<To
 }
 
 /// The counts at the front of the text, and what follows them.
-fn counts<'a>(
+fn counted<'a>(
     text: &'a [u8],
     word: &[u8],
 ) -> Option<((u64, (u64, (u64, (u64, (u64, (u64, u64)))))), &'a [u8])>
@@ -102,7 +102,7 @@ impl<'a, 'w> FormOf<'a> for Counts<'w> {
     ghost valid = { λ form. Unit {0} };
 
     fn read(&self, text: &'a [u8]) -> Option<(Totals, &'a [u8])> {
-        let (counts, rest) = counts(text, self.0)?;
+        let (counts, rest) = counted(text, self.0)?;
         let totals = totals_by(counts)?;
         Some((totals, rest))
     }

@@ -3,6 +3,7 @@
 
 pub mod forms;
 mod front;
+pub mod laws;
 mod line;
 mod report;
 mod report_lines;

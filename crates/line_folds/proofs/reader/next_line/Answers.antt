@@ -1,4 +1,4 @@
-use Rattle.std.proofs.Common.{◌≡◌, ◌<◌, ℕ, true, false, length, arith}
+use Rattle.std.proofs.Common.{◌≡◌, ◌<◌, true, false, length, arith}
 use Rattle.std.specs.Prelude.{nat_lt}
 use Rattle.std.proofs.lemmas.Bool.Decides.{nat_tests}
 use Rattle.line_folds.proofs.Runs.{next_end, next_long, next_whole}
@@ -11,8 +11,8 @@ returns-then-is_empty g c =
     (g.R.Read.remaining c.read_until.new.self) c.clear.ensures.items c.in-Ok.ensures.bytes
     c.in-Ok.ensures.rest over
 
-pub returns-then-line-gt-MAX_LINE_BYTES : goal.returns-then-line-gt-MAX_LINE_BYTES
-returns-then-line-gt-MAX_LINE_BYTES g c =
+pub returns-then-len-gt-MAX_LINE_BYTES : goal.returns-then-len-gt-MAX_LINE_BYTES
+returns-then-len-gt-MAX_LINE_BYTES g c =
     let some : 0 < length c.read_until.new.buf.items = grind (arith, nat_tests) in
     let long : nat_lt 1024 (length c.read_until.new.buf.items) ≡ true = grind (arith, nat_tests) in
     next_long (g.R.Read.remaining c.args.from.now) c.clear.new.self.items c.read_until.new.buf.items
