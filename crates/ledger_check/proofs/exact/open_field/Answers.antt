@@ -16,9 +16,12 @@ rest_of text front behind is =
 pub returns-in-Some-clause-some : goal.returns-in-Some-clause-some
 returns-in-Some-clause-some c =
     let parts = c.in-Some.ensures.some in
-    let rest = rest_of c.args.text.now c.in-Some.front.now c.in-Some._behind.now parts.1 in
-    (parts.0, inl (c.in-Some._behind.now, rest), parts.1
-    ∙ ap (λ (t : List ℕ). c.in-Some.front.now ++ t) (sym rest))
+    let rest = rest_of c.args.text.now c.in-Some.front.now c.in-Some._behind.now parts.1 in (
+      parts.0,
+      inl (c.in-Some._behind.now, rest),
+      parts.1
+          ∙ ap (λ (t : List ℕ). c.in-Some.front.now ++ t) (sym rest),
+    )
 
 pub returns-in-Some-before_feed-clause-some : goal.returns-in-Some-before_feed-clause-some
 returns-in-Some-before_feed-clause-some c =
