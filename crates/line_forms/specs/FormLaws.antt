@@ -3,7 +3,6 @@ use Rattle.std.proofs.Common.{◌≡◌, ◌==◌, ℕ, suc, ◌+◌, ◌<◌, �
 use Rattle.std.proofs.Common.{[], ◌∷◌, ◌++◌, length, take, drop, refl, sym, ap, subst, ◌∙◌, arith, append_assoc, Decides, option_map, Bor}
 use Rattle.std.specs.Char.{is_ascii_digit}
 use Rattle.std.specs.Fmt.{decimal}
-use Rattle.std.specs.List.{position_or_len}
 use Rattle.std.specs.Str.{all_ascii_digits, bytes_eq}
 use Rattle.std.specs.Str.Parse.{digits_value}
 use Rattle.std.proofs.lemmas.Bool.{false≢true, and_from, and_parts}
@@ -13,7 +12,7 @@ use Rattle.std.proofs.lemmas.List.{take-append-drop}
 use Rattle.std.proofs.lemmas.Slice.Eq.{bytes_eq-Decides}
 use Rattle.std.proofs.lemmas.Str.Parse.{IsNumeralModel, numerals_by_value, tells_all_ascii_digits}
 use Rattle.line_forms.specs.Forms.{IsBehind, IsFirst, IsForm, IsThen, Reader, after, after_if, behind_read, ended, go_on, is_end, read_if, said_by, then_read, value_if, with_second}
-use Rattle.line_forms.specs.Numbers.{BeginsWithNoDigit, IsNumber, digits_in, number_at, number_if, number_in, with_rest}
+use Rattle.line_forms.specs.Numbers.{BeginsWithNoDigit, IsNumber, below, digits_in, number_at, number_if, number_in, with_rest}
 
 -- ---- options
 -- what is to be said of nothing, if nothing is returned
@@ -26,7 +25,7 @@ pub is_none : {A : Type 0} (r : Option A) → ((a : A) → ¬ (r ≡ Some a)) �
 is_none None f = refl
 is_none (Some a) f = absurd (f a refl)
 
-some_one : {A : Type 0} {a b : A} → Some a ≡ Some b → a ≡ b
+pub some_one : {A : Type 0} {a b : A} → Some a ≡ Some b → a ≡ b
 some_one e = cc
 
 -- ---- words
@@ -106,6 +105,23 @@ number_by bound digits None wide none =
 number_by bound digits (Some n) wide is =
     let small : n < 10 ^ 64 = omega (arith, wide, is.0) in
     sym (number_is bound n digits small is)
+
+narrow : (bound v : ℕ) (a b same : Bool) → nat_lt v bound ≡ b → (b ≡ true → a ≡ true)
+    → below bound (number_if (a && same) v) ≡ number_if (b && same) v
+narrow bound v true true true is wide = ap (λ x. number_if x v) is
+narrow bound v true false true is wide = ap (λ x. number_if x v) is
+narrow bound v true true false is wide = refl
+narrow bound v true false false is wide = refl
+narrow bound v false true same is wide = absurd (false≢true (wide refl))
+narrow bound v false false same is wide = refl
+
+-- a number of 32 bits is one of 64 bits
+pub number_narrow : (digits : List ℕ) → below (2 ^ 32) (number_in (2 ^ 64) digits) ≡ number_in (2 ^ 32) digits
+unfolding number_in
+number_narrow digits =
+    let v = digits_value 10 digits in
+    narrow (2 ^ 32) v (nat_lt v (2 ^ 64)) (nat_lt v (2 ^ 32)) (bytes_eq (decimal v) digits) refl
+    (λ low. let small : v < 2 ^ 64 = grind (arith, nat_tests) in grind (arith, nat_tests))
 
 -- ---- digits at the front
 decimal_digits : (n : ℕ) → n < 10 ^ 64 → all_ascii_digits (decimal n) ≡ true
@@ -290,6 +306,3 @@ wide_32 = omega arith
 
 pub wide_64 : 2 ^ 64 ≤ 10 ^ 64
 wide_64 = omega arith
-
-pub wide_128 : 2 ^ 128 ≤ 10 ^ 64
-wide_128 = omega arith

@@ -2,9 +2,9 @@
 
 ghost use Rattle.std.specs.Prelude.{◌≡◌, ◌<◌, ◌≤◌, ◌^◌, ℕ, length, MatchOption};
 ghost use Rattle.std.specs.Fmt.{decimal};
-ghost use Rattle.line_forms.specs.FormLaws.{number_law, wide_32, wide_64, wide_128};
+ghost use Rattle.line_forms.specs.FormLaws.{number_law, wide_32, wide_64};
 ghost use Rattle.line_forms.specs.Numbers.{BeginsWithNoDigit, IsNumber, digits_in, number_at};
-ghost use Rattle.line_forms.specs.Numbers.{number_in};
+ghost use Rattle.line_forms.specs.Numbers.{below, number_in};
 
 use crate::form::FormOf;
 use itoa::Buffer;
@@ -32,6 +32,24 @@ pub fn number_of(digits: &[u8]) -> Option<u64>
     ensures { result ≡ number_in (2 ^ 64) digits.now }
 {
     parsed(digits)
+}
+
+fn below_32(number: Option<u64>) -> Option<u32>
+    ensures { result ≡ below (2 ^ 32) number }
+{
+    let number = number?;
+    if number < 4_294_967_296 {
+        Some(number as u32)
+    } else {
+        None
+    }
+}
+
+/// The number of at most 32 bits that the digits write, if it is written so.
+pub fn number_32_of(digits: &[u8]) -> Option<u32>
+    ensures { result ≡ number_in (2 ^ 32) digits.now }
+{
+    below_32(number_of(digits))
 }
 
 /// How many digits the text begins with.
@@ -71,4 +89,32 @@ impl<'a> FormOf<'a> for Number64 {
     }
 
     ghost law = { λ form valid. number_law (2 ^ 64) wide_64 };
+}
+
+/// A number of at most 32 bits.
+#[derive(Drop)]
+pub struct Number32;
+
+impl<'a> FormOf<'a> for Number32 {
+    type Value = u32;
+
+    ghost Said = { ℕ };
+
+    ghost said = { λ number. number };
+
+    ghost reads = { λ form. number_at (2 ^ 32) };
+
+    ghost says = { λ form. IsNumber (2 ^ 32) };
+
+    ghost ends = { λ form. BeginsWithNoDigit };
+
+    ghost valid = { λ form. Unit {0} };
+
+    fn read(&self, text: &'a [u8]) -> Option<(u32, &'a [u8])> {
+        let size = digits_before(text);
+        let number = number_32_of(&text[..size])?;
+        Some((number, &text[size..]))
+    }
+
+    ghost law = { λ form valid. number_law (2 ^ 32) wide_32 };
 }

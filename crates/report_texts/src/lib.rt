@@ -1,7 +1,9 @@
 //! The text of a report: how it is written, and how its lines are read.
 #![tactic(auto)]
 
+pub mod forms;
 mod front;
+pub mod laws;
 mod line;
 mod report;
 mod report_lines;
