@@ -18,6 +18,7 @@ use crate::moment::read_moment;
 use crate::tap::{Tap, read_small_number, read_token};
 use fare_texts::write_moment;
 use itoa::Buffer;
+use line_forms::forms::after_word;
 use std::alloc::AllocError;
 use tap_views::{TapFields, Token};
 
@@ -34,6 +35,15 @@ pub(crate) struct Front<'a> {
     rest: &'a [u8],
 }
 
+/// What stands before the line feed that ends the text.
+fn before_feed(text: &[u8]) -> Option<&[u8]>
+    ensures { MatchOption result ((front : List ℕ) → ¬ (text.now ≡ front ++ 10 ∷ []))
+        (λ front. text.now ≡ front.now ++ 10 ∷ []) }
+{
+    let (last, front) = text.split_last()?;
+    if *last == b'\n' { Some(front) } else { None }
+}
+
 /// The field with which the text begins, and what stands from its end on: a comma, or the line's end.
 fn open_field(text: &[u8]) -> Option<(&[u8], &[u8])>
     ensures some { IfSome result (λ parts. Lacks 44 parts.0.now × EndsField parts.1.now
@@ -44,7 +54,7 @@ fn open_field(text: &[u8]) -> Option<(&[u8], &[u8])>
     if let Some((front, _behind)) = split_at_byte(text, b',') {
         return Some((front, &text[front.len()..]));
     }
-    match text.strip_suffix(b"\n") {
+    match before_feed(text) {
         Some(front) => Some((front, b"\n")),
         None => None,
     }
@@ -172,7 +182,7 @@ pub(crate) fn exact_cents(rest: &[u8]) -> Option<u32>
     ensures { MatchOption result ((cents : ℕ) → ¬ (IsCentsField rest.now cents))
         (λ cents. IsCentsField rest.now cents) }
 {
-    let fields = rest.strip_prefix(b",")?;
+    let fields = after_word(rest, b",")?;
     let (_mode, behind) = field(fields)?;
     let (_answer, behind) = field(behind)?;
     let (digits, _behind) = field(behind)?;

@@ -1,3 +1,4 @@
+use Rattle.std.proofs.Common.{◌^◌}
 use Rattle.line_forms.specs.FormLaws.{number_by, wide_32}
 use Rattle.ledger_check.proofs.columns.small_number.Goals as goal
 

@@ -6,7 +6,7 @@ returns-clause-some c =
     let one = c.in_ok-token.ensures.cut in
     let two = c.in_ok-_number.ensures.cut in
     let three = c.in_ok-moment.ensures.cut in
-    let four = c.in_ok-validator.ensures.cut in (
+    let four = c.in_ok-validator.ensures.some in (
       _,
       record {
         token_field = one.0;
