@@ -126,7 +126,7 @@ IsDone (sort asked) run Silent =
 IsDone (merge parts) run Silent =
     IfKept run (MergesParts parts run.loaded run.loaded' run.out run.out')
     × (run.is_flushed ≡ true) × Silent
-IsDone (bounds parts uploads) run Silent =
+IsDone (bounds parts words) run Silent =
     PrintsBounds parts run.out run.out' × (run.is_flushed ≡ true) × Silent
 IsDone (corrections ledgers) run Silent = (run.is_flushed ≡ true) × IfKept run ((removed : ℕ)
     × Corrects ledgers.is_by_token ledgers.old ledgers.new run.loaded run.loaded' run.out run.out'
@@ -188,7 +188,7 @@ IsGivenUp (sort asked) run Silent = Faults run (λ fault. (words : SortWords)
     run.made' run.unmade fault)))
 IsGivenUp (merge parts) run Silent = Faults run (λ fault.
     IfKept run (GivesUpMerge parts run.loaded run.loaded' run.refused run.end fault))
-IsGivenUp (bounds parts uploads) run Silent = Faults run (λ fault. ⊤)
+IsGivenUp (bounds parts words) run Silent = Faults run (λ fault. ⊤)
 IsGivenUp (corrections ledgers) run Silent = Faults run (λ fault. IfKept run
     (GivesUpCorrections ledgers.is_by_token ledgers.old ledgers.new run.loaded run.loaded'
     run.refused run.end fault

@@ -282,8 +282,8 @@ merge_asked parts =
 
 -- Uploads that are sampled are read at any offset, too.
 abbrev pub bounds_asked : ℕ → List Text → Asked
-bounds_asked parts uploads =
-    if nat_lt 0 (inputs_in uploads) then mistake wrong.InputSampled else bounds parts uploads
+bounds_asked parts files =
+    if nat_lt 0 (inputs_in files) then mistake wrong.InputSampled else bounds parts files
 
 abbrev pub corrections_asked : CorrectionsAsked → Asked
 corrections_asked ledgers = if is_input ledgers.old && is_input ledgers.new
