@@ -1,6 +1,6 @@
 //! What is asked for of a part of sorted files: of the taps of a range of tokens.
 ghost use Rattle.std.specs.Prelude.{◌≡◌, ◌≢◌, ◌≤◌, ◌^◌, ◌++◌, ℕ, true, false, List, Some, None};
-ghost use Rattle.std.specs.Prelude.{IfErr, IfOk, OnOk, is_some, length, map};
+ghost use Rattle.std.specs.Prelude.{IfErr, IfOk, OnOk, Option, is_some, length, map};
 ghost use Rattle.std.specs.Io.KnownBytes.{Appends, Keeps};
 ghost use Rattle.tariffs.specs.Fares.{Fares};
 ghost use Rattle.histories.specs.declared.entry.Entry.{Entry};
