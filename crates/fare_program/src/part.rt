@@ -1,16 +1,17 @@
 //! What is asked for of a part of sorted files: of the taps of a range of tokens.
 ghost use Rattle.std.specs.Prelude.{◌≡◌, ◌≢◌, ◌≤◌, ◌^◌, ◌++◌, ℕ, true, false, List, Some, None};
-ghost use Rattle.std.specs.Prelude.{IfErr, IfOk, OnOk, is_some, length, map};
+ghost use Rattle.std.specs.Prelude.{IfErr, IfOk, OnOk, Option, is_some, length, map};
 ghost use Rattle.std.specs.Io.KnownBytes.{Appends, Keeps};
 ghost use Rattle.tariffs.specs.Fares.{Fares};
 ghost use Rattle.histories.specs.declared.entry.Entry.{Entry};
 ghost use Rattle.settlement.specs.Bills.{IsBillOf};
+ghost use Rattle.fare_texts.specs.WrittenOut.{Begins};
 ghost use Rattle.part_texts.specs.Heads.{part_head};
 ghost use Rattle.fare_program.specs.Causes.{IsRightOfSorted};
 ghost use Rattle.fare_program.specs.Fault.{IsLate, status_of};
 ghost use Rattle.fare_program.specs.Parts.{report_over};
 ghost use Rattle.fare_program.specs.TokenRanges.{range_fault};
-ghost use Rattle.fare_program.specs.inside.ChargedPart.{IsChargedPart};
+ghost use Rattle.fare_program.specs.inside.ChargedPart.{IsBegunPart, IsChargedPart};
 ghost use Rattle.fare_program.specs.inside.Options.{asked_of};
 
 use crate::bill::write_billed;
@@ -34,6 +35,10 @@ fn write_made<'a, W: Write>(alloc: Global, made: PartBill, out: &mut W) -> Resul
         × (length history ≤ 2 ^ 95) }
     ensures ok { OnOk result ((history : List Entry) → IsBillOf history made.billed.bill
         → Appends (W.contents out.old) (W.contents out.new)
+        (part_head made.spans.items ++ report_over made.billed.ends.items history)) }
+    ensures begun { IfErr result (λ fault. fault ≡ Fault.Write
+        → (history : List Entry) → IsBillOf history made.billed.bill
+        → Begins (W.contents out.old) (W.contents out.new)
         (part_head made.spans.items ++ report_over made.billed.ends.items history)) }
     ensures right { IfErr result (λ fault. (names : List (List ℕ)) (known : List (Option (List ℕ)))
         → IsRightOfSorted names known fault) }
@@ -60,6 +65,9 @@ fn write_report<'a, R: RandomSource, F: Placed, W: Write>(
     out: &mut W,
 ) -> Result<(), Fault<'a>>
     ensures ok { OnOk result (IsChargedPart false (map F.bytes files.now) table.now
+        (W.contents out.old) (W.contents out.new)) }
+    ensures begun { IfErr result (λ fault. fault ≡ Fault.Write
+        → IsBegunPart false (map F.bytes files.now) table.now
         (W.contents out.old) (W.contents out.new)) }
     ensures right { IfErr result (IsRightOfSorted (asked_of options.now).files
         (map F.bytes files.now)) }
@@ -115,6 +123,10 @@ fn charge_part<'a, R: RandomSource, F: Placed, W: Write>(
 ) -> Result<(), Fault<'a>>
     ensures ok { OnOk result (IsChargedPart (asked_of options.now).ledger (map F.bytes files.now)
         table.now (W.contents out.old) (W.contents out.new)) }
+    ensures begun { IfErr result (λ fault. fault ≡ Fault.Write
+        → ((asked_of options.now).ledger ≡ true → ⊥)
+        → IsBegunPart (asked_of options.now).ledger (map F.bytes files.now)
+        table.now (W.contents out.old) (W.contents out.new)) }
     ensures right { IfErr result (IsRightOfSorted (asked_of options.now).files
         (map F.bytes files.now)) }
     ensures status { IfErr result (λ fault. status_of fault ≡ 1) }
@@ -145,6 +157,11 @@ pub(crate) fn work_part<'a, R: RandomSource, D: Disk, W: Write>(
         → IsChargedPart (asked_of options.now).ledger
         (map (D.bytes_under disk.now) (asked_of options.now).files) fares
         (W.contents out.old) (W.contents out.new))) }
+    ensures begun { IfErr result (λ fault. fault ≡ Fault.Write
+        → ((asked_of options.now).ledger ≡ true → ⊥)
+        → (fares : Fares) → table ≡ Some fares → IsBegunPart (asked_of options.now).ledger
+        (map (D.bytes_under disk.now) (asked_of options.now).files) fares
+        (W.contents out.old) (W.contents out.new)) }
     ensures right { IfErr result (IsRightOfSorted (asked_of options.now).files
         (map (D.bytes_under disk.now) (asked_of options.now).files)) }
     ensures status { IfErr result (λ fault. status_of fault ≡ 1) }

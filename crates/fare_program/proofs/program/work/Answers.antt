@@ -8,6 +8,7 @@ use Rattle.std.proofs.lemmas.Result.{IfErr-weaker, IfOk-weaker, err_from_is_err_
 use Rattle.tariffs.specs.Fares.{Fares}
 use Rattle.tap_views.specs.declared.token.Token.{Token}
 use Rattle.fare_program.specs.Program.{Does, IsTokenIn, LoadsTable}
+use Rattle.fare_program.specs.Parts.{IsPartText}
 use Rattle.fare_program.specs.Settling.{ShowsSettled}
 use Rattle.fare_program.specs.declared.fault.Fault.{Fault}
 use Rattle.fare_program.specs.declared.fault.Fault.TheVariants.{Write}
@@ -26,9 +27,6 @@ use Rattle.fare_program.proofs.program.work.Goals as goal
 
 abbrev written : Bor (List ℕ) → List ℕ
 written text = text.now
-
-no_part : (tokens : Option (List ℕ)) (word : List ℕ) → tokens ≡ Some word → tokens ≡ None → ⊥
-no_part tokens word some none = cc
 
 pub returns-in-Some-2-clause-ok : goal.returns-in-Some-2-clause-ok
 returns-in-Some-2-clause-ok g c =
@@ -153,14 +151,6 @@ returns-in-Some-clause-fault g c =
     (λ fault kept write late. kept write (late c.if-options-2.true))
     c.work_part.ensures.fault
 
--- nothing is promised of a beginning of a part
-pub returns-in-Some-clause-begun : goal.returns-in-Some-clause-begun
-returns-in-Some-clause-begun g c =
-    IfErr-weaker c.work_part.result _ _
-    (λ fault one write other. absurd (no_part (asked_of c.args.options.now).tokens
-    c.in-Some.word.now (ap (option_map written) c.in-Some.is) other.0))
-    c.work_part.ensures.status
-
 pub returns-in_err-table-clause-right_fault : goal.returns-in_err-table-clause-right_fault
 returns-in_err-table-clause-right_fault g c =
     let asked = asked_of c.args.options.now in
@@ -279,7 +269,7 @@ returns-then-options-2-clause-begun g c =
           c.in_ok-token.ensures.token (
             refl,
             λ f same. shown_settled asked (map under asked.files) f c.in_ok-token.token out all
-                other.0
+                (ap (option_map written) c.in_default.is)
                 (record {
                   text = is.text;
                   shows = λ files are. subst (λ (fares : Fares). ShowsSettled asked fares files
@@ -290,3 +280,37 @@ returns-then-options-2-clause-begun g c =
           ))),
     ))
     c.work_sorted.ensures.begun
+
+pub returns-in-Some-clause-begun : goal.returns-in-Some-clause-begun
+returns-in-Some-clause-begun g c =
+    let asked = asked_of c.args.options.now in
+    let under = g.D.Disk.bytes_under c.args.disk.now in
+    let origin = g.D.Disk.origin c.args.disk.now in
+    let out = g.W.Write.contents c.args.out.now in
+    let new = g.W.Write.contents c.work_part.new.out in
+    let named : asked.tokens ≡ Some c.in-Some.word.now = ap (option_map written) c.in-Some.is in
+    let table = has_table asked _ _ c.in_ok-table.table c.in_ok-token.ensures.right
+    c.if-options-2.true c.in_ok-table.ensures.ok in
+    IfErr-weaker c.work_part.result _ _
+    (λ fault begun write other.
+    let is = begun write (λ ledger. other.0 (ap is_some named, ledger)) table.0 table.1 in (
+      true,
+      begun_by out out new is.text
+          (λ all. Does asked under origin (g.S.FileSource.loaded c.args.source.now)
+          (g.S.FileSource.loaded c.load_table.new.source) out all true) (Keeps-refl out) is.begun
+          (λ all is_written. does_untraced asked under origin _ _ out all true c.if-options.false
+          (does_sorted asked under origin _ _ c.in_ok-table.table c.in_ok-token.token out all true
+          c.in_ok-token.ensures.right c.if-options-2.true c.in_ok-table.ensures.ok
+          c.in_ok-token.ensures.token (
+            refl,
+            λ f same. shown_part asked (map under asked.files) f c.in_ok-token.token out all
+                c.in-Some.word.now named
+                (record {
+                  text = is.text;
+                  shows = λ files are. subst (λ (fares : Fares). IsPartText asked.ledger fares files
+                      is.text) (one_table table.0 f (sym table.1 ∙ same)) (is.shows files are);
+                  written = is_written;
+                }),
+          ))),
+    ))
+    c.work_part.ensures.begun
