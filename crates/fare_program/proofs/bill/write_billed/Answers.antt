@@ -1,4 +1,4 @@
-use Rattle.std.proofs.Common.{◌≡◌, ℕ, List, map, ap, subst, sym, ◌∙◌, arith}
+use Rattle.std.proofs.Common.{◌≡◌, map, ap, subst, sym, ◌∙◌, arith}
 use Rattle.std.proofs.lemmas.Result.{err_from_is_err_and}
 use Rattle.std.specs.Io.KnownBytes.{Appends}
 use Rattle.fare_program.proofs.WritesFailed.{of_write}
@@ -7,7 +7,6 @@ use Rattle.histories.specs.Sums.{Sums, sums, sums_of}
 use Rattle.histories.specs.Shown.{validator_sum}
 use Rattle.histories.specs.SumsByKey.{sums_by_validator}
 use Rattle.histories.specs.TalliesByKey.{HasRoom}
-use Rattle.histories.specs.declared.entry.Entry.{Entry}
 use Rattle.histories.proofs.SumsLemmas.{sums-taps}
 use Rattle.report_texts.specs.Report.{report}
 use Rattle.tap_views.specs.UploadEnds.{are_posted}
