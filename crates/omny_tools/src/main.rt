@@ -3,7 +3,6 @@
 //!
 //! | module | what it does |
 //! |---|---|
-//! | `lines` | reports and ledgers of others |
 //! | `manner` | what the words ask for, as far as the system matters |
 //! | `output` | standard output |
 //! | `progress` | how far a long run is, on a terminal |
@@ -15,7 +14,6 @@
 #![tactic(auto)]
 
 mod files_made;
-mod lines;
 mod manner;
 mod output;
 mod placed;
