@@ -3,6 +3,7 @@
 //!
 //! | module | what it does |
 //! |---|---|
+//! | `lines` | reports and ledgers of others |
 //! | `manner` | what the words ask for, as far as the system matters |
 //! | `output` | standard output |
 //! | `progress` | how far a long run is, on a terminal |
@@ -14,6 +15,7 @@
 #![tactic(auto)]
 
 mod files_made;
+mod lines;
 mod manner;
 mod output;
 mod placed;

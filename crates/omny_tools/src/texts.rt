@@ -1,5 +1,6 @@
 //! The texts of the system, for the subcommands of `tool_program`.
 
+use crate::lines::{Lines, Looks};
 use crate::progress::{Progress, Watched};
 use crate::quotes::Quotes;
 use program_manners::{LoadFault, Opened, load_file, load_from, open_file};
@@ -36,6 +37,8 @@ pub(crate) struct Texts<'r> {
     rt: &'r HostRuntime,
     /// Where counts are shown.
     progress: Progress<'r>,
+    /// What is looked at in their lines.
+    looks: Looks,
     /// What stands between two fields of a CSV whose quotes are looked at, if they are.
     separator: Option<u8>,
 }
@@ -46,6 +49,17 @@ impl<'r> Texts<'r> {
         Texts {
             rt,
             progress: Progress::beside_text(rt),
+            looks: Looks::None,
+            separator: None,
+        }
+    }
+
+    /// The same, of reports and ledgers of others, in whose lines something is looked at.
+    pub(crate) fn of_others(rt: &'r HostRuntime, looks: Looks) -> Texts<'r> {
+        Texts {
+            rt,
+            progress: Progress::beside_text(rt),
+            looks,
             separator: None,
         }
     }
@@ -70,6 +84,7 @@ impl<'r> Texts<'r> {
         Texts {
             rt,
             progress: Progress::new(rt),
+            looks: Looks::None,
             separator: None,
         }
     }
@@ -80,8 +95,8 @@ impl<'r> Texts<'r> {
         name: Option<&str>,
         progress: Progress<'r>,
         shown: Shown,
-    ) -> Result<BufReader<Watched<'r, Quotes<'r, Opened>>>, LoadFault> {
-        let from = self.quotes(name)?;
+    ) -> Result<BufReader<Watched<'r, Lines<Quotes<'r, Opened>>>>, LoadFault> {
+        let from = Lines::new(self.quotes(name)?, self.looks);
         let watched = Watched::new(from, progress, Some(shown.bytes), shown.verb);
         match BufReader::with_capacity(self.rt.alloc(), READ_BYTES, watched) {
             Ok(reader) => Ok(reader),
@@ -91,12 +106,12 @@ impl<'r> Texts<'r> {
 }
 
 impl<'r> Source for Texts<'r> {
-    type Text = BufReader<Watched<'r, Quotes<'r, Opened>>>;
+    type Text = BufReader<Watched<'r, Lines<Quotes<'r, Opened>>>>;
 
     fn open(
         &mut self,
         name: Option<&str>,
-    ) -> Result<BufReader<Watched<'r, Quotes<'r, Opened>>>, LoadFault> {
+    ) -> Result<BufReader<Watched<'r, Lines<Quotes<'r, Opened>>>>, LoadFault> {
         let unshown = Shown {
             bytes: 0,
             verb: "read",
@@ -108,11 +123,11 @@ impl<'r> Source for Texts<'r> {
         &mut self,
         name: Option<&str>,
         shown: Shown,
-    ) -> Result<BufReader<Watched<'r, Quotes<'r, Opened>>>, LoadFault> {
+    ) -> Result<BufReader<Watched<'r, Lines<Quotes<'r, Opened>>>>, LoadFault> {
         self.read(name, Progress::beside_text(self.rt), shown)
     }
 
-    fn end_shown(&mut self, text: &mut BufReader<Watched<'r, Quotes<'r, Opened>>>) {
+    fn end_shown(&mut self, text: &mut BufReader<Watched<'r, Lines<Quotes<'r, Opened>>>>) {
         text.get_mut().end();
     }
 
