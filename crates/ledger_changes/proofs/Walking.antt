@@ -331,7 +331,7 @@ pub end_begun : (by_token : Bool) (before after new : Option (List ℕ)) (remove
     → Begins after new (sums_line last) → IsBegun by_token before new old0 new0
 end_begun by_token before after new removed last old0 new0 old new_said done left wrote no_old no_new begun =
     let all = left.left ∙ ap (λ (s : Said). Behind done (changes_of_both s new_said)) no_old
-        ∙ ap (λ (s : Said). Behind done (changes_of_both (Ok []) s)) no_new ∙ ap (λ (l : List Pair). Some l) (append-nil done) in
+    ∙ ap (λ (s : Said). Behind done (changes_of_both (Ok []) s)) no_new ∙ ap (λ (l : List Pair). Some l) (append-nil done) in
     subst (λ (all : Option (List Pair)). IfSome all (λ changes. Begins before new (all_lines by_token changes))) (sym all)
     (subst (λ (l : Option TokenSum). Begins before new (lines_of_changes by_token None done ++ sums_line l)) wrote.open_sums
     (begins_behind before after new (lines_of_changes by_token None done) (sums_line last) wrote.written begun))
@@ -473,7 +473,7 @@ pub whole_text : (by_token : Bool) (out mid end : Option (List ℕ)) (removed : 
     → (text : List ℕ) × (corrections_of by_token old_text new_text ≡ Some (text, removed)) × Appends out end text
 whole_text by_token out mid end removed old_text new_text O N is_old is_new head written =
     let (changes, is, counted, wrote) =
-        of_both_at O N (rows_of old_text) (rows_of new_text) (AreWritten by_token removed mid end) is_old is_new written in (
+    of_both_at O N (rows_of old_text) (rows_of new_text) (AreWritten by_token removed mid end) is_old is_new written in (
       head_of by_token ++ all_lines by_token changes,
       ap (option_map (text_of by_token)) is
           ∙ ap (λ (n : ℕ). Some (head_of by_token ++ all_lines by_token changes, n)) (sym counted),
