@@ -9,7 +9,9 @@ use Rattle.std.specs.declared.cmp.Ordering.TheVariants.{Less, Equal, Greater}
 use Rattle.std.proofs.Common.{refl, arith}
 use Rattle.std.proofs.lemmas.List.{length-map}
 use Rattle.std.proofs.lemmas.List.Sums.{sum_by-cons}
-use Rattle.std.proofs.lemmas.List.Elements.{All-filter, All-map, All-weaker, recursion_from_All}
+use Rattle.std.proofs.lemmas.List.Elements.{All-filter, All-head, All-map, All-nil, All-tail}
+use Rattle.std.proofs.lemmas.List.Elements.{All-weaker, recursion_from_All}
+use Rattle.std.proofs.lemmas.Map.Views.{All-insert_key}
 use Rattle.account_rule.specs.declared.reply.Answer.{Answer}
 use Rattle.account_rule.specs.declared.reply.Answer.TheVariants.{Paid, Transfer, Capped, Stale}
 use Rattle.account_rule.specs.declared.reply.Answer.TheVariants.{Unknown}
@@ -24,7 +26,15 @@ use Rattle.histories.specs.Rising.{rising}
 use Rattle.histories.specs.Sums.{is_capped, is_paid, is_stale, is_transfer, is_unknown, sums}
 use Rattle.histories.specs.Sums.{Sums, sums_of_replies}
 use Rattle.report_texts.specs.Numbers.{AreCounts, IsTokenSum, IsValidatorSum}
-use Rattle.laws.proofs.Tokens.{all_rising}
+
+-- what holds of all keys holds of them in their order
+all_rising : {K : Type 0} (cmp : K → K → Ordering) (P : K → Type 0) (keys : List K) → All P keys
+    → All P (rising cmp keys)
+unfolding rising
+all_rising cmp P [] all = All-nil P
+all_rising cmp P (key ∷ keys) all =
+    All-insert_key cmp key P (rising cmp keys) (all_rising cmp P keys (All-tail P key keys all))
+    (All-head P key keys all)
 
 -- the sums of the history can be those of taps, in 64 bits
 pub record CanBeSummed (history : List Entry) : Type 0 where

@@ -1,7 +1,7 @@
 pub mod Agree
 pub mod Bills
-pub mod Files
+pub mod PartTexts
 pub mod Sizes
-pub mod Split
 pub mod TapSets
+pub mod Traced
 pub mod Written

@@ -1,8 +1,11 @@
 -- What numbers of 64 bits can hold.
-use Rattle.std.specs.Prelude.{ℕ, ◌<◌, ◌^◌, List, length, All}
+use Rattle.std.specs.Prelude.{ℕ, ◌<◌, ◌^◌, List, All, flat_map, length, map}
+use Rattle.std.specs.List.{AllByRecursion}
 use Rattle.tariffs.specs.Fares.{Fares, class_of, meaning_at, ride_terms}
 use Rattle.tariffs.specs.Terms.{AreRideTerms}
-use Rattle.laws.specs.Split.{Part}
+use Rattle.histories.specs.declared.entry.Entry.{Entry}
+use Rattle.sorted_bills.specs.Parts.{PartView}
+use Rattle.part_texts.specs.Shown.{SpanFits}
 
 -- the terms of each token are within their bounds on each mode at each moment, so that no tap costs
 -- more than 100,000 cents
@@ -12,13 +15,14 @@ HaveBoundedTerms fares =
     → AreRideTerms
     (ride_terms (meaning_at fares moment) (class_of (meaning_at fares moment) token) mode)
 
--- the file has fewer than 2 ^ 64 bytes
-abbrev pub HasSize : List ℕ → Type 0
-HasSize file = length file < 2 ^ 64
+-- each entry's validator has 32 bits
+abbrev pub HaveNumbers : List Entry → Type 0
+HaveNumbers history = All (λ entry. entry.validator < 2 ^ 32) history
 
--- The part has fewer than 2 ^ 64 files, each of fewer than 2 ^ 64 bytes. It has fewer than 2 ^ 47
--- taps, so that 64 bits hold their cents.
-pub record CanBeWritten (part : Part) : Type 0 where
-  pub number : length part.files < 2 ^ 64
-  pub sizes : All HasSize part.files
-  pub taps : length part.history < 2 ^ 47
+-- There are fewer than 2 ^ 64 files, and the places in them have 64 bits. All parts have fewer than
+-- 2 ^ 47 taps, so that 64 bits hold their cents.
+pub record CanBeWritten (files : List (List ℕ)) (parts : List PartView) : Type 0 where
+  pub number : length files < 2 ^ 64
+  pub places : AllByRecursion (λ part. AllByRecursion SpanFits part.spans) parts
+  pub numbers : AllByRecursion (λ part. HaveNumbers part.history) parts
+  pub taps : length (flat_map (λ part. part.history) parts) < 2 ^ 47

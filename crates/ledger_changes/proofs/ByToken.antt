@@ -5,7 +5,6 @@ use Rattle.std.proofs.Common.{append_assoc, append-nil, filter, get_or, All}
 use Rattle.std.specs.Prelude.{⊤, Contains}
 use Rattle.std.specs.Cmp.{IsTotalOrder}
 use Rattle.std.specs.Cmp.Lexicographic.{on_texts}
-use Rattle.std.specs.Io.KnownBytes.{Appends}
 use Rattle.std.specs.List.{AllByRecursion}
 use Rattle.std.specs.List.Sorted.{IsSorted, IsStrictlySortedBy}
 use Rattle.std.specs.Ordering.{is_eq, is_lt, ordering_reverse, ordering_then}
@@ -16,19 +15,15 @@ use Rattle.std.proofs.lemmas.List.Elements.{All-from_recursion, filter-append, r
 use Rattle.std.proofs.lemmas.List.Kept.{IsSortedBy-filter}
 use Rattle.std.proofs.lemmas.List.Sorted.{ranks_by, sorted_far}
 use Rattle.std.proofs.lemmas.List.Sums.{sum_by-append}
-use Rattle.std.proofs.KnownBytes.{Appends-trans}
 use Rattle.ledger_changes.specs.Changes.{AreCorrections, Pair, is_changed}
-use Rattle.ledger_changes.specs.Ledgers.{IsSettledLedger}
 use Rattle.ledger_fields.specs.Rows.{Key, Row}
 use Rattle.ledger_changes.specs.Rows.{is_same_text, key_cmp, text_cmp}
 use Rattle.ledger_changes.specs.Texts.{cents_of, is_removed}
-use Rattle.ledger_changes.specs.Tokens.{AreTokensOf, IsCorrectionsByTokenText, Sums, is_added}
+use Rattle.ledger_changes.specs.Tokens.{AreTokensOf, Sums, is_added}
 use Rattle.ledger_changes.specs.Tokens.{is_kept, is_of_token, of_token, sums_of, token_line}
-use Rattle.ledger_changes.specs.Tokens.{tokens_head, tokens_lines}
-use Rattle.ledger_changes.specs.inside.Standings.{IsKnown, Standing, StandsBefore}
-use Rattle.ledger_changes.specs.inside.Sums.{AreSumsWritten, TokenSum, add_changes, add_sums}
-use Rattle.ledger_changes.specs.inside.Sums.{ended_lines, no_sums, sums_after, sums_line}
-use Rattle.ledger_changes.specs.inside.Written.{HoldsOfCorrections}
+use Rattle.ledger_changes.specs.Tokens.{tokens_lines}
+use Rattle.ledger_changes.specs.Tokens.{TokenSum, add_changes, add_sums, all_lines, last_sums}
+use Rattle.ledger_changes.specs.Tokens.{HasTokens, lines_of_changes, no_sums, sums_line}
 use Rattle.ledger_changes.proofs.Keys.{key_cmp_total, tied}
 
 -- ---- tokens
@@ -262,7 +257,7 @@ not_nil change changes e = cc
 
 -- the text from these open sums on
 abbrev pub text_from : TokenSum → List Pair → List ℕ
-text_from sum rest = ended_lines (Some sum) rest ++ sums_line (sums_after (Some sum) rest)
+text_from sum rest = lines_of_changes true (Some sum) rest ++ sums_line (last_sums true (Some sum) rest)
 
 cut_last : (t : List ℕ) (run : List Pair) → AllByRecursion (λ change. t ≡ change.key.token) run
     → ¬ (run ≡ []) → IsCut t run (token_line t (sums_of run))
@@ -334,9 +329,9 @@ cut t run (change ∷ rest) all some up order =
         → IsCut s (one ++ rest) (text_from (sum_with s one) rest)
         → IsCut t (run ++ change ∷ rest)
         ((cond b [] (token_line t (sums_of run))
-        ++ ended_lines (Some (add_changes (cond b (sum_with t run) (no_sums s)) one)) rest)
+        ++ lines_of_changes true (Some (add_changes (cond b (sum_with t run) (no_sums s)) one)) rest)
         ++ sums_line
-        (sums_after (Some (add_changes (cond b (sum_with t run) (no_sums s)) one)) rest))
+        (last_sums true (Some (add_changes (cond b (sum_with t run) (no_sums s)) one)) rest))
     by_test true is same other =
         subst (λ (changes : List Pair).
         IsCut t changes (text_from (add_changes (sum_with t run) one) rest))
@@ -349,21 +344,16 @@ cut t run (change ∷ rest) all some up order =
         let line = token_line t (sums_of run) in
         let sum = add_changes (no_sums s) one in
         subst (IsCut t (run ++ change ∷ rest))
-        (sym (append_assoc line (ended_lines (Some sum) rest)
-        (sums_line (sums_after (Some sum) rest))))
+        (sym (append_assoc line (lines_of_changes true (Some sum) rest)
+        (sums_line (last_sums true (Some sum) rest))))
         (cut_more t run (change ∷ rest) s (text_from sum rest) all some less
         (less, all_above t s rest less order.0)
         (subst (λ (sums : Sums). IsCut s (one ++ rest)
         (text_from (record { token = s; sums = sums }) rest)) (sym (sums_add [] one)) other))
 
 -- ---- all corrections
-pub record HasTokens (changes : List Pair) (text : List ℕ) : Type 0 where
-  pub tokens : List (List ℕ)
-  pub are : AreTokensOf changes tokens
-  pub shown : text ≡ tokens_lines changes tokens
-
 pub tokens_by : (changes : List Pair) → Rises changes
-    → HasTokens changes (ended_lines None changes ++ sums_line (sums_after None changes))
+    → HasTokens changes (all_lines true changes)
 unfolding IsStrictlySortedBy
 tokens_by [] order = record {
   tokens = [];
@@ -389,30 +379,3 @@ tokens_by (change ∷ changes) order =
       };
       shown = from.shown;
     }
-
-pub finished_by_token : (old_text new_text : List ℕ) (old new : Standing)
-    (out mid end : Option (List ℕ)) (removed : ℕ)
-    → StandsBefore (λ rows. IsSettledLedger rows old_text) old
-    → StandsBefore (λ rows. IsSettledLedger rows new_text) new → Appends out mid tokens_head
-    → (IsKnown old → IsKnown new → HoldsOfCorrections old new (AreSumsWritten mid end removed))
-    → (text : List ℕ) × IsCorrectionsByTokenText old_text new_text text removed
-    × Appends out end text
-finished_by_token old_text new_text old new out mid end removed begun_old begun_new head written =
-    let is = written begun_old.known begun_new.known in
-    let by = tokens_by is.changes (corrections_rise is.old_rows is.new_rows is.changes is.are) in (
-      tokens_head ++ tokens_lines is.changes by.tokens,
-      record {
-        old_rows = is.old_rows;
-        is_old = (begun_old.rows is.old_rows).0 is.are_old;
-        new_rows = is.new_rows;
-        is_new = (begun_new.rows is.new_rows).0 is.are_new;
-        changes = is.changes;
-        are = is.are;
-        tokens = by.tokens;
-        are_tokens = by.are;
-        shown = refl;
-        counted = is.holds.counted;
-      },
-      Appends-trans out mid end tokens_head (tokens_lines is.changes by.tokens) head
-          (subst (Appends mid end) by.shown is.holds.written),
-    )

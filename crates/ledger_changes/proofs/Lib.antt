@@ -1,12 +1,9 @@
-pub mod Begun
-pub mod Beside
+pub mod Besides
 pub mod ByToken
 pub mod Keys
 pub mod Listed
-pub mod Merging
-pub mod ReadTo
 pub mod Readings
 pub mod Sorted
-pub mod Summing
 pub mod Sums
 pub mod TokensAdd
+pub mod Walking

@@ -2,10 +2,9 @@
 use Rattle.std.proofs.Common.{◌≡◌, suc, Bool, true, false, not, cond, List, [], ◌∷◌, filter, refl}
 use Rattle.std.proofs.Common.{sym, ap, subst, ◌∙◌, arith, All, Option, None, Some, inl, inr}
 use Rattle.std.proofs.lemmas.List.Elements.{All-cons, All-nil, All-weaker}
-use Rattle.ledger_changes.specs.Changes.{AreCorrections, AreSideBySide, IsSameOrListed, Pair, agree}
+use Rattle.ledger_changes.specs.Changes.{IsSameOrListed, Pair, agree}
 use Rattle.ledger_changes.specs.Changes.{is_changed}
-use Rattle.ledger_fields.specs.Rows.{Charge, Row}
-use Rattle.ledger_changes.proofs.Beside.{one_side_by_side}
+use Rattle.ledger_fields.specs.Rows.{Charge}
 use Rattle.ledger_changes.proofs.Keys.{same_charge}
 
 same : (before after : Option Charge) → agree before after ≡ true → before ≡ after
@@ -21,7 +20,7 @@ longer first changes pair (inl is) = inl is
 longer first changes pair (inr there) =
     inr (suc there.0, omega (arith, there.1), there.2)
 
-kept : (pairs : List Pair) → All (IsSameOrListed (filter is_changed pairs)) pairs
+pub kept : (pairs : List Pair) → All (IsSameOrListed (filter is_changed pairs)) pairs
 kept [] = All-nil (IsSameOrListed [])
 kept (pair ∷ pairs) = by_test (agree pair.before pair.after) refl (kept pairs)
   where
@@ -38,10 +37,3 @@ kept (pair ∷ pairs) = by_test (agree pair.before pair.after) refl (kept pairs)
         (All-weaker (IsSameOrListed (filter is_changed pairs))
         (IsSameOrListed (pair ∷ filter is_changed pairs)) (longer pair (filter is_changed pairs))
         pairs more)
-
-pub same_or_listed : (old new : List Row) (pairs changes : List Pair) → AreSideBySide old new pairs
-    → AreCorrections old new changes → All (IsSameOrListed changes) pairs
-same_or_listed old new pairs changes beside are =
-    let one = one_side_by_side old new are.pairs pairs are.beside beside in
-    subst (λ (changes : List Pair). All (IsSameOrListed changes) pairs)
-    (sym (are.listed ∙ ap (filter is_changed) one)) (kept pairs)

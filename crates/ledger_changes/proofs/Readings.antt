@@ -1,176 +1,154 @@
--- A ledger goes on from row to row.
-use Rattle.std.proofs.Common.{◌≡◌, ℕ, List, [], ◌∷◌, ◌++◌, Option, Some, None}
-use Rattle.std.proofs.Common.{refl, sym, ap, subst, ◌∙◌, arith, length, length-append, codes}
-use Rattle.std.specs.Io.BufRead.{drop_through, take_through}
-use Rattle.ledger_changes.specs.Ledgers.{AreRowLines, IsSettledLedger}
-use Rattle.ledger_fields.specs.RowLines.{IsRowLine}
+-- What the next line of a ledger makes of its rows.
+use Rattle.std.proofs.Common.{◌≡◌, ◌+◌, ◌<◌, ℕ, suc, Bool, true, false, cond, List, [], ◌∷◌, length, Option, Some, None, Result, Ok, Err}
+use Rattle.std.proofs.Common.{refl, sym, ap, subst, ◌∙◌, arith, get_or, IfSome}
+use Rattle.std.specs.Prelude.{nat_lt}
+use Rattle.std.specs.Ordering.{is_lt}
+use Rattle.std.specs.Str.{bytes_eq}
+use Rattle.std.proofs.lemmas.Bool.{false≢true}
+use Rattle.std.proofs.lemmas.Slice.Eq.{bytes_eq-Decides}
 use Rattle.fare_texts.specs.LedgerLines.{head_text}
+use Rattle.line_folds.specs.Folds.{carry, lines_of}
+use Rattle.ledger_fields.specs.Lines.{row_in}
 use Rattle.ledger_fields.specs.Rows.{Row}
-use Rattle.ledger_changes.specs.inside.LedgerRows.{rows_in}
-use Rattle.ledger_changes.specs.inside.Standings.{HasRowsAt, IsAtRow, IsKnown, IsMoved, MayFollow}
-use Rattle.ledger_changes.specs.inside.Standings.{ReadsRow, StandsBefore}
-use Rattle.ledger_fields.proofs.OneRow.{one_row}
-use Rattle.tap_views.proofs.FirstLines.{taken_none}
-use Rattle.ledger_changes.proofs.Sorted.{Rise, rise_head, rise_more, rise_none, rise_one, rise_tail}
+use Rattle.ledger_changes.specs.Ledgers.{cons_row, does_fall, placed, row_after, rows_behind_head, rows_from, rows_of}
+use Rattle.ledger_changes.specs.Rows.{key_cmp}
+use Rattle.ledger_changes.specs.declared.fault.WrongLine.{WrongLine}
+use Rattle.ledger_changes.specs.declared.fault.WrongLine.TheVariants.{Form, Order}
+use Rattle.ledger_changes.specs.inside.Readings.{rows_with}
+use Rattle.ledger_changes.proofs.Sorted.{Rise, rise_more, rise_none, rise_one}
 
 -- ---- one line
-not_nothing : (front : List ℕ) → [] ≡ front ++ codes "\n" → ⊥
-not_nothing front is = absurd (omega (arith, ap length is, length-append front (codes "\n")))
+abbrev goes_on : ℕ → List (List ℕ) → Result Row WrongLine → Result (List Row) (ℕ × WrongLine)
+goes_on number lines said =
+    carry (λ row. cons_row row (rows_from (number + 1) (Some row) lines)) (λ why. (number, why)) said
 
-no_row_of_nothing : (row : Row) → ¬ (IsRowLine row [])
-no_row_of_nothing row is = not_nothing is.text is.shown
+next_line : (number : ℕ) (before : Option Row) (text line : List ℕ) (lines : List (List ℕ))
+    (said : Result Row WrongLine) → lines_of text ≡ line ∷ lines → row_after before line ≡ said
+    → rows_from number before (lines_of text) ≡ goes_on number lines said
+next_line number before text line lines said shown is =
+    ap (rows_from number before) shown ∙ ap (goes_on number lines) is
 
--- ---- what is read of a text
-pub reads_end : (left line : List ℕ) (after : Option (List ℕ)) → line ≡ take_through 10 left
-    → after ≡ Some (drop_through 10 left) → line ≡ [] → ReadsRow left None after
-reads_end left line after taken behind none =
-    let end : left ≡ [] = taken_none left (sym taken ∙ none) in
-    (end, behind ∙ ap (λ (bytes : List ℕ). Some (drop_through 10 bytes)) end)
+-- a line of at most 1,024 bytes
+short_line : (before : Option Row) (line : List ℕ) (row : Option Row) → nat_lt 1024 (length line) ≡ false
+    → row_in line ≡ row → row_after before line ≡ placed before row
+short_line before line row short is =
+    ap (λ (b : Bool). cond b (Err Form) (placed before (row_in line))) short ∙ ap (placed before) is
 
-pub no_row_lines : (left line : List ℕ) → line ≡ take_through 10 left → ¬ (line ≡ [])
-    → ((row : Row) → ¬ (IsRowLine row line)) → (rows : List Row) → ¬ (AreRowLines rows left)
-no_row_lines left line taken some none [] are = some (taken ∙ ap (take_through 10) are)
-no_row_lines left line taken some none (row ∷ rows) are =
-    none row (subst (IsRowLine row) (sym taken) are.0)
+pub rows_end : (number : ℕ) (before : Option Row) (text : List ℕ) → text ≡ []
+    → rows_from number before (lines_of text) ≡ Ok []
+rows_end number before text none = ap (λ (t : List ℕ). rows_from number before (lines_of t)) none
 
--- ---- from the row at which a ledger stands, to lines, and back
-from_rows : (left : List ℕ) (next : Option Row) (after : Option (List ℕ)) (rows : List Row)
-    → ReadsRow left next after → HasRowsAt next after rows → AreRowLines rows left
-from_rows left None after rows read has =
-    subst (λ (rows : List Row). AreRowLines rows left) (sym has) read.0
-from_rows left (Some row) after rows read has =
-    let same : Some has.text ≡ Some (drop_through 10 left) = sym has.is ∙ read.1 in
-    let text : has.text ≡ drop_through 10 left = cc in
-    subst (λ (rows : List Row). AreRowLines rows left) (sym has.shown)
-    (read.0, subst (AreRowLines has.more) text has.lines)
+pub rows_long : (number : ℕ) (before : Option Row) (text line : List ℕ) (lines : List (List ℕ))
+    → lines_of text ≡ line ∷ lines → nat_lt 1024 (length line) ≡ true
+    → rows_from number before (lines_of text) ≡ Err (number, Form)
+rows_long number before text line lines shown long =
+    next_line number before text line lines (Err Form) shown
+    (ap (λ (b : Bool). cond b (Err Form) (placed before (row_in line))) long)
 
-pub rise_rows : (next : Option Row) (after : Option (List ℕ)) (rows : List Row)
-    → HasRowsAt next after rows → Rise rows
-rise_rows None after rows has = subst Rise (sym has) rise_none
-rise_rows (Some row) after rows has = has.sorted
+pub rows_form : (number : ℕ) (before : Option Row) (text line : List ℕ) (lines : List (List ℕ))
+    → lines_of text ≡ line ∷ lines → nat_lt 1024 (length line) ≡ false → row_in line ≡ None
+    → rows_from number before (lines_of text) ≡ Err (number, Form)
+rows_form number before text line lines shown short none =
+    next_line number before text line lines (Err Form) shown (short_line before line None short none)
 
-to_rows : (left : List ℕ) (next : Option Row) (after : Option (List ℕ)) (rows : List Row)
-    → ReadsRow left next after → AreRowLines rows left → Rise rows → HasRowsAt next after rows
-to_rows left None after [] read are up = refl
-to_rows left None after (row ∷ rows) read are up =
-    absurd (no_row_of_nothing row (subst (IsRowLine row) (ap (take_through 10) read.0) are.0))
-to_rows left (Some row) after [] read are up =
-    absurd (no_row_of_nothing row (subst (IsRowLine row) (ap (take_through 10) are) read.0))
-to_rows left (Some row) after (other ∷ rows) read are up = record {
-  more = rows;
-  shown = ap (λ (row : Row). row ∷ rows) (one_row other row (take_through 10 left) are.0 read.0);
-  text = drop_through 10 left;
-  is = read.1;
-  lines = are.1;
-  sorted = up;
-}
+pub rows_order : (number : ℕ) (before : Option Row) (text line : List ℕ) (lines : List (List ℕ)) (row : Row)
+    → lines_of text ≡ line ∷ lines → nat_lt 1024 (length line) ≡ false → row_in line ≡ Some row
+    → does_fall before row ≡ true → rows_from number before (lines_of text) ≡ Err (number, Order)
+rows_order number before text line lines row shown short some falls =
+    next_line number before text line lines (Err Order) shown
+    (short_line before line (Some row) short some ∙ ap (λ (b : Bool). cond b (Err Order) (Ok row)) falls)
 
-known : (left : List ℕ) (next : Option Row) (after : Option (List ℕ)) → ReadsRow left next after
-    → IsKnown (record { row = next; left = after })
-known left None after read = record { text = []; is = read.1 }
-known left (Some row) after read = record { text = drop_through 10 left; is = read.1 }
+pub rows_more : (number : ℕ) (before : Option Row) (text line rest : List ℕ) (row : Row)
+    → lines_of text ≡ line ∷ lines_of rest → nat_lt 1024 (length line) ≡ false → row_in line ≡ Some row
+    → does_fall before row ≡ false
+    → rows_from number before (lines_of text) ≡ rows_with (Some row) number rest
+rows_more number before text line rest row shown short some stays =
+    next_line number before text line (lines_of rest) (Ok row) shown
+    (short_line before line (Some row) short some ∙ ap (λ (b : Bool). cond b (Err Order) (Ok row)) stays)
 
--- ---- the first row
-pub begins : (text : List ℕ) (next : Option Row) (after : Option (List ℕ))
-    → take_through 10 text ≡ head_text → ReadsRow (drop_through 10 text) next after
-    → StandsBefore (λ rows. IsSettledLedger rows text) (record { row = next; left = after })
-begins text next after head read = record {
-  known = known (drop_through 10 text) next after read;
-  rows = λ rows. (
-    λ has. record {
-      head = head;
-      lines = from_rows (drop_through 10 text) next after rows read has;
-      sorted = rise_rows next after rows has;
-    },
-    λ is. to_rows (drop_through 10 text) next after rows read is.lines is.sorted,
-  );
-}
+-- ---- the head line
+pub head_none : (text : List ℕ) → text ≡ [] → rows_of text ≡ Err (1, Form)
+head_none text none = ap rows_of none
 
--- ---- the next row
-rise_behind : (row : Row) (next : Option Row) (after : Option (List ℕ)) (rows : List Row)
-    → MayFollow (Some row) next → HasRowsAt next after rows → Rise (row ∷ rows)
-rise_behind row None after rows may has =
-    subst (λ (rows : List Row). Rise (row ∷ rows)) (sym has) (rise_one row)
-rise_behind row (Some next) after rows may has =
-    subst (λ (rows : List Row). Rise (row ∷ rows)) (sym has.shown)
-    (rise_more row next has.more may (subst Rise has.shown has.sorted))
+head_by : (text line : List ℕ) (lines : List (List ℕ)) (b : Bool) → lines_of text ≡ line ∷ lines
+    → bytes_eq line head_text ≡ b → rows_of text ≡ cond b (rows_from 2 None lines) (Err (1, Form))
+head_by text line lines b shown is =
+    ap rows_behind_head shown ∙ ap (λ (t : Bool). cond t (rows_from 2 None lines) (Err (1, Form))) is
 
-behind : (row : Row) (rows more : List Row) → row ∷ rows ≡ row ∷ more → more ≡ rows
-behind row rows more is = cc
+other_bytes : (a b : List ℕ) (r : Bool) → bytes_eq a b ≡ r → (a ≡ b → ⊥) → r ≡ false
+other_bytes a b false is other = refl
+other_bytes a b true is other = absurd (other ((bytes_eq-Decides a b).0 is))
 
-lines_behind : (row : Row) (left : List ℕ) (before : Option (List ℕ)) (rows : List Row)
-    → before ≡ Some left → IsAtRow row before (row ∷ rows) → AreRowLines rows left
-lines_behind row left before rows is has =
-    let same : Some has.text ≡ Some left = sym has.is ∙ is in
-    let text : has.text ≡ left = cc in
-    subst (λ (rows : List Row). AreRowLines rows left) (behind row rows has.more has.shown)
-    (subst (AreRowLines has.more) text has.lines)
+pub head_other : (text line : List ℕ) (lines : List (List ℕ)) → lines_of text ≡ line ∷ lines
+    → (line ≡ head_text → ⊥) → rows_of text ≡ Err (1, Form)
+head_other text line lines shown other =
+    head_by text line lines false shown (other_bytes line head_text (bytes_eq line head_text) refl other)
 
-pub moves : (row : Row) (left : List ℕ) (before after : Option (List ℕ)) (next : Option Row)
-    → before ≡ Some left → ReadsRow left next after → MayFollow (Some row) next
-    → IsMoved (record { row = Some row; left = before }) (record { row = next; left = after })
-    (row ∷ [])
-moves row left before after next is read may = record {
-  known = known left next after read;
-  rows = λ rows. (
-    λ has. record {
-      more = rows;
-      shown = refl;
-      text = left;
-      is = is;
-      lines = from_rows left next after rows read has;
-      sorted = rise_behind row next after rows may has;
-    },
-    λ has. to_rows left next after rows read (lines_behind row left before rows is has)
-        (rise_tail row rows has.sorted),
-  );
-}
+pub head_long : (text line : List ℕ) (lines : List (List ℕ)) → lines_of text ≡ line ∷ lines
+    → nat_lt 1024 (length line) ≡ true → rows_of text ≡ Err (1, Form)
+head_long text line lines shown long =
+    head_other text line lines shown
+    (λ is. false≢true (ap (λ (l : List ℕ). nat_lt 1024 (length l)) (sym is) ∙ long))
 
--- ---- no next row
-pub unread : (row : Row) (left : List ℕ) (before : Option (List ℕ)) → before ≡ Some left
-    → ((rows : List Row) → ¬ (AreRowLines rows left)) → (rows : List Row)
-    → ¬ (IsAtRow row before rows)
-unread row left before is none rows has =
-    let same : Some has.text ≡ Some left = sym has.is ∙ is in
-    let text : has.text ≡ left = cc in
-    none has.more (subst (AreRowLines has.more) text has.lines)
+pub head_is : (text line rest : List ℕ) → lines_of text ≡ line ∷ lines_of rest → line ≡ head_text
+    → rows_of text ≡ rows_from 2 None (lines_of rest)
+head_is text line rest shown is =
+    head_by text line (lines_of rest) true shown ((bytes_eq-Decides line head_text).1 is)
 
-follows : (row : Row) (next : Option Row) (after : Option (List ℕ)) (rows : List Row)
-    → HasRowsAt next after rows → Rise (row ∷ rows) → MayFollow (Some row) next
-follows row None after rows has up = tt
-follows row (Some next) after rows has up =
-    rise_head row next has.more (subst (λ (rows : List Row). Rise (row ∷ rows)) has.shown up)
+-- ---- the rows of a ledger are in order
+abbrev RiseFrom : Option Row → List Row → Type 0
+RiseFrom None rows = Rise rows
+RiseFrom (Some row) rows = Rise (row ∷ rows)
 
-pub stuck : (row : Row) (left : List ℕ) (before after : Option (List ℕ)) (next : Option Row)
-    → before ≡ Some left → ReadsRow left next after → ¬ (MayFollow (Some row) next)
-    → (rows : List Row) → ¬ (IsAtRow row before rows)
-stuck row left before after next is read may rows has =
-    let whole : IsAtRow row before (row ∷ has.more) = subst (IsAtRow row before) has.shown has in
-    let lines = lines_behind row left before has.more is whole in
-    let up = whole.sorted in
-    may (follows row next after has.more
-    (to_rows left next after has.more read lines (rise_tail row has.more up)) up)
+rise_from : (before : Option Row) (row : Row) (rows : List Row) → does_fall before row ≡ false → Rise (row ∷ rows)
+    → RiseFrom before (row ∷ rows)
+rise_from None row rows stays up = up
+rise_from (Some before) row rows stays up = rise_more before row rows stays up
 
--- ---- if it is known that there is a row
-pub moves_at : (at : Option Row) (row : Row) → at ≡ Some row → (left : List ℕ)
-    (before after : Option (List ℕ)) (next : Option Row) → before ≡ Some left
-    → ReadsRow left next after → MayFollow at next
-    → IsMoved (record { row = at; left = before }) (record { row = next; left = after })
-    (rows_in at)
-moves_at None row e left before after next is read may = absurd (cc)
-moves_at (Some other) row e left before after next is read may =
-    moves other left before after next is read may
+no_rows : (before : Option Row) → RiseFrom before []
+no_rows None = rise_none
+no_rows (Some row) = rise_one row
 
-pub unread_at : (at : Option Row) (row : Row) → at ≡ Some row → (left : List ℕ)
-    (before : Option (List ℕ)) → before ≡ Some left
-    → ((rows : List Row) → ¬ (AreRowLines rows left)) → (rows : List Row)
-    → ¬ (HasRowsAt at before rows)
-unread_at None row e left before is none rows = absurd (cc)
-unread_at (Some other) row e left before is none rows = unread other left before is none rows
+wrong_is_right : {A E : Type 0} (e : E) (a : A) → Err e ≡ Ok a → ⊥
+wrong_is_right e a is = cc
 
-pub stuck_at : (at : Option Row) (left : List ℕ) (before after : Option (List ℕ))
-    (next : Option Row) → before ≡ Some left → ReadsRow left next after → ¬ (MayFollow at next)
-    → (rows : List Row) → ¬ (HasRowsAt at before rows)
-stuck_at None left before after next is read may rows = absurd (may tt)
-stuck_at (Some row) left before after next is read may rows =
-    stuck row left before after next is read may rows
+from_rises : (number : ℕ) (before : Option Row) (lines : List (List ℕ)) (rows : List Row)
+    → rows_from number before lines ≡ Ok rows → RiseFrom before rows
+from_rises number before [] rows is = subst (RiseFrom before) (let t : [] ≡ rows = cc in t) (no_rows before)
+from_rises number before (line ∷ lines) rows is =
+    by_long (nat_lt 1024 (length line)) is
+    (λ row more same. from_rises (number + 1) (Some row) lines more same)
+  where
+    Behind : Type 0
+    Behind = (row : Row) (more : List Row) → rows_from (number + 1) (Some row) lines ≡ Ok more → Rise (row ∷ more)
+
+    by_rest : (row : Row) (said : Result (List Row) (ℕ × WrongLine)) → rows_from (number + 1) (Some row) lines ≡ said
+        → does_fall before row ≡ false → cons_row row said ≡ Ok rows → Behind → RiseFrom before rows
+    by_rest row (Err wrong) same stays is behind = absurd (wrong_is_right wrong rows is)
+    by_rest row (Ok more) same stays is behind =
+        subst (RiseFrom before) (let t : row ∷ more ≡ rows = cc in t)
+        (rise_from before row more stays (behind row more same))
+
+    by_fall : (row : Row) (b : Bool) → does_fall before row ≡ b → goes_on number lines (cond b (Err Order) (Ok row)) ≡ Ok rows
+        → Behind → RiseFrom before rows
+    by_fall row true falls is behind = absurd (wrong_is_right (number, Order) rows is)
+    by_fall row false stays is behind = by_rest row (rows_from (number + 1) (Some row) lines) refl stays is behind
+
+    by_row : (row : Option Row) → goes_on number lines (placed before row) ≡ Ok rows → Behind → RiseFrom before rows
+    by_row None is behind = absurd (wrong_is_right (number, Form) rows is)
+    by_row (Some row) is behind = by_fall row (does_fall before row) refl is behind
+
+    by_long : (b : Bool) → goes_on number lines (cond b (Err Form) (placed before (row_in line))) ≡ Ok rows
+        → Behind → RiseFrom before rows
+    by_long true is behind = absurd (wrong_is_right (number, Form) rows is)
+    by_long false is behind = by_row (row_in line) is behind
+
+pub rows_rise : (text : List ℕ) (rows : List Row) → rows_of text ≡ Ok rows → Rise rows
+rows_rise text rows is = by_lines (lines_of text) is
+  where
+    by_head : (lines : List (List ℕ)) (b : Bool) → cond b (rows_from 2 None lines) (Err (1, Form)) ≡ Ok rows → Rise rows
+    by_head lines true is = from_rises 2 None lines rows is
+    by_head lines false is = absurd (wrong_is_right (1, Form) rows is)
+    by_lines : (lines : List (List ℕ)) → rows_behind_head lines ≡ Ok rows → Rise rows
+    by_lines [] is = absurd (wrong_is_right (1, Form) rows is)
+    by_lines (line ∷ lines) is = by_head lines (bytes_eq line head_text) is

@@ -1,8 +1,10 @@
 -- What changed from one bill to the next.
 use Rattle.std.specs.Prelude.{◌≡◌, ◌+◌, ℕ, Bool, true, false, not, List, [], ◌∷◌, All, filter}
-use Rattle.std.specs.Prelude.{flat_map}
+use Rattle.std.specs.Prelude.{flat_map, map}
 use Rattle.std.specs.Prelude.{Option, None, Some, ⊤, sum_by, Contains, ◌⊎◌}
 use Rattle.std.specs.List.Sorted.{IsSorted}
+use Rattle.std.specs.declared.cmp.Ordering.{Ordering}
+use Rattle.std.specs.declared.cmp.Ordering.TheVariants.{Less, Equal, Greater}
 use Rattle.ledger_fields.specs.Rows.{Charge, Key, Row}
 use Rattle.ledger_changes.specs.Rows.{is_same_charge, key_cmp}
 
@@ -49,6 +51,50 @@ pub record AreSideBySide (old new : List Row) (pairs : List Pair) : Type 0 where
   pub sorted : IsSorted (λ a b. key_cmp a.key b.key) pairs
   pub tight : UseUp pairs
 
+-- which of two bills have the next pair's line, at these rows: both do if the keys are the same
+abbrev pub sides_by : Ordering → Bool × Bool
+sides_by Less = (true, false)
+sides_by Equal = (true, true)
+sides_by Greater = (false, true)
+
+abbrev pub next_sides : Option Row → Option Row → Bool × Bool
+next_sides None None = (false, false)
+next_sides (Some old) None = (true, false)
+next_sides None (Some new) = (false, true)
+next_sides (Some old) (Some new) = sides_by (key_cmp old.key new.key)
+
+-- the pair of a row of the one and a row of the other
+abbrev pub only_old : Row → Pair
+only_old row = record { key = row.key; before = Some row.charge; after = None }
+
+abbrev pub only_new : Row → Pair
+only_new row = record { key = row.key; before = None; after = Some row.charge }
+
+abbrev pub both_rows : Row → Row → Pair
+both_rows old new = record { key = old.key; before = Some old.charge; after = Some new.charge }
+
+abbrev pub pairs_of : Option Row → Option Row → List Pair
+pairs_of None None = []
+pairs_of (Some old) None = only_old old ∷ []
+pairs_of None (Some new) = only_new new ∷ []
+pairs_of (Some old) (Some new) = both_rows old new ∷ []
+
+abbrev pub pairs_by : Ordering → Row → Row → List Pair → List Pair → List Pair → List Pair
+pairs_by Less old new behind_old behind_both behind_new = only_old old ∷ behind_old
+pairs_by Equal old new behind_old behind_both behind_new = both_rows old new ∷ behind_both
+pairs_by Greater old new behind_old behind_both behind_new = only_new new ∷ behind_new
+
+-- the pairs of a row and these new ones, if `more` gives those of the old rows behind it
+abbrev pub pairs_with : (List Row → List Pair) → Row → List Row → List Pair
+pairs_with more old [] = only_old old ∷ more []
+pairs_with more old (new ∷ news) =
+    pairs_by (key_cmp old.key new.key) old new (more (new ∷ news)) (more news) (pairs_with more old news)
+
+-- THE lines of both bills, side by side in the order of their keys
+abbrev pub beside : List Row → List Row → List Pair
+beside [] news = map only_new news
+beside (old ∷ olds) news = pairs_with (λ rest. beside olds rest) old news
+
 -- whether both bills charge the same
 abbrev pub agree : Option Charge → Option Charge → Bool
 agree None None = true
@@ -58,6 +104,10 @@ agree (Some before) (Some after) = is_same_charge before after
 
 abbrev pub is_changed : Pair → Bool
 is_changed pair = not (agree pair.before pair.after)
+
+-- the corrections from the one bill to the other: the pairs that do not agree
+abbrev pub changes_between : List Row → List Row → List Pair
+changes_between old new = filter is_changed (beside old new)
 
 -- the corrections: the pairs that do not agree
 pub record AreCorrections (old new : List Row) (changes : List Pair) : Type 0 where

@@ -1,14 +1,10 @@
 -- What a fault of corrections speaks of.
-use Rattle.std.specs.Prelude.{◌≡◌}
-use Rattle.ledger_changes.specs.declared.fault.Bill.{Bill}
 use Rattle.ledger_changes.specs.declared.fault.CorrectionsFault.{CorrectionsFault}
-use Rattle.ledger_changes.specs.declared.fault.CorrectionsFault.TheVariants.{Form, Order, Unread}
-use Rattle.ledger_changes.specs.declared.fault.CorrectionsFault.TheVariants.{Write, NoMemory}
+use Rattle.ledger_changes.specs.declared.fault.CorrectionsFault.TheVariants.{Line, Unread, Write, NoMemory}
 
--- it speaks of what stands in this bill's ledger: no read, write or growth of memory failed
-abbrev pub IsOfLedger : Bill → CorrectionsFault → Type 0
-IsOfLedger bill (Form which line) = which ≡ bill
-IsOfLedger bill (Order which line) = which ≡ bill
-IsOfLedger bill (Unread which) = ⊥
-IsOfLedger bill Write = ⊥
-IsOfLedger bill NoMemory = ⊥
+-- it speaks of no line of a ledger: a read, a write or an allocation failed
+abbrev pub IsNoLine : CorrectionsFault → Type 0
+IsNoLine (Line bill number why) = ⊥
+IsNoLine (Unread bill) = Unit {0}
+IsNoLine Write = Unit {0}
+IsNoLine NoMemory = Unit {0}

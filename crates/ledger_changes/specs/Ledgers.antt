@@ -1,21 +1,56 @@
 -- What is read: settled ledgers, as far as corrections look at them.
-use Rattle.std.specs.Prelude.{◌≡◌, ℕ, List, [], ◌∷◌}
-use Rattle.std.specs.Io.BufRead.{drop_through, take_through}
-use Rattle.std.specs.List.Sorted.{IsSorted}
+use Rattle.std.specs.Prelude.{◌≡◌, ◌+◌, ℕ, Bool, false, List, [], ◌∷◌, cond, length, nat_lt}
+use Rattle.std.specs.Prelude.{Option, None, Some, Result, Ok, Err}
+use Rattle.std.specs.Ordering.{is_lt}
+use Rattle.std.specs.Str.{bytes_eq}
 use Rattle.fare_texts.specs.LedgerLines.{head_text}
-use Rattle.ledger_fields.specs.RowLines.{IsRowLine}
+use Rattle.line_folds.specs.Folds.{carry, lines_of}
+use Rattle.ledger_fields.specs.Lines.{row_in}
 use Rattle.ledger_fields.specs.Rows.{Row}
 use Rattle.ledger_changes.specs.Rows.{key_cmp}
+use Rattle.ledger_changes.specs.declared.fault.Bill.TheVariants.{New, Old}
+use Rattle.ledger_changes.specs.declared.fault.CorrectionsFault.{CorrectionsFault}
+use Rattle.ledger_changes.specs.declared.fault.CorrectionsFault.TheVariants.{Line, Unread, Write, NoMemory}
+use Rattle.ledger_changes.specs.declared.fault.WrongLine.{WrongLine}
+use Rattle.ledger_changes.specs.declared.fault.WrongLine.TheVariants.{Form, Order}
 
--- the text has a line for each row, in order, and nothing else
-abbrev pub AreRowLines : List Row → List ℕ → Type 0
-AreRowLines [] text = text ≡ []
-AreRowLines (row ∷ rows) text =
-    IsRowLine row (take_through 10 text) × AreRowLines rows (drop_through 10 text)
+-- the row belongs before the one before it
+abbrev pub does_fall : Option Row → Row → Bool
+does_fall None row = false
+does_fall (Some before) row = is_lt (key_cmp row.key before.key)
 
--- the text is a settled ledger with these rows: the head line, and behind it the line of each row,
--- in the order of the keys
-pub record IsSettledLedger (rows : List Row) (text : List ℕ) : Type 0 where
-  pub head : take_through 10 text ≡ head_text
-  pub lines : AreRowLines rows (drop_through 10 text)
-  pub sorted : IsSorted (λ a b. key_cmp a.key b.key) rows
+abbrev pub placed : Option Row → Option Row → Result Row WrongLine
+placed before None = Err Form
+placed before (Some row) = cond (does_fall before row) (Err Order) (Ok row)
+
+-- the row of a line that follows a row, or why the line is wrong
+abbrev pub row_after : Option Row → List ℕ → Result Row WrongLine
+row_after before line = cond (nat_lt 1024 (length line)) (Err Form) (placed before (row_in line))
+
+abbrev pub cons_row : Row → Result (List Row) (ℕ × WrongLine) → Result (List Row) (ℕ × WrongLine)
+cons_row row (Ok rows) = Ok (row ∷ rows)
+cons_row row (Err wrong) = Err wrong
+
+-- the rows of these lines, which follow a row, or the number of the first wrong line, and why it is
+-- wrong. The first of the lines has this number
+abbrev pub rows_from : ℕ → Option Row → List (List ℕ) → Result (List Row) (ℕ × WrongLine)
+rows_from number before [] = Ok []
+rows_from number before (line ∷ lines) =
+    carry (λ row. cons_row row (rows_from (number + 1) (Some row) lines)) (λ why. (number, why)) (row_after before line)
+
+abbrev pub rows_behind_head : List (List ℕ) → Result (List Row) (ℕ × WrongLine)
+rows_behind_head [] = Err (1, Form)
+rows_behind_head (line ∷ lines) = cond (bytes_eq line head_text) (rows_from 2 None lines) (Err (1, Form))
+
+-- THE meaning of a settled ledger: the rows of its text, in the order of their keys, behind the head
+-- line; or the number of its first wrong line, and why that is wrong
+abbrev pub rows_of : List ℕ → Result (List Row) (ℕ × WrongLine)
+rows_of text = rows_behind_head (lines_of text)
+
+-- a line that is refused is the first wrong one of its ledger, for this reason
+abbrev pub NamesFirstWrong : List ℕ → List ℕ → CorrectionsFault → Type 0
+NamesFirstWrong old new (Line Old number why) = rows_of old ≡ Err (number, why)
+NamesFirstWrong old new (Line New number why) = rows_of new ≡ Err (number, why)
+NamesFirstWrong old new (Unread bill) = Unit {0}
+NamesFirstWrong old new Write = Unit {0}
+NamesFirstWrong old new NoMemory = Unit {0}

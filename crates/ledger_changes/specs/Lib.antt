@@ -1,6 +1,5 @@
 pub mod Changes
 pub mod Faults
-pub mod FirstWrongLines
 pub mod Ledgers
 pub mod Rows
 pub mod Texts

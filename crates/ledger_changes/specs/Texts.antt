@@ -1,11 +1,10 @@
 -- The text of corrections: CSV, a line for each.
-use Rattle.std.specs.Prelude.{◌≡◌, ℕ, ◌-◌, Bool, true, false, List, ◌++◌, codes, filter}
+use Rattle.std.specs.Prelude.{ℕ, ◌-◌, Bool, true, false, List, ◌++◌, codes, filter}
 use Rattle.std.specs.Prelude.{flat_map, length}
 use Rattle.std.specs.Prelude.{if◌then◌else◌, nat_le, Option, None, Some}
 use Rattle.std.specs.Fmt.{decimal}
-use Rattle.ledger_changes.specs.Changes.{AreCorrections, Pair}
-use Rattle.ledger_changes.specs.Ledgers.{IsSettledLedger}
-use Rattle.ledger_fields.specs.Rows.{Charge, Row}
+use Rattle.ledger_changes.specs.Changes.{Pair}
+use Rattle.ledger_fields.specs.Rows.{Charge}
 
 -- the head line
 abbrev pub corrections_head : List ℕ
@@ -62,14 +61,3 @@ is_removed pair = is_only_before pair.before pair.after
 -- how many lines of the old bill are missing in the new one
 abbrev pub removed_in : List Pair → ℕ
 removed_in changes = length (filter is_removed changes)
-
--- the text is the corrections from the one ledger to the other, and `removed` lines are removed
-pub record IsCorrectionsText (old new text : List ℕ) (removed : ℕ) : Type 0 where
-  pub old_rows : List Row
-  pub is_old : IsSettledLedger old_rows old
-  pub new_rows : List Row
-  pub is_new : IsSettledLedger new_rows new
-  pub changes : List Pair
-  pub are : AreCorrections old_rows new_rows changes
-  pub shown : text ≡ corrections_head ++ corrections_lines changes
-  pub counted : removed ≡ removed_in changes

@@ -11,14 +11,21 @@ pub enum Bill {
     New,
 }
 
+/// Why a line of a ledger is wrong.
+#[derive(Clone, Copy, Debug, PartialEq, Eq)]
+pub enum WrongLine {
+    /// It lacks the form of a ledger's line. The first line is not the header line.
+    Form,
+    /// It belongs before the line before it.
+    Order,
+}
+
 /// Why corrections are given up.
 #[derive(Clone, Copy, Debug, PartialEq, Eq)]
 pub enum CorrectionsFault {
-    /// In this bill's ledger the line of this number, from 1, is no line of a ledger.
-    Form(Bill, u64),
-    /// In this bill's ledger the line of this number, from 1, belongs before the line before it.
-    Order(Bill, u64),
-    /// A read of this bill's ledger failed.
+    /// In this bill's ledger the line of this number, from 1, is the first wrong one.
+    Line(Bill, u64, WrongLine),
+    /// A read of this bill's ledger failed, or the number of a line exceeds 64 bits.
     Unread(Bill),
     Write,
     NoMemory,

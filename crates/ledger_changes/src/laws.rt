@@ -1,10 +1,28 @@
 //! Laws of corrections.
 
-ghost use Rattle.std.specs.Prelude.{◌≡◌, ℕ, List, All};
-ghost use Rattle.ledger_changes.specs.Changes.{AddUp, AreCorrections, AreSideBySide};
-ghost use Rattle.ledger_changes.specs.Changes.{IsSameOrListed, Pair};
+ghost use Rattle.std.specs.Prelude.{◌≡◌, ℕ, List, All, Ok, false, true};
+ghost use Rattle.std.specs.List.Sorted.{IsSorted};
+ghost use Rattle.ledger_changes.specs.Changes.{AddUp, AreCorrections, IsSameOrListed, Pair};
+ghost use Rattle.ledger_changes.specs.Changes.{beside, changes_between};
+ghost use Rattle.ledger_changes.specs.Ledgers.{rows_of};
+ghost use Rattle.ledger_changes.specs.Rows.{key_cmp};
+ghost use Rattle.ledger_changes.specs.Texts.{corrections_lines};
+ghost use Rattle.ledger_changes.specs.Tokens.{AreTokensOf, HasTokens, TokensAddUp, all_lines};
 ghost use Rattle.ledger_fields.specs.Rows.{Row};
-ghost use Rattle.ledger_changes.specs.Tokens.{AreTokensOf, TokensAddUp};
+
+/// The rows of a settled ledger are in the order of their keys.
+pub fn ledgers_are_sorted()
+    ensures { (text : List ℕ) (rows : List Row) → rows_of text ≡ Ok rows
+        → IsSorted (λ a b. key_cmp a.key b.key) rows }
+{}
+
+/// Bills in order are side by side in the corrections: each line is there once, in its bill's order,
+/// and lines of one key are paired as long as both bills have one.
+pub fn bills_are_side_by_side()
+    ensures { (old new : List Row) → IsSorted (λ a b. key_cmp a.key b.key) old
+        → IsSorted (λ a b. key_cmp a.key b.key) new
+        → AreCorrections old new (changes_between old new) }
+{}
 
 /// Corrections add up: the change of every sum over lines is the sum of the lines' changes.
 pub fn corrections_add_up()
@@ -12,18 +30,21 @@ pub fn corrections_add_up()
         → AddUp old new changes }
 {}
 
-/// Two bills stand side by side in one way only. So they have one list of corrections.
-pub fn one_list_of_corrections()
-    ensures pairs { (old new : List Row) (pairs others : List Pair) → AreSideBySide old new pairs
-        → AreSideBySide old new others → pairs ≡ others }
-    ensures changes { (old new : List Row) (changes others : List Pair)
-        → AreCorrections old new changes → AreCorrections old new others → changes ≡ others }
-{}
-
 /// What no correction names is charged the same by both bills.
 pub fn others_are_charged_alike()
-    ensures { (old new : List Row) (pairs changes : List Pair) → AreSideBySide old new pairs
-        → AreCorrections old new changes → All (IsSameOrListed changes) pairs }
+    ensures { (old new : List Row)
+        → All (IsSameOrListed (changes_between old new)) (beside old new) }
+{}
+
+/// The text of corrections has the line of each.
+pub fn each_correction_has_a_line()
+    ensures { (changes : List Pair) → all_lines false changes ≡ corrections_lines changes }
+{}
+
+/// By token, it has a line for each token that has a correction, once, with the sums of these.
+pub fn each_token_has_a_line()
+    ensures { (old new : List Row) (changes : List Pair) → AreCorrections old new changes
+        → HasTokens changes (all_lines true changes) }
 {}
 
 /// The tokens' signed changes add up to the change of the bill's cents: what all tokens' lines cost

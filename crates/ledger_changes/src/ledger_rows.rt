@@ -1,27 +1,18 @@
 //! Settled ledgers, read row by row.
 
-ghost use Rattle.std.specs.Prelude.{◌≡◌, ℕ, List, [], Option, Some, None, IfErr, IfOk, OnOk};
-ghost use Rattle.std.specs.Prelude.{IsTrue};
-ghost use Rattle.std.specs.Prelude.{◌↔◌};
-ghost use Rattle.std.specs.Prelude.{if◌then◌else◌};
-ghost use Rattle.std.specs.Io.BufRead.{drop_through, take_through};
-ghost use Rattle.std.specs.Option.{option_map};
-ghost use Rattle.ledger_changes.specs.Faults.{IsOfLedger};
-ghost use Rattle.ledger_changes.specs.FirstWrongLines.{NamesFirstWrong};
-ghost use Rattle.ledger_changes.specs.Ledgers.{AreRowLines, IsSettledLedger};
-ghost use Rattle.ledger_fields.specs.Rows.{Row};
-ghost use Rattle.ledger_changes.specs.declared.fault.Bill.{Bill as ABill};
-ghost use Rattle.ledger_changes.specs.inside.LedgerRows.{row_of, rows_in};
-ghost use Rattle.ledger_changes.specs.inside.ReadTo.{HasReadTo, IsOfNoRow, next_number};
-ghost use Rattle.ledger_changes.specs.inside.Standings.{HasRows, IsKnown, IsMoved, MayFollow};
-ghost use Rattle.ledger_changes.specs.inside.Standings.{ReadsRow, standing, StandsBefore};
+ghost use Rattle.std.specs.Prelude.{◌≡◌, Option, None, IfErr, IfOk, IfSome, if◌then◌else◌};
+ghost use Rattle.line_folds.specs.Folds.{lines_of};
+ghost use Rattle.ledger_changes.specs.Ledgers.{does_fall, rows_from, rows_of};
+ghost use Rattle.ledger_changes.specs.inside.Readings.{IsWrongAs, Moves, ReadsRow, rows_at};
+ghost use Rattle.ledger_changes.specs.inside.Views.{row_in, row_of};
 
-use crate::fault::{Bill, CorrectionsFault};
+use crate::fault::{Bill, CorrectionsFault, WrongLine};
 use crate::row::LedgerRow;
 use fare_texts::head_line;
 use ledger_fields::row_fields;
+use line_folds::{NextLine, ReadFault, next_line};
 use std::alloc::Global;
-use std::io::{BufRead, ErrorKind};
+use std::io::BufRead;
 use std::mem;
 
 /// A settled ledger that is read row by row, at one of its rows or at its end.
@@ -30,23 +21,52 @@ pub(crate) struct LedgerRows<R: BufRead + Drop> {
     /// What is left to read.
     from: R,
     bill: Bill,
-    /// How many lines were read.
-    lines: u64,
-    /// The line that was read last, with its line feed; empty at the end.
+    /// The number of the row's line, from 1.
+    number: u64,
+    /// Room for a line.
     line: Vec<u8>,
-    /// The row at which it stands; none at the end.
+    /// The row at which it is; none at the end.
     row: Option<LedgerRow>,
 }
 
-/// Whether the row may stand behind the other: it does not belong before it.
-fn may_follow(before: &Option<LedgerRow>, row: &Option<LedgerRow>) -> bool
-    ensures { IsTrue result
-        ↔ MayFollow (option_map row_of before.now) (option_map row_of row.now) }
+/// Whether the row belongs before the one before it.
+fn does_fall(before: &Option<LedgerRow>, row: &LedgerRow) -> bool
+    ensures { result ≡ does_fall (row_in before.now) (row_of row.now) }
 {
-    match (before, row) {
-        (Some(before), Some(row)) => !row.compare(before).is_lt(),
-        _ => true,
+    match before {
+        Some(before) => row.key.compare(&before.key).is_lt(),
+        None => false,
     }
+}
+
+/// Reads the line of this number, and gives its row, which follows the row before it; none at the
+/// end.
+fn read_row<R: BufRead>(
+    alloc: Global,
+    from: &mut R,
+    line: &mut Vec<u8>,
+    place: (Bill, u64),
+    before: &Option<LedgerRow>,
+) -> Result<Option<LedgerRow>, CorrectionsFault>
+    ensures { IfSome (R.remaining from.old) (λ text. ReadsRow place.0 place.1
+        (rows_from place.1 (row_in before.now) (lines_of text)) (R.remaining from.new) result) }
+{
+    let (bill, number) = place;
+    match next_line(from, line) {
+        Ok(NextLine::Whole) => {}
+        Ok(NextLine::Long) => return Err(CorrectionsFault::Line(bill, number, WrongLine::Form)),
+        Ok(NextLine::End) => return Ok(None),
+        Err(ReadFault::Unread) => return Err(CorrectionsFault::Unread(bill)),
+        Err(ReadFault::NoMemory) => return Err(CorrectionsFault::NoMemory),
+    }
+    let Some(fields) = row_fields(line) else {
+        return Err(CorrectionsFault::Line(bill, number, WrongLine::Form));
+    };
+    let row = LedgerRow::of_fields(alloc, fields)?;
+    if does_fall(before, &row) {
+        return Err(CorrectionsFault::Line(bill, number, WrongLine::Order));
+    }
+    Ok(Some(row))
 }
 
 impl<R: BufRead + Drop> LedgerRows<R> {
@@ -56,133 +76,74 @@ impl<R: BufRead + Drop> LedgerRows<R> {
         &self.row
     }
 
-    /// Reads the next line, or the end.
-    fn next_line(&mut self) -> Result<(), CorrectionsFault>
-        ensures line { OnOk result ((left : List ℕ) → R.remaining self.old.from ≡ Some left
-            → (self.new.line.items ≡ take_through 10 left)
-            × (R.remaining self.new.from ≡ Some (drop_through 10 left))) }
-        ensures kept { (self.new.bill ≡ self.old.bill) × (self.new.row ≡ self.old.row) }
-        ensures lines { OnOk result (self.new.lines ≡ next_number self.old.lines) }
-        ensures fault { IfErr result (λ fault. (bill : ABill) → ¬ (IsOfLedger bill fault)) }
-    {
-        self.line.clear();
-        match self.from.read_until(b'\n', &mut self.line) {
-            Ok(_) => {
-                self.lines = self.lines.saturating_add(1);
-                Ok(())
-            }
-            Err(error) if error.kind() == ErrorKind::OutOfMemory => {
-                Err(CorrectionsFault::NoMemory)
-            }
-            Err(_) => Err(CorrectionsFault::Unread(self.bill)),
-        }
-    }
-
-    fn is_over(&self) -> bool
-        ensures { IsTrue result ↔ (self.now.line.items ≡ []) }
-    {
-        self.line.is_empty()
-    }
-
-    /// Reads the next line: its row, or none at the end.
-    fn read_row(&mut self, alloc: Global) -> Result<Option<LedgerRow>, CorrectionsFault>
-        ensures row { IfOk result (λ row. (left : List ℕ) → R.remaining self.old.from ≡ Some left
-            → ReadsRow left (option_map row_of row) (R.remaining self.new.from)) }
-        ensures kept { (self.new.bill ≡ self.old.bill) × (self.new.row ≡ self.old.row) }
-        ensures refused { IfErr result (λ fault. (bill : ABill) → IsOfLedger bill fault
-            → (self.old.bill ≡ bill) × ((left : List ℕ) → R.remaining self.old.from ≡ Some left
-            → (rows : List Row) → ¬ (AreRowLines rows left))) }
-        ensures lines { OnOk result (self.new.lines ≡ next_number self.old.lines) }
-        ensures form { IfErr result (λ fault. (left : List ℕ)
-            → R.remaining self.old.from ≡ Some left → IsOfNoRow self.old.lines left fault) }
-    {
-        self.next_line()?;
-        if self.is_over() {
-            return Ok(None);
-        }
-        match row_fields(&self.line) {
-            Some(fields) => Ok(Some(LedgerRow::of_fields(alloc, fields)?)),
-            None => Err(CorrectionsFault::Form(self.bill, self.lines)),
-        }
-    }
-
     /// The ledger at its first row.
     pub(crate) fn begin(
         alloc: Global,
         from: R,
         bill: Bill,
     ) -> Result<LedgerRows<R>, CorrectionsFault>
-        ensures begun { IfOk result (λ ledger. (text : List ℕ) → R.remaining from ≡ Some text
-            → StandsBefore (λ rows. IsSettledLedger rows text) (standing R.remaining ledger)) }
+        ensures read { IfOk result (λ ledger. IfSome (R.remaining from)
+            (λ text. rows_at R.remaining ledger ≡ Some (rows_of text))) }
+        ensures wrong { IfErr result (λ fault. IfSome (R.remaining from)
+            (λ text. IsWrongAs bill (rows_of text) fault)) }
         ensures bill { IfOk result (λ ledger. ledger.bill ≡ bill) }
-        ensures refused { IfErr result (λ fault. (other : ABill) → IsOfLedger other fault
-            → (bill ≡ other) × ((text : List ℕ) → R.remaining from ≡ Some text
-            → (rows : List Row) → ¬ (IsSettledLedger rows text))) }
-        ensures read { IfOk result (λ ledger. (text : List ℕ) → R.remaining from ≡ Some text
-            → HasReadTo R.remaining ledger text) }
-        ensures first { IfErr result (λ fault. (text : List ℕ) → R.remaining from ≡ Some text
-            → NamesFirstWrong text fault) }
     {
-        let mut ledger = LedgerRows {
+        let mut from = from;
+        let mut line = Vec::new(alloc);
+        match next_line(&mut from, &mut line) {
+            Ok(NextLine::Whole) => {}
+            Ok(NextLine::Long | NextLine::End) => {
+                return Err(CorrectionsFault::Line(bill, 1, WrongLine::Form));
+            }
+            Err(ReadFault::Unread) => return Err(CorrectionsFault::Unread(bill)),
+            Err(ReadFault::NoMemory) => return Err(CorrectionsFault::NoMemory),
+        }
+        if line.as_slice() != head_line().as_bytes() {
+            return Err(CorrectionsFault::Line(bill, 1, WrongLine::Form));
+        }
+        let row = read_row(alloc, &mut from, &mut line, (bill, 2), &None)?;
+        Ok(LedgerRows {
             from,
             bill,
-            lines: 0,
-            line: Vec::new(alloc),
-            row: None,
-        };
-        ledger.next_line()?;
-        if ledger.line.as_slice() != head_line().as_bytes() {
-            return Err(CorrectionsFault::Form(bill, ledger.lines));
-        }
-        let row = ledger.read_row(alloc)?;
-        ledger.row = row;
-        Ok(ledger)
+            number: 2,
+            line,
+            row,
+        })
     }
 
-    /// Goes on to the next row. Gives the row at which it stood.
+    /// Goes on to the next row, and gives the row at which it was.
     fn next_row(&mut self, alloc: Global) -> Result<Option<LedgerRow>, CorrectionsFault>
         ensures row { IfOk result (λ row. row ≡ self.old.row) }
-        ensures moved { OnOk result (IsKnown (standing R.remaining self.old)
-            → IsMoved (standing R.remaining self.old) (standing R.remaining self.new)
-            (rows_in (option_map row_of self.old.row))) }
+        ensures moved { IfOk result (λ row. IfSome (rows_at R.remaining self.old)
+            (Moves (row_in row) (rows_at R.remaining self.new))) }
+        ensures wrong { IfErr result (λ fault. IfSome (rows_at R.remaining self.old)
+            (λ said. IsWrongAs self.old.bill said fault)) }
         ensures bill { self.new.bill ≡ self.old.bill }
-        ensures refused { IfErr result (λ fault. (bill : ABill) → IsOfLedger bill fault
-            → (self.old.bill ≡ bill) × (IsKnown (standing R.remaining self.old)
-            → (rows : List Row) → ¬ (HasRows (standing R.remaining self.old) rows))) }
-        ensures read { OnOk result ((text : List ℕ) → HasReadTo R.remaining self.old text
-            → HasReadTo R.remaining self.new text) }
-        ensures first { IfErr result (λ fault. (text : List ℕ)
-            → HasReadTo R.remaining self.old text → NamesFirstWrong text fault) }
     {
-        let Some(_row) = &self.row else {
+        if self.row.is_none() {
             return Ok(None);
-        };
-        let next = self.read_row(alloc)?;
-        if !may_follow(&self.row, &next) {
-            return Err(CorrectionsFault::Order(self.bill, self.lines));
         }
+        let Some(number) = self.number.checked_add(1) else {
+            return Err(CorrectionsFault::Unread(self.bill));
+        };
+        let place = (self.bill, number);
+        let next = read_row(alloc, &mut self.from, &mut self.line, place, &self.row)?;
+        self.number = number;
         Ok(mem::replace(&mut self.row, next))
     }
 
-    /// If that is wanted, goes on to the next row and gives the row at which it stood; else none.
+    /// If that is wanted, goes on to the next row and gives the row at which it was; else none.
     pub(crate) fn row_if(
         &mut self,
         alloc: Global,
         is_wanted: bool,
     ) -> Result<Option<LedgerRow>, CorrectionsFault>
-        ensures row { IfOk result
-            (λ row. row ≡ (if is_wanted then self.old.row else None)) }
-        ensures moved { IfOk result (λ row. IsKnown (standing R.remaining self.old)
-            → IsMoved (standing R.remaining self.old) (standing R.remaining self.new)
-            (rows_in (option_map row_of row))) }
+        ensures row { IfOk result (λ row. row ≡ (if is_wanted then self.old.row else None)) }
+        ensures moved { IfOk result (λ row. IfSome (rows_at R.remaining self.old)
+            (Moves (row_in row) (rows_at R.remaining self.new))) }
+        ensures wrong { IfErr result (λ fault. IfSome (rows_at R.remaining self.old)
+            (λ said. IsWrongAs self.old.bill said fault)) }
         ensures bill { self.new.bill ≡ self.old.bill }
-        ensures refused { IfErr result (λ fault. (bill : ABill) → IsOfLedger bill fault
-            → (self.old.bill ≡ bill) × (IsKnown (standing R.remaining self.old)
-            → (rows : List Row) → ¬ (HasRows (standing R.remaining self.old) rows))) }
-        ensures read { OnOk result ((text : List ℕ) → HasReadTo R.remaining self.old text
-            → HasReadTo R.remaining self.new text) }
-        ensures first { IfErr result (λ fault. (text : List ℕ)
-            → HasReadTo R.remaining self.old text → NamesFirstWrong text fault) }
     {
         if is_wanted {
             self.next_row(alloc)

@@ -1,16 +1,15 @@
-//! Corrections: what is charged otherwise by the bill that takes the place of another, line by
-//! line.
+//! The corrections from one settled ledger to another: the lines that are charged otherwise, or their
+//! sums by token.
 #![tactic(auto)]
 
-mod both_ledgers;
+mod changes;
 mod correction_text;
 mod fault;
 pub mod laws;
 mod ledger_rows;
+mod pairs;
 mod row;
-mod token_corrections;
 mod token_sums;
 
-pub use both_ledgers::corrections;
-pub use fault::{Bill, CorrectionsFault};
-pub use token_corrections::corrections_by_token;
+pub use changes::corrections;
+pub use fault::{Bill, CorrectionsFault, WrongLine};

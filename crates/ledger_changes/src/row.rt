@@ -2,33 +2,69 @@
 
 ghost use Rattle.std.specs.Prelude.{◌≡◌, IfOk};
 ghost use Rattle.ledger_changes.specs.Rows.{is_same_charge, key_cmp};
-ghost use Rattle.ledger_changes.specs.inside.LedgerRows.{charge_of, key_of, row_of};
-ghost use Rattle.ledger_fields.specs.RowFields.{row_of_fields};
+ghost use Rattle.ledger_changes.specs.inside.Views.{charge_of, key_of, row_of};
+ghost use Rattle.ledger_fields.specs.Lines.{row_of_fields};
 
 use ledger_fields::RowFields;
 use std::alloc::{AllocError, Global};
 use std::cmp::Ordering;
 
+/// What sets a line of a bill apart.
 #[derive(Drop)]
-pub(crate) struct LedgerRow {
+pub(crate) struct LineKey {
     /// The token's digits.
     pub(crate) token: Vec<u8>,
     /// The moment's text.
     pub(crate) moment: Vec<u8>,
     pub(crate) validator: u32,
+}
+
+/// What is charged by a line.
+#[derive(Drop)]
+pub(crate) struct LineCharge {
+    /// The word of the answer.
     pub(crate) answer: Vec<u8>,
     pub(crate) cents: u32,
     /// The word of the reason.
     pub(crate) reason: Vec<u8>,
 }
 
+#[derive(Drop)]
+pub(crate) struct LedgerRow {
+    pub(crate) key: LineKey,
+    pub(crate) charge: LineCharge,
+}
+
 /// The bytes, in memory of their own.
-fn owned(alloc: Global, bytes: &[u8]) -> Result<Vec<u8>, AllocError>
+pub(crate) fn owned(alloc: Global, bytes: &[u8]) -> Result<Vec<u8>, AllocError>
     ensures { IfOk result (λ own. own.items ≡ bytes.now) }
 {
     let mut own = Vec::new(alloc);
     own.extend_from_slice(bytes)?;
     Ok(own)
+}
+
+impl LineKey {
+    /// How the lines come one after the other: by token, moment and validator.
+    pub(crate) fn compare(&self, other: &LineKey) -> Ordering
+        ensures { result ≡ key_cmp (key_of self.now) (key_of other.now) }
+    {
+        let validators = self.validator.cmp(&other.validator);
+        let moments = self.moment.as_slice().cmp(other.moment.as_slice());
+        let tokens = self.token.as_slice().cmp(other.token.as_slice());
+        tokens.then(moments.then(validators))
+    }
+}
+
+impl LineCharge {
+    /// Whether nothing is charged otherwise.
+    pub(crate) fn is_like(&self, other: &LineCharge) -> bool
+        ensures { result ≡ is_same_charge (charge_of self.now) (charge_of other.now) }
+    {
+        let is_answer = self.answer.as_slice().cmp(other.answer.as_slice()).is_eq();
+        let is_reason = self.reason.as_slice().cmp(other.reason.as_slice()).is_eq();
+        is_answer && self.cents == other.cents && is_reason
+    }
 }
 
 impl LedgerRow {
@@ -40,31 +76,16 @@ impl LedgerRow {
         let moment = owned(alloc, fields.moment)?;
         let answer = owned(alloc, fields.answer)?;
         let reason = owned(alloc, fields.reason)?;
-        Ok(LedgerRow {
+        let key = LineKey {
             token,
             moment,
             validator: fields.validator,
+        };
+        let charge = LineCharge {
             answer,
             cents: fields.cents,
             reason,
-        })
-    }
-
-    /// How the rows come one after the other: by token, moment and validator.
-    pub(crate) fn compare(&self, other: &LedgerRow) -> Ordering
-        ensures { result ≡ key_cmp (key_of self.now) (key_of other.now) }
-    {
-        let validators = self.validator.cmp(&other.validator);
-        let moments = self.moment.as_slice().cmp(other.moment.as_slice());
-        let tokens = self.token.as_slice().cmp(other.token.as_slice());
-        tokens.then(moments.then(validators))
-    }
-
-    pub(crate) fn is_charged_like(&self, other: &LedgerRow) -> bool
-        ensures { result ≡ is_same_charge (charge_of self.now) (charge_of other.now) }
-    {
-        let is_answer = self.answer.as_slice().cmp(other.answer.as_slice()).is_eq();
-        let is_reason = self.reason.as_slice().cmp(other.reason.as_slice()).is_eq();
-        is_answer && self.cents == other.cents && is_reason
+        };
+        Ok(LedgerRow { key, charge })
     }
 }

@@ -1,23 +1,19 @@
 //! The corrections of one token, summed, and their line.
 
-ghost use Rattle.std.specs.Prelude.{◌≡◌, IfOk, IfErr, IfSome, OnErr, OnOk};
+ghost use Rattle.std.specs.Prelude.{◌≡◌, ◌∷◌, [], IfErr, IfOk, IfSome, OnErr, OnOk, option_map};
 ghost use Rattle.std.specs.Io.KnownBytes.{Appends};
-ghost use Rattle.std.specs.Option.{option_map};
 ghost use Rattle.fare_texts.specs.WrittenOut.{Begins};
-ghost use Rattle.ledger_changes.specs.Faults.{IsOfLedger};
+ghost use Rattle.ledger_changes.specs.Faults.{IsNoLine};
 ghost use Rattle.ledger_changes.specs.Rows.{is_same_text};
 ghost use Rattle.ledger_changes.specs.Texts.{is_only_before};
-ghost use Rattle.ledger_changes.specs.Tokens.{is_in_both, token_line};
-ghost use Rattle.ledger_changes.specs.declared.fault.Bill.{Bill as ABill};
-ghost use Rattle.ledger_changes.specs.inside.LedgerRows.{charge_of};
-ghost use Rattle.ledger_changes.specs.inside.Sums.{add_changes, ended_line, ended_lines, no_sums};
-ghost use Rattle.ledger_changes.specs.inside.Sums.{sum_in, sums_after, sums_for, sums_line};
-ghost use Rattle.ledger_changes.specs.inside.Sums.{token_sum_of};
-ghost use Rattle.ledger_changes.specs.inside.Written.{changes_of, pairs_of, row_in};
+ghost use Rattle.ledger_changes.specs.Tokens.{add_changes, ended_line, is_in_both, no_sums};
+ghost use Rattle.ledger_changes.specs.Tokens.{sums_for, sums_line, token_line};
+ghost use Rattle.ledger_changes.specs.inside.Views.{charge_of, pair_of, sum_in, token_sum_of};
 
-use crate::correction_text::{agree, cents_of, write_difference, write_number, write_text};
+use crate::correction_text::{cents_of, write_difference, write_number, write_text};
 use crate::fault::CorrectionsFault;
-use crate::row::LedgerRow;
+use crate::pairs::LinePair;
+use crate::row::{LineCharge, owned};
 use std::alloc::{AllocError, Global};
 use std::io::Write;
 
@@ -39,7 +35,7 @@ pub(crate) struct TokenSums {
 }
 
 /// Whether the first bill has the line, and the second has none beside it.
-fn is_only_before(before: &Option<LedgerRow>, after: &Option<LedgerRow>) -> bool
+fn is_only_before(before: &Option<LineCharge>, after: &Option<LineCharge>) -> bool
     ensures { result
         ≡ is_only_before (option_map charge_of before.now) (option_map charge_of after.now) }
 {
@@ -49,7 +45,7 @@ fn is_only_before(before: &Option<LedgerRow>, after: &Option<LedgerRow>) -> bool
     }
 }
 
-fn is_in_both(before: &Option<LedgerRow>, after: &Option<LedgerRow>) -> bool
+fn is_in_both(before: &Option<LineCharge>, after: &Option<LineCharge>) -> bool
     ensures { result
         ≡ is_in_both (option_map charge_of before.now) (option_map charge_of after.now) }
 {
@@ -60,12 +56,11 @@ fn is_in_both(before: &Option<LedgerRow>, after: &Option<LedgerRow>) -> bool
 }
 
 impl TokenSums {
-    /// The sums of no correction, of this row's token.
-    fn begin(alloc: Global, row: &LedgerRow) -> Result<TokenSums, AllocError>
-        ensures { IfOk result (λ sums. token_sum_of sums ≡ no_sums row.now.token.items) }
+    /// The sums of no correction of this token.
+    fn begin(alloc: Global, token: &[u8]) -> Result<TokenSums, AllocError>
+        ensures { IfOk result (λ sums. token_sum_of sums ≡ no_sums token.now) }
     {
-        let mut token = Vec::new(alloc);
-        token.extend_from_slice(&row.token)?;
+        let token = owned(alloc, token)?;
         Ok(TokenSums {
             token,
             added: 0,
@@ -76,28 +71,27 @@ impl TokenSums {
         })
     }
 
-    fn is_of(&self, row: &LedgerRow) -> bool
-        ensures { result ≡ is_same_text self.now.token.items row.now.token.items }
+    fn is_of(&self, token: &[u8]) -> bool
+        ensures { result ≡ is_same_text self.now.token.items token.now }
     {
-        self.token.as_slice().cmp(row.token.as_slice()).is_eq()
+        self.token.as_slice().cmp(token).is_eq()
     }
 
-    /// The sums with the correction from the one row to the other, of which there is one. No ledger
-    /// is so long that there are none.
-    fn with(self, before: &Option<LedgerRow>, after: &Option<LedgerRow>) -> Option<TokenSums>
+    /// The sums with the correction. No ledger is so long that there are none.
+    pub(crate) fn with(self, pair: &LinePair) -> Option<TokenSums>
         ensures { IfSome result (λ sums. token_sum_of sums
-            ≡ add_changes (token_sum_of self) (pairs_of (row_in before.now) (row_in after.now))) }
+            ≡ add_changes (token_sum_of self) (pair_of pair.now ∷ [])) }
     {
-        let added = is_only_before(after, before);
-        let removed = is_only_before(before, after);
-        let changed = is_in_both(before, after);
+        let added = is_only_before(&pair.after, &pair.before);
+        let removed = is_only_before(&pair.before, &pair.after);
+        let changed = is_in_both(&pair.before, &pair.after);
         Some(TokenSums {
             token: self.token,
             added: self.added.checked_add(u64::from(added))?,
             removed: self.removed.checked_add(u64::from(removed))?,
             changed: self.changed.checked_add(u64::from(changed))?,
-            before: self.before.checked_add(u64::from(cents_of(before)))?,
-            after: self.after.checked_add(u64::from(cents_of(after)))?,
+            before: self.before.checked_add(u64::from(cents_of(&pair.before)))?,
+            after: self.after.checked_add(u64::from(cents_of(&pair.after)))?,
         })
     }
 
@@ -129,7 +123,7 @@ pub(crate) fn write_sums<W: Write>(
         (sums_line (sum_in sums.now))) }
     ensures begun { OnErr result (Begins (W.contents out.old) (W.contents out.new)
         (sums_line (sum_in sums.now))) }
-    ensures fault { IfErr result (λ fault. (bill : ABill) → ¬ (IsOfLedger bill fault)) }
+    ensures fault { IfErr result IsNoLine }
 {
     match sums {
         Some(sums) => {
@@ -140,62 +134,29 @@ pub(crate) fn write_sums<W: Write>(
     }
 }
 
-/// The open sums, if they are of the row's token. Else their line is written, and sums of no
-/// correction begin.
-fn sums_for<W: Write>(
+/// The open sums, if they are the token's. Else their line is written, and sums of no correction
+/// begin.
+pub(crate) fn sums_for<W: Write>(
     alloc: Global,
     out: &mut W,
     last: Option<TokenSums>,
-    row: &LedgerRow,
+    token: &[u8],
 ) -> Result<TokenSums, CorrectionsFault>
     ensures written { OnOk result (Appends (W.contents out.old) (W.contents out.new)
-        (ended_line (sum_in last) row.now.token.items)) }
+        (ended_line (sum_in last) token.now)) }
     ensures begun { OnErr result (Begins (W.contents out.old) (W.contents out.new)
-        (ended_line (sum_in last) row.now.token.items)) }
-    ensures sums { IfOk result
-        (λ sums. token_sum_of sums ≡ sums_for (sum_in last) row.now.token.items) }
-    ensures fault { IfErr result (λ fault. (bill : ABill) → ¬ (IsOfLedger bill fault)) }
+        (ended_line (sum_in last) token.now)) }
+    ensures sums { IfOk result (λ sums. token_sum_of sums ≡ sums_for (sum_in last) token.now) }
+    ensures fault { IfErr result IsNoLine }
 {
     let Some(sums) = last else {
-        return Ok(TokenSums::begin(alloc, row)?);
+        return Ok(TokenSums::begin(alloc, token)?);
     };
-    if sums.is_of(row) {
+    if sums.is_of(token) {
         return Ok(sums);
     }
-    let next = TokenSums::begin(alloc, row)?;
+    let next = TokenSums::begin(alloc, token)?;
     let line = sums.line(alloc)?;
     write_text(out, &line)?;
     Ok(next)
-}
-
-/// Adds the correction from the one row to the other to the sums of its token, if they do not
-/// agree. If the open sums are of another token, their line is written, and new ones begin.
-pub(crate) fn sum_change<W: Write>(
-    alloc: Global,
-    out: &mut W,
-    last: Option<TokenSums>,
-    before: &Option<LedgerRow>,
-    after: &Option<LedgerRow>,
-) -> Result<Option<TokenSums>, CorrectionsFault>
-    ensures written { OnOk result (Appends (W.contents out.old) (W.contents out.new)
-        (ended_lines (sum_in last) (changes_of (row_in before.now) (row_in after.now)))) }
-    ensures begun { OnErr result (Begins (W.contents out.old) (W.contents out.new)
-        (ended_lines (sum_in last) (changes_of (row_in before.now) (row_in after.now)))) }
-    ensures sums { IfOk result (λ sums. sum_in sums
-        ≡ sums_after (sum_in last) (changes_of (row_in before.now) (row_in after.now))) }
-    ensures fault { IfErr result (λ fault. (bill : ABill) → ¬ (IsOfLedger bill fault)) }
-{
-    let row = match (before, after) {
-        (Some(row), _) => row,
-        (None, Some(row)) => row,
-        (None, None) => return Ok(last),
-    };
-    if agree(before, after) {
-        return Ok(last);
-    }
-    let sums = sums_for(alloc, out, last, row)?;
-    match sums.with(before, after) {
-        Some(sums) => Ok(Some(sums)),
-        None => Err(CorrectionsFault::Write),
-    }
 }

@@ -1,4 +1,4 @@
-pub mod RowFields
-pub mod RowLines
+pub mod Fields
+pub mod Lines
+pub mod Moments
 pub mod Rows
-pub mod inside

@@ -37,11 +37,11 @@ impl Shows {
             None => "",
         };
         Shows {
-            counts: name == "uploads" || name == "table" || name == "sort" || name == "split",
-            text: name == "merge" || name == "merge-ledgers" || name == "corrections",
+            counts: name == "uploads" || name == "table" || name == "sort",
+            text: name == "merge" || name == "corrections",
             looks: match name {
-                "merge-ledgers" => Looks::Controls,
-                "merge" | "corrections" => Looks::Length,
+                "merge" => Looks::Controls,
+                "corrections" => Looks::Length,
                 _ => Looks::None,
             },
         }

@@ -1,7 +1,4 @@
-pub mod Counts
-pub mod Digits
 pub mod EndTexts
-pub mod Nones
+pub mod Lines
+pub mod OneLine
 pub mod Parts
-pub mod Tokens
-pub mod Unique

@@ -1,3 +1,5 @@
+pub mod Forms
+pub mod FormLaws
 pub mod Numbers
 pub mod OverHistory
 pub mod Report

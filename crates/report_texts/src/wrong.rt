@@ -7,24 +7,10 @@ pub enum Wrong {
     Form,
     /// The upload of a part was not posted.
     NotPosted,
-    /// Its validator or token is not above the one before it.
+    /// Its file's span does not join the part before, or its validator or token is not above the one
+    /// before it.
     Order,
-    /// Its token is in two texts.
-    Twice,
-    /// The sums are more than any run has.
-    Sums,
-    /// The validators before it do not add up to the report's totals.
-    Validators,
-    /// The tokens before it, or up to it, do not add up to the report's totals.
-    Tokens,
-    /// The lines of its token, up to it, have more than the report says of the token.
-    MoreThanReport,
-    /// The lines before it have less than the report says of their token.
-    LessThanReport,
-    /// Its token is not the next one of the report.
-    OtherToken,
-    /// The report has one more token.
-    MissingToken,
-    /// The lines before it have other sums of a validator than the report.
-    OtherValidators,
+    /// The uploads, the validators or the tokens before it do not add up to the part's totals, or
+    /// the sums are more than any run has.
+    Totals,
 }

@@ -1,13 +1,12 @@
 -- What `corrections` does: of the words of the old ledger and of the new one.
-use Rattle.std.specs.Prelude.{◌≡◌, ◌⊎◌, ⊤, ℕ, Bool, true, false, List, [], ◌∷◌, ◌++◌, Option, Some}
+use Rattle.std.specs.Prelude.{◌≡◌, ◌⊎◌, ⊤, ℕ, Bool, List, [], ◌∷◌, ◌++◌, Option, Some, Err, IfSome}
 use Rattle.std.specs.Prelude.{MatchBool, codes, decimal, nat_eq}
 use Rattle.std.specs.Io.KnownBytes.{Appends, Keeps}
 use Rattle.fare_texts.specs.WrittenOut.{Begins}
-use Rattle.ledger_changes.specs.FirstWrongLines.{IsWrongForm, IsWrongOrder}
-use Rattle.ledger_changes.specs.Ledgers.{IsSettledLedger}
-use Rattle.ledger_fields.specs.Rows.{Row}
-use Rattle.ledger_changes.specs.Texts.{IsCorrectionsText}
-use Rattle.ledger_changes.specs.Tokens.{IsCorrectionsByTokenText}
+use Rattle.ledger_changes.specs.Ledgers.{rows_of}
+use Rattle.ledger_changes.specs.Tokens.{corrections_of}
+use Rattle.ledger_changes.specs.declared.fault.WrongLine.{WrongLine}
+use Rattle.ledger_changes.specs.declared.fault.WrongLine.TheVariants.{Form, Order}
 use Rattle.report_texts.specs.declared.wrong.Wrong.TheVariants as wrong
 use Rattle.program_manners.specs.LineWritten.{LineWritten}
 use Rattle.program_manners.specs.Loads.{Loaded}
@@ -22,21 +21,11 @@ use Rattle.tool_tasks.specs.declared.fault.Fault.{Fault}
 use Rattle.tool_tasks.specs.declared.fault.Fault.TheVariants.{Closed, Line, NoMemory}
 use Rattle.tool_tasks.specs.declared.fault.Fault.TheVariants.{Unread, Unsettled, Write}
 
--- the text is that of the corrections from the one ledger to the other, or of their sums by token,
--- and this number of lines is removed
-abbrev pub IsTextOfCorrections : Bool → List ℕ → List ℕ → List ℕ → ℕ → Type 0
-IsTextOfCorrections false old new text removed = IsCorrectionsText old new text removed
-IsTextOfCorrections true old new text removed = IsCorrectionsByTokenText old new text removed
-
--- the text is no settled ledger
-abbrev pub IsUnsettled : List ℕ → Type 0
-IsUnsettled text = (rows : List Row) → ¬ (IsSettledLedger rows text)
-
--- the word is that of a ledger whose text is no settled one, and this holds of the text
-abbrev pub NamesUnsettled : (List ℕ → Type 0) → List ℕ → List ℕ → List ℕ → List ℕ → List ℕ → Type 0
-NamesUnsettled IsWrong old new old_text new_text word =
-    ((word ≡ old) × IsUnsettled old_text × IsWrong old_text)
-    ⊎ ((word ≡ new) × IsUnsettled new_text × IsWrong new_text)
+-- the word is that of a ledger whose line of this number is the first wrong one, for this reason
+abbrev pub NamesWrong : WrongLine → ℕ → List ℕ → List ℕ → List ℕ → List ℕ → List ℕ → Type 0
+NamesWrong why number old new old_text new_text word =
+    ((word ≡ old) × (rows_of old_text ≡ Err (number, why)))
+    ⊎ ((word ≡ new) × (rows_of new_text ≡ Err (number, why)))
 
 -- The old ledger was opened and then the new one, and what was written is, whole, the text of the
 -- corrections between them.
@@ -46,7 +35,7 @@ pub record Corrects (by_token : Bool) (old new : List ℕ) (loaded loaded' : Opt
   pub new_text : List ℕ
   pub opened : HasOpened (old ∷ new ∷ []) loaded loaded' (old_text ∷ new_text ∷ [])
   pub text : List ℕ
-  pub corrections : IsTextOfCorrections by_token old_text new_text text removed
+  pub corrections : corrections_of by_token old_text new_text ≡ Some (text, removed)
   pub written : Appends out out' text
 
 -- That lines are removed was reported, with their number, unless a write of it failed. If none is,
@@ -63,10 +52,9 @@ IsWarned old new removed said said' failed Silent = MatchBool (nat_eq removed 0)
 abbrev pub IsRightCorrectionsFault : List ℕ → List ℕ → List ℕ → List ℕ → Option WriteEnd → Fault
     → Type 0
 IsRightCorrectionsFault old new old_text new_text end (Line word number why) =
-    NamesUnsettled (λ text. IsWrongForm text number) old new old_text new_text word.now
-    × (why ≡ wrong.Form)
+    NamesWrong Form number old new old_text new_text word.now × (why ≡ wrong.Form)
 IsRightCorrectionsFault old new old_text new_text end (Unsettled word number) =
-    NamesUnsettled (λ text. IsWrongOrder text number) old new old_text new_text word.now
+    NamesWrong Order number old new old_text new_text word.now
 IsRightCorrectionsFault old new old_text new_text end (Unread word) =
     IsOneOf word.now (old ∷ new ∷ [])
 IsRightCorrectionsFault old new old_text new_text end Write = end ≡ Some writes.Refused
@@ -74,15 +62,12 @@ IsRightCorrectionsFault old new old_text new_text end Closed = end ≡ Some writ
 IsRightCorrectionsFault old new old_text new_text end NoMemory = ⊤
 IsRightCorrectionsFault old new old_text new_text end fault = ⊥
 
--- The fault is the right one of ledgers that were opened. What was written is a beginning of the
--- text of the corrections between them, if there is one.
+-- The fault is the right one of ledgers that were opened. What was written is a prefix of the text
+-- of the corrections between them, if there is one.
 pub record StopsCorrections (by_token : Bool) (old new old_text new_text : List ℕ)
     (end : Option WriteEnd) (fault : Fault) (out out' : Option (List ℕ)) : Type 0 where
   pub right : IsRightCorrectionsFault old new old_text new_text end fault
-  pub begun : (some : List ℕ) (count : ℕ)
-      → IsTextOfCorrections by_token old_text new_text some count
-      → (text : List ℕ) × (removed : ℕ)
-      × IsTextOfCorrections by_token old_text new_text text removed × Begins out out' text
+  pub begun : IfSome (corrections_of by_token old_text new_text) (λ made. Begins out out' made.0)
 
 -- both ledgers were opened, and the corrections were broken off
 pub record BreaksOffCorrections (by_token : Bool) (old new : List ℕ)

@@ -1,13 +1,9 @@
 //! `corrections`.
-ghost use Rattle.std.specs.Prelude.{◌≡◌, ◌≤◌, ℕ, List, IfErr, IfOk, OnErr, OnOk, Some, true};
+ghost use Rattle.std.specs.Prelude.{◌≡◌, ◌≤◌, ℕ, List, IfErr, IfOk, OnOk, Some, true};
 ghost use Rattle.std.specs.Io.KnownBytes.{Appends};
-ghost use Rattle.fare_texts.specs.WrittenOut.{Begins};
-ghost use Rattle.ledger_changes.specs.Faults.{IsOfLedger};
-ghost use Rattle.ledger_changes.specs.FirstWrongLines.{NamesFirstWrong};
-ghost use Rattle.ledger_changes.specs.declared.fault.Bill.TheVariants.{New, Old};
+ghost use Rattle.ledger_changes.specs.Tokens.{corrections_of};
 ghost use Rattle.program_manners.specs.Loads.{Loaded};
-ghost use Rattle.tool_tasks.specs.Corrections.{Corrects, GivesUpCorrections};
-ghost use Rattle.tool_tasks.specs.Corrections.{IsTextOfCorrections, IsUnsettled, IsWarned};
+ghost use Rattle.tool_tasks.specs.Corrections.{Corrects, GivesUpCorrections, IsWarned};
 ghost use Rattle.tool_tasks.specs.Corrections.{StopsCorrections};
 ghost use Rattle.tool_tasks.specs.Fault.{IsFaultReported};
 ghost use Rattle.tool_tasks.specs.declared.fault.Fault.{Fault as AFault};
@@ -16,7 +12,7 @@ ghost use Rattle.tool_tasks.specs.inside.Fault.{IsCorrectionsFault, word_of};
 use crate::fault::{Fault, finish, say};
 use crate::names::Name;
 use crate::source::{Source, open_text};
-use ledger_changes::{Bill, CorrectionsFault};
+use ledger_changes::{Bill, CorrectionsFault, WrongLine};
 use program_manners::{Complaints, Output, WriteEnd};
 use report_texts::Wrong;
 use std::alloc::Global;
@@ -42,48 +38,16 @@ fn fault_of<'a>(
     ensures { IsCorrectionsFault ledgers.now.old.now ledgers.now.new.now end fault result }
 {
     match fault {
-        CorrectionsFault::Form(bill, number) => {
+        CorrectionsFault::Line(bill, number, WrongLine::Form) => {
             Fault::Line(word_of(ledgers, bill), number, Wrong::Form)
         }
-        CorrectionsFault::Order(bill, number) => Fault::Unsettled(word_of(ledgers, bill), number),
+        CorrectionsFault::Line(bill, number, WrongLine::Order) => {
+            Fault::Unsettled(word_of(ledgers, bill), number)
+        }
         CorrectionsFault::Unread(bill) => Fault::Unread(word_of(ledgers, bill)),
         CorrectionsFault::Write => Fault::of_write(end),
         CorrectionsFault::NoMemory => Fault::NoMemory,
     }
-}
-
-/// Writes the corrections from the old ledger to the new one, or their sums by token.
-fn write_corrections<R: BufRead + Drop, W: Write>(
-    alloc: Global,
-    is_by_token: bool,
-    old: R,
-    new: R,
-    out: &mut W,
-) -> Result<u64, CorrectionsFault>
-    ensures written { IfOk result (λ removed. (old_text new_text : List ℕ)
-        → R.remaining old ≡ Some old_text → R.remaining new ≡ Some new_text
-        → (text : List ℕ) × IsTextOfCorrections is_by_token old_text new_text text removed
-        × Appends (W.contents out.old) (W.contents out.new) text) }
-    ensures refused_old { IfErr result (λ fault. IsOfLedger Old fault → (text : List ℕ)
-        → R.remaining old ≡ Some text → IsUnsettled text) }
-    ensures refused_new { IfErr result (λ fault. IsOfLedger New fault → (text : List ℕ)
-        → R.remaining new ≡ Some text → IsUnsettled text) }
-    ensures begun { OnErr result ((old_text new_text : List ℕ)
-        → R.remaining old ≡ Some old_text → R.remaining new ≡ Some new_text
-        → (some : List ℕ) (count : ℕ)
-        → IsTextOfCorrections is_by_token old_text new_text some count
-        → (text : List ℕ) × (removed : ℕ)
-        × IsTextOfCorrections is_by_token old_text new_text text removed
-        × Begins (W.contents out.old) (W.contents out.new) text) }
-    ensures first_old { IfErr result (λ fault. IsOfLedger Old fault → (text : List ℕ)
-        → R.remaining old ≡ Some text → NamesFirstWrong text fault) }
-    ensures first_new { IfErr result (λ fault. IsOfLedger New fault → (text : List ℕ)
-        → R.remaining new ≡ Some text → NamesFirstWrong text fault) }
-{
-    if is_by_token {
-        return ledger_changes::corrections_by_token(alloc, old, new, out);
-    }
-    ledger_changes::corrections(alloc, old, new, out)
 }
 
 /// Writes the corrections between the ledgers, and lets all that was written go out. Gives how many
@@ -98,7 +62,7 @@ fn correct_texts<'a, R: BufRead + Drop, W: Write>(
     ensures written { IfOk result (λ removed. (old_text new_text : List ℕ)
         → R.remaining old ≡ Some old_text → R.remaining new ≡ Some new_text
         → (text : List ℕ)
-        × IsTextOfCorrections ledgers.now.is_by_token old_text new_text text removed
+        × (corrections_of ledgers.now.is_by_token old_text new_text ≡ Some (text, removed))
         × Appends (W.contents out.old.writer) (W.contents out.new.writer) text) }
     ensures fault { IfErr result (λ fault. (old_text new_text : List ℕ)
         → R.remaining old ≡ Some old_text → R.remaining new ≡ Some new_text
@@ -106,7 +70,7 @@ fn correct_texts<'a, R: BufRead + Drop, W: Write>(
         new_text out.new.end fault (W.contents out.old.writer) (W.contents out.new.writer)) }
     ensures flushed { OnOk result (out.new.is_flushed ≡ true) }
 {
-    match write_corrections(alloc, ledgers.is_by_token, old, new, out) {
+    match ledger_changes::corrections(alloc, ledgers.is_by_token, old, new, out) {
         Ok(removed) => match finish(out) {
             Ok(()) => Ok(removed),
             Err(unwritten) => Err(unwritten),
@@ -178,7 +142,7 @@ pub fn corrections_over<S: Source, W: Write, E: Write>(
     // And all that was written was flushed.
     ensures flushed { result ≡ 0 → out.new.is_flushed ≡ true }
     // With status 1 the line of a fault was reported, which is the right one. What was written is a
-    // beginning of the right text, if there is one.
+    // prefix of the right text, if there is one.
     ensures faults { result ≡ 1 → (fault : AFault) × IsFaultReported fault
         (E.contents err.old.writer) (E.contents err.new.writer) err.new.failed
         × ((kept : List Loaded) → S.loaded source.old ≡ Some kept

@@ -4,6 +4,7 @@ use Rattle.ledger_changes.specs.declared.fault.Bill.{Bill}
 use Rattle.ledger_changes.specs.declared.fault.Bill.TheVariants.{New, Old}
 use Rattle.ledger_changes.specs.declared.fault.CorrectionsFault.{CorrectionsFault}
 use Rattle.ledger_changes.specs.declared.fault.CorrectionsFault.TheVariants as changes
+use Rattle.ledger_changes.specs.declared.fault.WrongLine.TheVariants.{Form, Order}
 use Rattle.report_texts.specs.declared.wrong.Wrong.TheVariants as wrong
 use Rattle.program_manners.specs.declared.output.WriteEnd.{WriteEnd}
 use Rattle.tap_rows.specs.declared.fault.RowsFault.{RowsFault}
@@ -23,9 +24,9 @@ word_of old new New = new
 -- write it is what the writer remembers.
 abbrev pub IsCorrectionsFault : List ℕ → List ℕ → Option WriteEnd → CorrectionsFault → Fault
     → Type 0
-IsCorrectionsFault old new end (changes.Form bill number) (Line word line why) =
+IsCorrectionsFault old new end (changes.Line bill number Form) (Line word line why) =
     (word.now ≡ word_of old new bill) × (line ≡ number) × (why ≡ wrong.Form)
-IsCorrectionsFault old new end (changes.Order bill number) (Unsettled word line) =
+IsCorrectionsFault old new end (changes.Line bill number Order) (Unsettled word line) =
     (word.now ≡ word_of old new bill) × (line ≡ number)
 IsCorrectionsFault old new end (changes.Unread bill) (Unread word) =
     word.now ≡ word_of old new bill

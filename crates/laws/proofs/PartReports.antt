@@ -1,0 +1,205 @@
+-- Parts of files are parts of a history, and their numbers fit.
+use Rattle.std.specs.Prelude.{◌≡◌, ℕ, ◌+◌, ◌<◌, ◌≤◌, ◌^◌, List, [], ◌∷◌, ◌++◌, All, Ok, flat_map, length, map, sum_by}
+use Rattle.std.specs.List.{AllByRecursion}
+use Rattle.std.specs.List.Sorted.{IsPermutation}
+use Rattle.std.proofs.Common.{refl, sym, ap, subst, ◌∙◌, arith, length-append}
+use Rattle.std.proofs.lemmas.List.{length-map}
+use Rattle.std.proofs.lemmas.List.Sorted.{length_permutation}
+use Rattle.std.proofs.lemmas.List.Elements.{All-cons, All-head, All-nil, All-tail, recursion_from_All}
+use Rattle.tap_views.specs.Token.{Fits as TokenFits}
+use Rattle.tap_views.specs.declared.encoder.TapFields.{TapFields}
+use Rattle.tap_views.specs.declared.upload_end.UploadEnd.TheVariants.{Posted}
+use Rattle.tariffs.specs.Fares.{Fares}
+use Rattle.histories.specs.Sums.{sums}
+use Rattle.histories.specs.SumsByKey.{sums_by_token, sums_by_validator}
+use Rattle.histories.specs.declared.entry.Entry.{Entry}
+use Rattle.report_texts.specs.OverHistory.{IsReportOver}
+use Rattle.report_texts.specs.Report.{report}
+use Rattle.settlement.specs.Posted.{posted}
+use Rattle.settlement.proofs.TokenRuns.{posted_length}
+use Rattle.sorted_bills.specs.Parts.{ArePartsOf, DoRise, IsPartOf, PartView, added, numbers_of_parts}
+use Rattle.sorted_taps.specs.Places.{AreSpanned, AreWhole}
+use Rattle.sorted_taps.specs.declared.places.FileSpan.{FileSpan}
+use Rattle.tap_views.specs.UploadEnds.{ArePlainEnds}
+use Rattle.part_texts.specs.HistoryParts.{AreRight, Fits, HistoryPart, histories_of, numbers_of, report_of, whole_history}
+use Rattle.part_texts.specs.HistoryParts.{DoRise as HistoriesRise, added as added_up}
+use Rattle.part_texts.specs.Merged.{merge_of}
+use Rattle.part_texts.specs.Shown.{SpanFits, part_text, sum_up}
+use Rattle.laws.specs.PartTexts.{part_report}
+use Rattle.laws.specs.Sizes.{CanBeWritten, HaveBoundedTerms, HaveNumbers}
+use Rattle.laws.proofs.CentsFit.{posted_few, tokens_fit}
+use Rattle.laws.proofs.SumsFit.{CanBeSummed, EntryFits, summed}
+
+abbrev pub shown : PartView → HistoryPart
+shown part = record {
+  spans = part.spans;
+  taps = map length part.lists;
+  history = part.history;
+}
+
+-- ---- lengths
+spans_length : (files : List (List ℕ)) (spans : List FileSpan) (lists : List (List TapFields))
+    → AreSpanned files spans lists
+    → (length spans ≡ length files) × (length lists ≡ length files)
+spans_length [] [] [] are = (refl, refl)
+spans_length (all ∷ files) (span ∷ spans) (taps ∷ lists) are =
+    let (one, two) = spans_length files spans lists are.1 in
+    (omega (arith, one), omega (arith, two))
+spans_length [] [] (taps ∷ lists) are = absurd are
+spans_length [] (span ∷ spans) lists are = absurd are
+spans_length (all ∷ files) [] lists are = absurd are
+spans_length (all ∷ files) (span ∷ spans) [] are = absurd are
+
+lists_length : (lists : List (List TapFields))
+    → sum_up (map length lists) ≡ length (flat_map (λ list. list) lists)
+lists_length [] = refl
+lists_length (list ∷ lists) =
+    let rest = lists_length lists in
+    let both = length-append list (flat_map (λ list. list) lists) in omega (arith, rest, both)
+
+-- ---- the numbers of a part
+entries_fit : (history : List Entry) → All (λ entry. TokenFits entry.token) history
+    → HaveNumbers history → All EntryFits history
+entries_fit [] tokens numbers = All-nil EntryFits
+entries_fit (e ∷ history) tokens numbers =
+    All-cons EntryFits e history
+    (All-head (λ entry. entry.validator < 2 ^ 32) e history numbers,
+    All-head (λ entry. TokenFits entry.token) e history tokens)
+    (entries_fit history (All-tail (λ entry. TokenFits entry.token) e history tokens)
+    (All-tail (λ entry. entry.validator < 2 ^ 32) e history numbers))
+
+module _ (fares : Fares) (bounds : HaveBoundedTerms fares) (files : List (List ℕ)) where
+  part_fits : (part : PartView) → IsPartOf fares files part.spans part.lists part.history
+      → length files < 2 ^ 64 → AllByRecursion SpanFits part.spans → HaveNumbers part.history
+      → length part.history < 2 ^ 47 → Fits (shown part)
+  part_fits part is few places numbers taps =
+      let (spans, lists) = spans_length files part.spans part.lists is.spanned in
+      let E : List Entry → Type 0 = All EntryFits in
+      let can = summed part.history taps
+      (subst (All _) (sym is.posted_are) (posted_few fares bounds [] is.taps))
+      (entries_fit part.history
+      (subst (All (λ (entry : Entry). TokenFits entry.token)) (sym is.posted_are)
+      (tokens_fit fares [] is.taps is.named)) numbers) in
+      record {
+        files = omega (arith, spans, few);
+        spans = places;
+        uploads = length-map part.lists length ∙ lists ∙ sym spans;
+        posted = lists_length part.lists ∙ moved is
+            ∙ sym (ap length is.posted_are ∙ posted_length fares [] is.taps);
+        totals = can.totals;
+        validators = recursion_from_All _ (sums_by_validator part.history) can.validators;
+        tokens = recursion_from_All _ (sums_by_token part.history) can.tokens;
+      }
+    where
+      moved : (is : IsPartOf fares files part.spans part.lists part.history)
+          → length (flat_map (λ list. list) part.lists) ≡ length is.taps
+      moved is = sym (length_permutation (flat_map (λ list. list) part.lists) is.taps is.canonical.moved)
+
+  -- ---- all parts
+  all_spans : (parts : List PartView) → ArePartsOf fares files parts
+      → AllByRecursion (λ (p : HistoryPart). length p.spans ≡ length files) (map shown parts)
+  all_spans [] are = tt
+  all_spans (part ∷ parts) are =
+      let here = All-head (λ (p : PartView). IsPartOf fares files p.spans p.lists p.history) part parts are in
+      ((spans_length files part.spans part.lists here.spanned).0, all_spans parts
+      (All-tail (λ (p : PartView). IsPartOf fares files p.spans p.lists p.history) part parts are))
+
+  all_fits : (parts : List PartView) → ArePartsOf fares files parts → length files < 2 ^ 64
+      → AllByRecursion (λ part. AllByRecursion SpanFits part.spans) parts
+      → AllByRecursion (λ part. HaveNumbers part.history) parts
+      → length (flat_map (λ part. part.history) parts) < 2 ^ 47
+      → AllByRecursion Fits (map shown parts)
+  all_fits [] are few places numbers taps = tt
+  all_fits (part ∷ parts) are few places numbers taps =
+      let both = length-append part.history (flat_map (λ part. part.history) parts) in (
+        part_fits part
+            (All-head (λ (p : PartView). IsPartOf fares files p.spans p.lists p.history) part parts are)
+            few places.0 numbers.0 (omega (arith, taps, both)),
+        all_fits parts
+            (All-tail (λ (p : PartView). IsPartOf fares files p.spans p.lists p.history) part parts are)
+            few places.1 numbers.1 (omega (arith, taps, both)),
+      )
+
+-- ---- the same in the words of both crates
+spans_same : (parts : List PartView)
+    → map (λ (p : HistoryPart). p.spans) (map shown parts) ≡ map (λ (p : PartView). p.spans) parts
+spans_same [] = refl
+spans_same (part ∷ parts) = ap (λ (l : List (List FileSpan)). part.spans ∷ l) (spans_same parts)
+
+histories_same : (parts : List PartView)
+    → histories_of (map shown parts) ≡ map (λ (p : PartView). p.history) parts
+histories_same [] = refl
+histories_same (part ∷ parts) = ap (λ (l : List (List Entry)). part.history ∷ l) (histories_same parts)
+
+whole_same : (parts : List PartView)
+    → whole_history (map shown parts) ≡ flat_map (λ (p : PartView). p.history) parts
+whole_same [] = refl
+whole_same (part ∷ parts) = ap (λ (l : List Entry). part.history ++ l) (whole_same parts)
+
+rise_same : (histories : List (List Entry)) → DoRise histories → HistoriesRise histories
+rise_same [] rise = tt
+rise_same (history ∷ later) rise = (rise.0, rise_same later rise.1)
+
+added_same : (xs ys : List ℕ) → added xs ys ≡ added_up xs ys
+added_same [] ys = refl
+added_same (x ∷ xs) [] = refl
+added_same (x ∷ xs) (y ∷ ys) = ap (λ (l : List ℕ). (x + y) ∷ l) (added_same xs ys)
+
+numbers_same : (parts : List PartView) → numbers_of (map shown parts) ≡ numbers_of_parts parts
+numbers_same [] = refl
+numbers_same (part ∷ parts) =
+    ap (added_up (map length part.lists)) (numbers_same parts)
+    ∙ sym (added_same (map length part.lists) (numbers_of_parts parts))
+
+texts_same : (parts : List PartView)
+    → map part_text (map report_of (map shown parts)) ≡ map part_report parts
+texts_same [] = refl
+texts_same (part ∷ parts) = ap (λ (l : List (List ℕ)). part_report part ∷ l) (texts_same parts)
+
+pub are_right : (fares : Fares) (files : List (List ℕ)) (parts : List PartView)
+    → ArePartsOf fares files parts → AreWhole (map (λ p. p.spans) parts)
+    → DoRise (map (λ p. p.history) parts) → HaveBoundedTerms fares → CanBeWritten files parts
+    → AreRight (length files) (map shown parts)
+are_right fares files parts are whole rise bounds can = record {
+  number = all_spans fares bounds files parts are;
+  whole = subst AreWhole (sym (spans_same parts)) whole;
+  rise = rise_same (histories_of (map shown parts)) (subst DoRise (sym (histories_same parts)) rise);
+  fit = all_fits fares bounds files parts are can.number can.places can.numbers can.taps;
+  few = (let t = can.taps in let s = ap length (whole_same parts) in omega (arith, t, s));
+}
+
+-- what reports of right parts are merged into
+abbrev pub ReportsMerge : Type 0
+ReportsMerge = (files : ℕ) (part : HistoryPart) (parts : List HistoryPart)
+    → AreRight files (part ∷ parts)
+    → merge_of (map part_text (map report_of (part ∷ parts)))
+    ≡ Ok (report (map Posted (numbers_of (part ∷ parts))) (sums (whole_history (part ∷ parts)))
+    (sums_by_validator (whole_history (part ∷ parts)))
+    (sums_by_token (whole_history (part ∷ parts))))
+
+pub reports_of_parts : (merge : ReportsMerge) (fares : Fares) (files : List (List ℕ))
+    (part : PartView) (parts : List PartView) → ArePartsOf fares files (part ∷ parts)
+    → AreWhole (map (λ p. p.spans) (part ∷ parts)) → DoRise (map (λ p. p.history) (part ∷ parts))
+    → HaveBoundedTerms fares → CanBeWritten files (part ∷ parts)
+    → ArePlainEnds files (map Posted (numbers_of_parts (part ∷ parts)))
+    → (text : List ℕ) × (merge_of (map part_report (part ∷ parts)) ≡ Ok text)
+    × IsReportOver files (flat_map (λ p. p.history) (part ∷ parts)) text
+reports_of_parts merge fares files part parts are whole rise bounds can ends =
+    let history = flat_map (λ (p : PartView). p.history) (part ∷ parts) in
+    let text = report (map Posted (numbers_of_parts (part ∷ parts))) (sums history)
+    (sums_by_validator history) (sums_by_token history) in
+    (
+      text,
+      ap merge_of (sym (texts_same (part ∷ parts)))
+          ∙ merge (length files) (shown part) (map shown parts)
+          (are_right fares files (part ∷ parts) are whole rise bounds can)
+          ∙ ap (λ h. Ok (report (map Posted (numbers_of (map shown (part ∷ parts)))) (sums h)
+          (sums_by_validator h) (sums_by_token h))) (whole_same (part ∷ parts))
+          ∙ ap (λ ns. Ok (report (map Posted ns) (sums history) (sums_by_validator history)
+          (sums_by_token history))) (numbers_same (part ∷ parts)),
+      record {
+        ends = map Posted (numbers_of_parts (part ∷ parts));
+        of_uploads = ends;
+        shown = refl;
+      },
+    )

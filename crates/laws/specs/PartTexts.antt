@@ -1,0 +1,15 @@
+-- The texts of parts.
+use Rattle.std.specs.Prelude.{ℕ, List, ◌++◌, length, map}
+use Rattle.tap_views.specs.declared.upload_end.UploadEnd.TheVariants.{Posted}
+use Rattle.histories.specs.Sums.{sums}
+use Rattle.histories.specs.SumsByKey.{sums_by_token, sums_by_validator}
+use Rattle.report_texts.specs.Report.{report}
+use Rattle.part_texts.specs.Heads.{part_head}
+use Rattle.sorted_bills.specs.Parts.{PartView}
+
+-- the text of a part: where it lies in each file, and the report of its taps
+abbrev pub part_report : PartView → List ℕ
+part_report part =
+    part_head part.spans
+    ++ report (map Posted (map length part.lists)) (sums part.history)
+    (sums_by_validator part.history) (sums_by_token part.history)

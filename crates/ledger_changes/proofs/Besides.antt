@@ -1,0 +1,309 @@
+-- Two bills side by side: the pairs are those of both lists, in order, as long as both have one.
+use Rattle.std.proofs.Common.{◌≡◌, ◌<◌, ◌≤◌, ◌+◌, ℕ, zero, suc, List, [], ◌∷◌, ◌++◌, Option, Some}
+use Rattle.std.proofs.Common.{None, Bool, true, false, refl, sym, ap, subst, ◌∙◌, arith, length}
+use Rattle.std.proofs.Common.{All, filter, flat_map, get_or, map}
+use Rattle.std.specs.Prelude.{⊤}
+use Rattle.std.specs.List.{AllByRecursion}
+use Rattle.std.specs.List.Sorted.{IsSorted}
+use Rattle.std.specs.Ordering.{is_lt, ordering_reverse}
+use Rattle.std.specs.declared.cmp.Ordering.{Ordering}
+use Rattle.std.specs.declared.cmp.Ordering.TheVariants.{Less, Equal, Greater}
+use Rattle.std.proofs.lemmas.List.Elements.{All-from_recursion}
+use Rattle.std.proofs.lemmas.List.Sorted.{ranks_by}
+use Rattle.ledger_changes.specs.Changes.{AreCorrections, AreSideBySide, IsSameOrListed, IsSomeLine}
+use Rattle.ledger_changes.specs.Changes.{Pair, UseUp, UsesUp}
+use Rattle.ledger_changes.specs.Changes.{afters, befores, beside, both_rows, changes_between}
+use Rattle.ledger_changes.specs.Changes.{is_changed, only_new, only_old, pairs_by, pairs_with, row_of}
+use Rattle.ledger_fields.specs.Rows.{Charge, Key, Row}
+use Rattle.ledger_changes.specs.Rows.{key_cmp}
+use Rattle.ledger_changes.proofs.Keys.{key_cmp_total, same_key}
+use Rattle.ledger_changes.proofs.Listed.{kept}
+use Rattle.ledger_changes.proofs.Sorted.{Rise, rise_all, rise_none, rise_tail}
+
+abbrev rows_in : Option Row → List Row
+rows_in None = []
+rows_in (Some row) = row ∷ []
+
+-- ---- keys
+abbrev pub Le : Key → Key → Type 0
+Le key later = is_lt (key_cmp later key) ≡ false
+
+-- it is not below, and not the same
+abbrev pub Lt : Key → Key → Type 0
+Lt key later = Le key later × (key ≡ later → ⊥)
+
+-- ---- pairs in order, one by one
+abbrev pub UsesAll : Pair → List Pair → Type 0
+UsesAll pair pairs = AllByRecursion (UsesUp pair) pairs
+
+abbrev pub Ordered : List Pair → Type 0
+Ordered [] = ⊤
+Ordered (pair ∷ pairs) =
+    IsSomeLine pair.before pair.after × AllByRecursion (λ later. Le pair.key later.key) pairs
+    × UsesAll pair pairs × Ordered pairs
+
+-- a pair has a line of one of the bills
+up_all : (key : Key) (pairs : List Pair) → Ordered pairs
+    → AllByRecursion (λ row. Le key row.key) (befores pairs)
+    → AllByRecursion (λ row. Le key row.key) (afters pairs)
+    → AllByRecursion (λ later. Le key later.key) pairs
+up_all key [] order olds news = tt
+up_all key (pair ∷ pairs) order olds news =
+    by_sides pair.before pair.after order.0 (up_all key pairs order.3) olds news
+  where
+    by_sides : (b a : Option Charge) → IsSomeLine b a
+        → (AllByRecursion (λ row. Le key row.key) (befores pairs)
+        → AllByRecursion (λ row. Le key row.key) (afters pairs)
+        → AllByRecursion (λ later. Le key later.key) pairs)
+        → AllByRecursion (λ row. Le key row.key) (row_of pair.key b ++ befores pairs)
+        → AllByRecursion (λ row. Le key row.key) (row_of pair.key a ++ afters pairs)
+        → Le key pair.key × AllByRecursion (λ later. Le key later.key) pairs
+    by_sides None None some more olds news = absurd some
+    by_sides (Some b) None some more olds news = (olds.0, more olds.1 news)
+    by_sides None (Some a) some more olds news = (news.0, more olds news.1)
+    by_sides (Some b) (Some a) some more olds news = (olds.0, more olds.1 news.1)
+
+abbrev pub NoneOf : (Pair → Option Charge) → Key → List Pair → Type 0
+NoneOf side key pairs = AllByRecursion (λ later. key ≡ later.key → side later ≡ None) pairs
+
+none_of : (side : Pair → Option Charge) (key : Key) (pairs : List Pair)
+    → AllByRecursion (λ row. Lt key row.key) (flat_map (λ pair. row_of pair.key (side pair)) pairs)
+    → NoneOf side key pairs
+none_of side key [] all = tt
+none_of side key (pair ∷ pairs) all =
+    by_side (side pair) refl (none_of side key pairs) all
+  where
+    by_side : (s : Option Charge) → side pair ≡ s
+        → (AllByRecursion (λ row. Lt key row.key)
+        (flat_map (λ pair. row_of pair.key (side pair)) pairs) → NoneOf side key pairs)
+        → AllByRecursion (λ row. Lt key row.key)
+        (row_of pair.key s ++ flat_map (λ pair. row_of pair.key (side pair)) pairs)
+        → (key ≡ pair.key → side pair ≡ None) × NoneOf side key pairs
+    by_side None is more all = (λ same. is, more all)
+    by_side (Some charge) is more all = (λ same. absurd (all.0.1 same), more all.1)
+
+uses_all : (pair : Pair) (pairs : List Pair)
+    → (pair.before ≡ None → NoneOf (λ later. later.before) pair.key pairs)
+    → (pair.after ≡ None → NoneOf (λ later. later.after) pair.key pairs) → UsesAll pair pairs
+uses_all pair [] olds news = tt
+uses_all pair (later ∷ pairs) olds news = (
+  record {
+    before = λ same none. (olds none).0 same;
+    after = λ same none. (news none).0 same;
+  },
+  uses_all pair pairs (λ none. (olds none).1) (λ none. (news none).1),
+)
+
+-- ---- from order, one by one, to lists side by side
+sorted_more : (pair next : Pair) (pairs : List Pair) → Le pair.key next.key
+    → IsSorted (λ a b. key_cmp a.key b.key) (next ∷ pairs)
+    → IsSorted (λ a b. key_cmp a.key b.key) (pair ∷ next ∷ pairs)
+sorted_more pair next pairs first rest = each
+  where
+    each : (k : ℕ) (d : Pair) → 0 ≤ k → k + 1 < length (pair ∷ next ∷ pairs)
+        → is_lt (key_cmp (get_or (pair ∷ next ∷ pairs) (k + 1) d).key
+        (get_or (pair ∷ next ∷ pairs) k d).key) ≡ false
+    each zero d low high = first
+    each (suc k) d low high =
+        let next_one : suc (k + 1) ≡ suc k + 1 = omega arith in
+        subst (λ (n : ℕ). is_lt (key_cmp (get_or (pair ∷ next ∷ pairs) n d).key
+        (get_or (next ∷ pairs) k d).key) ≡ false) next_one
+        (rest k d (omega arith) (omega (arith, high)))
+
+sorted_pairs : (pairs : List Pair) → Ordered pairs → IsSorted (λ a b. key_cmp a.key b.key) pairs
+sorted_pairs [] order = λ k d low high. absurd (omega (arith, high))
+sorted_pairs (pair ∷ []) order = λ k d low high. absurd (omega (arith, high))
+sorted_pairs (pair ∷ next ∷ pairs) order =
+    sorted_more pair next pairs order.1.0 (sorted_pairs (next ∷ pairs) order.3)
+
+tight_pairs : (pairs : List Pair) → Ordered pairs → UseUp pairs
+unfolding UseUp
+tight_pairs [] order = tt
+tight_pairs (pair ∷ pairs) order =
+    (All-from_recursion (UsesUp pair) pairs order.2, tight_pairs pairs order.3)
+
+some_pairs : (pairs : List Pair) → Ordered pairs
+    → AllByRecursion (λ pair. IsSomeLine pair.before pair.after) pairs
+some_pairs [] order = tt
+some_pairs (pair ∷ pairs) order = (order.0, some_pairs pairs order.3)
+
+-- the pairs of these rows
+pub record IsPaired (olds news : List Row) (pairs : List Pair) : Type 0 where
+  pub order : Ordered pairs
+  pub of_old : befores pairs ≡ olds
+  pub of_new : afters pairs ≡ news
+
+pub side_by_side : (olds news : List Row) (pairs : List Pair) → IsPaired olds news pairs
+    → AreSideBySide olds news pairs
+side_by_side olds news pairs is = record {
+  olds = is.of_old;
+  news = is.of_new;
+  some = All-from_recursion (λ pair. IsSomeLine pair.before pair.after) pairs
+      (some_pairs pairs is.order);
+  sorted = sorted_pairs pairs is.order;
+  tight = tight_pairs pairs is.order;
+}
+
+-- ---- one pair more
+pub record IsFirst (b a : Option Row) (pair : Pair) (olds news : List Row) : Type 0 where
+  pub old : row_of pair.key pair.before ≡ rows_in b
+  pub new : row_of pair.key pair.after ≡ rows_in a
+  pub some : IsSomeLine pair.before pair.after
+  pub olds_up : AllByRecursion (λ row. Le pair.key row.key) olds
+  pub news_up : AllByRecursion (λ row. Le pair.key row.key) news
+  pub olds_past : pair.before ≡ None → AllByRecursion (λ row. Lt pair.key row.key) olds
+  pub news_past : pair.after ≡ None → AllByRecursion (λ row. Lt pair.key row.key) news
+
+pub paired_more : (b a : Option Row) (pair : Pair) (olds news : List Row) (pairs : List Pair)
+    → IsFirst b a pair olds news → IsPaired olds news pairs
+    → IsPaired (rows_in b ++ olds) (rows_in a ++ news) (pair ∷ pairs)
+paired_more b a pair olds news pairs first is = record {
+  order = (
+    first.some,
+    up_all pair.key pairs is.order
+        (subst (AllByRecursion (λ row. Le pair.key row.key)) (sym is.of_old) first.olds_up)
+        (subst (AllByRecursion (λ row. Le pair.key row.key)) (sym is.of_new) first.news_up),
+    uses_all pair pairs
+        (λ none. none_of (λ later. later.before) pair.key pairs
+        (subst (AllByRecursion (λ row. Lt pair.key row.key)) (sym is.of_old)
+        (first.olds_past none)))
+        (λ none. none_of (λ later. later.after) pair.key pairs
+        (subst (AllByRecursion (λ row. Lt pair.key row.key)) (sym is.of_new)
+        (first.news_past none))),
+    is.order,
+  );
+  of_old = ap (λ (rows : List Row). rows ++ befores pairs) first.old
+      ∙ ap (λ (rows : List Row). rows_in b ++ rows) is.of_old;
+  of_new = ap (λ (rows : List Row). rows ++ afters pairs) first.new
+      ∙ ap (λ (rows : List Row). rows_in a ++ rows) is.of_new;
+}
+
+-- ---- the first pair of two bills
+lt_le : (a b c : Key) → key_cmp a b ≡ Less → Le b c → Lt a c
+lt_le a b c less up =
+    let order = ranks_by key_cmp_total (λ (k : Key). k) in
+    let back : is_lt (key_cmp b a) ≡ false = order.one_way a b (ap is_lt less) in (
+      order.chain c b a up back,
+      λ same.
+          let here : is_lt (key_cmp a b) ≡ false =
+          subst (λ (k : Key). is_lt (key_cmp k b) ≡ false) (sym same) up in
+          absurd (let t : true ≡ false = sym (ap is_lt less) ∙ here in cc),
+    )
+
+all_map : {P Q : Row → Type 0} → ((row : Row) → P row → Q row) → (rows : List Row)
+    → AllByRecursion P rows → AllByRecursion Q rows
+all_map f [] all = tt
+all_map f (row ∷ rows) all = (f row all.0, all_map f rows all.1)
+
+-- behind the first row, and past the key
+past_first : (key : Key) (row : Row) (rows : List Row) → key_cmp key row.key ≡ Less → Rise (row ∷ rows)
+    → AllByRecursion (λ later. Lt key later.key) (row ∷ rows)
+past_first key row rows less up = (
+  lt_le key row.key row.key less (le_same row.key),
+  all_map (λ later up. lt_le key row.key later.key less up) rows (rise_all row rows up),
+)
+  where
+    le_same : (k : Key) → Le k k
+    le_same k = one_of (is_lt (key_cmp k k)) refl
+      where
+        one_of : (b : Bool) → is_lt (key_cmp k k) ≡ b → b ≡ false
+        one_of false is = refl
+        one_of true is =
+            let order = ranks_by key_cmp_total (λ (k : Key). k) in
+            sym is ∙ order.one_way k k is
+
+ups : (key : Key) (rows : List Row) → AllByRecursion (λ later. Lt key later.key) rows
+    → AllByRecursion (λ later. Le key later.key) rows
+ups key rows all = all_map (λ later past. past.0) rows all
+
+some_is_none : {A : Type 0} (x : A) → Some x ≡ None → ⊥
+some_is_none x e = cc
+
+first_old : (old : Row) (olds news : List Row) → Rise (old ∷ olds)
+    → AllByRecursion (λ later. Lt old.key later.key) news → IsFirst (Some old) None (only_old old) olds news
+first_old old olds news up past = record {
+  old = refl;
+  new = refl;
+  some = tt;
+  olds_up = rise_all old olds up;
+  news_up = ups old.key news past;
+  olds_past = λ none. absurd (some_is_none old.charge none);
+  news_past = λ none. past;
+}
+
+first_new : (new : Row) (olds news : List Row) → Rise (new ∷ news)
+    → AllByRecursion (λ later. Lt new.key later.key) olds → IsFirst None (Some new) (only_new new) olds news
+first_new new olds news up past = record {
+  old = refl;
+  new = refl;
+  some = tt;
+  olds_up = ups new.key olds past;
+  news_up = rise_all new news up;
+  olds_past = λ none. past;
+  news_past = λ none. absurd (some_is_none new.charge none);
+}
+
+first_both : (old new : Row) (olds news : List Row) → old.key ≡ new.key → Rise (old ∷ olds)
+    → Rise (new ∷ news) → IsFirst (Some old) (Some new) (both_rows old new) olds news
+first_both old new olds news same up also = record {
+  old = refl;
+  new = ap (λ (key : Key). record { key = key; charge = new.charge } ∷ []) same;
+  some = tt;
+  olds_up = rise_all old olds up;
+  news_up = subst (λ (key : Key). AllByRecursion (λ later. Le key later.key) news) (sym same)
+      (rise_all new news also);
+  olds_past = λ none. absurd (some_is_none old.charge none);
+  news_past = λ none. absurd (some_is_none new.charge none);
+}
+
+greater_less : (a b : Key) → key_cmp a b ≡ Greater → key_cmp b a ≡ Less
+greater_less a b e = key_cmp_total.antisymm b a ∙ ap ordering_reverse e
+
+equal_same : (a b : Key) → key_cmp a b ≡ Equal → a ≡ b
+equal_same a b e =
+    same_key a b (ap is_lt e) (ap is_lt (key_cmp_total.antisymm b a ∙ ap ordering_reverse e))
+
+-- ---- all pairs
+paired_news : (news : List Row) → Rise news → IsPaired [] news (map only_new news)
+paired_news [] up = record { order = tt; of_old = refl; of_new = refl }
+paired_news (new ∷ news) up =
+    paired_more None (Some new) (only_new new) [] news (map only_new news) (first_new new [] news up tt)
+    (paired_news news (rise_tail new news up))
+
+paired_with : (old : Row) (olds news : List Row) → Rise (old ∷ olds) → Rise news
+    → ((rest : List Row) → Rise rest → IsPaired olds rest (beside olds rest))
+    → IsPaired (old ∷ olds) news (pairs_with (λ rest. beside olds rest) old news)
+paired_with old olds [] up also more =
+    paired_more (Some old) None (only_old old) olds [] (beside olds []) (first_old old olds [] up tt) (more [] rise_none)
+paired_with old olds (new ∷ news) up also more =
+    by_order (key_cmp old.key new.key) refl (paired_with old olds news up (rise_tail new news also) more)
+  where
+    by_order : (order : Ordering) → key_cmp old.key new.key ≡ order
+        → IsPaired (old ∷ olds) news (pairs_with (λ rest. beside olds rest) old news)
+        → IsPaired (old ∷ olds) (new ∷ news) (pairs_by order old new (beside olds (new ∷ news))
+        (beside olds news) (pairs_with (λ rest. beside olds rest) old news))
+    by_order Less e rest =
+        paired_more (Some old) None (only_old old) olds (new ∷ news) (beside olds (new ∷ news))
+        (first_old old olds (new ∷ news) up (past_first old.key new news e also)) (more (new ∷ news) also)
+    by_order Equal e rest =
+        paired_more (Some old) (Some new) (both_rows old new) olds news (beside olds news)
+        (first_both old new olds news (equal_same old.key new.key e) up also) (more news (rise_tail new news also))
+    by_order Greater e rest =
+        paired_more None (Some new) (only_new new) (old ∷ olds) news (pairs_with (λ rest. beside olds rest) old news)
+        (first_new new (old ∷ olds) news also (past_first new.key old olds (greater_less old.key new.key e) up)) rest
+
+paired : (olds news : List Row) → Rise olds → Rise news → IsPaired olds news (beside olds news)
+paired [] news up also = paired_news news also
+paired (old ∷ olds) news up also =
+    paired_with old olds news up also (λ rest rises. paired olds rest (rise_tail old olds up) rises)
+
+pub are_beside : (olds news : List Row) → Rise olds → Rise news → AreSideBySide olds news (beside olds news)
+are_beside olds news up also = side_by_side olds news (beside olds news) (paired olds news up also)
+
+pub are_corrections : (olds news : List Row) → Rise olds → Rise news
+    → AreCorrections olds news (changes_between olds news)
+are_corrections olds news up also =
+    record { pairs = beside olds news; beside = are_beside olds news up also; listed = refl }
+
+pub are_alike : (olds news : List Row) → All (IsSameOrListed (changes_between olds news)) (beside olds news)
+are_alike olds news = kept (beside olds news)

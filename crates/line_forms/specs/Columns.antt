@@ -1,0 +1,34 @@
+-- Columns: what stands up to a comma or a line feed.
+use Rattle.std.specs.Prelude.{◌≡◌, ◌==◌, ◌&&◌, ◌||◌, ℕ, Bool, true, List, [], ◌∷◌, not, take, drop}
+use Rattle.std.specs.List.{position_or_len}
+use Rattle.line_forms.specs.Forms.{Reader, value_if}
+use Rattle.line_forms.specs.Numbers.{with_rest}
+
+-- a column ends at the byte: it is a comma or a line feed
+abbrev pub ends_column : ℕ → Bool
+ends_column byte = (byte == 44) || (byte == 10)
+
+-- no byte of the text ends a column
+abbrev pub is_column : List ℕ → Bool
+is_column [] = true
+is_column (byte ∷ text) = not (ends_column byte) && is_column text
+
+-- the text is empty, or a column ends at its first byte
+abbrev pub BeginsBehindColumn : List ℕ → Type 0
+BeginsBehindColumn [] = Unit {0}
+BeginsBehindColumn (byte ∷ text) = ends_column byte ≡ true
+
+-- how many bytes the column at the front of the text has
+abbrev pub column_in : List ℕ → ℕ
+column_in text = position_or_len ends_column text
+
+-- the column at the front of the text, if it passes the test
+abbrev pub column_where : (List ℕ → Bool) → Reader (List ℕ)
+column_where test text =
+    with_rest (value_if (test (take (column_in text) text)) (take (column_in text) text)) (drop (column_in text) text)
+
+-- the text is this column, which passes the test
+pub record IsColumn (test : List ℕ → Bool) (column text : List ℕ) : Type 0 where
+  pub shown : text ≡ column
+  pub plain : is_column column ≡ true
+  pub passes : test column ≡ true

@@ -1,0 +1,308 @@
+-- The laws of forms.
+use Rattle.std.proofs.Common.{◌≡◌, ◌==◌, ℕ, suc, ◌+◌, ◌<◌, ◌≤◌, ◌^◌, Bool, true, false, cond, not, ◌&&◌, nat_lt, List, Option, Some, None, MatchOption}
+use Rattle.std.proofs.Common.{[], ◌∷◌, ◌++◌, length, take, drop, refl, sym, ap, subst, ◌∙◌, arith, append_assoc, Decides, option_map, Bor}
+use Rattle.std.specs.Char.{is_ascii_digit}
+use Rattle.std.specs.Fmt.{decimal}
+use Rattle.std.specs.Str.{all_ascii_digits, bytes_eq}
+use Rattle.std.specs.Str.Parse.{digits_value}
+use Rattle.std.proofs.lemmas.Bool.{false≢true, and_from, and_parts}
+use Rattle.std.proofs.lemmas.Bool.Decides.{Decides-eqb, nat_tests}
+use Rattle.std.proofs.lemmas.Fmt.{decimal_is_IsNumeral_wide}
+use Rattle.std.proofs.lemmas.List.{take-append-drop}
+use Rattle.std.proofs.lemmas.Slice.Eq.{bytes_eq-Decides}
+use Rattle.std.proofs.lemmas.Str.Parse.{IsNumeralModel, numerals_by_value, tells_all_ascii_digits}
+use Rattle.line_forms.specs.Forms.{IsBehind, IsFirst, IsForm, IsThen, Reader, after, after_if, behind_read, ended, go_on, is_end, read_if, said_by, then_read, value_if, with_second}
+use Rattle.line_forms.specs.Numbers.{BeginsWithNoDigit, IsNumber, below, digits_in, number_at, number_if, number_in, with_rest}
+
+-- ---- options
+-- what is to be said of nothing, if nothing is returned
+pub MatchOption_none : {T : Type 0} (P : Type 0) (Q : T → Type 0) (result : Option T)
+    → result ≡ None → P → MatchOption result P Q
+MatchOption_none {T} P Q result none holds =
+    subst (λ (r : Option T). MatchOption r P Q) (sym none) holds
+
+pub is_none : {A : Type 0} (r : Option A) → ((a : A) → ¬ (r ≡ Some a)) → r ≡ None
+is_none None f = refl
+is_none (Some a) f = absurd (f a refl)
+
+pub some_one : {A : Type 0} {a b : A} → Some a ≡ Some b → a ≡ b
+some_one e = cc
+
+-- ---- words
+after_step : (b c : ℕ) (bs cs rest : List ℕ) (same : Bool) → Decides same (b ≡ c)
+    → (after bs cs ≡ Some rest → cs ≡ bs ++ rest) → after_if same (after bs cs) ≡ Some rest
+    → (c ∷ cs) ≡ (b ∷ bs) ++ rest
+after_step b c bs cs rest true d more e =
+    let one : b ≡ c = d.0 refl in
+    let two : cs ≡ bs ++ rest = more e in
+    cc
+after_step b c bs cs rest false d more e = absurd (cc)
+
+pub after_sound : (word text rest : List ℕ) → after word text ≡ Some rest → text ≡ word ++ rest
+after_sound [] text rest e = cc
+after_sound (b ∷ bs) [] rest e = absurd (cc)
+after_sound (b ∷ bs) (c ∷ cs) rest e =
+    after_step b c bs cs rest (b == c) (Decides-eqb b c) (after_sound bs cs rest) e
+
+pub after_complete : (word rest : List ℕ) → after word (word ++ rest) ≡ Some rest
+after_complete [] rest = refl
+after_complete (b ∷ bs) rest =
+    let yes : (b == b) ≡ true = (Decides-eqb b b).1 refl in
+    ap (λ t. after_if t (after bs (bs ++ rest))) yes ∙ after_complete bs rest
+
+pub after_is : (word text : List ℕ) (rest : List ℕ) → text ≡ word ++ rest → after word text ≡ Some rest
+after_is word text rest e = ap (after word) e ∙ after_complete word rest
+
+pub after_is_none : (word text : List ℕ) → ((rest : List ℕ) → ¬ (text ≡ word ++ rest))
+    → after word text ≡ None
+after_is_none word text none = is_none (after word text) (λ rest e. none rest (after_sound word text rest e))
+
+-- what the program strips is what the definition strips
+pub after_by : (word text : List ℕ) (r : Option (Bor (List ℕ))) → MatchOption r
+    ((rest : List ℕ) → ¬ (text ≡ word ++ rest)) (λ rest. text ≡ word ++ rest.now)
+    → MatchOption r (after word text ≡ None) (λ rest. after word text ≡ Some rest.now)
+after_by word text None none = after_is_none word text none
+after_by word text (Some rest) is = after_is word text rest.now is
+
+-- ---- numbers
+own : IsNumeralModel (λ ds. all_ascii_digits ds ≡ true) (digits_value 10)
+own = numerals_by_value _ tells_all_ascii_digits
+
+number_if_some : (b : Bool) (v n : ℕ) → number_if b v ≡ Some n → (b ≡ true) × (v ≡ n)
+number_if_some true v n e = (refl, cc)
+number_if_some false v n e = absurd (cc)
+
+pub number_sound : (bound : ℕ) (digits : List ℕ) (n : ℕ) → number_in bound digits ≡ Some n
+    → IsNumber bound n digits
+unfolding number_in
+number_sound bound digits n e =
+    let v = digits_value 10 digits in
+    let (both, value) = number_if_some (nat_lt v bound && bytes_eq (decimal v) digits) v n e in
+    let (low, same) = and_parts (nat_lt v bound) (bytes_eq (decimal v) digits) both in
+    let shown : decimal v ≡ digits = (bytes_eq-Decides (decimal v) digits).0 same in
+    (let h : v < bound = grind (arith, nat_tests) in subst (λ k. k < bound) value h, sym shown ∙ ap decimal value)
+
+pub number_complete : (bound n : ℕ) → n < 10 ^ 64 → n < bound → number_in bound (decimal n) ≡ Some n
+unfolding number_in
+number_complete bound n small low =
+    let v : digits_value 10 (decimal n) ≡ n = (decimal_is_IsNumeral_wide n small).1 in
+    let one : nat_lt (digits_value 10 (decimal n)) bound ≡ true = rw v (grind (arith, nat_tests)) in
+    let two : bytes_eq (decimal (digits_value 10 (decimal n))) (decimal n) ≡ true =
+    (bytes_eq-Decides _ _).1 (ap decimal v) in
+    ap (λ b. number_if b (digits_value 10 (decimal n))) (and_from _ _ one two) ∙ ap Some v
+
+pub number_is : (bound n : ℕ) (digits : List ℕ) → n < 10 ^ 64 → IsNumber bound n digits
+    → number_in bound digits ≡ Some n
+number_is bound n digits small (low, is) = ap (number_in bound) is ∙ number_complete bound n small low
+
+-- what the program reads is what the definition reads
+pub number_by : (bound : ℕ) (digits : List ℕ) (r : Option ℕ) → bound ≤ 10 ^ 64 → MatchOption r
+    ((n : ℕ) → n < bound → ¬ (digits ≡ decimal n)) (λ n. IsNumber bound n digits)
+    → r ≡ number_in bound digits
+number_by bound digits None wide none =
+    sym (is_none (number_in bound digits) (λ n e.
+    let (small, is) = number_sound bound digits n e in none n small is))
+number_by bound digits (Some n) wide is =
+    let small : n < 10 ^ 64 = omega (arith, wide, is.0) in
+    sym (number_is bound n digits small is)
+
+narrow : (bound v : ℕ) (a b same : Bool) → nat_lt v bound ≡ b → (b ≡ true → a ≡ true)
+    → below bound (number_if (a && same) v) ≡ number_if (b && same) v
+narrow bound v true true true is wide = ap (λ x. number_if x v) is
+narrow bound v true false true is wide = ap (λ x. number_if x v) is
+narrow bound v true true false is wide = refl
+narrow bound v true false false is wide = refl
+narrow bound v false true same is wide = absurd (false≢true (wide refl))
+narrow bound v false false same is wide = refl
+
+-- a number of 32 bits is one of 64 bits
+pub number_narrow : (digits : List ℕ) → below (2 ^ 32) (number_in (2 ^ 64) digits) ≡ number_in (2 ^ 32) digits
+unfolding number_in
+number_narrow digits =
+    let v = digits_value 10 digits in
+    narrow (2 ^ 32) v (nat_lt v (2 ^ 64)) (nat_lt v (2 ^ 32)) (bytes_eq (decimal v) digits) refl
+    (λ low. let small : v < 2 ^ 64 = grind (arith, nat_tests) in grind (arith, nat_tests))
+
+-- ---- digits at the front
+decimal_digits : (n : ℕ) → n < 10 ^ 64 → all_ascii_digits (decimal n) ≡ true
+decimal_digits n small = own.from (decimal n) (decimal_is_IsNumeral_wide n small).0.1
+
+-- digits, up to a byte that is none, are determined by the text
+digits_unique : (a b x y : List ℕ) → all_ascii_digits a ≡ true → all_ascii_digits b ≡ true
+    → BeginsWithNoDigit x → BeginsWithNoDigit y → a ++ x ≡ b ++ y → (a ≡ b) × (x ≡ y)
+digits_unique [] [] x y is also none none_too e = (refl, e)
+digits_unique [] (d ∷ b) x y is also none none_too e =
+    let no : is_ascii_digit d ≡ false = subst BeginsWithNoDigit e none in
+    absurd (false≢true (sym no ∙ (and_parts (is_ascii_digit d) (all_ascii_digits b) also).0))
+digits_unique (c ∷ a) [] x y is also none none_too e =
+    let no : is_ascii_digit c ≡ false = subst BeginsWithNoDigit (sym e) none_too in
+    absurd (false≢true (sym no ∙ (and_parts (is_ascii_digit c) (all_ascii_digits a) is).0))
+digits_unique (c ∷ a) (d ∷ b) x y is also none none_too e =
+    let first : c ≡ d = cc in
+    let more : a ++ x ≡ b ++ y = cc in
+    let (same, rest) = digits_unique a b x y
+    (and_parts (is_ascii_digit c) (all_ascii_digits a) is).1
+    (and_parts (is_ascii_digit d) (all_ascii_digits b) also).1 none none_too more in
+    (let t : c ∷ a ≡ d ∷ b = cc in t, rest)
+
+abbrev AreDigitsUpTo : List ℕ → ℕ → Type 0
+AreDigitsUpTo text n =
+    (all_ascii_digits (take n text) ≡ true) × BeginsWithNoDigit (drop n text) × (n ≤ length text)
+
+counts_on : (c : ℕ) (text : List ℕ) (b : Bool) → is_ascii_digit c ≡ b
+    → digits_in (c ∷ text) ≡ cond (not (not b)) (1 + digits_in text) 0
+counts_on c text b is = ap (λ t. cond (not (not t)) (1 + digits_in text) 0) is
+
+front_step : (c : ℕ) (text : List ℕ) (b : Bool) → is_ascii_digit c ≡ b
+    → AreDigitsUpTo text (digits_in text) → AreDigitsUpTo (c ∷ text) (digits_in (c ∷ text))
+front_step c text true is rest =
+    let e : suc (digits_in text) ≡ digits_in (c ∷ text) =
+    (let one : suc (digits_in text) ≡ 1 + digits_in text = omega arith in
+    one) ∙ sym (counts_on c text true is) in
+    subst (AreDigitsUpTo (c ∷ text)) e (
+      and_from (is_ascii_digit c) (all_ascii_digits (take (digits_in text) text)) is rest.0,
+      rest.1,
+      omega (arith, rest.2),
+    )
+front_step c text false is rest =
+    subst (AreDigitsUpTo (c ∷ text)) (sym (counts_on c text false is)) (refl, is, omega arith)
+
+pub front_digits : (text : List ℕ) → AreDigitsUpTo text (digits_in text)
+front_digits [] = (refl, tt, omega arith)
+front_digits (c ∷ text) = front_step c text (is_ascii_digit c) refl (front_digits text)
+
+-- the digits of a number at the front are those before the first byte that is none
+front_number : (n : ℕ) (rest : List ℕ) → n < 10 ^ 64 → BeginsWithNoDigit rest
+    → (take (digits_in (decimal n ++ rest)) (decimal n ++ rest) ≡ decimal n)
+    × (drop (digits_in (decimal n ++ rest)) (decimal n ++ rest) ≡ rest)
+front_number n rest small ends =
+    let text = decimal n ++ rest in
+    let front = front_digits text in
+    digits_unique (take (digits_in text) text) (decimal n) (drop (digits_in text) text) rest front.0
+    (decimal_digits n small) front.1 ends (take-append-drop (digits_in text) text)
+
+pub with_rest_some : {A : Type 0} (r : Option A) (behind : List ℕ) (a : A) (rest : List ℕ)
+    → with_rest r behind ≡ Some (a, rest) → (r ≡ Some a) × (behind ≡ rest)
+with_rest_some None behind a rest e = absurd (cc)
+with_rest_some {A} (Some b) behind a rest e =
+    let both : Some (b, behind) ≡ Some (a, rest) = e in
+    (ap (option_map (λ (p : A × List ℕ). p.0)) both, some_one (ap (option_map (λ (p : A × List ℕ). p.1)) both))
+
+-- ---- the forms
+pub number_law : (bound : ℕ) → bound ≤ 10 ^ 64 → IsForm (IsNumber bound) BeginsWithNoDigit (number_at bound)
+number_law bound wide = record {
+  sound = λ whole n rest e.
+      let size = digits_in whole in
+      let (one, two) = with_rest_some (number_in bound (take size whole)) (drop size whole) n rest e in (
+        take size whole,
+        number_sound bound (take size whole) n one,
+        sym (take-append-drop size whole) ∙ ap (λ (x : List ℕ). take size whole ++ x) two,
+      );
+  complete = λ n text rest is ends.
+      let small : n < 10 ^ 64 = omega (arith, wide, is.0) in
+      let front = front_number n rest small ends in
+      let whole = decimal n ++ rest in
+      ap (λ (t : List ℕ). number_at bound (t ++ rest)) is.1
+      ∙ ap (λ r. with_rest r (drop (digits_in whole) whole)) (number_is bound n (take (digits_in whole) whole) small (is.0, front.0))
+      ∙ ap (λ (x : List ℕ). Some (n, x)) front.1;
+}
+
+read_if_some : {A : Type 0} (reads : Reader A) (r : Option (List ℕ)) (a : A) (rest : List ℕ)
+    → read_if reads r ≡ Some (a, rest) → (text : List ℕ) × (r ≡ Some text) × (reads text ≡ Some (a, rest))
+read_if_some reads None a rest e = absurd (cc)
+read_if_some reads (Some text) a rest e = (text, refl, e)
+
+pub behind_law : {A : Type 0} {says : A → List ℕ → Type 0} {ends : List ℕ → Type 0} {reads : Reader A}
+    (word : List ℕ) → IsForm says ends reads → IsForm (IsBehind word says) ends (behind_read word reads)
+behind_law {reads = reads} word form = record {
+  sound = λ whole value rest e.
+      let (text, one, two) = read_if_some reads (after word whole) value rest e in
+      let (shown, is, same) = form.sound text value rest two in (
+        word ++ shown,
+        (shown, is, refl),
+        after_sound word whole text one ∙ ap (λ (x : List ℕ). word ++ x) same ∙ sym (append_assoc word shown rest),
+      );
+  complete = λ value text rest is ends.
+      let (shown, says, same) = is in
+      ap (λ (t : List ℕ). behind_read word reads (t ++ rest)) same
+      ∙ ap (behind_read word reads) (append_assoc word shown rest)
+      ∙ ap (read_if reads) (after_complete word (shown ++ rest))
+      ∙ form.complete value shown rest says ends;
+}
+
+with_some : {A B : Type 0} (a : A) (r : Option (B × List ℕ)) (v : A × B) (rest : List ℕ)
+    → with_second a r ≡ Some (v, rest) → (a ≡ v.0) × (r ≡ Some (v.1, rest))
+with_some a None v rest e = absurd (cc)
+with_some a (Some q) v rest e =
+    (some_one (ap (option_map (λ p. p.0.0)) e), ap (option_map (λ p. (p.0.1, p.1))) e)
+
+go_on_some : {A B : Type 0} (second : Reader B) (r : Option (A × List ℕ)) (v : A × B) (rest : List ℕ)
+    → go_on second r ≡ Some (v, rest)
+    → (mid : List ℕ) × (r ≡ Some (v.0, mid)) × (second mid ≡ Some (v.1, rest))
+go_on_some second None v rest e = absurd (cc)
+go_on_some second (Some p) v rest e =
+    let (one, two) = with_some p.0 (second p.1) v rest e in
+    (p.1, ap (λ a. Some (a, p.1)) one, two)
+
+pub then_law : {A B : Type 0} {says : A → List ℕ → Type 0} {ends : List ℕ → Type 0}
+    {reads : Reader A} {says_b : B → List ℕ → Type 0} {ends_b : List ℕ → Type 0}
+    {reads_b : Reader B} → IsForm says ends reads → IsForm says_b ends_b reads_b → IsFirst ends says_b
+    → IsForm (IsThen says says_b) ends_b (then_read reads reads_b)
+then_law {reads = reads} {reads_b = reads_b} a b first = record {
+  sound = λ whole v rest e.
+      let (mid, one, two) = go_on_some reads_b (reads whole) v rest e in
+      let (text, is, shown) = a.sound whole v.0 mid one in
+      let (text_b, is_b, shown_b) = b.sound mid v.1 rest two in (
+        text ++ text_b,
+        (text, text_b, is, is_b, refl),
+        shown ∙ ap (λ (x : List ℕ). text ++ x) shown_b ∙ sym (append_assoc text text_b rest),
+      );
+  complete = λ v whole rest is ends.
+      let (text, text_b, says, also, same) = is in
+      ap (λ (t : List ℕ). then_read reads reads_b (t ++ rest)) same
+      ∙ ap (λ (t : List ℕ). go_on reads_b (reads t)) (append_assoc text text_b rest)
+      ∙ ap (go_on reads_b) (a.complete v.0 text (text_b ++ rest) says (first v.1 text_b rest also))
+      ∙ ap (with_second v.0) (b.complete v.1 text_b rest also ends);
+}
+
+-- ---- whole lines
+end_is : (text : List ℕ) → is_end text ≡ true → text ≡ 10 ∷ []
+end_is [] e = absurd (false≢true e)
+end_is (byte ∷ []) e = let one : byte ≡ 10 = (Decides-eqb byte 10).0 e in ap (λ b. b ∷ []) one
+end_is (byte ∷ (other ∷ more)) e = absurd (false≢true e)
+
+ended_some : {A : Type 0} (r : Option (A × List ℕ)) (v : A) → ended r ≡ Some v
+    → r ≡ Some (v, 10 ∷ [])
+ended_some None v e = absurd (cc)
+ended_some (Some parts) v e = at (is_end parts.1) refl e
+  where
+    at : (b : Bool) → is_end parts.1 ≡ b → value_if b parts.0 ≡ Some v → Some parts ≡ Some (v, 10 ∷ [])
+    at true is e =
+        let one : parts.0 ≡ v = some_one e in
+        ap (λ (l : List ℕ). Some (parts.0, l)) (end_is parts.1 is) ∙ ap (λ a. Some (a, 10 ∷ [])) one
+    at false is e = absurd (cc)
+
+-- THE law of a line: what it says, its text before the line feed says
+pub line_sound : {A : Type 0} {says : A → List ℕ → Type 0} {ends : List ℕ → Type 0} {reads : Reader A}
+    → IsForm says ends reads → (line : List ℕ) (v : A) → said_by reads line ≡ Some v
+    → (text : List ℕ) × says v text × (line ≡ text ++ 10 ∷ [])
+line_sound {reads = reads} form line v e = form.sound line v (10 ∷ []) (ended_some (reads line) v e)
+
+pub line_complete : {A : Type 0} {says : A → List ℕ → Type 0} {ends : List ℕ → Type 0} {reads : Reader A}
+    → IsForm says ends reads → ends (10 ∷ []) → (v : A) (text : List ℕ) → says v text
+    → said_by reads (text ++ 10 ∷ []) ≡ Some v
+line_complete form feed v text is = ap ended (form.complete v text (10 ∷ []) is feed)
+
+-- and so no line says two values
+pub line_unique : {A : Type 0} {says : A → List ℕ → Type 0} {ends : List ℕ → Type 0} {reads : Reader A}
+    → IsForm says ends reads → ends (10 ∷ []) → (v w : A) (text : List ℕ) → says v text → says w text
+    → v ≡ w
+line_unique form feed v w text is is_too =
+    some_one (sym (line_complete form feed v text is) ∙ line_complete form feed w text is_too)
+
+-- ---- the bounds
+pub wide_32 : 2 ^ 32 ≤ 10 ^ 64
+wide_32 = omega arith
+
+pub wide_64 : 2 ^ 64 ≤ 10 ^ 64
+wide_64 = omega arith

@@ -1,0 +1,120 @@
+//! Numbers, written as they are: without a sign, and without zeros in front.
+
+ghost use Rattle.std.specs.Prelude.{◌≡◌, ◌<◌, ◌≤◌, ◌^◌, ℕ, length, MatchOption};
+ghost use Rattle.std.specs.Fmt.{decimal};
+ghost use Rattle.line_forms.specs.FormLaws.{number_law, wide_32, wide_64};
+ghost use Rattle.line_forms.specs.Numbers.{BeginsWithNoDigit, IsNumber, digits_in, number_at};
+ghost use Rattle.line_forms.specs.Numbers.{below, number_in};
+
+use crate::form::FormOf;
+use itoa::Buffer;
+
+/// The number of at most 64 bits that the digits write, if it is written so.
+fn parsed(digits: &[u8]) -> Option<u64>
+    ensures { MatchOption result
+        ((number : ℕ) → number < 2 ^ 64 → ¬ (digits.now ≡ decimal number))
+        (λ number. IsNumber (2 ^ 64) number digits.now) }
+{
+    let number = match str::from_utf8(digits) {
+        Ok(text) => text.parse::<u64>().ok()?,
+        Err(_) => return None,
+    };
+    let mut buffer = Buffer::new();
+    if buffer.format(number).as_bytes() == digits {
+        Some(number)
+    } else {
+        None
+    }
+}
+
+/// The number of at most 64 bits that the digits write, if it is written so.
+pub fn number_of(digits: &[u8]) -> Option<u64>
+    ensures { result ≡ number_in (2 ^ 64) digits.now }
+{
+    parsed(digits)
+}
+
+fn below_32(number: Option<u64>) -> Option<u32>
+    ensures { result ≡ below (2 ^ 32) number }
+{
+    let number = number?;
+    if number < 4_294_967_296 {
+        Some(number as u32)
+    } else {
+        None
+    }
+}
+
+/// The number of at most 32 bits that the digits write, if it is written so.
+pub fn number_32_of(digits: &[u8]) -> Option<u32>
+    ensures { result ≡ number_in (2 ^ 32) digits.now }
+{
+    below_32(number_of(digits))
+}
+
+/// How many digits the text begins with.
+pub fn digits_before(text: &[u8]) -> usize
+    ensures value { result ≡ digits_in text.now }
+    ensures within { result ≤ length text.now }
+{
+    match text.iter().position(|byte| !byte.is_ascii_digit()) {
+        Some(at) => at,
+        None => text.len(),
+    }
+}
+
+/// A number of at most 64 bits.
+#[derive(Drop)]
+pub struct Number64;
+
+impl<'a> FormOf<'a> for Number64 {
+    type Value = u64;
+
+    ghost Said = { ℕ };
+
+    ghost said = { λ number. number };
+
+    ghost reads = { λ form. number_at (2 ^ 64) };
+
+    ghost says = { λ form. IsNumber (2 ^ 64) };
+
+    ghost ends = { λ form. BeginsWithNoDigit };
+
+    ghost valid = { λ form. Unit {0} };
+
+    fn read(&self, text: &'a [u8]) -> Option<(u64, &'a [u8])> {
+        let size = digits_before(text);
+        let number = number_of(&text[..size])?;
+        Some((number, &text[size..]))
+    }
+
+    ghost law = { λ form valid. number_law (2 ^ 64) wide_64 };
+}
+
+/// A number of at most 32 bits.
+#[derive(Drop)]
+pub struct Number32;
+
+impl<'a> FormOf<'a> for Number32 {
+    type Value = u32;
+
+    ghost Said = { ℕ };
+
+    ghost said = { λ number. number };
+
+    ghost reads = { λ form. number_at (2 ^ 32) };
+
+    ghost says = { λ form. IsNumber (2 ^ 32) };
+
+    ghost ends = { λ form. BeginsWithNoDigit };
+
+    ghost valid = { λ form. Unit {0} };
+
+    fn read(&self, text: &'a [u8]) -> Option<(u32, &'a [u8])> {
+        let size = digits_before(text);
+        let number = number_32_of(&text[..size])?;
+        Some((number, &text[size..]))
+    }
+
+    ghost law = { λ form valid. number_law (2 ^ 32) wide_32 };
+}

@@ -1,9 +1,0 @@
-pub mod Charges
-pub mod Faults
-pub mod FirstWrongBeside
-pub mod FirstWrongLines
-pub mod Ledgers
-pub mod LedgersWithReports
-pub mod Reports
-pub mod TokenLines
-pub mod inside

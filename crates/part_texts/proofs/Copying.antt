@@ -1,0 +1,368 @@
+-- The lines of parts, copied one after the other.
+use Rattle.std.proofs.Common.{◌≡◌, ◌∙◌, ◌+◌, ℕ, Bool, true, false, cond, List, [], ◌∷◌, ◌++◌, map}
+use Rattle.std.proofs.Common.{Option, Some, None, Result, Ok, Err, IfSome, option_map, refl, sym, ap, subst}
+use Rattle.std.proofs.Common.{append_assoc, append-nil}
+use Rattle.std.specs.Prelude.{flat_map}
+use Rattle.std.specs.Io.KnownBytes.{Appends}
+use Rattle.std.proofs.KnownBytes.{Appends-nil, Appends-trans}
+use Rattle.fare_texts.specs.WrittenOut.{Begins}
+use Rattle.histories.specs.Sums.{sums_of}
+use Rattle.tap_views.specs.declared.token.Token.{Token}
+use Rattle.line_folds.specs.Folds.{AppendsPrefix, HasWritten, StopsAs, bounded, carry, lines_of, run, written, written_on}
+use Rattle.line_folds.specs.declared.lines.Stop.{Stop}
+use Rattle.line_folds.specs.declared.lines.Stop.TheVariants.{Line as StopLine, Unread as StopUnread}
+use Rattle.line_folds.specs.declared.lines.Stop.TheVariants.{Unwritten, NoMemory as StopMemory}
+use Rattle.line_folds.specs.declared.lines.Stop.TheVariants.{TooLong as StopLong}
+use Rattle.line_folds.proofs.Runs.{prefix_behind, prefix_more, prefix_none}
+use Rattle.report_texts.specs.declared.wrong.Wrong.{Wrong}
+use Rattle.report_texts.specs.declared.wrong.Wrong.TheVariants.{Form}
+use Rattle.part_texts.specs.Fronts.{FrontsView, no_sums}
+use Rattle.part_texts.specs.Sections.{SectionView, section_end, section_step}
+use Rattle.part_texts.specs.Merged.{IsFaultOf, MergedAs, OpenView, WrongLine, and_then, end_or}
+use Rattle.part_texts.specs.Merged.{lines_left, merged, section_at, section_ended, section_of}
+use Rattle.part_texts.specs.Merged.{sections_of, whole_front}
+use Rattle.part_texts.specs.Opened.{AreOpen, Copied, fault_by, open_view}
+use Rattle.part_texts.specs.declared.fault.MergeFault.{MergeFault}
+use Rattle.part_texts.specs.declared.fault.MergeFault.TheVariants.{Line, Unread, Write, NoMemory}
+use Rattle.part_texts.specs.declared.fault.MergeFault.TheVariants.{TooLong}
+use Rattle.part_texts.specs.declared.merging.Open.{Open}
+use Rattle.part_texts.proofs.Opening.{fault_goes, fault_same, if_some}
+
+abbrev never : SectionView → Bool
+never s = false
+
+abbrev line_itself : SectionView → List ℕ → List ℕ
+line_itself s line = line
+
+ok_one : {A E : Type 0} {a b : A} → ◌≡◌ {A = Result A E} (Ok a) (Ok b) → a ≡ b
+ok_one e = cc
+
+-- what a run that goes through writes are all lines
+all_written : (number : ℕ) (s : SectionView) (lines : List (List ℕ))
+    (end : ℕ × SectionView × List (List ℕ))
+    → run never (bounded Form section_step) number s lines ≡ Ok end
+    → written never (bounded Form section_step) line_itself s lines ≡ flat_map (λ line. line) lines
+all_written number s [] end ran = refl
+all_written number s (line ∷ lines) end ran = by (bounded Form section_step s line) ran
+  where
+    by : (said : Result SectionView Wrong)
+        → carry (λ next. run never (bounded Form section_step) (number + 1) next lines)
+        (λ why. (number, why)) said ≡ Ok end
+        → written_on line (λ next. written never (bounded Form section_step) line_itself next lines)
+        said ≡ line ++ flat_map (λ line. line) lines
+    by (Ok next) ran = ap (λ rest. line ++ rest) (all_written (number + 1) next lines end ran)
+    by (Err why) ran = absurd (cc)
+
+-- what an open part is
+view_of : {R : Type 0} (remaining : R → Option (List ℕ)) (open : Open R) (view : OpenView)
+    → open_view remaining open ≡ Some view
+    → (rest : List ℕ) × (remaining open.from ≡ Some rest)
+    × (record {
+      is_ledger = open.is_ledger;
+      left = open.left;
+      part = sums_of open.part;
+      number = open.number;
+      lines = lines_of rest;
+    } ≡ view)
+view_of remaining open view is = by (remaining open.from) refl is
+  where
+    by : (r : Option (List ℕ)) → remaining open.from ≡ r
+        → option_map (λ rest. record {
+          is_ledger = open.is_ledger;
+          left = open.left;
+          part = sums_of open.part;
+          number = open.number;
+          lines = lines_of rest;
+        }) r ≡ Some view
+        → (rest : List ℕ) × (remaining open.from ≡ Some rest)
+        × (record {
+          is_ledger = open.is_ledger;
+          left = open.left;
+          part = sums_of open.part;
+          number = open.number;
+          lines = lines_of rest;
+        } ≡ view)
+    by None here is = absurd (cc)
+    by (Some rest) here is = (rest, here, (cc))
+
+-- the part's lines, as the program begins with them
+abbrev pub begins_at : {R : Type 0} → Open R → Option Token → SectionView
+begins_at open last = record {
+  is_ledger = open.is_ledger;
+  is_first = true;
+  left = open.left;
+  last = last;
+  part = sums_of open.part;
+  so_far = no_sums;
+}
+
+module _ {R : Type 0} (remaining : R → Option (List ℕ)) (place : ℕ) (last : Option Token)
+    (open : Open R) (start end : SectionView) (left before after : Option (List ℕ))
+    (begins : start ≡ begins_at open last) where
+  -- what is said of the part, by the run from where the program begins
+  said_by_run : (view : OpenView) (rest : List ℕ) → record {
+        is_ledger = open.is_ledger;
+        left = open.left;
+        part = sums_of open.part;
+        number = open.number;
+        lines = lines_of rest;
+      } ≡ view
+      → section_of place last view
+      ≡ section_ended place (run never (bounded Form section_step) open.number start (lines_of rest))
+  said_by_run view rest is =
+      ap (section_of place last) (sym is)
+      ∙ ap (λ s. section_ended place
+      (run never (bounded Form section_step) open.number s (lines_of rest))) (sym begins)
+
+  pub section_ok : (number : ℕ) (view : OpenView) → open_view remaining open ≡ Some view
+      → IfSome (remaining open.from) (λ text. StopsAs
+      (run never (bounded Form section_step) open.number start (lines_of text)) end left (Ok number))
+      → IfSome (remaining open.from) (λ text. HasWritten {W = Wrong} before after
+      (written never (bounded Form section_step) line_itself start (lines_of text)) (Ok number))
+      → section_end end ≡ None
+      → Copied (λ (s : SectionView). s.last) (section_of place last view)
+      (flat_map (λ line. line) view.lines) before after (Ok end.last)
+  section_ok number view is stops wrote ends =
+      let (rest, here, same) = view_of remaining open view is in
+      let (behind, lefts, ran) = if_some _ (remaining open.from) rest here stops in
+      let all = if_some _ (remaining open.from) rest here wrote in
+      (
+        end,
+        said_by_run view rest same ∙ ap (section_ended place) ran
+            ∙ ap (end_or (place, (number, Form)) end) ends,
+        refl,
+        subst (Appends before after)
+            (all_written open.number start (lines_of rest) (number, end, lines_of behind) ran
+            ∙ ap (λ (v : OpenView). flat_map (λ line. line) v.lines) same) all,
+      )
+
+  pub section_wrong : (number : ℕ) (why : Wrong) (view : OpenView)
+      → open_view remaining open ≡ Some view
+      → IfSome (remaining open.from) (λ text. StopsAs
+      (run never (bounded Form section_step) open.number start (lines_of text)) end left (Ok number))
+      → section_end end ≡ Some why
+      → Copied {T = Option Token} (λ (s : SectionView). s.last) (section_of place last view)
+      (flat_map (λ line. line) view.lines) before after (Err (Line place number why))
+  section_wrong number why view is stops ends =
+      let (rest, here, same) = view_of remaining open view is in
+      let (behind, lefts, ran) = if_some _ (remaining open.from) rest here stops in
+      let said = said_by_run view rest same ∙ ap (section_ended place) ran
+      ∙ ap (end_or (place, (number, Form)) end) ends in
+      (said, λ s is_ok. absurd (let e = sym said ∙ is_ok in cc))
+
+  -- a prefix of all lines is written, if the lines are those of a part
+  prefix_of : (stop : Stop Wrong) (view : OpenView) (rest : List ℕ) → record {
+        is_ledger = open.is_ledger;
+        left = open.left;
+        part = sums_of open.part;
+        number = open.number;
+        lines = lines_of rest;
+      } ≡ view
+      → AppendsPrefix before after
+      (written never (bounded Form section_step) line_itself start (lines_of rest))
+      → (s : SectionView) → section_of place last view ≡ Ok s
+      → AppendsPrefix before after (flat_map (λ line. line) view.lines)
+  prefix_of stop view rest same some s ok =
+      through (run never (bounded Form section_step) open.number start (lines_of rest)) refl
+      (sym (said_by_run view rest same) ∙ ok)
+    where
+      through : (ran : Result (ℕ × SectionView × List (List ℕ)) (ℕ × Wrong))
+          → run never (bounded Form section_step) open.number start (lines_of rest) ≡ ran
+          → section_ended place ran ≡ Ok s
+          → AppendsPrefix before after (flat_map (λ line. line) view.lines)
+      through (Ok read) is done =
+          subst (AppendsPrefix before after)
+          (all_written open.number start (lines_of rest) read is
+          ∙ ap (λ (v : OpenView). flat_map (λ line. line) v.lines) same) some
+      through (Err wrong) is done = absurd (cc)
+
+  pub section_fault : (stop : Stop Wrong) (view : OpenView) → open_view remaining open ≡ Some view
+      → IfSome (remaining open.from) (λ text. StopsAs
+      (run never (bounded Form section_step) open.number start (lines_of text)) end left (Err stop))
+      → IfSome (remaining open.from) (λ text. HasWritten before after
+      (written never (bounded Form section_step) line_itself start (lines_of text)) (Err stop))
+      → Copied {T = Option Token} (λ (s : SectionView). s.last) (section_of place last view)
+      (flat_map (λ line. line) view.lines) before after (Err (fault_by place stop))
+  section_fault (StopLine number why) view is stops wrote =
+      let (rest, here, same) = view_of remaining open view is in
+      let said = said_by_run view rest same
+      ∙ ap (section_ended place) (if_some _ (remaining open.from) rest here stops) in
+      (said, λ s is_ok. absurd (let e = sym said ∙ is_ok in cc))
+  section_fault StopUnread view is stops wrote =
+      let (rest, here, same) = view_of remaining open view is in
+      (tt, prefix_of StopUnread view rest same (if_some _ (remaining open.from) rest here wrote))
+  section_fault StopLong view is stops wrote =
+      let (rest, here, same) = view_of remaining open view is in
+      (tt, prefix_of StopLong view rest same (if_some _ (remaining open.from) rest here wrote))
+  section_fault Unwritten view is stops wrote =
+      let (rest, here, same) = view_of remaining open view is in
+      (tt, prefix_of Unwritten view rest same (if_some _ (remaining open.from) rest here wrote))
+  section_fault StopMemory view is stops wrote =
+      let (rest, here, same) = view_of remaining open view is in
+      (tt, prefix_of StopMemory view rest same (if_some _ (remaining open.from) rest here wrote))
+
+-- ---- all parts
+open_more : {R : Type 0} (remaining : R → Option (List ℕ)) (open : Open R) (opens : List (Open R))
+    (views : List OpenView) → AreOpen remaining (open ∷ opens) views
+    → (view : OpenView) × (more : List OpenView) × (views ≡ view ∷ more)
+    × (open_view remaining open ≡ Some view) × AreOpen remaining opens more
+open_more remaining open opens [] are = absurd (cc)
+open_more remaining open opens (view ∷ more) are = (view, more, refl, (cc), (cc))
+
+pub open_none : {R : Type 0} (remaining : R → Option (List ℕ)) (views : List OpenView)
+    → AreOpen remaining [] views → views ≡ []
+open_none remaining [] are = refl
+open_none remaining (view ∷ views) are = absurd (cc)
+
+-- the parts that are left give what all of them give, and the lines of those before are written
+abbrev pub CopiesAt : {R : Type 0} → (R → Option (List ℕ)) → List (Open R) → ℕ → Option Token
+    → List (Open R) → Option (List ℕ) → Option (List ℕ) → Type 0
+CopiesAt remaining all place last left before after =
+    (views : List OpenView) → AreOpen remaining all views
+    → (rest : List OpenView) × AreOpen remaining left rest
+    × (sections_of 0 None views ≡ sections_of place last rest)
+    × (front : List ℕ) × (lines_left views ≡ front ++ lines_left rest)
+    × Appends before after front
+
+pub copies_none : {R : Type 0} (remaining : R → Option (List ℕ)) (all left : List (Open R))
+    (before : Option (List ℕ)) → left ≡ all → CopiesAt remaining all 0 None left before before
+copies_none remaining all left before is = λ views are. (
+  views,
+  ap (map (open_view remaining)) is ∙ are,
+  refl,
+  [],
+  refl,
+  Appends-nil before,
+)
+
+pub copies_more : {R : Type 0} (remaining : R → Option (List ℕ)) (all : List (Open R)) (place : ℕ)
+    (last next : Option Token) (left more : List (Open R)) (open : Open R)
+    (before now after : Option (List ℕ)) → left ≡ open ∷ more
+    → CopiesAt remaining all place last left before now
+    → ((view : OpenView) → open_view remaining open ≡ Some view
+    → Copied (λ (s : SectionView). s.last) (section_of place last view)
+    (flat_map (λ line. line) view.lines) now after (Ok next))
+    → CopiesAt remaining all (place + 1) next more before after
+copies_more remaining all place last next left more open before now after split at_all copied =
+    λ views are.
+    let (rest, lefts, same, front, lines, wrote) = at_all views are in
+    let (view, others, shown, here, behind) = open_more remaining open more rest
+    (sym (ap (map (open_view remaining)) split) ∙ lefts) in
+    let (s, said, last_is, added) = copied view here in
+    (
+      others,
+      behind,
+      same ∙ ap (sections_of place last) shown
+          ∙ ap (λ r. and_then r (λ (s : SectionView). sections_of (place + 1) s.last others)) said
+          ∙ ap (λ l. sections_of (place + 1) l others) last_is,
+      front ++ flat_map (λ line. line) view.lines,
+      lines ∙ ap (λ (vs : List OpenView). front ++ lines_left vs) shown
+          ∙ sym (append_assoc front (flat_map (λ line. line) view.lines) (lines_left others)),
+      Appends-trans before now after front (flat_map (λ line. line) view.lines) wrote added,
+    )
+
+ok_through : {S T : Type 0} (said : Result S WrongLine) (next : S → Result T WrongLine) (t : T)
+    → and_then said next ≡ Ok t → (s : S) × (said ≡ Ok s)
+ok_through (Ok s) next t is = (s, refl)
+ok_through (Err wrong) next t is = absurd (cc)
+
+pub copies_fault : {R : Type 0} (remaining : R → Option (List ℕ)) (all : List (Open R)) (place : ℕ)
+    (last : Option Token) (left more : List (Open R)) (open : Open R)
+    (before now after : Option (List ℕ)) (fault : MergeFault) → left ≡ open ∷ more
+    → CopiesAt remaining all place last left before now
+    → ((view : OpenView) → open_view remaining open ≡ Some view
+    → Copied {T = Option Token} (λ (s : SectionView). s.last) (section_of place last view)
+    (flat_map (λ line. line) view.lines) now after (Err fault))
+    → (views : List OpenView) → AreOpen remaining all views
+    → Copied {T = Unit {0}} (λ (s : Option Token). tt) (sections_of 0 None views) (lines_left views)
+    before after (Err fault)
+copies_fault remaining all place last left more open before now after fault split at_all copied views
+    are =
+    let (rest, lefts, same, front, lines, wrote) = at_all views are in
+    let (view, others, shown, here, behind) = open_more remaining open more rest
+    (sym (ap (map (open_view remaining)) split) ∙ lefts) in
+    let (is, some) = copied view here in
+    let next = λ (s : SectionView). sections_of (place + 1) s.last others in
+    let whole : sections_of 0 None views ≡ and_then (section_of place last view) next =
+    same ∙ ap (sections_of place last) shown in
+    (
+      fault_same (sections_of 0 None views) _ fault whole (fault_goes _ next fault is),
+      λ end ok.
+          let (s, said) = ok_through (section_of place last view) next end (sym whole ∙ ok) in
+          subst (AppendsPrefix before after) (sym (lines ∙ ap (λ (vs : List OpenView). front ++ lines_left vs) shown))
+          (prefix_behind before now after front (lines_left (view ∷ others)) wrote
+          (prefix_more now after (flat_map (λ line. line) view.lines) (lines_left others)
+          (some s said))),
+    )
+
+pub copies_all : {R : Type 0} (remaining : R → Option (List ℕ)) (all : List (Open R)) (place : ℕ)
+    (last : Option Token) (left : List (Open R)) (before after : Option (List ℕ)) → left ≡ []
+    → CopiesAt remaining all place last left before after
+    → (views : List OpenView) → AreOpen remaining all views
+    → Copied {T = Unit {0}} (λ (s : Option Token). tt) (sections_of 0 None views) (lines_left views)
+    before after (Ok tt)
+copies_all remaining all place last left before after none at_all views are =
+    let (rest, lefts, same, front, lines, wrote) = at_all views are in
+    let no_rest : rest ≡ [] =
+    open_none remaining rest (sym (ap (map (open_view remaining)) none) ∙ lefts) in
+    (
+      last,
+      same ∙ ap (sections_of place last) no_rest,
+      refl,
+      subst (Appends before after) (sym (lines ∙ ap (λ (vs : List OpenView). front ++ lines_left vs) no_rest
+          ∙ append-nil front)) wrote,
+    )
+
+-- ---- the whole
+pub begins_prefix : (before after : Option (List ℕ)) (text : List ℕ) → Begins before after text
+    → AppendsPrefix before after text
+begins_prefix None after text begins = tt
+begins_prefix (Some old) after text begins = (begins.front, begins.rest, begins.whole, begins.written)
+
+merged_text : (s : FrontsView) (views : List OpenView) (text : List ℕ)
+    → merged (s, views) ≡ Ok text
+    → ((end : Option Token) × (sections_of 0 None views ≡ Ok end))
+    × (text ≡ whole_front s ++ lines_left views)
+merged_text s views text ok = by (sections_of 0 None views) refl ok
+  where
+    by : (said : Result (Option Token) WrongLine) → sections_of 0 None views ≡ said
+        → and_then said (λ last. Ok (whole_front s ++ lines_left views)) ≡ Ok text
+        → ((end : Option Token) × (sections_of 0 None views ≡ Ok end))
+        × (text ≡ whole_front s ++ lines_left views)
+    by (Ok end) is ok = ((end, is), sym (ok_one ok))
+    by (Err wrong) is ok = absurd (cc)
+
+pub whole_ok : (s : FrontsView) (views : List OpenView) (before now after : Option (List ℕ))
+    → Appends before now (whole_front s)
+    → Copied {T = Unit {0}} (λ (s : Option Token). tt) (sections_of 0 None views) (lines_left views)
+    now after (Ok tt)
+    → MergedAs (merged (s, views)) before after (Ok tt)
+whole_ok s views before now after wrote (end, said, is, added) = (
+  whole_front s ++ lines_left views,
+  ap (λ r. and_then r (λ (last : Option Token). Ok (whole_front s ++ lines_left views))) said,
+  Appends-trans before now after (whole_front s) (lines_left views) wrote added,
+)
+
+pub whole_fault : (s : FrontsView) (views : List OpenView) (before now after : Option (List ℕ))
+    (fault : MergeFault) → Appends before now (whole_front s)
+    → Copied {T = Unit {0}} (λ (s : Option Token). tt) (sections_of 0 None views) (lines_left views)
+    now after (Err fault)
+    → MergedAs (merged (s, views)) before after (Err fault)
+whole_fault s views before now after fault wrote (is, some) = (
+  fault_goes (sections_of 0 None views) (λ last. Ok (whole_front s ++ lines_left views)) fault is,
+  λ text ok.
+      let ((end, said), shown) = merged_text s views text ok in
+      subst (AppendsPrefix before after) (sym shown)
+      (prefix_behind before now after (whole_front s) (lines_left views) wrote (some end said)),
+)
+
+pub whole_unwritten : (s : FrontsView) (views : List OpenView) (before after : Option (List ℕ))
+    → Begins before after (whole_front s) → MergedAs (merged (s, views)) before after (Err Write)
+whole_unwritten s views before after begins = (
+  tt,
+  λ text ok.
+      let (said, shown) = merged_text s views text ok in
+      subst (AppendsPrefix before after) (sym shown)
+      (prefix_more before after (whole_front s) (lines_left views)
+      (begins_prefix before after (whole_front s) begins)),
+)

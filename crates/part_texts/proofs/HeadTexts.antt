@@ -1,0 +1,57 @@
+-- The head of a part, written line by line.
+use Rattle.std.proofs.Common.{◌≡◌, ◌∙◌, ◌+◌, ◌<◌, ℕ, List, [], ◌∷◌, ◌++◌, length, take, get_or, length-take}
+use Rattle.std.proofs.Common.{sym, ap, append_assoc, append-nil, add-zero, arith}
+use Rattle.std.specs.Prelude.{codes, Option, Some, None}
+use Rattle.std.specs.Fmt.{decimal}
+use Rattle.std.proofs.lemmas.List.{take_more}
+use Rattle.part_texts.specs.Heads.{place_text, span_line, span_lines, to_text}
+use Rattle.part_texts.specs.declared.spans.Place.{Place}
+use Rattle.part_texts.specs.declared.spans.FileSpan.{FileSpan}
+
+-- one file more
+pub span_lines-push : (file : ℕ) (spans : List FileSpan) (span : FileSpan)
+    → span_lines file (spans ++ span ∷ [])
+    ≡ span_lines file spans ++ span_line (file + length spans) span
+span_lines-push file [] span =
+    append-nil (span_line file span) ∙ ap (λ n. span_line n span) (sym (add-zero file))
+span_lines-push file (first ∷ spans) span =
+    let next : (file + 1) + length spans ≡ file + length (first ∷ spans) = omega arith in
+    ap (λ text. span_line file first ++ text)
+    (span_lines-push (file + 1) spans span
+    ∙ ap (λ n. span_lines (file + 1) spans ++ span_line n span) next)
+    ∙ sym (append_assoc (span_line file first) (span_lines (file + 1) spans)
+    (span_line (file + length (first ∷ spans)) span))
+
+-- the span of a whole file
+abbrev whole_span : FileSpan
+whole_span = record { from = record { offset = 0; skip = 0 }; to = None }
+
+-- what was written of the files before one, and the line of that one
+pub spans_more : (start : List ℕ) (spans : List FileSpan) (span : FileSpan) (i : ℕ)
+    → i < length spans → span ≡ get_or spans i span
+    → (start ++ span_lines 0 (take i spans)) ++ span_line i span
+    ≡ start ++ span_lines 0 (take (i + 1) spans)
+spans_more start spans span i within is =
+    let count : 0 + length (take i spans) ≡ i = omega (arith, length-take {A = FileSpan}) in
+    append_assoc start (span_lines 0 (take i spans)) (span_line i span)
+    ∙ ap (λ text. start ++ text)
+    (ap (λ n. span_lines 0 (take i spans) ++ span_line n span) (sym count)
+    ∙ ap (λ s. span_lines 0 (take i spans) ++ span_line (0 + length (take i spans)) s) is
+    ∙ sym (span_lines-push 0 (take i spans) (get_or spans i span))
+    ∙ ap (λ taken. span_lines 0 taken) (sym (take_more spans i span within)))
+
+-- the pieces of a line
+pub in_line : (start a b c d done : List ℕ) (file : ℕ) (span : FileSpan)
+    → a ≡ start ++ (codes "file " ++ (decimal file ++ codes " from "))
+    → b ≡ a ++ place_text span.from → c ≡ b ++ codes " to " → d ≡ c ++ to_text span.to
+    → done ≡ d ++ codes "\n" → done ≡ start ++ span_line file span
+unfolding span_line
+in_line start a b c d done file span p1 p2 p3 p4 p5 =
+    p5 ∙ ap (λ t. t ++ codes "\n") (p4 ∙ ap (λ t. t ++ to_text span.to)
+    (p3 ∙ ap (λ t. t ++ codes " to ") (p2 ∙ ap (λ t. t ++ place_text span.from) p1)))
+    ∙ joined start (codes "file ") (decimal file) (codes " from ") (place_text span.from)
+    (codes " to ") (to_text span.to) (codes "\n")
+  where
+    joined : (s f n w p t e l : List ℕ) → ((((s ++ (f ++ (n ++ w))) ++ p) ++ t) ++ e) ++ l
+        ≡ s ++ (f ++ (n ++ (w ++ (p ++ (t ++ (e ++ l))))))
+    joined s f n w p t e l = simp append_assoc

@@ -1,0 +1,95 @@
+-- The front of the whole's report, written line by line.
+use Rattle.std.proofs.Common.{◌≡◌, ◌∙◌, ◌+◌, ◌<◌, ℕ, List, [], ◌∷◌, ◌++◌, length, take, get_or, length-take}
+use Rattle.std.proofs.Common.{refl, sym, ap, append_assoc, append-nil, arith, codes, map}
+use Rattle.std.proofs.lemmas.List.{map-append, take_more}
+use Rattle.std.specs.Prelude.{flat_map}
+use Rattle.std.specs.Fmt.{decimal}
+use Rattle.std.specs.Map.Iter.{deref_pair}
+use Rattle.std.proofs.lemmas.List.Concat.{flat_map-append}
+use Rattle.fare_texts.specs.Counts.{counts_text, totals_line}
+use Rattle.fare_texts.specs.ReportLines.{number_line, validator_line}
+use Rattle.histories.specs.Sums.{Sums, sums_of}
+use Rattle.histories.specs.declared.sums.totals.Totals.{Totals}
+use Rattle.report_texts.specs.Report.{upload_line, upload_lines, uploads_section, validators_section}
+use Rattle.report_texts.proofs.Parts.{upload_lines-push}
+use Rattle.tap_views.specs.declared.upload_end.UploadEnd.{UploadEnd}
+use Rattle.tap_views.specs.declared.upload_end.UploadEnd.TheVariants.{Posted}
+use Rattle.part_texts.specs.Fronts.{FrontsView, shown_sums}
+use Rattle.part_texts.specs.Merged.{report_front}
+use denote.Ref.{Bor}
+
+pub map_length : {A B : Type 0} (f : A → B) (xs : List A) → length (map f xs) ≡ length xs
+map_length f [] = refl
+map_length f (x ∷ xs) = let rest = map_length f xs in omega (arith, rest)
+
+-- what was written of the uploads before one, and the line of that one
+pub uploads_more : (start : List ℕ) (taps : List ℕ) (one i : ℕ) → i < length taps
+    → one ≡ get_or taps i one
+    → (start ++ upload_lines 0 (map Posted (take i taps))) ++ upload_line i (Posted one)
+    ≡ start ++ upload_lines 0 (map Posted (take (i + 1) taps))
+uploads_more start taps one i within is =
+    let count : 0 + length (map Posted (take i taps)) ≡ i =
+    (let l = map_length Posted (take i taps) in omega (arith, l, length-take {A = ℕ})) in
+    append_assoc start (upload_lines 0 (map Posted (take i taps))) (upload_line i (Posted one))
+    ∙ ap (λ text. start ++ text)
+    (ap (λ n. upload_lines 0 (map Posted (take i taps)) ++ upload_line n (Posted one)) (sym count)
+    ∙ sym (upload_lines-push 0 (map Posted (take i taps)) (Posted one))
+    ∙ ap (λ ends. upload_lines 0 ends) (sym (map-append Posted (take i taps) (one ∷ [])))
+    ∙ ap (λ x. upload_lines 0 (map Posted (take i taps ++ x ∷ []))) is
+    ∙ ap (λ taken. upload_lines 0 (map Posted taken)) (sym (take_more taps i one within)))
+
+-- one more
+shown_more : (items : List (Bor ℕ × Bor Totals)) (validator : Bor ℕ) (totals : Bor Totals)
+    → flat_map validator_line (shown_sums sums_of (map deref_pair (items ++ (validator, totals) ∷ [])))
+    ≡ flat_map validator_line (shown_sums sums_of (map deref_pair items))
+    ++ (codes "validator "
+    ++ (decimal validator.now ++ (codes " " ++ counts_text (sums_of totals.now))))
+shown_more items validator totals =
+    ap (λ entries. flat_map validator_line (shown_sums sums_of entries))
+    (map-append deref_pair items ((validator, totals) ∷ []))
+    ∙ ap (flat_map validator_line) (map-append (λ (entry : ℕ × Totals). (entry.0, sums_of entry.1))
+    (map deref_pair items) ((validator.now, totals.now) ∷ []))
+    ∙ flat_map-append validator_line (shown_sums sums_of (map deref_pair items))
+    ((validator.now, sums_of totals.now) ∷ [])
+    ∙ ap (λ line. flat_map validator_line (shown_sums sums_of (map deref_pair items)) ++ line)
+    (append-nil (validator_line (validator.now, sums_of totals.now)))
+
+-- a validator's line more
+pub line_written : (old now new : List ℕ) (items : List (Bor ℕ × Bor Totals))
+    (validator : Bor ℕ) (totals : Bor Totals)
+    → now ≡ old ++ flat_map validator_line (shown_sums sums_of (map deref_pair items))
+    → new ≡ now ++ validator_line (validator.now, sums_of totals.now)
+    → new ≡ old ++ flat_map validator_line (shown_sums sums_of
+    (map deref_pair (items ++ (validator, totals) ∷ [])))
+line_written old now new items validator totals first second =
+    let line = validator_line (validator.now, sums_of totals.now) in
+    second ∙ ap (λ text. text ++ line) first
+    ∙ append_assoc old (flat_map validator_line (shown_sums sums_of (map deref_pair items))) line
+    ∙ ap (λ text. old ++ text) (sym (shown_more items validator totals))
+
+-- the pieces of the front
+pub front_joined : (s : FrontsView) (uploads validators : ℕ) (none a b c d e whole : List ℕ)
+    → uploads ≡ length s.taps → validators ≡ length s.validators → none ≡ []
+    → a ≡ none ++ number_line (codes "uploads ") uploads → b ≡ a ++ upload_lines 0 (map Posted s.taps)
+    → c ≡ b ++ totals_line s.totals → d ≡ c ++ number_line (codes "validators ") validators
+    → e ≡ d ++ flat_map validator_line s.validators
+    → whole ≡ e ++ number_line (codes "tokens ") s.tokens → whole ≡ report_front s
+front_joined s uploads validators none a b c d e whole n m p0 p1 p2 p3 p4 p5 p6 =
+    let u : List ℕ = number_line (codes "uploads ") (length (map Posted s.taps)) in
+    let l : List ℕ = upload_lines 0 (map Posted s.taps) in
+    let t : List ℕ = totals_line s.totals in
+    let v : List ℕ = number_line (codes "validators ") (length s.validators) in
+    let f : List ℕ = flat_map validator_line s.validators in
+    let k : List ℕ = number_line (codes "tokens ") s.tokens in
+    let a_is : a ≡ u = p1 ∙ ap (λ x. x ++ number_line (codes "uploads ") uploads) p0
+    ∙ ap (number_line (codes "uploads ")) (n ∙ sym (map_length Posted s.taps)) in
+    let b_is : b ≡ u ++ l = p2 ∙ ap (λ x. x ++ l) a_is in
+    let c_is : c ≡ (u ++ l) ++ t = p3 ∙ ap (λ x. x ++ t) b_is in
+    let d_is : d ≡ ((u ++ l) ++ t) ++ v = p4 ∙ ap (λ x. x ++ number_line (codes "validators ") validators) c_is
+    ∙ ap (λ x. ((u ++ l) ++ t) ++ number_line (codes "validators ") x) m in
+    let e_is : e ≡ (((u ++ l) ++ t) ++ v) ++ f = p5 ∙ ap (λ x. x ++ f) d_is in
+    p6 ∙ ap (λ x. x ++ k) e_is ∙ joined u l t v f k
+  where
+    joined : (u l t v f k : List ℕ) → ((((u ++ l) ++ t) ++ v) ++ f) ++ k
+        ≡ (u ++ l) ++ (t ++ ((v ++ f) ++ k))
+    joined u l t v f k = simp append_assoc

@@ -1,0 +1,150 @@
+-- What the fronts of parts say: each part's text up to its lines of tokens or of entries.
+use Rattle.std.specs.Prelude.{◌≡◌, ◌+◌, ◌-◌, ◌^◌, ◌&&◌, ℕ, Bool, true, false, cond, List, [], ◌∷◌}
+use Rattle.std.specs.Prelude.{Option, Some, None, option_map, unwrap_or, nat_eq, nat_le, nat_lt, map}
+use Rattle.std.specs.BTreeMap.{insert_entry, is_at}
+use Rattle.std.specs.Map.{lookup}
+use Rattle.std.specs.Ordering.{nat_cmp}
+use Rattle.histories.specs.Sums.{Sums, add_sums, sums_of}
+use Rattle.tap_views.specs.declared.upload_end.UploadEnd.{UploadEnd}
+use Rattle.tap_views.specs.declared.upload_end.UploadEnd.TheVariants.{Posted}
+use Rattle.part_texts.specs.declared.spans.Place.{Place}
+use Rattle.part_texts.specs.declared.spans.FileSpan.{FileSpan}
+use Rattle.part_texts.specs.declared.fronts.Stage.{Stage}
+use Rattle.part_texts.specs.declared.fronts.Stage.TheVariants.{Head}
+use Rattle.part_texts.specs.declared.fronts.Fronts.{Fronts}
+
+-- what the fronts of the parts say, as far as they are read
+pub record FrontsView : Type 0 where
+  -- which line of the part's front is next
+  pub stage : Stage
+  pub is_first : Bool
+  pub is_last : Bool
+  pub is_ledger : Bool
+  -- where the taps of the parts so far end in each file, from the next file on
+  pub ends : List (Option Place)
+  -- how many taps the parts so far have of each upload, from the next upload on
+  pub taps : List ℕ
+  -- the part's totals, and what its validators so far add up to
+  pub part : Sums
+  pub so_far : Sums
+  -- the totals, the validators and the number of tokens of all parts so far
+  pub totals : Sums
+  pub validators : List (ℕ × Sums)
+  pub tokens : ℕ
+
+-- the sums of nothing
+abbrev pub no_sums : Sums
+no_sums = record {
+  taps = 0;
+  paid = 0;
+  transfers = 0;
+  capped = 0;
+  stale = 0;
+  unknown = 0;
+  cents = 0;
+}
+
+abbrev pub shown_sums : {K T : Type 0} → (T → Sums) → List (K × T) → List (K × Sums)
+shown_sums show list = map (λ entry. (entry.0, show entry.1)) list
+
+abbrev pub fronts_view : Fronts → FrontsView
+fronts_view fronts = record {
+  stage = fronts.stage;
+  is_first = fronts.is_first;
+  is_last = fronts.is_last;
+  is_ledger = fronts.is_ledger;
+  ends = fronts.ends.items;
+  taps = fronts.taps.items;
+  part = sums_of fronts.part;
+  so_far = sums_of fronts.so_far;
+  totals = sums_of fronts.totals;
+  validators = shown_sums sums_of fronts.validators.entries;
+  tokens = fronts.tokens;
+}
+
+-- two sums added up, if they have no more taps than any run has
+abbrev pub sums_within : Sums → Sums → Option Sums
+sums_within a b = cond (nat_le (a.taps + b.taps) (2 ^ 95)) (Some (add_sums a b)) None
+
+-- two numbers added up, if the sum fits 64 bits
+abbrev pub plus : ℕ → ℕ → Option ℕ
+plus a b = cond (nat_lt (a + b) (2 ^ 64)) (Some (a + b)) None
+
+abbrev pub sums_eq : Sums → Sums → Bool
+sums_eq a b =
+    nat_eq a.taps b.taps && (nat_eq a.paid b.paid && (nat_eq a.transfers b.transfers
+    && (nat_eq a.capped b.capped && (nat_eq a.stale b.stale && (nat_eq a.unknown b.unknown
+    && nat_eq a.cents b.cents)))))
+
+-- the list with the validator's sums added to those that it has there
+abbrev pub with_validator : List (ℕ × Sums) → ℕ × Sums → Option (List (ℕ × Sums))
+with_validator list sum =
+    option_map (λ sums. insert_entry nat_cmp list sum.0 sums)
+    (sums_within (unwrap_or (lookup (is_at (nat_cmp sum.0)) list) no_sums) sum.1)
+
+abbrev pub place_eq : Place → Place → Bool
+place_eq a b = nat_eq a.offset b.offset && nat_eq a.skip b.skip
+
+abbrev pub next_end : List (Option Place) → Option (Place × List (Option Place))
+next_end [] = None
+next_end (None ∷ ends) = None
+next_end (Some place ∷ ends) = Some (place, ends)
+
+-- where the part's taps must begin in the next file: at the file's begin, or where the part before
+-- it ends; with the ends of the files that follow
+abbrev pub starts : Bool → List (Option Place) → Option (Place × List (Option Place))
+starts true ends = Some (record { offset = 0; skip = 0 }, ends)
+starts false ends = next_end ends
+
+abbrev pub is_file_end : Option Place → Bool
+is_file_end None = true
+is_file_end (Some place) = false
+
+-- the last part ends at the end of each file
+abbrev pub may_end : Bool → Option Place → Bool
+may_end true to = is_file_end to
+may_end false to = true
+
+abbrev pub next_number : List ℕ → Option (ℕ × List ℕ)
+next_number [] = None
+next_number (number ∷ numbers) = Some (number, numbers)
+
+-- how many taps the earlier parts have of the next upload
+abbrev pub taps_before : Bool → List ℕ → Option (ℕ × List ℕ)
+taps_before true taps = Some (0, taps)
+taps_before false taps = next_number taps
+
+-- the taps of an upload that was posted whole
+abbrev pub posted_in : UploadEnd → Option ℕ
+posted_in (Posted taps) = Some taps
+posted_in _ = None
+
+abbrev pub is_above : Option ℕ → ℕ → Bool
+is_above None key = true
+is_above (Some last) key = nat_lt last key
+
+-- before the first part
+abbrev pub no_fronts : FrontsView
+no_fronts = record {
+  stage = Head;
+  is_first = true;
+  is_last = false;
+  is_ledger = false;
+  ends = [];
+  taps = [];
+  part = no_sums;
+  so_far = no_sums;
+  totals = no_sums;
+  validators = [];
+  tokens = 0;
+}
+
+-- the validator's sums are added, if they fit
+abbrev pub IsWith : List (ℕ × Sums) → List (ℕ × Sums) → ℕ × Sums → Bool → Type 0
+IsWith old new sum true = with_validator old sum ≡ Some new
+IsWith old new sum false = with_validator old sum ≡ None
+
+-- at the begin of the part at this place, of so many parts
+abbrev pub begun : ℕ → ℕ → FrontsView → FrontsView
+begun place count s =
+    record s { stage = Head; is_first = nat_eq place 0; is_last = nat_le count (place + 1) }

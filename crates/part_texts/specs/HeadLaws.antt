@@ -1,0 +1,59 @@
+-- The laws of the forms in the lines of a part's head.
+use Rattle.std.proofs.Common.{◌≡◌, ◌∙◌, ℕ, ◌^◌, List, [], ◌∷◌, ◌++◌, Option, Some, None, codes, refl, sym, ap, subst}
+use Rattle.line_forms.specs.Forms.{IsForm, IsThen, after}
+use Rattle.line_forms.specs.FormLaws.{after_complete, after_sound, then_law}
+use Rattle.line_forms.specs.Numbers.{BeginsWithNoDigit, number_in}
+use Rattle.report_texts.specs.FormLaws.{IsChosen, IsCount, begins, chosen_law, count_form, some_one}
+use Rattle.part_texts.specs.HeadForms.{end_if, place_by, place_read, to_or, to_read}
+use Rattle.part_texts.specs.declared.spans.Place.{Place}
+
+-- the text says the place, behind the word
+abbrev pub IsPlaceText : List ℕ → Place → List ℕ → Type 0
+IsPlaceText word = IsChosen place_by (IsThen (IsCount word) (IsCount (codes " skip ")))
+
+pub place_law : (word : List ℕ) → IsForm (IsPlaceText word) BeginsWithNoDigit (place_read word)
+place_law word =
+    chosen_law place_by (then_law (count_form word) (count_form (codes " skip "))
+    (begins (codes " skip ") (λ rest. refl)))
+
+-- the text says the place, or the end
+abbrev pub IsToText : Option Place → List ℕ → Type 0
+IsToText None text = text ≡ codes " to end"
+IsToText (Some place) text = IsPlaceText (codes " to ") place text
+
+to_sound : (whole : List ℕ) (r : Option (Place × List ℕ)) (s : Option (List ℕ)) (to : Option Place)
+    (rest : List ℕ) → place_read (codes " to ") whole ≡ r → after (codes " to end") whole ≡ s
+    → to_or r s ≡ Some (to, rest)
+    → (text : List ℕ) × IsToText to text × (whole ≡ text ++ rest)
+to_sound whole (Some parts) s to rest is ends e =
+    let both : ◌≡◌ {A = Option Place × List ℕ} (Some parts.0, parts.1) (to, rest) = some_one e in
+    let (text, says, shown) = (place_law (codes " to ")).sound whole parts.0 parts.1 is in
+    subst (λ (x : Option Place × List ℕ). (text : List ℕ) × IsToText x.0 text × (whole ≡ text ++ x.1))
+    both (text, says, shown)
+to_sound whole None (Some behind) to rest is ends e =
+    let both : ◌≡◌ {A = Option Place × List ℕ} (None, behind) (to, rest) = some_one e in
+    subst (λ (x : Option Place × List ℕ). (text : List ℕ) × IsToText x.0 text × (whole ≡ text ++ x.1))
+    both (codes " to end", refl, after_sound (codes " to end") whole behind ends)
+to_sound whole None None to rest is ends e = absurd (cc)
+
+-- no place is read where the end stands
+no_place : (rest : List ℕ) → place_read (codes " to ") (codes " to end" ++ rest) ≡ None
+unfolding number_in
+no_place rest = refl
+
+pub to_law : IsForm IsToText BeginsWithNoDigit to_read
+to_law = record {
+  sound = λ whole to rest e.
+      to_sound whole (place_read (codes " to ") whole) (after (codes " to end") whole) to rest refl refl e;
+  complete = complete_at;
+}
+  where
+    complete_at : (to : Option Place) (text rest : List ℕ) → IsToText to text → BeginsWithNoDigit rest
+        → to_read (text ++ rest) ≡ Some (to, rest)
+    complete_at None text rest is ends =
+        ap (λ (t : List ℕ). to_read (t ++ rest)) is
+        ∙ ap (λ r. to_or r (after (codes " to end") (codes " to end" ++ rest))) (no_place rest)
+        ∙ ap end_if (after_complete (codes " to end") rest)
+    complete_at (Some place) text rest is ends =
+        ap (λ r. to_or r (after (codes " to end") (text ++ rest)))
+        ((place_law (codes " to ")).complete place text rest is ends)

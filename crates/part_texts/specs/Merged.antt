@@ -1,0 +1,156 @@
+-- What the texts of parts are merged into.
+use Rattle.std.specs.Prelude.{◌≡◌, ◌+◌, ℕ, Bool, true, false, cond, List, [], ◌∷◌, ◌++◌, flat_map}
+use Rattle.std.specs.Prelude.{Option, Some, None, Result, Ok, Err, codes, length, map, nat_eq}
+use Rattle.std.specs.Io.KnownBytes.{Appends}
+use Rattle.histories.specs.Sums.{Sums}
+use Rattle.tap_views.specs.declared.token.Token.{Token}
+use Rattle.tap_views.specs.declared.upload_end.UploadEnd.TheVariants.{Posted}
+use Rattle.fare_texts.specs.Counts.{totals_line}
+use Rattle.fare_texts.specs.LedgerLines.{head_text}
+use Rattle.fare_texts.specs.ReportLines.{number_line, validator_line}
+use Rattle.line_folds.specs.Folds.{AppendsPrefix, bounded, lines_of, run}
+use Rattle.report_texts.specs.Report.{uploads_section, validators_section}
+use Rattle.report_texts.specs.declared.wrong.Wrong.{Wrong}
+use Rattle.report_texts.specs.declared.wrong.Wrong.TheVariants.{Form}
+use Rattle.part_texts.specs.Fronts.{FrontsView, no_fronts, no_sums}
+use Rattle.part_texts.specs.FrontSteps.{front_done, front_step}
+use Rattle.part_texts.specs.Sections.{SectionView, section_end, section_step}
+use Rattle.part_texts.specs.declared.fronts.Stage.{Stage}
+use Rattle.part_texts.specs.declared.fronts.Stage.TheVariants.{Head, Tokens}
+use Rattle.part_texts.specs.declared.fault.MergeFault.{MergeFault}
+use Rattle.part_texts.specs.declared.fault.MergeFault.TheVariants.{Line, Unread, Write, NoMemory}
+use Rattle.part_texts.specs.declared.fault.MergeFault.TheVariants.{TooLong}
+
+-- a text, the number of a line of it, and what is wrong with that line
+abbrev pub WrongLine : Type 0
+WrongLine = ℕ × (ℕ × Wrong)
+
+abbrev pub and_then : {S T E : Type 0} → Result S E → (S → Result T E) → Result T E
+and_then (Ok state) next = next state
+and_then (Err why) next = Err why
+
+-- a part whose front is read: what follows it
+pub record OpenView : Type 0 where
+  pub is_ledger : Bool
+  -- how many tokens it has
+  pub left : ℕ
+  pub part : Sums
+  -- the number of the next line, and the lines from there on
+  pub number : ℕ
+  pub lines : List (List ℕ)
+
+abbrev pub left_at : Stage → ℕ
+left_at (Tokens left) = left
+left_at _ = 0
+
+abbrev pub opened : ℕ × FrontsView × List (List ℕ) → OpenView
+opened read = record {
+  is_ledger = read.1.is_ledger;
+  left = left_at read.1.stage;
+  part = read.1.part;
+  number = read.0;
+  lines = read.2;
+}
+
+-- a part ends behind its front, or later
+abbrev pub front_end : ℕ → Result (ℕ × FrontsView × List (List ℕ)) (ℕ × Wrong)
+    → Result (FrontsView × OpenView) WrongLine
+front_end place (Ok read) =
+    cond (front_done read.1) (Ok (read.1, opened read)) (Err (place, (read.0, Form)))
+front_end place (Err wrong) = Err (place, wrong)
+
+abbrev pub is_none_left : List (List ℕ) → Bool
+is_none_left [] = true
+is_none_left (text ∷ texts) = false
+
+-- at the begin of the part at this place, behind which these parts follow
+abbrev pub at_part : ℕ → List (List ℕ) → FrontsView → FrontsView
+at_part place texts s =
+    record s { stage = Head; is_first = nat_eq place 0; is_last = is_none_left texts }
+
+-- the front of the part at this place
+abbrev pub front_of : ℕ → FrontsView → List ℕ → Result (FrontsView × OpenView) WrongLine
+front_of place s text =
+    front_end place (run front_done (bounded Form front_step) 1 s (lines_of text))
+
+-- the fronts of all parts, behind those that were opened
+abbrev pub fronts_of : FrontsView → List OpenView → List (List ℕ)
+    → Result (FrontsView × List OpenView) WrongLine
+fronts_of s opens [] = Ok (s, opens)
+fronts_of s opens (text ∷ texts) =
+    and_then (front_of (length opens) (at_part (length opens) texts s) text) (λ read.
+    fronts_of read.0 (opens ++ read.1 ∷ []) texts)
+
+abbrev pub end_or : {S : Type 0} → WrongLine → S → Option Wrong → Result S WrongLine
+end_or place s None = Ok s
+end_or place s (Some why) = Err (place.0, (place.1.0, why))
+
+-- the lines of a part end where they may
+abbrev pub section_ended : ℕ → Result (ℕ × SectionView × List (List ℕ)) (ℕ × Wrong)
+    → Result SectionView WrongLine
+section_ended place (Ok read) = end_or (place, (read.0, Form)) read.1 (section_end read.1)
+section_ended place (Err wrong) = Err (place, wrong)
+
+-- behind the front of a part, and the last token of the parts before it
+abbrev pub section_at : OpenView → Option Token → SectionView
+section_at open last = record {
+  is_ledger = open.is_ledger;
+  is_first = true;
+  left = open.left;
+  last = last;
+  part = open.part;
+  so_far = no_sums;
+}
+
+-- the lines of the part at this place
+abbrev pub section_of : ℕ → Option Token → OpenView → Result SectionView WrongLine
+section_of place last open =
+    section_ended place
+    (run (λ s. false) (bounded Form section_step) open.number (section_at open last) open.lines)
+
+-- the lines of all parts, from the part at this place on, behind the last token
+abbrev pub sections_of : ℕ → Option Token → List OpenView → Result (Option Token) WrongLine
+sections_of place last [] = Ok last
+sections_of place last (open ∷ opens) =
+    and_then (section_of place last open) (λ s. sections_of (place + 1) s.last opens)
+
+-- the whole's report up to its lines of tokens
+abbrev pub report_front : FrontsView → List ℕ
+report_front s =
+    uploads_section (map Posted s.taps)
+    ++ (totals_line s.totals ++ (validators_section s.validators
+    ++ number_line (codes "tokens ") s.tokens))
+
+-- the whole's text up to its lines of tokens or of entries
+abbrev pub whole_front : FrontsView → List ℕ
+whole_front s = cond s.is_ledger head_text (report_front s)
+
+abbrev pub lines_left : List OpenView → List ℕ
+lines_left opens = flat_map (λ open. flat_map (λ line. line) open.lines) opens
+
+abbrev pub merged : FrontsView × List OpenView → Result (List ℕ) WrongLine
+merged read =
+    and_then (sections_of 0 None read.1) (λ last. Ok (whole_front read.0 ++ lines_left read.1))
+
+-- THE text into which the texts of parts, in their order, are merged: a report or a ledger. Or the
+-- first line that is wrong, and why: the fronts of all parts come before the lines behind them.
+abbrev pub merge_of : List (List ℕ) → Result (List ℕ) WrongLine
+merge_of [] = Err (0, (1, Form))
+merge_of (text ∷ texts) = and_then (fronts_of no_fronts [] (text ∷ texts)) merged
+
+-- the fault is the wrong line, if it is one of the texts
+abbrev pub IsFaultOf : {S : Type 0} → Result S WrongLine → MergeFault → Type 0
+IsFaultOf said (Line text number why) = said ≡ Err (text, (number, why))
+IsFaultOf said (Unread text) = Unit {0}
+IsFaultOf said (TooLong text) = Unit {0}
+IsFaultOf said Write = Unit {0}
+IsFaultOf said NoMemory = Unit {0}
+
+-- The merged text is written; or the wrong line is known. If a read, a write or an allocation failed,
+-- a prefix of the merged text was written, if there is one.
+abbrev pub MergedAs : Result (List ℕ) WrongLine → Option (List ℕ) → Option (List ℕ)
+    → Result Unit MergeFault → Type 0
+MergedAs said before after (Ok done) =
+    (text : List ℕ) × (said ≡ Ok text) × Appends before after text
+MergedAs said before after (Err fault) =
+    IsFaultOf said fault × ((text : List ℕ) → said ≡ Ok text → AppendsPrefix before after text)

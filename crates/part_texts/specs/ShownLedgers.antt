@@ -1,0 +1,59 @@
+-- Ledgers of parts as they are printed, and what they are merged into.
+use Rattle.std.specs.Prelude.{◌≡◌, ◌<◌, ◌≤◌, ◌^◌, ◌||◌, ℕ, Bool, true, false, List, [], ◌∷◌, ◌++◌, All, length}
+use Rattle.std.specs.Prelude.{Option, Some, None, flat_map, nat_eq}
+use Rattle.std.specs.List.{AllByRecursion}
+use Rattle.tap_views.specs.declared.token.Token.{Token}
+use Rattle.fare_texts.specs.LedgerLines.{head_text}
+use Rattle.part_texts.specs.EntryLines.{entry_token_in}
+use Rattle.part_texts.specs.Heads.{part_head}
+use Rattle.part_texts.specs.Sections.{may_follow}
+use Rattle.part_texts.specs.Shown.{SpanFits, are_joined, is_none_behind}
+use Rattle.part_texts.specs.declared.spans.Place.{Place}
+use Rattle.part_texts.specs.declared.spans.FileSpan.{FileSpan}
+
+-- a line of a ledger, and its token
+pub record EntryLine : Type 0 where
+  pub token : Token
+  pub line : List ℕ
+
+-- The line is one: at most 1,000 bytes that are no line feed, and a line feed. It has the form of a
+-- ledger's line, and the token stands in front.
+pub record IsEntryLine (entry : EntryLine) : Type 0 where
+  pub front : List ℕ
+  pub no_feed : All (λ byte. ¬ (byte ≡ 10)) front
+  pub short : length front ≤ 1000
+  pub shown : entry.line ≡ front ++ 10 ∷ []
+  pub form : entry_token_in entry.line ≡ Some entry.token
+
+-- what the ledger of a part has
+pub record PartLedger : Type 0 where
+  pub spans : List FileSpan
+  pub entries : List EntryLine
+
+abbrev pub lines_of_entries : List EntryLine → List ℕ
+lines_of_entries entries = flat_map (λ entry. entry.line) entries
+
+-- the text of the part
+abbrev pub ledger_text : PartLedger → List ℕ
+ledger_text p = part_head p.spans ++ (head_text ++ lines_of_entries p.entries)
+
+-- the token of each entry may follow that of the one before
+abbrev pub do_follow : Bool → Option Token → List EntryLine → Type 0
+do_follow first last [] = Unit {0}
+do_follow first last (entry ∷ more) =
+    (may_follow first last entry.token ≡ true) × do_follow false (Some entry.token) more
+
+-- the token of the last entry
+abbrev pub last_entry : Option Token → List EntryLine → Option Token
+last_entry last [] = last
+last_entry last (entry ∷ more) = last_entry (Some entry.token) more
+
+-- the ledgers follow, one after the other, behind these ends of files and this token
+abbrev pub are_next_ledgers : Bool → List (Option Place) → Option Token → List PartLedger → Type 0
+are_next_ledgers first ends last [] = Unit {0}
+are_next_ledgers first ends last (p ∷ ps) =
+    (next : List (Option Place)) × (length p.spans < 2 ^ 64) × AllByRecursion SpanFits p.spans
+    × ((first || nat_eq (length p.spans) (length ends)) ≡ true)
+    × AllByRecursion IsEntryLine p.entries × do_follow true last p.entries
+    × are_joined first (is_none_behind ps) ends p.spans next
+    × are_next_ledgers false next (last_entry last p.entries) ps

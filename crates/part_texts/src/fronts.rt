@@ -1,0 +1,502 @@
+//! The fronts of parts: each part's text up to its lines of tokens or of entries.
+
+ghost use Rattle.std.specs.Prelude.{◌≡◌, ◌<◌, IfOk, MatchOption, None, Some, option_map, unwrap_or};
+ghost use Rattle.std.specs.BTreeMap.{is_at};
+ghost use Rattle.std.specs.Map.{lookup};
+ghost use Rattle.std.specs.Ordering.{nat_cmp};
+ghost use Rattle.std.specs.Str.{bytes_eq};
+ghost use Rattle.fare_texts.specs.LedgerLines.{head_text};
+ghost use Rattle.histories.specs.Shown.{validator_sum};
+ghost use Rattle.histories.specs.Sums.{sums_of};
+ghost use Rattle.line_folds.specs.Folds.{TakesAs};
+ghost use Rattle.part_texts.specs.Fronts.{IsWith, begun, fronts_view, is_above, may_end, no_fronts, no_sums};
+ghost use Rattle.part_texts.specs.Fronts.{place_eq, plus, posted_in, shown_sums, starts, sums_eq};
+ghost use Rattle.part_texts.specs.Fronts.{sums_within, taps_before};
+ghost use Rattle.part_texts.specs.FrontSteps.{head_step, kind_step};
+ghost use Rattle.part_texts.specs.FrontSteps.{ledger_step, span_step, tokens_step, totals_step};
+ghost use Rattle.part_texts.specs.FrontSteps.{upload_step, uploads_step, validator_step, validators_step};
+
+use crate::head::span_in;
+use crate::spans::{FileSpan, Place};
+use fare_texts::head_line;
+use histories::{Totals, ValidatorSum};
+use line_folds::{Fold, Refusal};
+use report_texts::Wrong;
+use report_texts::forms::{head_in, totals_in, upload_in, validator_in};
+use std::alloc::{AllocError, Global};
+use std::collections::{BTreeMap, VecDeque};
+use tap_views::UploadEnd;
+
+/// The most taps of a sum.
+const MAX_WHOLE_TAPS: u128 = 1 << 95;
+
+/// Which line of a part's front is next.
+#[derive(Clone, Copy, Debug, PartialEq, Eq)]
+pub enum Stage {
+    /// `part files 2`.
+    Head,
+    /// The line of a file; if none is left, `uploads 2` or the header line of a ledger.
+    Files { files: u64, left: u64 },
+    /// The line of an upload; if none is left, that of the totals. `posted` are the taps so far.
+    Uploads { uploads: u64, left: u64, posted: u64 },
+    /// `validators 3`.
+    AfterTotals,
+    /// The line of a validator; if none is left, `tokens 5`.
+    Validators { left: u64, last: Option<u32> },
+    /// The front is read, and this number of lines of tokens follows.
+    Tokens { left: u64 },
+    /// The front is read, and the lines of a ledger's entries follow.
+    Entries,
+}
+
+/// What the fronts of the parts say, as far as they are read.
+#[derive(Drop)]
+pub struct Fronts {
+    pub stage: Stage,
+    /// Whether no part was read before this one.
+    pub is_first: bool,
+    /// Whether no part follows this one.
+    pub is_last: bool,
+    /// Whether the parts are ledgers.
+    pub is_ledger: bool,
+    /// Where the taps of the parts so far end in each file, from the next file on.
+    pub ends: VecDeque<Option<Place>>,
+    /// How many taps the parts so far have of each upload, from the next upload on.
+    pub taps: VecDeque<u64>,
+    /// The part's totals.
+    pub part: Totals,
+    /// What the part's validators so far add up to.
+    pub so_far: Totals,
+    /// The totals of all parts so far.
+    pub totals: Totals,
+    /// The sums of each validator in all parts so far.
+    pub validators: BTreeMap<u32, Totals>,
+    /// How many tokens all parts so far have.
+    pub tokens: u64,
+}
+
+/// Two sums added up, if they have no more taps than any run has.
+pub(crate) fn added(sum: &Totals, more: &Totals) -> Option<Totals>
+    ensures { option_map sums_of result ≡ sums_within (sums_of sum.now) (sums_of more.now) }
+{
+    match sum.taps.checked_add(more.taps) {
+        Some(taps) if taps <= MAX_WHOLE_TAPS => {
+            let mut all = *sum;
+            all.add_all(more);
+            Some(all)
+        }
+        _ => None,
+    }
+}
+
+/// Whether the sums are the same.
+pub(crate) fn are_same(a: &Totals, b: &Totals) -> bool
+    ensures { result ≡ sums_eq (sums_of a.now) (sums_of b.now) }
+{
+    a.taps == b.taps
+        && a.paid == b.paid
+        && a.transfers == b.transfers
+        && a.capped == b.capped
+        && a.stale == b.stale
+        && a.unknown == b.unknown
+        && a.cents == b.cents
+}
+
+/// Two numbers added up, if the sum fits 64 bits.
+fn plus(a: u64, b: u64) -> Option<u64>
+    ensures { result ≡ plus a b }
+{
+    a.checked_add(b)
+}
+
+fn is_same_place(a: Place, b: Place) -> bool
+    ensures { result ≡ place_eq a b }
+{
+    a.offset == b.offset && a.skip == b.skip
+}
+
+/// Whether a span of the part may end there.
+fn may_end(is_last: bool, to: Option<Place>) -> bool
+    ensures { result ≡ may_end is_last to }
+{
+    match to {
+        None => true,
+        Some(_) => !is_last,
+    }
+}
+
+/// Where the part's taps must begin in the next file.
+fn next_start(is_first: bool, ends: &mut VecDeque<Option<Place>>) -> Option<Place>
+    ensures { MatchOption result (starts is_first ends.old.items ≡ None)
+        (λ place. starts is_first ends.old.items ≡ Some (place, ends.new.items)) }
+{
+    if is_first {
+        return Some(Place { offset: 0, skip: 0 });
+    }
+    match ends.pop_front() {
+        Some(Some(place)) => Some(place),
+        Some(None) => None,
+        None => None,
+    }
+}
+
+/// How many taps the earlier parts have of the next upload.
+fn next_taps(is_first: bool, taps: &mut VecDeque<u64>) -> Option<u64>
+    ensures { MatchOption result (taps_before is_first taps.old.items ≡ None)
+        (λ number. taps_before is_first taps.old.items ≡ Some (number, taps.new.items)) }
+{
+    if is_first {
+        return Some(0);
+    }
+    taps.pop_front()
+}
+
+/// The taps of an upload that was posted whole.
+fn posted_in(end: &UploadEnd) -> Option<u64>
+    ensures { result ≡ posted_in end.now }
+{
+    match end {
+        UploadEnd::Posted { taps } => Some(*taps),
+        _ => None,
+    }
+}
+
+/// Whether the validator is above the last one.
+fn is_above(last: Option<u32>, validator: u32) -> bool
+    ensures { result ≡ is_above last validator }
+{
+    match last {
+        Some(last) => last < validator,
+        None => true,
+    }
+}
+
+/// The sums that a validator has; those of nothing if it has none.
+fn kept_of(validators: &BTreeMap<u32, Totals>, validator: u32) -> Totals
+    ensures { sums_of result ≡ unwrap_or (lookup (is_at (nat_cmp validator))
+        (shown_sums sums_of validators.now.entries)) no_sums }
+{
+    match validators.get(&validator) {
+        Some(kept) => *kept,
+        None => no_totals(),
+    }
+}
+
+/// The totals of nothing.
+pub(crate) fn no_totals() -> Totals
+    ensures { sums_of result ≡ no_sums }
+{
+    Totals {
+        taps: 0,
+        paid: 0,
+        transfers: 0,
+        capped: 0,
+        stale: 0,
+        unknown: 0,
+        cents: 0,
+    }
+}
+
+/// Adds a validator's sums to those that it has. Says whether they are no more than any run has.
+fn add_validator(
+    validators: &mut BTreeMap<u32, Totals>,
+    sum: &ValidatorSum,
+) -> Result<bool, AllocError>
+    ensures { IfOk result (λ fits. IsWith (shown_sums sums_of validators.old.entries)
+        (shown_sums sums_of validators.new.entries) (validator_sum sum.now) fits) }
+{
+    let kept = kept_of(validators, sum.validator);
+    let Some(all) = added(&kept, &sum.totals) else {
+        return Ok(false);
+    };
+    validators.insert(sum.validator, all)?;
+    Ok(true)
+}
+
+fn is_head_line(line: &[u8]) -> bool
+    ensures { result ≡ bytes_eq line.now head_text }
+{
+    line == head_line().as_bytes()
+}
+
+impl Fronts {
+    /// What no parts say.
+    pub(crate) fn new(alloc: Global) -> Fronts
+        ensures { fronts_view result ≡ no_fronts }
+    {
+        Fronts {
+            stage: Stage::Head,
+            is_first: true,
+            is_last: false,
+            is_ledger: false,
+            ends: VecDeque::new(alloc),
+            taps: VecDeque::new(alloc),
+            part: no_totals(),
+            so_far: no_totals(),
+            totals: no_totals(),
+            validators: BTreeMap::new(alloc),
+            tokens: 0,
+        }
+    }
+
+    /// Begins the part at this place, of so many parts.
+    pub(crate) fn begin(&mut self, place: usize, count: usize)
+        ensures { fronts_view self.new ≡ begun place count (fronts_view self.old) }
+    {
+        self.stage = Stage::Head;
+        self.is_first = place == 0;
+        self.is_last = count <= place.saturating_add(1);
+    }
+
+    fn take_head(&mut self, line: &[u8]) -> Result<(), Refusal<Wrong>>
+        ensures { TakesAs (head_step (fronts_view self.old) line.now) (fronts_view self.new) result }
+    {
+        let Some(files) = head_in(line, b"part files ") else {
+            return Err(Refusal::Wrong(Wrong::Form));
+        };
+        if !(self.is_first || files == self.ends.len() as u64) {
+            return Err(Refusal::Wrong(Wrong::Form));
+        }
+        self.stage = Stage::Files { files, left: files };
+        Ok(())
+    }
+
+    fn take_span(&mut self, files: u64, left: u64, line: &[u8]) -> Result<(), Refusal<Wrong>>
+        requires { 0 < left }
+        ensures { TakesAs (span_step files left (fronts_view self.old) line.now)
+            (fronts_view self.new) result }
+    {
+        let Some((file, span)) = span_in(line) else {
+            return Err(Refusal::Wrong(Wrong::Form));
+        };
+        if file != files.saturating_sub(left) {
+            return Err(Refusal::Wrong(Wrong::Form));
+        }
+        let Some(start) = next_start(self.is_first, &mut self.ends) else {
+            return Err(Refusal::Wrong(Wrong::Order));
+        };
+        if !(is_same_place(start, span.from) && may_end(self.is_last, span.to)) {
+            return Err(Refusal::Wrong(Wrong::Order));
+        }
+        let Ok(()) = self.ends.push_back(span.to) else {
+            return Err(Refusal::NoMemory);
+        };
+        self.stage = Stage::Files {
+            files,
+            left: left - 1,
+        };
+        Ok(())
+    }
+
+    fn take_header(&mut self) -> Result<(), Refusal<Wrong>>
+        ensures { TakesAs (ledger_step (fronts_view self.old)) (fronts_view self.new) result }
+    {
+        if !(self.is_first || self.is_ledger) {
+            return Err(Refusal::Wrong(Wrong::Form));
+        }
+        self.stage = Stage::Entries;
+        self.is_ledger = true;
+        Ok(())
+    }
+
+    fn take_uploads(&mut self, files: u64, line: &[u8]) -> Result<(), Refusal<Wrong>>
+        ensures { TakesAs (uploads_step files (fronts_view self.old) line.now)
+            (fronts_view self.new) result }
+    {
+        let Some(uploads) = head_in(line, b"uploads ") else {
+            return Err(Refusal::Wrong(Wrong::Form));
+        };
+        if !(uploads == files && (self.is_first || !self.is_ledger)) {
+            return Err(Refusal::Wrong(Wrong::Form));
+        }
+        self.stage = Stage::Uploads {
+            uploads,
+            left: uploads,
+            posted: 0,
+        };
+        self.is_ledger = false;
+        Ok(())
+    }
+
+    fn take_kind(&mut self, files: u64, line: &[u8]) -> Result<(), Refusal<Wrong>>
+        ensures { TakesAs (kind_step files (fronts_view self.old) line.now)
+            (fronts_view self.new) result }
+    {
+        if is_head_line(line) {
+            self.take_header()
+        } else {
+            self.take_uploads(files, line)
+        }
+    }
+
+    fn take_upload(
+        &mut self,
+        uploads: u64,
+        left: u64,
+        posted: u64,
+        line: &[u8],
+    ) -> Result<(), Refusal<Wrong>>
+        requires { 0 < left }
+        ensures { TakesAs (upload_step uploads left posted (fronts_view self.old) line.now)
+            (fronts_view self.new) result }
+    {
+        let Some((upload, end)) = upload_in(line) else {
+            return Err(Refusal::Wrong(Wrong::Form));
+        };
+        if upload != uploads.saturating_sub(left) {
+            return Err(Refusal::Wrong(Wrong::Form));
+        }
+        let Some(taps) = posted_in(&end) else {
+            return Err(Refusal::Wrong(Wrong::NotPosted));
+        };
+        let Some(before) = next_taps(self.is_first, &mut self.taps) else {
+            return Err(Refusal::Wrong(Wrong::Form));
+        };
+        let Some(all) = plus(before, taps) else {
+            return Err(Refusal::Wrong(Wrong::Totals));
+        };
+        let Some(posted) = plus(posted, taps) else {
+            return Err(Refusal::Wrong(Wrong::Totals));
+        };
+        let Ok(()) = self.taps.push_back(all) else {
+            return Err(Refusal::NoMemory);
+        };
+        self.stage = Stage::Uploads {
+            uploads,
+            left: left - 1,
+            posted,
+        };
+        Ok(())
+    }
+
+    fn take_totals(&mut self, posted: u64, line: &[u8]) -> Result<(), Refusal<Wrong>>
+        ensures { TakesAs (totals_step posted (fronts_view self.old) line.now)
+            (fronts_view self.new) result }
+    {
+        let Some(part) = totals_in(line) else {
+            return Err(Refusal::Wrong(Wrong::Form));
+        };
+        if part.taps != u128::from(posted) {
+            return Err(Refusal::Wrong(Wrong::Totals));
+        }
+        let Some(all) = added(&self.totals, &part) else {
+            return Err(Refusal::Wrong(Wrong::Totals));
+        };
+        self.stage = Stage::AfterTotals;
+        self.part = part;
+        self.so_far = no_totals();
+        self.totals = all;
+        Ok(())
+    }
+
+    fn take_validators(&mut self, line: &[u8]) -> Result<(), Refusal<Wrong>>
+        ensures { TakesAs (validators_step (fronts_view self.old) line.now)
+            (fronts_view self.new) result }
+    {
+        let Some(left) = head_in(line, b"validators ") else {
+            return Err(Refusal::Wrong(Wrong::Form));
+        };
+        self.stage = Stage::Validators { left, last: None };
+        Ok(())
+    }
+
+    fn take_validator(
+        &mut self,
+        left: u64,
+        last: Option<u32>,
+        line: &[u8],
+    ) -> Result<(), Refusal<Wrong>>
+        requires { 0 < left }
+        ensures { TakesAs (validator_step left last (fronts_view self.old) line.now)
+            (fronts_view self.new) result }
+    {
+        let Some(sum) = validator_in(line) else {
+            return Err(Refusal::Wrong(Wrong::Form));
+        };
+        if !is_above(last, sum.validator) {
+            return Err(Refusal::Wrong(Wrong::Order));
+        }
+        let Some(so_far) = added(&self.so_far, &sum.totals) else {
+            return Err(Refusal::Wrong(Wrong::Totals));
+        };
+        if !add_validator(&mut self.validators, &sum)? {
+            return Err(Refusal::Wrong(Wrong::Totals));
+        }
+        self.stage = Stage::Validators {
+            left: left - 1,
+            last: Some(sum.validator),
+        };
+        self.so_far = so_far;
+        Ok(())
+    }
+
+    fn take_tokens(&mut self, line: &[u8]) -> Result<(), Refusal<Wrong>>
+        ensures { TakesAs (tokens_step (fronts_view self.old) line.now)
+            (fronts_view self.new) result }
+    {
+        let Some(left) = head_in(line, b"tokens ") else {
+            return Err(Refusal::Wrong(Wrong::Form));
+        };
+        if !are_same(&self.part, &self.so_far) {
+            return Err(Refusal::Wrong(Wrong::Totals));
+        }
+        let Some(all) = plus(self.tokens, left) else {
+            return Err(Refusal::Wrong(Wrong::Totals));
+        };
+        self.stage = Stage::Tokens { left };
+        self.tokens = all;
+        Ok(())
+    }
+}
+
+impl Fold for Fronts {
+    type Why = Wrong;
+
+    ghost use Rattle.std.specs.Prelude.{[]};
+    ghost use Rattle.part_texts.specs.Fronts.{FrontsView, fronts_view};
+    ghost use Rattle.part_texts.specs.FrontSteps.{front_done, front_step};
+    ghost use Rattle.report_texts.specs.declared.wrong.Wrong.TheVariants.{Form};
+
+    ghost State = { FrontsView };
+
+    ghost state = { fronts_view };
+
+    ghost step = { front_step };
+
+    ghost done = { front_done };
+
+    ghost long = { Form };
+
+    ghost writes = { λ _ _. [] };
+
+    fn is_done(&self) -> bool {
+        matches!(self.stage, Stage::Tokens { .. } | Stage::Entries)
+    }
+
+    fn long_line() -> Wrong {
+        Wrong::Form
+    }
+
+    fn take(&mut self, line: &[u8]) -> Result<(), Refusal<Wrong>> {
+        match self.stage {
+            Stage::Head => self.take_head(line),
+            Stage::Files { files, left: 0 } => self.take_kind(files, line),
+            Stage::Files { files, left } => self.take_span(files, left, line),
+            Stage::Uploads {
+                uploads: _,
+                left: 0,
+                posted,
+            } => self.take_totals(posted, line),
+            Stage::Uploads {
+                uploads,
+                left,
+                posted,
+            } => self.take_upload(uploads, left, posted, line),
+            Stage::AfterTotals => self.take_validators(line),
+            Stage::Validators { left: 0, last: _ } => self.take_tokens(line),
+            Stage::Validators { left, last } => self.take_validator(left, last, line),
+            Stage::Tokens { left: _ } => Err(Refusal::Wrong(Wrong::Form)),
+            Stage::Entries => Err(Refusal::Wrong(Wrong::Form)),
+        }
+    }
+}

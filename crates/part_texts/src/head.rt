@@ -1,0 +1,179 @@
+//! The head of a part's text: how it is written, and how its lines are read.
+
+ghost use Rattle.std.specs.Prelude.{◌≡◌, ◌++◌, IfErr, IfOk, OnOk, codes, string_bytes};
+ghost use Rattle.std.specs.Fmt.{decimal};
+ghost use Rattle.std.specs.Io.KnownBytes.{Appends};
+ghost use Rattle.fare_texts.specs.PrintFaults.{KeepsUnlessWrite};
+ghost use Rattle.fare_texts.specs.WrittenOut.{Begins};
+ghost use Rattle.fare_texts.specs.declared.print_fault.PrintFault.TheVariants.{Write as ForWrite};
+ghost use Rattle.part_texts.specs.HeadForms.{span_in};
+ghost use Rattle.part_texts.specs.Heads.{part_head, place_text, span_line, span_lines, to_text};
+
+use crate::spans::{FileSpan, Place};
+use fare_texts::{PrintFault, write_out};
+use line_forms::form::FormOf;
+use line_forms::forms::{Behind, Then, after_word, line_of};
+use line_forms::number::Number64;
+use report_texts::write_section_head;
+use std::alloc::{AllocError, Global};
+use std::io::Write;
+
+/// Appends `14344 skip 25`.
+fn write_place(text: &mut String, place: Place) -> Result<(), AllocError>
+    ensures { OnOk result (string_bytes text.new ≡ string_bytes text.old ++ place_text place) }
+{
+    let Place { offset, skip } = place;
+    write!(text, "{offset} skip {skip}")
+}
+
+/// Appends `14344 skip 25`, or `end`.
+fn write_to(text: &mut String, to: Option<Place>) -> Result<(), AllocError>
+    ensures { OnOk result (string_bytes text.new ≡ string_bytes text.old ++ to_text to) }
+{
+    match to {
+        None => text.push_str("end"),
+        Some(place) => write_place(text, place),
+    }
+}
+
+/// Appends `file 0 from `.
+fn write_file(text: &mut String, file: u64) -> Result<(), AllocError>
+    ensures { OnOk result (string_bytes text.new
+        ≡ string_bytes text.old ++ (codes "file " ++ (decimal file ++ codes " from "))) }
+{
+    write!(text, "file {file} from ")
+}
+
+/// Appends the line `file 0 from 0 skip 0 to 14344 skip 25`.
+fn write_span(text: &mut String, file: u64, span: &FileSpan) -> Result<(), AllocError>
+    ensures { OnOk result (string_bytes text.new
+        ≡ string_bytes text.old ++ span_line file span.now) }
+{
+    write_file(text, file)?;
+    write_place(text, span.from)?;
+    text.push_str(" to ")?;
+    write_to(text, span.to)?;
+    text.push_str("\n")
+}
+
+/// Appends a line for each file.
+#[tactic(auto, using(crate::proofs::HeadTexts::spans_more))]
+fn write_spans(text: &mut String, spans: &[FileSpan]) -> Result<(), AllocError>
+    ensures { OnOk result (string_bytes text.new
+        ≡ string_bytes text.old ++ span_lines 0 spans.now) }
+{
+    for (file, span) in spans.iter().enumerate() {
+        write_span(text, file as u64, span)?;
+    }
+    Ok(())
+}
+
+/// The head of the text of a part that has these taps of each file.
+fn head_text(alloc: Global, spans: &[FileSpan]) -> Result<Vec<u8>, AllocError>
+    ensures { IfOk result (λ text. text.items ≡ part_head spans.now) }
+{
+    let mut text = String::new(alloc);
+    write_section_head(&mut text, "part files ", spans.len() as u128)?;
+    write_spans(&mut text, spans)?;
+    Ok(text.into_bytes())
+}
+
+/// Writes the head of the text of a part that has these taps of each file. On a fault of memory
+/// nothing was written.
+pub fn write_part_head<W: Write>(
+    alloc: Global,
+    spans: &[FileSpan],
+    out: &mut W,
+) -> Result<(), PrintFault>
+    ensures ok { OnOk result
+        (Appends (W.contents out.old) (W.contents out.new) (part_head spans.now)) }
+    ensures begun { IfErr result (λ fault. fault ≡ ForWrite
+        → Begins (W.contents out.old) (W.contents out.new) (part_head spans.now)) }
+    ensures fault { IfErr result (λ fault. KeepsUnlessWrite fault (out.new ≡ out.old)) }
+{
+    let Ok(text) = head_text(alloc, spans) else {
+        return Err(PrintFault::NoMemory);
+    };
+    write_out(text.as_slice(), out)?;
+    Ok(())
+}
+
+/// A place behind a word.
+#[derive(Drop)]
+struct PlaceBehind<'w>(&'w [u8]);
+
+impl<'a, 'w> FormOf<'a> for PlaceBehind<'w> {
+    type Value = Place;
+
+    ghost use Rattle.line_forms.specs.Numbers.{BeginsWithNoDigit};
+    ghost use Rattle.part_texts.specs.declared.spans.Place.{Place as APlace};
+    ghost use Rattle.part_texts.specs.HeadForms.{place_read};
+    ghost use Rattle.part_texts.specs.HeadLaws.{IsPlaceText, place_law};
+
+    ghost Said = { APlace };
+
+    ghost said = { λ place. place };
+
+    ghost reads = { λ form. place_read form.0.now };
+
+    ghost says = { λ form. IsPlaceText form.0.now };
+
+    ghost ends = { λ form. BeginsWithNoDigit };
+
+    ghost valid = { λ form. Unit {0} };
+
+    fn read(&self, text: &'a [u8]) -> Option<(Place, &'a [u8])> {
+        let form = Then(Behind(self.0, Number64), Behind(b" skip ", Number64));
+        let ((offset, skip), rest) = form.read(text)?;
+        Some((Place { offset, skip }, rest))
+    }
+
+    ghost law = { λ form valid. place_law form.0.now };
+}
+
+/// Where a span ends.
+#[derive(Drop)]
+struct SpanEnd;
+
+impl<'a> FormOf<'a> for SpanEnd {
+    type Value = Option<Place>;
+
+    ghost use Rattle.std.specs.Prelude.{Option};
+    ghost use Rattle.line_forms.specs.Numbers.{BeginsWithNoDigit};
+    ghost use Rattle.part_texts.specs.declared.spans.Place.{Place as APlace};
+    ghost use Rattle.part_texts.specs.HeadForms.{to_read};
+    ghost use Rattle.part_texts.specs.HeadLaws.{IsToText, to_law};
+
+    ghost Said = { Option APlace };
+
+    ghost said = { λ to. to };
+
+    ghost reads = { λ form. to_read };
+
+    ghost says = { λ form. IsToText };
+
+    ghost ends = { λ form. BeginsWithNoDigit };
+
+    ghost valid = { λ form. Unit {0} };
+
+    fn read(&self, text: &'a [u8]) -> Option<(Option<Place>, &'a [u8])> {
+        match PlaceBehind(b" to ").read(text) {
+            Some((place, rest)) => Some((Some(place), rest)),
+            None => {
+                let rest = after_word(text, b" to end")?;
+                Some((None, rest))
+            }
+        }
+    }
+
+    ghost law = { λ form valid. to_law };
+}
+
+/// The file's number and the span in the line `file 0 from 0 skip 0 to 14344 skip 25`.
+pub fn span_in(line: &[u8]) -> Option<(u64, FileSpan)>
+    ensures { result ≡ span_in line.now }
+{
+    let form = Then(Behind(b"file ", Number64), Then(PlaceBehind(b" from "), SpanEnd));
+    let (file, (from, to)) = line_of(&form, line)?;
+    Some((file, FileSpan { from, to }))
+}

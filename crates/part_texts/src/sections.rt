@@ -1,0 +1,197 @@
+//! The lines of a part behind its front: those of tokens, or those of a ledger's entries.
+
+ghost use Rattle.std.specs.Prelude.{◌≡◌, IfSome, false, option_map};
+ghost use Rattle.line_folds.specs.Folds.{HasWritten, StopsAs, bounded, lines_of, run, written};
+ghost use Rattle.part_texts.specs.EntryLines.{entry_token_in, first_of};
+ghost use Rattle.part_texts.specs.Sections.{IsNext, entry_step, is_token_above, may_follow};
+ghost use Rattle.part_texts.specs.Sections.{section_end, section_step, section_view, token_step};
+ghost use Rattle.report_texts.specs.Forms.{token_read};
+ghost use Rattle.report_texts.specs.declared.wrong.Wrong.TheVariants.{Form};
+
+use crate::fronts::{added, are_same};
+use fare_texts::write_out;
+use histories::Totals;
+use ledger_fields::row_fields;
+use line_folds::{NextLine, ReadFault, Stop, next_line};
+use line_forms::form::FormOf;
+use report_texts::Wrong;
+use report_texts::forms::{TokenDigits, token_line_in};
+use std::alloc::Global;
+use std::io::{BufRead, Write};
+use tap_views::Token;
+
+/// What the lines of a part so far leave.
+#[derive(Clone, Copy, Debug, PartialEq, Eq)]
+pub(crate) struct Section {
+    pub(crate) is_ledger: bool,
+    /// Whether the next line is the part's first one.
+    pub(crate) is_first: bool,
+    /// How many lines of tokens are left.
+    pub(crate) left: u64,
+    /// The token of the line before, of this part or of an earlier one.
+    pub(crate) last: Option<Token>,
+    /// The part's totals.
+    pub(crate) part: Totals,
+    /// What the part's tokens so far add up to.
+    pub(crate) so_far: Totals,
+}
+
+/// The token in front of the line.
+fn front_token(line: &[u8]) -> Option<Token>
+    ensures { result ≡ option_map first_of (token_read line.now) }
+{
+    let (token, _) = TokenDigits.read(line)?;
+    Some(token)
+}
+
+/// The token in front of the line, if the line has the form of a ledger's line.
+fn entry_token_in(line: &[u8]) -> Option<Token>
+    ensures { result ≡ entry_token_in line.now }
+{
+    match row_fields(line) {
+        Some(_) => front_token(line),
+        None => None,
+    }
+}
+
+fn is_token_above(last: Option<Token>, token: Token) -> bool
+    ensures { result ≡ is_token_above last token }
+{
+    match last {
+        Some(last) => last < token,
+        None => true,
+    }
+}
+
+/// Whether the token of an entry may follow the last one.
+fn may_follow(is_first: bool, last: Option<Token>, token: Token) -> bool
+    ensures { result ≡ may_follow is_first last token }
+{
+    match last {
+        None => true,
+        Some(last) => {
+            if is_first {
+                last < token
+            } else {
+                !(token < last)
+            }
+        }
+    }
+}
+
+impl Section {
+    /// What is left behind the line of an entry, or why the line is wrong.
+    fn behind_entry(self, line: &[u8]) -> Result<Section, Wrong>
+        ensures { IsNext (entry_step (section_view self) line.now) result }
+    {
+        let Some(token) = entry_token_in(line) else {
+            return Err(Wrong::Form);
+        };
+        if !may_follow(self.is_first, self.last, token) {
+            return Err(Wrong::Order);
+        }
+        Ok(Section {
+            is_ledger: self.is_ledger,
+            is_first: false,
+            left: self.left,
+            last: Some(token),
+            part: self.part,
+            so_far: self.so_far,
+        })
+    }
+
+    /// What is left behind the line of a token, or why the line is wrong.
+    fn behind_token(self, line: &[u8]) -> Result<Section, Wrong>
+        ensures { IsNext (token_step (section_view self) line.now) result }
+    {
+        if self.left == 0 {
+            return Err(Wrong::Form);
+        }
+        let Some(sum) = token_line_in(line) else {
+            return Err(Wrong::Form);
+        };
+        if !is_token_above(self.last, sum.token) {
+            return Err(Wrong::Order);
+        }
+        let Some(so_far) = added(&self.so_far, &sum.totals) else {
+            return Err(Wrong::Totals);
+        };
+        Ok(Section {
+            is_ledger: self.is_ledger,
+            is_first: self.is_first,
+            left: self.left - 1,
+            last: Some(sum.token),
+            part: self.part,
+            so_far,
+        })
+    }
+
+    /// What is left behind one more line, or why the line is wrong.
+    pub(crate) fn behind(self, line: &[u8]) -> Result<Section, Wrong>
+        ensures { IsNext (section_step (section_view self) line.now) result }
+    {
+        if self.is_ledger {
+            self.behind_entry(line)
+        } else {
+            self.behind_token(line)
+        }
+    }
+
+    /// What is wrong if the part ends here.
+    pub(crate) fn end(&self) -> Option<Wrong>
+        ensures { result ≡ section_end (section_view self.now) }
+    {
+        if self.is_ledger {
+            return None;
+        }
+        if self.left != 0 {
+            return Some(Wrong::Form);
+        }
+        if are_same(&self.part, &self.so_far) {
+            None
+        } else {
+            Some(Wrong::Totals)
+        }
+    }
+}
+
+/// Reads what is left of a part from the line of this number on, and writes each line that may stand
+/// there.
+pub(crate) fn copy_lines<R: BufRead, W: Write>(
+    alloc: Global,
+    from: &mut R,
+    first: u64,
+    section: &mut Section,
+    out: &mut W,
+) -> Result<u64, Stop<Wrong>>
+    ensures stops { IfSome (R.remaining from.old) (λ text.
+        StopsAs (run (λ s. false) (bounded Form section_step) first (section_view section.old)
+        (lines_of text)) (section_view section.new) (R.remaining from.new) result) }
+    ensures written { IfSome (R.remaining from.old) (λ text.
+        HasWritten (W.contents out.old) (W.contents out.new)
+        (written (λ s. false) (bounded Form section_step) (λ s line. line)
+        (section_view section.old) (lines_of text)) result) }
+{
+    let mut line = Vec::new(alloc);
+    for number in first..u64::MAX {
+        match next_line(from, &mut line) {
+            Ok(NextLine::Whole) => {}
+            Ok(NextLine::Long) => {
+                let why = Wrong::Form;
+                return Err(Stop::Line { number, why });
+            }
+            Ok(NextLine::End) => return Ok(number),
+            Err(ReadFault::Unread) => return Err(Stop::Unread),
+            Err(ReadFault::NoMemory) => return Err(Stop::NoMemory),
+        }
+        match section.behind(&line) {
+            Ok(next) => *section = next,
+            Err(why) => return Err(Stop::Line { number, why }),
+        }
+        match write_out(&line, out) {
+            Ok(()) => {}
+            Err(_) => return Err(Stop::Unwritten),
+        }
+    }
+    Err(Stop::TooLong)
+}
