@@ -52,7 +52,7 @@ returns-clause-ok g c =
     let bytes = g.W.Write.contents c.args.out.now in
     let waits = string_bytes c.in_ok-text.text in
     let spans = c.args.spans.now in
-    let same = sym c.deref-3.ensures.value ∙ c.are_spans.ensures refl in
+    let same = sym c.deref-3.ensures.value ∙ c.if-not-are_spans.ensures refl in
     let explained = c.in_ok-explain_below.ensures.explained [] begin explainer.token bytes waits
     (explained_begun fares known [] begin explainer bytes waits
     (come_first fares explainer (c.of-explainer.ensures.explained fares))) in
@@ -67,8 +67,8 @@ returns-clause-ok g c =
           let many = c.in_ok-made.ensures.number in
           let made = c.in_ok-made.made.items in
           let ends : DoSpan all places end made =
-          subst (λ (rs : List TapReader). DoSpan all places rs made) c.readers.ensures
-          (subst (λ (ps : List Place). DoSpan all ps c.readers.result.now made)
+          subst (λ (rs : List TapReader). DoSpan all places rs made) c.readers-readers.ensures
+          (subst (λ (ps : List Place). DoSpan all ps c.readers-readers.result.now made)
           c.deref.ensures.value (c.in_ok-made.ensures.spanned all are)) in
           let between = taken_between all places begin way.to spans explained.taps
           (omega (arith, number, readers))
