@@ -52,7 +52,7 @@ returns-clause-ok g c =
     let bytes = g.W.Write.contents c.args.out.now in
     let waits = string_bytes c.in_ok-text.text in
     let spans = c.args.spans.now in
-    let same = sym c.deref-3.ensures.value ∙ c.if-not-are_spans.ensures refl in
+    let same = sym c.deref-2.ensures.value ∙ c.if-not-are_spans.ensures refl in
     let explained = c.in_ok-explain_below.ensures.explained [] begin explainer.token bytes waits
     (explained_begun fares known [] begin explainer bytes waits
     (come_first fares explainer (c.of-explainer.ensures.explained fares))) in
