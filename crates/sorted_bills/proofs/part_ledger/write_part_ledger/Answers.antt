@@ -1,6 +1,6 @@
 -- The lines of the taps between the places of the spans are the ledger of the part.
 use Rattle.std.proofs.Common.{ℕ, List, [], ◌++◌, map, length, string_bytes, sym, ap, subst, ◌∙◌}
-use Rattle.std.proofs.Common.{arith, refl, ◌^◌, ◌<◌}
+use Rattle.std.proofs.Common.{arith, refl}
 use Rattle.std.proofs.lemmas.Result.{err_from_is_err_and}
 use Rattle.std.specs.Io.KnownBytes.{Appends}
 use Rattle.fare_texts.specs.LedgerLines.{head_text}
@@ -16,7 +16,6 @@ use Rattle.sorted_taps.specs.declared.places.Place.{Place}
 use Rattle.sorted_taps.specs.declared.reader.TapReader.{TapReader}
 use Rattle.sorted_taps.proofs.Files.{known_number}
 use Rattle.sorted_taps.proofs.Placing.{span_alike, taken_between}
-use Rattle.sorted_bills.specs.inside.Explained.{AreExplainedSoFar, IsBegunSoFar}
 use Rattle.sorted_bills.proofs.Counted.{late_no_write, late_says_nothing}
 use Rattle.sorted_bills.proofs.Explained.{begun_waiting, explained_begun}
 use Rattle.sorted_bills.proofs.part_ledger.write_part_ledger.Goals as goal

@@ -1,5 +1,5 @@
 -- The taps that were taken lie between the places of the spans.
-use Rattle.std.proofs.Common.{ℕ, List, [], map, length, sym, ap, subst, ◌∙◌, arith, ◌^◌, refl, ◌≡◌}
+use Rattle.std.proofs.Common.{List, [], map, ap, subst, ◌∙◌, arith, refl}
 use Rattle.std.proofs.lemmas.Result.{err_from_is_err_and}
 use Rattle.tap_views.specs.declared.upload_end.UploadEnd.TheVariants.{Posted}
 use Rattle.settlement.specs.Posted.{posted}

@@ -1,4 +1,4 @@
-use Rattle.std.proofs.Common.{List, map, length, subst, arith}
+use Rattle.std.proofs.Common.{List, subst, arith}
 use Rattle.sorted_taps.specs.Places.{DoSpan}
 use Rattle.sorted_taps.specs.declared.places.Place.{Place}
 use Rattle.sorted_taps.specs.declared.reader.TapReader.{TapReader}
