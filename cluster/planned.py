@@ -1,18 +1,19 @@
-"""The folder of a planned run: what it has, which tasks are done, and whether a part is whole."""
+"""The folder of a planned run: its files, which tasks are done, and what is damaged of it."""
 
+import hashlib
 import json
 import os
 import re
+import secrets
+import shutil
 import signal
 import socket
 import subprocess
 import sys
 
-# A task's kind, and the file that it names last: if that is there, the task is done.
-DONE = {"split": "ends/{}", "post": "reports/{}", "merge": "status"}
-BATCH_TAPS = 512  # of each batch in a part's file; the last one may have fewer
-END = "upload ([0-9]+) (?:posted|refused) ([0-9]+)(?: at [0-9]+ L[1-6])?\n"
-FOLDERS = ("bin", "groups", "parts", "sizes", "ends", "reports", "ledgers", "logs", "work")
+# A task's kind, and the folder that it makes by one rename: if that is there, the task is done.
+DONE = {"sort": "sorted/{}", "bounds": "bounds", "post": "posts/{}", "merge": "bill"}
+FOLDERS = ("bin", "groups", "sorted", "posts", "logs", "work")
 
 
 class Fault(Exception):
@@ -28,15 +29,22 @@ class Run:
 
     def __init__(self, folder):
         try:
-            with open(os.path.join(folder, "plan.json"), encoding="utf-8") as file:
-                plan = json.load(file)
-            self.parts, self.groups, self.workers, self.ledger = (
-                plan[key] for key in ("parts", "groups", "workers", "ledger"))
+            plan = load(os.path.join(folder, "plan.json"))
+            self.parts, self.sums, self.is_sorted, self.ledger, self.table = (
+                plan[key] for key in ("parts", "groups", "sorted", "ledger", "table"))
         except (FileNotFoundError, NotADirectoryError, ValueError, KeyError, TypeError):
             raise Fault(f"{folder} is no planned run") from None
         self.folder = os.path.realpath(folder)
         os.chdir(self.folder)
-        self.counts = {"split": self.groups, "post": self.parts, "merge": 1}
+        self.name, self.groups = digest("plan.json"), len(self.sums)
+        self.kinds = list(DONE)[self.is_sorted:]
+        self.texts = ["report", "ledger"][:1 + self.ledger]
+
+    def count(self, kind):
+        """How many tasks of a kind there are: of posts fewer than planned, if bounds are few."""
+        if kind == "post" and not self.left("bounds") and not self.damaged("bounds"):
+            return len(self.bounds()) + 1
+        return {"sort": self.groups, "post": self.parts}.get(kind, 1)
 
     def left(self, kind):
         """The tasks of a kind that are not done, by a list of the folder of their marks.
@@ -45,126 +53,146 @@ class Run:
         """
         folder, name = os.path.split(DONE[kind])
         there = set(os.listdir(folder or "."))
-        if kind == "merge" and not there.issuperset(["report", "ledger"][:1 + self.ledger]):
-            return [0]
-        return [number for number in range(self.counts[kind]) if name.format(number) not in there]
+        return [number for number in range(self.count(kind)) if name.format(number) not in there]
 
-    def progress(self):
-        done = ((kind, count - len(self.left(kind)), count) for kind, count in self.counts.items())
-        return " ".join(f"{kind} {some}/{count}" for kind, some, count in done)
-
-    def status(self):
-        """The status of the whole run, once it is merged: 0, or 1 if an upload was refused."""
-        with open("status", "rb") as file:
-            status = file.read()
-        if status not in (b"0\n", b"1\n"):
-            raise Fault(f"{self.folder}/status is damaged: remove it, and run again")
-        return int(status)
-
-    def settle(self, words, files, **where):
-        """Runs the program over files of a part, each of which has its taps in canonical order."""
-        words = ["--table", "table.toml", "--settle", "--sorted", "--workers", str(self.workers),
-                 *words]
-        return subprocess.run(["bin/omny_cli", *words, *files], **where)
-
-    def part_of(self, number):
-        """The part of a token, by the number in its last four bytes."""
-        return number // 64 % self.parts
-
-    def part_files(self, part):
-        """The files of a part, in the order of the groups."""
-        return [f"parts/{group}/{part}.tap" for group in range(self.groups)]
-
-    def not_done(self, *kinds):
+    def not_done(self, kinds):
         """That a task of these kinds is not done, or not seen yet; else nothing."""
         for kind in kinds:
             for number in self.left(kind):
                 return f"{told(kind, number)} is not done"
         return ""
 
-    def damaged(self, part):
-        """What is wrong with the files of a part: pairs of a group and a reason."""
-        for group, name in enumerate(self.part_files(part)):
-            sizes = self.sizes(group)
-            if not sizes:
-                yield group, f"sizes/{group} is damaged"
-                continue
+    def progress(self):
+        counts = ((kind, self.count(kind), len(self.left(kind))) for kind in self.kinds)
+        return " ".join(f"{kind} {count - left}/{count}" for kind, count, left in counts)
+
+    def status(self):
+        """The status of a run that is merged: 0."""
+        self.undo([("bill", self.damaged("bill"))])
+        return 0
+
+    def uploads(self, group):
+        """The names of a group's uploads, which must be those that were planned."""
+        if digest(f"groups/{group}") != self.sums[group]:
+            raise Fault(f"{self.folder}/groups/{group} is damaged: plan in a new folder")
+        uploads = load(f"groups/{group}")
+        for name, size, changed in uploads:
             try:
-                with open(name, "rb") as file:
-                    size, first = os.fstat(file.fileno()).st_size, file.read(24)
+                found = os.stat(name)
             except OSError:
-                yield group, f"{name} is missing"
-                continue
-            if size != sizes[part]:
-                yield group, f"{name} has {size} bytes, not {sizes[part]}"
-            elif size and self.part_of(int.from_bytes(first[20:], "big")) != part:
-                yield group, f"{name} has taps of another part"
+                raise Failed(f"cannot read {name}") from None
+            if [found.st_size, found.st_mtime_ns] != [size, changed]:
+                raise Fault(f"{name} is not the upload that was planned: it has changed since")
+        return [name for name, _, _ in uploads]
 
-    def damaged_ledgers(self):
-        """What is wrong with the ledgers of parts: pairs of a part and a reason."""
-        for part in range(self.parts):
-            name = f"ledgers/{part}"
-            try:
-                with open(f"sizes/ledger-{part}", encoding="ascii") as file:
-                    wanted = json.load(file)
-                with open(name, "rb") as file:
-                    size, _, first = os.fstat(file.fileno()).st_size, file.readline(), file.read(32)
-            except (OSError, ValueError):
-                yield part, f"{name} is missing"
-                continue
-            number = re.fullmatch(b".{24}([0-9a-f]{8})", first)
-            if size != wanted:
-                yield part, f"{name} has {size} bytes, not {wanted}"
-            elif first and not (number and self.part_of(int(number[1], 16)) == part):
-                yield part, f"{name} is of another part"
+    def files(self):
+        """The names of the sorted files, in their order: each is as it was planned or made."""
+        if self.is_sorted:
+            return [name for group in range(self.groups) for name in self.uploads(group)]
+        folders = [DONE["sort"].format(group) for group in range(self.groups)]
+        self.undo((folder, self.damaged(folder)) for folder in folders)
+        return [f"{folder}/taps.tap" for folder in folders]
 
-    def sizes(self, group):
-        """The sizes of the files of all parts in a group, or none if their list is damaged."""
+    def settle(self, words, **where):
+        """Runs the program over the sorted files, which stay as they were planned or made."""
+        files = "\0".join(self.files()).encode()
+        if digest("table.toml") != self.table:
+            raise Fault(f"{self.folder}/table.toml is damaged: plan in a new folder")
+        words = ["--settle", "--sorted", *words, "--files-from", "-", "-0"]
+        words = ["bin/omny_cli", "--table", "table.toml", *words]
+        done = subprocess.run(words, input=files, **where)
+        self.files()
+        return done
+
+    def bounds(self):
+        """The tokens at which a part ends and the next one begins."""
+        with open("bounds/tokens", encoding="ascii") as file:
+            return file.read().split()
+
+    def publish(self, work, name):
+        """Gives a folder the name of its task, with the sums of its files. All is on the disk
+        before. If another copy of the task was first, its folder stays."""
+        sums = {file: sum_of(f"{work}/{file}", name) for file in os.listdir(work)}
+        write(f"{work}/sums", json.dumps({"run": self.name, "task": name, "files": sums}))
+        for file in (*sums, "sums", "."):
+            sync(f"{work}/{file}")
         try:
-            with open(f"sizes/{group}", encoding="ascii") as file:
-                sizes = json.load(file)
-        except (OSError, ValueError):
-            return []
-        return sizes if isinstance(sizes, list) and len(sizes) == self.parts else []
+            os.rename(work, name)
+        except OSError:
+            if not os.path.lexists(name):
+                raise
+        sync(os.path.dirname(name) or ".")
 
-    def sized_taps(self, group):
-        """How many taps the split found in the uploads of a group, for each part."""
-        return [(size - 8 * -(-size // (8 + 28 * BATCH_TAPS))) // 28 for size in self.sizes(group)]
+    def damaged(self, name):
+        """What is wrong with the folder that a task made, or nothing."""
+        try:
+            sums = load(f"{name}/sums")
+            if [sums["run"], sums["task"]] != [self.name, name]:
+                return f"{name} is of another task"
+            files = sums["files"]
+            for file in sorted({*files, *os.listdir(name)} - {"sums"}):
+                if sum_of(f"{name}/{file}", name) != files.get(file):
+                    return f"{name}/{file} is damaged"
+        except FileNotFoundError as fault:
+            return f"{fault.filename} is missing"
+        except (OSError, ValueError, KeyError, TypeError, AttributeError):
+            return f"{name}/sums is damaged"
+        return ""
 
-    def wrong_ends(self):
-        """Files of ends that are not of their group's uploads: pairs of a group and a reason."""
-        for group in range(self.groups):
-            with open(f"groups/{group}", encoding="utf-8") as file:
-                plan = json.load(file)
-            with open(f"ends/{group}", encoding="ascii", errors="replace") as file:
-                ends = [re.fullmatch(END, line) for line in file]
-            numbers = [plan["first"] + place for place in range(len(plan["uploads"]))]
-            if not self.sizes(group):
-                yield group, f"sizes/{group} is damaged"
-            elif (None in ends or [int(end[1]) for end in ends] != numbers
-                  or sum(int(end[2]) for end in ends) != sum(self.sized_taps(group))):
-                yield group, f"ends/{group} is not of the uploads of group {group}"
+    def undo(self, wrong):
+        """Takes tasks as not done: pairs of their folders and a reason. It is a fault if one is."""
+        wrong = [(name, reason) for name, reason in wrong if reason]
+        for name, _ in wrong:
+            gone = f"work/{secrets.token_hex(8)}"
+            try:
+                os.rename(name, gone)
+            except FileNotFoundError:
+                continue
+            shutil.rmtree(gone, ignore_errors=True)
+        if wrong:
+            raise Fault(f"{wrong[0][1]}; the next run does what is left")
 
-    def wrong_reports(self):
-        """The reports that are not those of their parts, and why: pairs of a part and a reason."""
-        wanted = [sum(taps) for taps in zip(*map(self.sized_taps, range(self.groups)))]
-        for part, taps in enumerate(wanted):
-            name, totals, number, last = f"reports/{part}", None, None, ""
-            with open(name, encoding="ascii", errors="replace") as file:
-                for last in file:
-                    if found := re.match("totals taps ([0-9]+) ", last):
-                        totals = int(found[1])
-                    elif number is None and (found := re.match("token .{24}([0-9a-f]{8}) ", last)):
-                        number = int(found[1], 16)
-            if number is not None and self.part_of(number) != part:
-                yield part, f"{name} is of another part"
-            elif totals != taps or not last.endswith("\n"):
-                yield part, f"{name} is not the whole report of {taps} taps"
+
+def load(name):
+    with open(name, encoding="utf-8") as file:
+        return json.load(file)
+
+
+def write(name, text):
+    with open(name, "w", encoding="utf-8") as file:
+        file.write(text)
+
+
+def sync(name):
+    """Waits until a file or a folder is on the disk."""
+    file = os.open(name, os.O_RDONLY)
+    try:
+        os.fsync(file)
+    finally:
+        os.close(file)
+
+
+def digest(name):
+    """The SHA-256 of a file."""
+    found = hashlib.sha256()
+    with open(name, "rb") as file:
+        while some := file.read(1 << 20):
+            found.update(some)
+    return found.hexdigest()
+
+
+def sum_of(file, task):
+    """What tells a file of a task from another one: the SHA-256 of a text that a task reads once.
+    Of a sorted file, which each post reads, and of the bill its size and the time of its change."""
+    if task.startswith(("posts/", "bounds")):
+        return digest(file)
+    found = os.stat(file)
+    return [found.st_size, found.st_mtime_ns]
 
 
 def told(kind, number):
-    """A task's name for people."""
-    return kind if kind == "merge" else f"{kind} {number}"
+    """A task in words."""
+    return kind if kind in ("bounds", "merge") else f"{kind} {number}"
 
 
 def say(line):
@@ -208,11 +236,11 @@ def ends(main):
             signal.signal(it, signal.default_int_handler)
     try:
         sys.exit(main())
-    except (Fault, OSError) as fault:
+    except (Fault, Failed, OSError) as fault:
         say(f"fault: {why(fault)}")
     except KeyboardInterrupt:
         say("fault: interrupted; the same command does what is left")
-    except Exception as error:  # Python's own status would be 1: that the report is whole
+    except Exception as error:
         say(f"fault: not expected: {type(error).__name__}: {error}")
     sys.exit(2)
 

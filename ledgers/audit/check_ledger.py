@@ -41,8 +41,8 @@ MOMENT = "[0-9]{4}-[0-9]{2}-[0-9]{2}T(?:[01][0-9]|2[0-3])(?::[0-5][0-9]){2}[.][0
 LINE = re.compile(f"([0-9a-f]{{32}}),({NUMBER}),({MOMENT}),({NUMBER}),{WORD},{WORD},({NUMBER}),"
                   f"({MOMENT}|),({MOMENT}|),({NUMBER}|),{WORD},({MOMENT}|)\n")
 # a line that has a tap, whatever it says of it, and its cents behind the validator
-TAP = re.compile(f"([0-9a-f]{{32}}),[^,]*,({MOMENT}),({NUMBER}),(.*\n)")
-CENTS = re.compile(f"[^,]*,[^,]*,({NUMBER}),")
+TAP = re.compile(f"([0-9a-f]{{32}}),[^,]*,({MOMENT}),({NUMBER})(,.*\n|\n)")
+CENTS = re.compile(f",[^,]*,[^,]*,({NUMBER}),")
 # what stands behind the twelve fields of a line of a traced ledger: no class has more than 64 bytes,
 # no upload's number is past 32 bits, and no place past 64
 CLASS = re.compile("[A-Za-z0-9_-]{1,64}")

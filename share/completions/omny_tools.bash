@@ -12,7 +12,7 @@ _omny_tools() {
     COMPREPLY=()
     for given in "${COMP_WORDS[@]:1:COMP_CWORD - 1}"; do
         case $given in
-        encode | decode | uploads | table | sort | split | merge | merge-ledgers | corrections)
+        encode | decode | uploads | table | sort | merge | bounds | corrections)
             task=$given && break
             ;;
         esac
@@ -21,7 +21,6 @@ _omny_tools() {
     case $task in
     '') words='-V --version' ;;
     encode) words='--columns --validators --only --separator --unit --refused' ending=csv ;;
-    merge-ledgers) words='--reports' ending=csv ;;
     corrections) words='--tokens' ending=csv ;;
     uploads) words='--good-part --tokens --look --within --from --until --table --list' ;;
     table)
@@ -29,29 +28,28 @@ _omny_tools() {
         [[ ${COMP_WORDS[*]:1:COMP_CWORD - 1} == *.toml* ]] || ending=toml
         ;;
     sort) words='--merge --out --ends' ;;
-    split) words='--parts --part-files --first' ;;
-    merge) words='--ends --reports' ending='*' ;;
+    merge) ending='*' ;;
+    bounds) words='--parts' ;;
     esac
     case $task in
-    decode | uploads | sort | split | merge | merge-ledgers) words+=' --files-from -0 --null' ;;
+    decode | uploads | sort | merge | bounds) words+=' --files-from -0 --null' ;;
     esac
     # behind `--` there are only files
     for given in "${COMP_WORDS[@]:1:COMP_CWORD - 1}"; do
         [[ $given == -- ]] && before=--
     done
     case $task$before in
-    sort--ends | merge-ledgers--reports) ending='*' ;;
+    sort--ends) ending='*' ;;
     uploads--table | table--table) ending=toml ;;
     esac
     case $before in
-    --from | --until | --within | --parts | --first | --columns | --only | --separator | --unit) return ;;
+    --from | --until | --within | --parts | --columns | --only | --separator | --unit) return ;;
     --good-part | --refused | --files-from) ending='*' ;;
-    --part-files) ending=/ ;;
     esac
     if [[ $word == -* && $before != -- ]]; then
         mapfile -t COMPREPLY < <(compgen -W "$words -h --help" -- "$word")
     elif [[ -z $task ]]; then
-        words='encode decode uploads table sort split merge merge-ledgers corrections'
+        words='encode decode uploads table sort merge bounds corrections'
         mapfile -t COMPREPLY < <(compgen -W "$words" -- "$word")
     else
         _omny_tools_files "$word" "$ending"
@@ -59,14 +57,10 @@ _omny_tools() {
 }
 
 # The folders that begin with the word, and the files that do and have this ending; if there is
-# none with the ending, all files that begin with the word. The ending * is any name, and / is a
-# folder alone.
+# none with the ending, all files that begin with the word. The ending * is any name.
 _omny_tools_files() {
     compopt -o filenames 2> /dev/null
-    case $2 in
-    '*') mapfile -t COMPREPLY < <(compgen -f -- "$1") && return ;;
-    /) mapfile -t COMPREPLY < <(compgen -d -- "$1") && return ;;
-    esac
+    [[ $2 == '*' ]] && mapfile -t COMPREPLY < <(compgen -f -- "$1") && return
     mapfile -t COMPREPLY < <(compgen -f -X "!*.$2" -- "$1"; compgen -d -- "$1")
     [ ${#COMPREPLY[@]} -gt 0 ] || mapfile -t COMPREPLY < <(compgen -f -- "$1")
 }

@@ -2,8 +2,7 @@
 
 # The subcommand that is not yet there.
 function __omny_tools_no_task
-    not __fish_seen_subcommand_from encode decode uploads table sort split merge merge-ledgers \
-        corrections
+    not __fish_seen_subcommand_from encode decode uploads table sort merge bounds corrections
 end
 
 # The fare table is not yet there: the subcommand is `table`, and no word ends in .toml.
@@ -23,9 +22,8 @@ complete -c omny_tools -n $no_task -a decode -d 'Write the taps of uploads as a 
 complete -c omny_tools -n $no_task -a uploads -d 'Show what uploads have'
 complete -c omny_tools -n $no_task -a table -d 'Show a fare table as it is understood'
 complete -c omny_tools -n $no_task -a sort -d 'Make one upload of all taps in canonical order'
-complete -c omny_tools -n $no_task -a split -d 'Split uploads by token into parts'
-complete -c omny_tools -n $no_task -a merge -d 'Merge the reports of parts'
-complete -c omny_tools -n $no_task -a merge-ledgers -d 'Merge the ledgers of parts'
+complete -c omny_tools -n $no_task -a merge -d 'Merge the parts of a run'
+complete -c omny_tools -n $no_task -a bounds -d 'Print the tokens at which to divide a run'
 complete -c omny_tools -n $no_task -a corrections -d 'Write what a later ledger charges otherwise'
 complete -c omny_tools -n $no_task -s V -l version -d 'Print the version'
 complete -c omny_tools -s h -l help -d 'Print help'
@@ -62,21 +60,12 @@ set -l sort '__fish_seen_subcommand_from sort'
 complete -c omny_tools -n $sort -l merge -d 'Merge uploads that are in canonical order already'
 complete -c omny_tools -n $sort -l out -r -d 'The file that is made'
 complete -c omny_tools -n $sort -l ends -r -d 'Make a file of how the uploads ended'
-set -l split '__fish_seen_subcommand_from split'
-complete -c omny_tools -n $split -l parts -x -d 'How many parts'
-complete -c omny_tools -n $split -l part-files -x -a '(__fish_complete_directories)' \
-    -d 'The folder of the files of parts'
-complete -c omny_tools -n $split -l first -x -d 'The number of the first upload'
-set -l merge '__fish_seen_subcommand_from merge'
-complete -c omny_tools -n $merge -l ends -r -d 'How the uploads ended'
-complete -c omny_tools -n $merge -l reports -r -d 'The reports of the parts'
-complete -c omny_tools -n $merge -F
-complete -c omny_tools -n '__fish_seen_subcommand_from merge-ledgers' -l reports -r \
-    -d "The report of each ledger's part"
-set -l lists '__fish_seen_subcommand_from decode uploads sort split merge merge-ledgers'
+complete -c omny_tools -n '__fish_seen_subcommand_from bounds' -l parts -x -d 'How many parts'
+complete -c omny_tools -n '__fish_seen_subcommand_from merge' -F
+set -l lists '__fish_seen_subcommand_from decode uploads sort merge bounds'
 complete -c omny_tools -n $lists -l files-from -r -F -d 'Take the files that a list names'
 complete -c omny_tools -n $lists -s 0 -l null -d 'The names of the list end with NUL'
-complete -c omny_tools -n '__fish_seen_subcommand_from encode merge-ledgers corrections' -k \
+complete -c omny_tools -n '__fish_seen_subcommand_from encode corrections' -k \
     -a '(__omny_tools_files .csv)'
-complete -c omny_tools -n '__fish_seen_subcommand_from decode uploads sort split' -k \
+complete -c omny_tools -n '__fish_seen_subcommand_from decode uploads sort bounds' -k \
     -a '(__omny_tools_files .tap)'

@@ -1,7 +1,8 @@
 -- What was asked for was done, of sorted files.
 use Rattle.std.proofs.Common.{◌≡◌, ℕ, List, Bool, true, false, not, Option, Some, None, map, refl}
 use Rattle.std.proofs.Common.{subst, sym}
-use Rattle.std.specs.Prelude.{MatchBool, is_some, ◌||◌}
+use Rattle.std.specs.Prelude.{MatchBool, MatchOption, is_some, option_map, ◌||◌}
+use Rattle.std.specs.Io.KnownBytes.{Appends}
 use Rattle.tariffs.specs.Fares.{Fares}
 use Rattle.tap_views.specs.declared.token.Token.{Token}
 use Rattle.program_manners.specs.Loads.{Loaded}
@@ -10,13 +11,18 @@ use Rattle.world.specs.Origins.{Origin}
 use Rattle.fare_program.specs.Fault.{charge_mistake_of, explain_mistake, first_of_two}
 use Rattle.fare_program.specs.Fault.{ledger_mistake, live_mistake, mistake}
 use Rattle.fare_program.specs.Fault.{settle_mistake, sorted_mistake, sorted_mistake_of}
-use Rattle.fare_program.specs.Fault.{token_mistake, traced_mistake, traced_mistake_of}
+use Rattle.fare_program.specs.Fault.{token_mistake, tokens_mistake, tokens_mistake_of}
+use Rattle.fare_program.specs.Fault.{traced_mistake, traced_mistake_of}
 use Rattle.fare_program.specs.Options.{Asked}
+use Rattle.fare_program.specs.Parts.{IsPartText, ShowsSorted}
 use Rattle.fare_program.specs.Program.{Does, DoesUntraced, IsTokenIn, LoadsTable, RunsListing}
 use Rattle.fare_program.specs.Program.{RunsService, RunsSorted, RunsTraced}
 use Rattle.fare_program.specs.Settling.{ShowsSettled}
+use Rattle.fare_program.specs.TokenRanges.{range_fault}
 use Rattle.fare_program.specs.declared.fault.Fault.{Fault}
-use Rattle.fare_program.specs.declared.fault.Fault.TheVariants.{SettleNoTable, SettleList}
+use Rattle.fare_program.specs.declared.fault.Fault.TheVariants.{Range, SettleNoTable, SettleList}
+use Rattle.fare_program.specs.declared.token_range.RangeFault.{RangeFault}
+use Rattle.fare_program.specs.inside.ChargedPart.{IsChargedPart}
 use Rattle.fare_program.specs.inside.ChargedSorted.{IsChargedSorted}
 
 -- there is one table
@@ -52,7 +58,7 @@ charges asked right sorted =
     let (alone, rest) = neither (live_mistake asked) _ two in
     let (ledger, three) = neither (ledger_mistake asked) _ rest in
     let (explain, four) = neither (explain_mistake asked) _ three in
-    let (live, five) = neither (sorted_mistake asked) (traced_mistake asked) four in
+    let (live, five) = neither (sorted_mistake asked) _ four in
     has_table_named asked.settle asked.list asked.table
     (settles asked.sorted asked.settle asked.files sorted live)
     settle
@@ -80,9 +86,37 @@ traced_table asked right traced =
     let (alone, rest) = neither (live_mistake asked) _ two in
     let (ledger, three) = neither (ledger_mistake asked) _ rest in
     let (explain, four) = neither (explain_mistake asked) _ three in
-    let (live, five) = neither (sorted_mistake asked) (traced_mistake asked) four in
+    let (live, five) = neither (sorted_mistake asked) _ four in
+    let (no_mistake, six) = neither (traced_mistake asked) (tokens_mistake asked) five in
     (has_table_named asked.settle asked.list asked.table (traced_settles asked.traced asked.ledger
-    asked.settle asked.sorted asked.token traced five) settle).1
+    asked.settle asked.sorted asked.token traced no_mistake) settle).1
+
+-- ---- a range of tokens
+no_range : (fault : Option RangeFault) → option_map Range fault ≡ None → fault ≡ None
+no_range None none = refl
+no_range (Some fault) none = cc
+
+range_of : (tokens : Option (List ℕ)) (sorted : Bool) (token : Option (List ℕ)) (word : List ℕ)
+    → tokens_mistake_of tokens sorted token ≡ None → tokens ≡ Some word → range_fault word ≡ None
+range_of None sorted token word right is = cc
+range_of (Some other) false token word right is = cc
+range_of (Some other) true (Some digits) word right is = cc
+range_of (Some other) true None word right is =
+    let same : other ≡ word = cc in
+    subst (λ (w : List ℕ). range_fault w ≡ None) same (no_range (range_fault other) right)
+
+-- the word that is asked for names a range
+pub names_range : (asked : Asked) (word : List ℕ) → mistake asked ≡ None
+    → asked.tokens ≡ Some word → range_fault word ≡ None
+names_range asked word right is =
+    let (token, one) = neither (token_mistake asked) _ right in
+    let (settle, two) = neither (settle_mistake asked) _ one in
+    let (alone, rest) = neither (live_mistake asked) _ two in
+    let (ledger, three) = neither (ledger_mistake asked) _ rest in
+    let (explain, four) = neither (explain_mistake asked) _ three in
+    let (live, five) = neither (sorted_mistake asked) _ four in
+    let (no_mistake, six) = neither (traced_mistake asked) (tokens_mistake asked) five in
+    range_of asked.tokens asked.sorted asked.token word six is
 
 -- a traced ledger was asked for, and written
 pub does_traced : (asked : Asked) (known : List ℕ → Option (List ℕ)) (origin : List ℕ → Origin)
@@ -116,13 +150,43 @@ no_list true table none some = cc
 no_list false None none some = cc
 no_list false (Some name) none some = refl
 
+-- What is asked for of sorted files was appended to the writer: of the files under these names, if
+-- what they have is known.
+abbrev pub IsShown : Asked → List (Option (List ℕ)) → Fares → Option Token → Option (List ℕ)
+    → Option (List ℕ) → Type 0
+IsShown asked known fares token out out' = (text : List ℕ)
+    × ((files : List (List ℕ)) → known ≡ map Some files
+    → ShowsSorted asked fares files token text true) × Appends out out' text
+
+module _ (asked : Asked) (known : List (Option (List ℕ))) (fares : Fares) (token : Option Token)
+    (out out' : Option (List ℕ)) where
+  pub shown_settled : asked.tokens ≡ None → IsChargedSorted asked known fares token out out'
+      → IsShown asked known fares token out out'
+  shown_settled none done = (
+    done.text,
+    λ files are. subst (λ (tokens : Option (List ℕ)). MatchOption tokens
+        (ShowsSettled asked fares files token done.text true)
+        (λ word. IsPartText asked.ledger fares files done.text)) (sym none) (done.shows files are),
+    done.written,
+  )
+
+  pub shown_part : (word : List ℕ) → asked.tokens ≡ Some word
+      → IsChargedPart asked.ledger known fares out out' → IsShown asked known fares token out out'
+  shown_part word some done = (
+    done.text,
+    λ files are. subst (λ (tokens : Option (List ℕ)). MatchOption tokens
+        (ShowsSettled asked fares files token done.text true)
+        (λ word. IsPartText asked.ledger fares files done.text)) (sym some) (done.shows files are),
+    done.written,
+  )
+
 pub does_sorted : (asked : Asked) (known : List ℕ → Option (List ℕ)) (origin : List ℕ → Origin)
     (loaded between : Option (List Loaded))
     (fares : Option Fares) (token : Option Token) (out out' : Option (List ℕ)) (well : Bool)
     → mistake asked ≡ None → asked.sorted ≡ true → LoadsTable asked.table loaded between fares
     → IsTokenIn asked.token token
     → (well ≡ true) × ((f : Fares) → fares ≡ Some f
-    → IsChargedSorted asked (map known asked.files) f token out out')
+    → IsShown asked (map known asked.files) f token out out')
     → DoesUntraced asked known origin loaded between out out' well
 does_sorted asked known origin loaded between fares token out out' well right sorted loads is_token made =
     let (list, some) = charges asked right sorted in
@@ -139,10 +203,10 @@ does_sorted asked known origin loaded between fares token out out' well right so
       loads = subst (LoadsTable asked.table loaded between) is loads;
       token = token;
       is_token = is_token;
-      text = done.text;
-      shows = λ files are. subst (λ (b : Bool). ShowsSettled asked f files token done.text b)
+      text = done.0;
+      shows = λ files are. subst (λ (b : Bool). ShowsSorted asked f files token done.0 b)
           (sym made.0)
-          (done.shows files are);
-      written = done.written;
+          (done.1 files are);
+      written = done.2;
       is_well = made.0;
     }))

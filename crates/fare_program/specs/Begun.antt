@@ -1,5 +1,5 @@
 -- What a fault left behind.
-use Rattle.std.specs.Prelude.{◌≡◌, ◌≢◌, ◌⊎◌, ℕ, Bool, List, None, Option, map, true}
+use Rattle.std.specs.Prelude.{◌≡◌, ◌≢◌, ◌⊎◌, ℕ, Bool, List, None, Option, is_some, map, true}
 use Rattle.std.specs.Io.KnownBytes.{Appends, Keeps, append_known}
 use Rattle.fare_program.specs.Fault.{IsLate, fault_text}
 use Rattle.fare_program.specs.Options.{Asked}
@@ -24,9 +24,15 @@ pub record IsBegun (before after : Option (List ℕ)) (Whole : Option (List ℕ)
 abbrev pub IsSortedLedger : Asked → Type 0
 IsSortedLedger asked = (asked.sorted ≡ true) × (asked.ledger ≡ true) × (asked.token ≡ None)
 
--- If that is asked for, what is known of the files is bytes, as of all files that can be read.
+-- the ledger of a part is asked for: nothing is promised of a beginning of it
+abbrev pub IsPartLedger : Asked → Type 0
+IsPartLedger asked = (is_some asked.tokens ≡ true) × (asked.ledger ≡ true)
+
+-- The ledger of a part is not asked for. If that of all tokens is, what is known of the files is
+-- bytes, as of all files that can be read.
 abbrev pub AreOfBytes : Asked → (List ℕ → Option (List ℕ)) → Type 0
-AreOfBytes asked under = IsSortedLedger asked → KnownAreBytes (map under asked.files)
+AreOfBytes asked under =
+    (¬ IsPartLedger asked) × (IsSortedLedger asked → KnownAreBytes (map under asked.files))
 
 -- What stands is a beginning: with some bytes more behind it, what is asked for would have been
 -- done.

@@ -1,6 +1,6 @@
 -- The fault lines, without their line feeds, and their statuses.
 use Rattle.std.specs.Prelude.{ℕ, List, Bool, true, false, Option, Some, None, codes}
-use Rattle.std.specs.Prelude.{if◌then◌else◌, is_ok, is_some, [], ◌∷◌, ◌++◌}
+use Rattle.std.specs.Prelude.{if◌then◌else◌, is_ok, is_some, option_map, [], ◌∷◌, ◌++◌}
 use Rattle.hex.specs.Hex.{decode_sized}
 use Rattle.fare_service.specs.declared.faults.GatherFault.{GatherFault}
 use Rattle.fare_service.specs.declared.faults.GatherFault.TheVariants as gather
@@ -11,6 +11,7 @@ use Rattle.program_manners.specs.TableWords.{TableNames, date_text, wrong_word}
 use Rattle.program_manners.specs.declared.table_words.DateFault.{DateFault}
 use Rattle.fare_program.specs.Options.{Asked}
 use Rattle.fare_program.specs.SortedFaults.{late_text, sorted_text, unopened_text}
+use Rattle.fare_program.specs.TokenRanges.{range_fault, range_text}
 use Rattle.fare_program.specs.declared.fault.Fault.{Fault}
 use Rattle.fare_program.specs.declared.fault.Fault.TheVariants.{Digits, NoTable, SettleNoTable}
 use Rattle.fare_program.specs.declared.fault.Fault.TheVariants.{SettleList, LiveSettle}
@@ -20,7 +21,8 @@ use Rattle.fare_program.specs.declared.fault.Fault.TheVariants.{ExplainList, Exp
 use Rattle.fare_program.specs.declared.fault.Fault.TheVariants.{SortedNoSettle, SortedNoFile}
 use Rattle.fare_program.specs.declared.fault.Fault.TheVariants.{TracedNoLedger, TracedNoSettle}
 use Rattle.fare_program.specs.declared.fault.Fault.TheVariants.{TracedToken, TracedSorted}
-use Rattle.fare_program.specs.declared.fault.Fault.TheVariants.{ClassName}
+use Rattle.fare_program.specs.declared.fault.Fault.TheVariants.{Range, ClassName}
+use Rattle.fare_program.specs.declared.token_range.RangeFault.TheVariants as range
 use Rattle.fare_program.specs.declared.fault.Fault.TheVariants.{File, Table, Unopened, Unsorted}
 use Rattle.fare_program.specs.declared.fault.Fault.TheVariants.{TooManyTaps, Late, Date, Follow}
 use Rattle.fare_program.specs.declared.fault.Fault.TheVariants.{NamedClass, NamedTable}
@@ -50,6 +52,7 @@ fault_text TracedNoLedger = codes "fault: --traced needs --ledger"
 fault_text TracedNoSettle = codes "fault: --traced needs --settle"
 fault_text TracedToken = codes "fault: --traced cannot be used with --token"
 fault_text TracedSorted = codes "fault: --traced cannot be used with --sorted"
+fault_text (Range fault) = range_text fault
 fault_text (File file) = load_text file.name.now file.fault
 fault_text (Table fault) = table_text fault
 fault_text (Date wrong) = codes "fault: " ++ date_text wrong.word.now wrong.fault
@@ -84,6 +87,7 @@ status_of TracedNoLedger = 2
 status_of TracedNoSettle = 2
 status_of TracedToken = 2
 status_of TracedSorted = 2
+status_of (Range fault) = 2
 status_of (Date wrong) = 2
 status_of _ = 1
 
@@ -173,6 +177,18 @@ abbrev pub traced_mistake : Asked → Option Fault
 traced_mistake asked =
     traced_mistake_of asked.traced asked.ledger asked.settle asked.token asked.sorted
 
+-- What is wrong with a range of tokens if one is asked for: first that the files are no sorted
+-- ones, then that a token is asked for, and then the word.
+abbrev pub tokens_mistake_of : Option (List ℕ) → Bool → Option (List ℕ) → Option Fault
+tokens_mistake_of None sorted token = None
+tokens_mistake_of (Some word) false token = Some (Range range.NoSorted)
+tokens_mistake_of (Some word) true (Some digits) = Some (Range range.WithToken)
+tokens_mistake_of (Some word) true None = option_map Range (range_fault word)
+
+-- what is wrong with `--tokens` among them
+abbrev pub tokens_mistake : Asked → Option Fault
+tokens_mistake asked = tokens_mistake_of asked.tokens asked.sorted asked.token
+
 -- the first of two faults, if there is one
 abbrev pub first_of_two : Option Fault → Option Fault → Option Fault
 first_of_two None other = other
@@ -180,13 +196,14 @@ first_of_two (Some fault) other = Some fault
 
 -- what is wrong with what is asked for, if anything, but for the dates of tables: the token is
 -- looked at first, then settling, then a live run, then the ledger, then the explained statement,
--- then sorted files, then a traced ledger
+-- then sorted files, then a traced ledger, then a range of tokens
 abbrev pub mistake : Asked → Option Fault
 mistake asked =
     first_of_two (token_mistake asked) (first_of_two (settle_mistake asked)
     (first_of_two (live_mistake asked) (first_of_two (ledger_mistake asked)
     (first_of_two (explain_mistake asked)
-    (first_of_two (sorted_mistake asked) (traced_mistake asked))))))
+    (first_of_two (sorted_mistake asked)
+    (first_of_two (traced_mistake asked) (tokens_mistake asked)))))))
 
 -- the first word of a fare table that has a wrong date, or none if one is wanted
 abbrev pub wrong_date : Asked → Option (List ℕ × DateFault)

@@ -6,10 +6,12 @@ pub mod Lines
 pub mod Listing
 pub mod Notes
 pub mod Options
+pub mod Parts
 pub mod Program
 pub mod Runs
 pub mod Settling
 pub mod SortedFaults
 pub mod SystemFiles
+pub mod TokenRanges
 pub mod Uploads
 pub mod inside

@@ -57,6 +57,10 @@ explain_flag = flag_rule (codes "explain")
 abbrev pub traced_flag : Rule
 traced_flag = flag_rule (codes "traced")
 
+-- `--tokens FROM..BELOW`
+abbrev pub tokens_option : Rule
+tokens_option = option_rule (codes "tokens")
+
 -- `FILE`, as often as wanted
 abbrev pub file_argument : Rule
 file_argument = positional_rule (codes "FILE") Append
@@ -65,9 +69,10 @@ file_argument = positional_rule (codes "FILE") Append
 abbrev pub app_of_options : App
 app_of_options =
     with_rule (with_rule (with_rule (with_rule (with_rule (with_rule (with_rule (with_rule
-    (with_rule (with_rule (with_rule (with_rule (with_rule (named_app (codes "omny_cli"))
-    table_option) settle_flag) live_flag) sorted_flag) list_flag) workers_option) shards_option)
-    token_option) ledger_flag) explain_flag) traced_flag) list_option) null_flag
+    (with_rule (with_rule (with_rule (with_rule (with_rule (with_rule
+    (named_app (codes "omny_cli")) table_option) settle_flag) live_flag) sorted_flag) list_flag)
+    workers_option) shards_option) token_option) ledger_flag) explain_flag) traced_flag)
+    tokens_option) list_option) null_flag
 
 -- all words that the program takes
 unfoldable pub program : App
@@ -89,6 +94,10 @@ tables_named words = tables_in (unwrap_or (all_of (codes "table") (matches_of pr
 -- the token that the words name, if any, as it is written
 abbrev pub token_named : List Text → Option Text
 token_named words = first_of (codes "token") (matches_of program words)
+
+-- the range of tokens that the words name, if any, as it is written
+abbrev pub range_named : List Text → Option Text
+range_named words = first_of (codes "tokens") (matches_of program words)
 
 -- the files that the words name, in order
 abbrev pub files_named : List Text → List Text
@@ -119,6 +128,7 @@ pub record Asked : Type 0 where
   pub ledger : Bool
   pub explain : Bool
   pub traced : Bool
+  pub tokens : Option Text
   pub files : List Text
 
 -- what these words ask for
@@ -135,6 +145,7 @@ asked_by words = record {
   ledger = is_given (codes "ledger") (matches_of program words);
   explain = is_given (codes "explain") (matches_of program words);
   traced = is_given (codes "traced") (matches_of program words);
+  tokens = range_named words;
   files = files_named words;
 }
 

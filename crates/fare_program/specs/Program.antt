@@ -16,6 +16,7 @@ use Rattle.fare_service.specs.Printed.{IsStatementOf, report_with}
 use Rattle.fare_program.specs.Fault.{fault_text}
 use Rattle.fare_program.specs.Options.{Asked, lists}
 use Rattle.tap_views.specs.UploadEnds.{are_posted}
+use Rattle.fare_program.specs.Parts.{ShowsSorted}
 use Rattle.fare_program.specs.Settling.{ShowsOver, ShowsSettled}
 use Rattle.fare_program.specs.declared.fault.Fault.{Fault}
 use Rattle.fare_service.specs.Explained.{IsExplainedOf}
@@ -126,7 +127,7 @@ pub record RunsService (asked : Asked) (origin : List ℕ → Origin)
 
 -- The named tables were loaded, and the named files were opened, each of which has its taps in
 -- canonical order. What was appended to the writer is what is asked for of the settled history of
--- the files, if what stands under their names is known. All is well.
+-- the files, or of a part of it, if what stands under their names is known. All is well.
 pub record RunsSorted (asked : Asked) (known : List ℕ → Option (List ℕ))
     (loaded loaded' : Option (List Loaded)) (out out' : Option (List ℕ)) (well : Bool) : Type
     0 where
@@ -136,7 +137,7 @@ pub record RunsSorted (asked : Asked) (known : List ℕ → Option (List ℕ))
   pub is_token : IsTokenIn asked.token token
   pub text : List ℕ
   pub shows : (files : List (List ℕ)) → map known asked.files ≡ map Some files
-      → ShowsSettled asked fares files token text well
+      → ShowsSorted asked fares files token text well
   pub written : Appends out out' text
   pub is_well : well ≡ true
 

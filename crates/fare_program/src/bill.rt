@@ -5,8 +5,8 @@ ghost use Rattle.fare_texts.specs.WrittenOut.{Begins};
 ghost use Rattle.fare_program.specs.Fault.{status_of};
 ghost use Rattle.fare_program.specs.inside.Causes.{IsOfOutput};
 ghost use Rattle.fare_program.specs.inside.Settling.{ShowsBill};
-ghost use Rattle.report_texts.specs.OverHistory.{IsReportOver};
-ghost use Rattle.tap_views.specs.UploadEnds.{ArePlainEnds, are_posted};
+ghost use Rattle.fare_program.specs.Parts.{report_over};
+ghost use Rattle.tap_views.specs.UploadEnds.{are_posted};
 ghost use Rattle.settlement.specs.Bills.{IsBillOf};
 ghost use Rattle.settlement.specs.Reading.{AreRead};
 ghost use Rattle.histories.specs.declared.entry.Entry.{Entry};
@@ -31,17 +31,14 @@ pub(crate) fn write_billed<'a, W: Write>(
     out: &mut W,
 ) -> Result<bool, Fault<'a>>
     requires { (history : List Entry) × IsBillOf history made.bill × (length history ≤ 2 ^ 95) }
-    ensures ok { IfOk result (λ well. (text : List ℕ)
-        × ((files : List (List ℕ)) (history : List Entry) → IsBillOf history made.bill
-        → ArePlainEnds files made.ends.items → IsReportOver files history text)
-        × (well ≡ are_posted made.ends.items)
-        × Appends (W.contents out.old) (W.contents out.new) text) }
+    ensures ok { IfOk result (λ well. (well ≡ are_posted made.ends.items)
+        × ((history : List Entry) → IsBillOf history made.bill
+        → Appends (W.contents out.old) (W.contents out.new)
+        (report_over made.ends.items history))) }
     ensures begun { IfErr result (λ fault. fault ≡ Fault.Write
-        → (well : Bool) × (text : List ℕ)
-        × ((files : List (List ℕ)) (history : List Entry) → IsBillOf history made.bill
-        → ArePlainEnds files made.ends.items → IsReportOver files history text)
-        × (well ≡ are_posted made.ends.items)
-        × Begins (W.contents out.old) (W.contents out.new) text) }
+        → (history : List Entry) → IsBillOf history made.bill
+        → Begins (W.contents out.old) (W.contents out.new)
+        (report_over made.ends.items history)) }
     ensures output { IfErr result IsOfOutput }
     ensures status { IfErr result (λ fault. status_of fault ≡ 1) }
     ensures fault { IfErr result (λ fault. fault ≢ Fault.Write

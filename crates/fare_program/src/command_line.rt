@@ -3,7 +3,7 @@ ghost use Rattle.std.specs.Prelude.{◌≡◌, ◌≤◌, ◌^◌, ◌<◌, ℕ,
 ghost use Rattle.clap.specs.Words.{FailsBy, app_of, fault_of, found_of, matches_of, rows_of};
 ghost use Rattle.clap.specs.Words.{with_rule};
 ghost use Rattle.fare_program.specs.Options.{explain_flag, file_argument, ledger_flag, traced_flag};
-ghost use Rattle.fare_program.specs.Options.{asked_by, is_given, number_of, program};
+ghost use Rattle.fare_program.specs.Options.{asked_by, is_given, number_of, program, tokens_option};
 ghost use Rattle.fare_program.specs.inside.Options.{asked_of};
 ghost use Rattle.fare_program.specs.inside.Options.{HasNumber};
 ghost use Rattle.program_manners.specs.Words.{list_option, null_flag};
@@ -41,6 +41,9 @@ out: such a run is meant.
 With --sorted beside it each file has its taps in that order already, as `omny_tools sort` makes it.
 The files are read in pieces and merged, so that little memory is taken. A file that is out of order
 or has a layout fault ends the run.
+With --tokens FROM..BELOW beside it only the taps of tokens from FROM on and below BELOW are
+charged: 32 hexadecimal digits each, and either may be left out. The text begins with where these
+taps lie in each file. `omny_tools merge` joins such parts. One thread makes a part.
 Amounts are cents. Of a file with a layout fault the batches before it count, and its line tells
 the fault: `upload 1 refused 2 at 64 L5` in a report, `1 refused 64 L5` in a listing.
 
@@ -93,6 +96,9 @@ const EXPLAIN_HELP: &str = "Print the statement of --token with reasons, the ter
 /// The help of `--traced`.
 const TRACED_HELP: &str = "Put class, upload and place behind each line of the settled --ledger";
 
+/// The help of `--tokens`.
+const TOKENS_HELP: &str = "Charge the tokens of RANGE alone, as FROM..BELOW; needs --sorted";
+
 /// The help of the files.
 const FILE_HELP: &str =
     "Uploads of TAP1 and TAP2 batches, at most 67108864 bytes each [default: standard input]";
@@ -121,18 +127,19 @@ fn command<'a>(alloc: Global) -> Result<Command<'a>, AllocError>
     with_texts(alloc, command)
 }
 
-/// The command line with the options of the ledger and of the explained statement, the list of
-/// files and the files.
+/// The command line with the options of the ledger, of the explained statement and of a part, the
+/// list of files and the files.
 fn with_texts<'a>(alloc: Global, command: Command<'a>) -> Result<Command<'a>, AllocError>
     ensures { IfOk result (λ more. app_of more ≡ with_rule (with_rule (with_rule (with_rule
-        (with_rule (with_rule (app_of command.entry) ledger_flag) explain_flag) traced_flag)
-        list_option) null_flag) file_argument) }
+        (with_rule (with_rule (with_rule (app_of command.entry) ledger_flag) explain_flag)
+        traced_flag) tokens_option) list_option) null_flag) file_argument) }
 {
     let ledger = flag_arg(alloc, "ledger", LEDGER_HELP);
     let explain = flag_arg(alloc, "explain", EXPLAIN_HELP);
     let traced = flag_arg(alloc, "traced", TRACED_HELP);
+    let tokens = option_arg(alloc, "tokens", "RANGE", TOKENS_HELP);
     let file = positional_arg(alloc, "FILE", ArgAction::Append, FILE_HELP);
-    let command = command.arg(ledger)?.arg(explain)?.arg(traced)?;
+    let command = command.arg(ledger)?.arg(explain)?.arg(traced)?.arg(tokens)?;
     add_list_args(alloc, command)?.arg(file)
 }
 
@@ -191,6 +198,7 @@ impl<'a> Options<'a> {
             ledger: flag_in(&matches, "ledger"),
             explain: flag_in(&matches, "explain"),
             traced: flag_in(&matches, "traced"),
+            tokens: matches.get_str("tokens"),
             files: names_in(alloc, &matches, "FILE")?,
         })
     }

@@ -12,6 +12,7 @@ ghost use Rattle.world.specs.declared.faults.LoadFault.{LoadFault as ALoadFault}
 ghost use Rattle.program_manners.specs.Lines.{load_text, table_text};
 
 use crate::sorted_fault::{LateFault, UnopenedFile, UnsortedFile};
+use crate::token_range::RangeFault;
 use fare_service::{GatherFault, OpenFault, PrintFault, RunFault};
 use fare_table::TableFault;
 use placed_files::Unopened;
@@ -58,6 +59,8 @@ pub(crate) enum Fault<'a> {
     TracedToken,
     /// A traced ledger is asked for, and the files are sorted ones.
     TracedSorted,
+    /// The range of tokens is none, or cannot be asked for with the other words.
+    Range(RangeFault),
     /// A file or standard input was not loaded.
     File(FileFault<'a>),
     /// The fare table's text is no table.
@@ -139,6 +142,24 @@ impl<'a> Fault<'a> {
         }
     }
 
+    /// What is reported of this fault if some of a text was written before it, as after all files
+    /// were checked.
+    pub(crate) fn broken_off(self) -> Fault<'a>
+        ensures late { result ≢ Fault.Write → IsLate result }
+        ensures write { result ≡ Fault.Write → self.entry ≡ Fault.Write }
+        ensures status { status_of result ≡ 1 }
+        ensures right { (names : List (List ℕ)) (known : List (Option (List ℕ)))
+            → IsRightOfSorted names known result }
+    {
+        match self {
+            Fault::Write => Fault::Write,
+            Fault::NoMemory => Fault::Late(LateFault::NoMemory),
+            Fault::Unsorted(file) => Fault::Late(LateFault::of(file.fault)),
+            Fault::Late(fault) => Fault::Late(fault),
+            _ => Fault::Late(LateFault::Changed),
+        }
+    }
+
     /// Why the service was not opened, with a number of shards that it takes.
     pub(crate) fn of_open(fault: OpenFault) -> Fault<'a>
         requires { fault ≢ OpenFault.Shards }
@@ -192,7 +213,7 @@ impl<'a> Fault<'a> {
             Fault::ExplainNoToken | Fault::ExplainList | Fault::ExplainLedger => 2,
             Fault::SortedNoSettle | Fault::SortedNoFile => 2,
             Fault::TracedNoLedger | Fault::TracedNoSettle => 2,
-            Fault::TracedToken | Fault::TracedSorted | Fault::Date(_) => 2,
+            Fault::TracedToken | Fault::TracedSorted | Fault::Range(_) | Fault::Date(_) => 2,
             Fault::File(_) | Fault::Table(_) | Fault::NamedTable(_) | Fault::Follow(_) => 1,
             Fault::ClassName | Fault::NamedClass(_) => 1,
             Fault::Unopened(_) | Fault::Unsorted(_) | Fault::TooManyTaps | Fault::Late(_) => 1,
@@ -287,6 +308,7 @@ impl fmt::Display for Fault<'_> {
             Fault::TracedNoSettle => f.write_str("fault: --traced needs --settle"),
             Fault::TracedToken => f.write_str("fault: --traced cannot be used with --token"),
             Fault::TracedSorted => f.write_str("fault: --traced cannot be used with --sorted"),
+            Fault::Range(fault) => fault.fmt(f),
             Fault::File(fault) => fault.fmt(f),
             Fault::Table(fault) => TableLine(*fault).fmt(f),
             Fault::Date(wrong) => write!(f, "fault: {wrong}"),

@@ -13,6 +13,7 @@
 //! | `settle`, `bill` | what is asked for of settled files, whose taps are charged in one order |
 //! | `settled_token` | what is asked for of one token of settled files |
 //! | `sorted`, `sorted_fault` | what is asked for of sorted files, and why they are not charged |
+//! | `part`, `token_range` | what is asked for of a part of sorted files: of a range of tokens |
 //! | `traced` | the traced ledger of files |
 //! | `posting` | the text that is asked for of files, posted as they are or settled |
 //! | `output` | texts written out whole |
@@ -35,6 +36,7 @@ mod note;
 mod noting;
 mod options;
 mod output;
+mod part;
 mod posting;
 mod program;
 mod remarks;
@@ -43,6 +45,7 @@ mod settle;
 mod settled_token;
 mod sorted;
 mod sorted_fault;
+mod token_range;
 mod traced;
 mod uploads;
 

@@ -28,6 +28,8 @@ pub(crate) struct Options<'a> {
     pub(crate) explain: bool,
     /// Whether the ledger's lines have their class, upload and place behind them.
     pub(crate) traced: bool,
+    /// The range of tokens whose taps alone are charged, as it is written.
+    pub(crate) tokens: Option<&'a str>,
     /// The uploads, in order; none stands for standard input.
     pub(crate) files: Vec<&'a str>,
     ghost some_worker: { 1 ≤ workers },

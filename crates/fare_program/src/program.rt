@@ -8,7 +8,7 @@ ghost use Rattle.fare_program.specs.Causes.{IsNameReported, IsRightFault};
 ghost use Rattle.fare_program.specs.inside.Causes.{IsOfOutput};
 ghost use Rattle.fare_program.specs.Fault.{IsLate, charge_mistake_of, explain_mistake, fault_text};
 ghost use Rattle.fare_program.specs.Fault.{live_mistake, mistake, sorted_mistake, status_of};
-ghost use Rattle.fare_program.specs.Fault.{token_mistake};
+ghost use Rattle.fare_program.specs.Fault.{token_mistake, tokens_mistake};
 ghost use Rattle.fare_program.specs.Fault.{traced_mistake, wrong_date};
 ghost use Rattle.fare_program.specs.inside.Fault.{IsLoadLine, IsWhyOf};
 ghost use Rattle.fare_program.specs.Options.{Asked, AsksForText, Parses, asked_by};
@@ -31,8 +31,10 @@ use crate::fault::Fault;
 use crate::named_files::charge_ahead;
 use crate::options::Options;
 use crate::output::write_text;
+use crate::part::work_part;
 use crate::posting::charge;
 use crate::sorted::work_sorted;
+use crate::token_range::{RangeFault, TokenRange};
 use crate::traced::{Riders, charge_traced, riders_of};
 use crate::uploads::listing_text;
 use clap::Error;
@@ -289,6 +291,28 @@ fn check_traced<'a>(options: &Options<'a>) -> Result<(), Fault<'a>>
     Ok(())
 }
 
+/// Looks whether the range of tokens that is asked for, if one is, may be: the files are sorted
+/// ones, no token is asked for, and the word names a range.
+fn check_tokens<'a>(options: &Options<'a>) -> Result<(), Fault<'a>>
+    ensures right { OnOk result (tokens_mistake (asked_of options.now) ≡ None) }
+    ensures fault { IfErr result (λ fault. tokens_mistake (asked_of options.now) ≡ Some fault) }
+    ensures status { IfErr result (λ fault. status_of fault ≡ 2) }
+{
+    let Some(word) = options.tokens else {
+        return Ok(());
+    };
+    if !options.sorted {
+        return Err(Fault::Range(RangeFault::NoSorted));
+    }
+    if options.token.is_some() {
+        return Err(Fault::Range(RangeFault::WithToken));
+    }
+    match TokenRange::of(word) {
+        Ok(_) => Ok(()),
+        Err(fault) => Err(Fault::Range(fault)),
+    }
+}
+
 /// Looks at the dates of the fare tables, behind all other mistakes in what is asked for.
 fn check_dates<'a>(options: &Options<'a>) -> Result<(), Fault<'a>>
     ensures right { OnOk result (wrong_date (asked_of options.now) ≡ None) }
@@ -331,6 +355,7 @@ pub(crate) fn checked<'a>(options: &Options<'a>) -> Result<Option<Token>, Fault<
     check_explain(options)?;
     check_sorted(options)?;
     check_traced(options)?;
+    check_tokens(options)?;
     check_dates(options)?;
     Ok(token)
 }
@@ -494,6 +519,9 @@ fn work<'a, R: Threads + Wait + RandomSource + Sync, D: Disk + Sync, S: Source, 
     }
     let table = load_table(alloc, &options.table, source)?;
     if options.sorted {
+        if let Some(word) = options.tokens {
+            return work_part(rt, alloc, disk, options, word, table, out);
+        }
         return work_sorted(rt, alloc, disk, options, table, token, out);
     }
     match charge_ahead(rt, alloc, disk, options, &table, token, source, out)? {

@@ -36,7 +36,7 @@ fn push<F: Drop>(files: &mut Vec<F>, file: F) -> Result<(), NoMemory>
 }
 
 /// The files of these names, opened in their order.
-fn open_files<'a, D: Disk>(
+pub(crate) fn open_files<'a, D: Disk>(
     alloc: Global,
     disk: &D,
     names: &[&'a str],

@@ -19,3 +19,4 @@ mod Sets
 mod States
 mod SumsFit
 pub mod LedgerTokens
+mod TracedLines

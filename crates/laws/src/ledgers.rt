@@ -14,10 +14,11 @@ ghost use Rattle.ledger_check.specs.Verdicts.{IsVerdict, is_legal};
 ghost use Rattle.ledger_check.specs.declared.checker.Verdict.{Verdict};
 ghost use Rattle.fare_service.specs.Ledger.{IsLedgerOfBooks as IsWrittenOf};
 ghost use Rattle.fare_texts.specs.Ledger.{IsLedgerOver};
+ghost use Rattle.laws.specs.Traced.{TracedLinesAreReadBack};
 ghost use Rattle.laws.specs.Written.{AreBooksOf, AreLetters, AreShort, CanBePrinted};
 ghost use Rattle.laws.specs.Written.{reported_entries};
 
-use ledger_check::laws::verdicts_decide;
+use ledger_check::laws::{columns_are_read_back, verdicts_decide};
 
 /// The written ledger of a history, or of one of its tokens, is a ledger as the check of ledgers
 /// reads it, of the same entries token by token, if no line is too long for one.
@@ -52,4 +53,12 @@ pub fn printed_ledger_is_legal()
         → IsTrue (is_legal verdict) }
 {
     verdicts_decide();
+}
+
+/// The columns that a traced ledger has behind a line are read back by the check of ledgers as they
+/// were written: the same fields and class, and the same place of the same upload.
+pub fn traced_lines_are_read_back()
+    ensures { TracedLinesAreReadBack }
+{
+    columns_are_read_back();
 }

@@ -95,7 +95,7 @@ long_true fares so_far lines line more taken long =
     (λ rest read. wrong_long fares so_far.replay rest line read long)
 
 -- a ledger's line ends with a newline
-next_ends : (fares : Fares) (earlier : List Entry) (entry : Entry) (line : List ℕ)
+pub next_ends : (fares : Fares) (earlier : List Entry) (entry : Entry) (line : List ℕ)
     → IsNext fares earlier entry line → Lacks 10 line → ⊥
 next_ends fares earlier entry line is lacks =
     let shown = is.shown in

@@ -1,23 +1,24 @@
--- The columns of a line, cut off one after another.
-use Rattle.std.proofs.Common.{◌≡◌, ◌≢◌, ◌∙◌, ℕ, ◌+◌, ◌-◌, ◌<◌, ◌≤◌, ◌^◌, ◌&&◌, Bool, true, false}
+-- The columns of a line, cut off one after another, and read back as they were written.
+use Rattle.std.proofs.Common.{◌≡◌, ◌≢◌, ◌∙◌, ℕ, ◌+◌, ◌<◌, ◌≤◌, ◌^◌, ◌&&◌, Bool, true, false}
 use Rattle.std.proofs.Common.{List, [], ◌∷◌, ◌++◌, length, get_or, take, drop, Option, None, Some}
-use Rattle.std.proofs.Common.{refl, sym, ap, subst, arith, zero, suc, nat_lt, if◌then◌else◌}
+use Rattle.std.proofs.Common.{refl, sym, ap, subst, arith, zero, suc, nat_le, nat_lt, if◌then◌else◌}
 use Rattle.std.proofs.Common.{length-append, append_assoc}
-use Rattle.std.specs.Prelude.{MatchOption, option_map}
-use Rattle.std.specs.Option.{option_and_then}
-use Rattle.std.proofs.lemmas.Bool.{and_parts, le-ltb, lt-ltb, ltb-true, ne_eqb}
-use Rattle.std.proofs.lemmas.Fmt.{decimal_is_IsNumeral}
-use Rattle.std.proofs.lemmas.Slice.Eq.{bytes_eq-Decides}
+use Rattle.std.proofs.lemmas.Bool.{and_from, and_parts, false≢true, le-ltb, lt-ltb, ne_eqb}
+use Rattle.std.proofs.lemmas.Fmt.{decimal_is_IsNumeral, length-decimal-le}
 use Rattle.std.specs.Fmt.{decimal}
-use Rattle.std.specs.Str.{bytes_eq}
-use Rattle.std.specs.Str.Parse.{AllDigits, digits_value}
+use Rattle.std.specs.List.{list_all}
+use Rattle.std.specs.Str.Parse.{AllDigits}
 use Rattle.std.proofs.lemmas.Bool.Decides.{nat_tests}
-use Rattle.ledger_check.specs.Columns.{TracedLine, but_last, class_of, cut_class, cut_line}
-use Rattle.ledger_check.specs.Columns.{cut_upload, fields_and_class, is_class_name, last_field}
-use Rattle.ledger_check.specs.Columns.{number_and_feed, number_below, number_if, place_of}
-use Rattle.ledger_check.specs.Columns.{untraced_line, untraced_lines, upload_of, with_byte}
+use Rattle.line_forms.specs.FormLaws.{line_complete, number_complete, number_law, wide_64}
+use Rattle.line_forms.specs.Forms.{value_if}
+use Rattle.line_forms.specs.Numbers.{number_in}
+use Rattle.ledger_check.specs.Columns.{ColumnsAreReadBack, IsTraced, TracedLine, class_in}
+use Rattle.ledger_check.specs.Columns.{columns_in, cut_line, is_class_name, is_name_byte, last_field}
+use Rattle.ledger_check.specs.Columns.{number_line, on, traced_text, untraced_line, untraced_lines}
+use Rattle.ledger_check.specs.Columns.{upload_in, with_byte}
 use Rattle.ledger_check.specs.Lines.{Lacks}
-use Rattle.ledger_check.proofs.LineLemmas.{lacks-last, lacks-reads, same_cut}
+use Rattle.ledger_check.proofs.FieldLemmas.{decimal_lacks}
+use Rattle.ledger_check.proofs.LineLemmas.{lacks-append, lacks-reads, lacks-tested}
 
 -- a text without a comma has no last one
 pub last_none : (text : List ℕ) → Lacks 44 text → last_field text ≡ None
@@ -45,70 +46,6 @@ behind_lacks byte (x ∷ text) zero none = lacks-reads byte text
 behind_lacks byte (x ∷ text) (suc at) none =
     behind_lacks byte text at (λ k above within. none (suc k) (omega arith) (omega arith))
 
-pub number_yes : (limit number : ℕ) (text written : List ℕ) → number < limit → text ≡ written
-    → number_if limit number text written ≡ Some number
-number_yes limit number text written small same =
-    ap (λ (b : Bool). if b && bytes_eq text written then Some number else None)
-    (lt-ltb number limit small)
-    ∙ ap (λ (b : Bool). if b then Some number else None) ((bytes_eq-Decides text written).1 same)
-
-pub number_no : (limit number : ℕ) (text written : List ℕ) → (number < limit → text ≡ written → ⊥)
-    → number_if limit number text written ≡ None
-number_no limit number text written none = by_test (nat_lt number limit && bytes_eq text written)
-    refl
-  where
-    by_test : (b : Bool) → (nat_lt number limit && bytes_eq text written) ≡ b
-        → (if nat_lt number limit && bytes_eq text written then Some number else None) ≡ None
-    by_test true is =
-        let parts = and_parts (nat_lt number limit) (bytes_eq text written) is in
-        absurd (none (ltb-true number limit parts.0) ((bytes_eq-Decides text written).0 parts.1))
-    by_test false is = ap (λ (b : Bool). if b then Some number else None) is
-
--- the number that digits write
-pub below_is : (limit : ℕ) (digits : List ℕ) (read : Option ℕ) → limit ≤ 2 ^ 64
-    → MatchOption read ((number : ℕ) → number < limit → ¬ (digits ≡ decimal number))
-    (λ number. (number < limit) × (digits ≡ decimal number))
-    → read ≡ number_below limit digits
-unfolding number_below
-below_is limit digits None fits none =
-    sym (number_no limit (digits_value 10 digits) digits (decimal (digits_value 10 digits))
-    (λ small same. none (digits_value 10 digits) small same))
-below_is limit digits (Some number) fits (small, same) =
-    let value : digits_value 10 digits ≡ number = ap (λ (t : List ℕ). digits_value 10 t) same
-    ∙ (decimal_is_IsNumeral number (omega (arith, fits, small))).1 in
-    sym (subst (λ (v : ℕ). number_if limit v digits (decimal v) ≡ Some number) (sym value)
-    (number_yes limit number digits (decimal number) small same))
-
-pub but_last_is : (text : List ℕ) (byte : ℕ) → but_last (text ++ byte ∷ []) ≡ text
-but_last_is text byte =
-    let size : length (text ++ byte ∷ []) - 1 ≡ length text = omega
-    (arith, length-append text (byte ∷ [])) in
-    ap (λ (n : ℕ). take n (text ++ byte ∷ [])) size ∙ front text
-  where
-    front : (text : List ℕ) → take (length text) (text ++ byte ∷ []) ≡ text
-    front [] = refl
-    front (x ∷ text) = ap (λ (t : List ℕ). x ∷ t) (front text)
-
--- a number that a line feed follows
-pub feed_is : (limit number : ℕ) (text : List ℕ) → limit ≤ 2 ^ 64 → number < limit
-    → text ≡ decimal number ++ 10 ∷ [] → number_and_feed limit text ≡ Some number
-unfolding number_and_feed
-feed_is limit number text fits small same =
-    let value : digits_value 10 (but_last text) ≡ number =
-    ap (λ (t : List ℕ). digits_value 10 (but_last t)) same ∙ ap (λ (t : List ℕ). digits_value 10 t)
-    (but_last_is (decimal number) 10)
-    ∙ (decimal_is_IsNumeral number (omega (arith, fits, small))).1 in
-    subst (λ (v : ℕ). number_if limit v text (decimal v ++ 10 ∷ []) ≡ Some number) (sym value)
-    (number_yes limit number text (decimal number ++ 10 ∷ []) small same)
-
-pub feed_none : (limit : ℕ) (text : List ℕ)
-    → ((number : ℕ) → number < limit → ¬ (text ≡ decimal number ++ 10 ∷ []))
-    → number_and_feed limit text ≡ None
-unfolding number_and_feed
-feed_none limit text none =
-    let value = digits_value 10 (but_last text) in
-    number_no limit value text (decimal value ++ 10 ∷ []) (λ small same. none value small same)
-
 -- digits are no line feeds
 digits_lack_feed : (text : List ℕ) → AllDigits 10 text → Lacks 10 text
 digits_lack_feed [] digits = tt
@@ -119,134 +56,11 @@ digits_lack_feed (c ∷ text) digits =
 pub decimal_lacks_feed : (n : ℕ) → n < 2 ^ 64 → Lacks 10 (decimal n)
 decimal_lacks_feed n small = digits_lack_feed (decimal n) (decimal_is_IsNumeral n small).0.1
 
--- a text without a line feed, and one that goes on behind its first line feed
-pub feed_lacks : (text : List ℕ) → Lacks 10 text → number_and_feed (2 ^ 64) text ≡ None
-feed_lacks text lacks =
-    feed_none (2 ^ 64) text (λ number small same. lacks-last 10 (decimal number) text same lacks)
-
-pub feed_inside : (text digits behind : List ℕ) → Lacks 10 digits → text ≡ digits ++ 10 ∷ behind
-    → 0 < length behind
-    → number_and_feed (2 ^ 64) text ≡ None
-feed_inside text digits behind lacks split some =
-    feed_none (2 ^ 64) text (λ number small same.
-    let cut = same_cut 10 digits behind (decimal number) [] lacks (decimal_lacks_feed number small)
-    (sym split ∙ same) in
-    let none : length behind ≡ 0 = ap (λ (b : List ℕ). length b) cut.1 in
-    absurd (omega (arith, some, none)))
-
--- the number that digits write, with a line feed behind them
-pub feed_by : (text digits : List ℕ) (read : Option ℕ) → text ≡ digits ++ 10 ∷ []
-    → MatchOption read ((number : ℕ) → number < 2 ^ 64 → ¬ (digits ≡ decimal number))
-    (λ number. (number < 2 ^ 64) × (digits ≡ decimal number))
-    → read ≡ number_and_feed (2 ^ 64) text
-feed_by text digits None is none =
-    sym (feed_none (2 ^ 64) text (λ number small same.
-    none number small (sym (but_last_is digits 10) ∙ ap (λ (t : List ℕ). but_last t) (sym is ∙ same)
-    ∙ but_last_is (decimal number) 10)))
-feed_by text digits (Some number) is (small, same) =
-    sym (feed_is (2 ^ 64) number text (omega arith) small
-    (is ∙ ap (λ (d : List ℕ). d ++ 10 ∷ []) same))
-
--- the place that ends a line
-pub place_none : (line : List ℕ) → None ≡ last_field line → place_of line ≡ None
-unfolding place_of
-place_none line is =
-    ap (λ (o : Option (List ℕ × List ℕ)). option_and_then
-    (λ parts. option_map (λ place. (parts.0, place)) (number_and_feed (2 ^ 64) parts.1)) o)
-    (sym is)
-
-pub place_by : (line text end : List ℕ) (place : Option ℕ) → Some (text, end) ≡ last_field line
-    → place ≡ number_and_feed (2 ^ 64) end → place_of line ≡ option_map (λ p. (text, p)) place
-unfolding place_of
-place_by line text end place is read =
-    ap (λ (o : Option (List ℕ × List ℕ)). option_and_then
-    (λ parts. option_map (λ place. (parts.0, place)) (number_and_feed (2 ^ 64) parts.1)) o)
-    (sym is)
-    ∙ ap (λ (o : Option ℕ). option_map (λ p. (text, p)) o) (sym read)
-
--- the upload's number that ends a text
-pub upload_none : (text : List ℕ) → None ≡ last_field text → upload_of text ≡ None
-unfolding upload_of
-upload_none text is =
-    ap (λ (o : Option (List ℕ × List ℕ)). option_and_then
-    (λ parts. option_map (λ upload. (parts.0, upload)) (number_below (2 ^ 32) parts.1)) o)
-    (sym is)
-
-pub upload_by : (text front digits : List ℕ) (upload : Option ℕ)
-    → Some (front, digits) ≡ last_field text
-    → MatchOption upload ((number : ℕ) → number < 2 ^ 32 → ¬ (digits ≡ decimal number))
-    (λ number. (number < 2 ^ 32) × (digits ≡ decimal number))
-    → upload_of text ≡ option_map (λ u. (front, u)) upload
-unfolding upload_of
-upload_by text front digits upload is read =
-    ap (λ (o : Option (List ℕ × List ℕ)). option_and_then
-    (λ parts. option_map (λ upload. (parts.0, upload)) (number_below (2 ^ 32) parts.1)) o)
-    (sym is)
-    ∙ ap (λ (o : Option ℕ). option_map (λ u. (front, u)) o)
-    (sym (below_is (2 ^ 32) digits upload (omega arith) read))
-
--- the class that ends a text
-pub class_none : (text : List ℕ) → None ≡ last_field text → class_of text ≡ None
-unfolding class_of
-class_none text is = ap (λ (o : Option (List ℕ × List ℕ)). option_and_then fields_and_class o)
-    (sym is)
-
-pub class_by : (text fields class : List ℕ) (fit : Bool) → Some (fields, class) ≡ last_field text
-    → fit ≡ (nat_lt (length fields) 255 && is_class_name class)
-    → class_of text ≡ (if fit then Some (fields, class) else None)
-unfolding class_of
-class_by text fields class fit is fits =
-    ap (λ (o : Option (List ℕ × List ℕ)). option_and_then fields_and_class o) (sym is)
-    ∙ ap (λ (b : Bool). if b then Some (fields, class) else None) (sym fits)
-
--- a line that is cut, column for column
+-- a line that is too long
 pub cut_long : (line : List ℕ) → 352 < length line → cut_line line ≡ None
 unfolding cut_line
 cut_long line long =
-    ap (λ (b : Bool). if b then None else option_and_then (λ parts. cut_upload parts.1 parts.0)
-    (place_of line)) (lt-ltb 352 (length line) long)
-
-cut_short : (line : List ℕ) → length line ≤ 352
-    → cut_line line ≡ option_and_then (λ parts. cut_upload parts.1 parts.0) (place_of line)
-unfolding cut_line
-cut_short line short =
-    ap (λ (b : Bool). if b then None else option_and_then (λ parts. cut_upload parts.1 parts.0)
-    (place_of line)) (le-ltb 352 (length line) short)
-
-cut_from : (line : List ℕ) (place : Option (List ℕ × ℕ)) → length line ≤ 352 → place ≡ place_of line
-    → cut_line line ≡ option_and_then (λ parts. cut_upload parts.1 parts.0) place
-cut_from line place short is =
-    cut_short line short
-    ∙ ap (λ (o : Option (List ℕ × ℕ)). option_and_then (λ parts. cut_upload parts.1 parts.0) o)
-    (sym is)
-
-pub cut_no_place : (line : List ℕ) → length line ≤ 352 → None ≡ place_of line → cut_line line ≡ None
-cut_no_place line short is = cut_from line None short is
-
-pub cut_no_upload : (line text : List ℕ) (place : ℕ) → length line ≤ 352
-    → Some (text, place) ≡ place_of line
-    → None ≡ upload_of text → cut_line line ≡ None
-cut_no_upload line text place short is none =
-    cut_from line (Some (text, place)) short is
-    ∙ ap (λ (o : Option (List ℕ × ℕ)). option_and_then (λ parts. cut_class place parts.1 parts.0) o)
-    (sym none)
-
-pub cut_by_class : (line text front : List ℕ) (place upload : ℕ) (class : Option (List ℕ × List ℕ))
-    → length line ≤ 352
-    → Some (text, place) ≡ place_of line → Some (front, upload) ≡ upload_of text
-    → class ≡ class_of front
-    → cut_line line ≡ option_map
-    (λ parts. record { fields = parts.0; class = parts.1; upload = upload; place = place })
-    class
-cut_by_class line text front place upload class short is has named =
-    cut_from line (Some (text, place)) short is
-    ∙ ap (λ (o : Option (List ℕ × ℕ)). option_and_then (λ parts. cut_class place parts.1 parts.0) o)
-    (sym has)
-    ∙ ap (λ (o : Option (List ℕ × List ℕ)). to_line o) (sym named)
-  where
-    to_line : Option (List ℕ × List ℕ) → Option TracedLine
-    to_line o = option_map
-        (λ parts. record { fields = parts.0; class = parts.1; upload = upload; place = place }) o
+    ap (λ (b : Bool). if b then None else columns_in line) (lt-ltb 352 (length line) long)
 
 -- what is read in place of lines and of more lines
 pub untraced-append : (lines more : List (List ℕ)) → untraced_lines (lines ++ more) ≡ untraced_lines
@@ -255,3 +69,106 @@ untraced-append [] more = refl
 untraced-append (line ∷ lines) more =
     ap (λ (t : List ℕ). untraced_line line ++ t) (untraced-append lines more)
     ∙ sym (append_assoc (untraced_line line) (untraced_lines lines) (untraced_lines more))
+
+-- ---- columns that were written
+named_lacks : (name : List ℕ) → list_all is_name_byte name ≡ true → Lacks 44 name
+named_lacks [] named = tt
+named_lacks (byte ∷ name) named =
+    let parts = and_parts (is_name_byte byte) (list_all is_name_byte name) named in (
+      λ is. false≢true (subst (λ (b : ℕ). is_name_byte b ≡ true) is parts.0),
+      named_lacks name parts.1,
+    )
+
+class_lacks : (name : List ℕ) → is_class_name name ≡ true → Lacks 44 name
+class_lacks name is =
+    let some = and_parts (nat_le 1 (length name))
+    (nat_le (length name) 64 && list_all is_name_byte name) is in
+    let few = and_parts (nat_le (length name) 64) (list_all is_name_byte name) some.1 in
+    named_lacks name few.1
+
+class_short : (name : List ℕ) → is_class_name name ≡ true → length name ≤ 64
+class_short name is =
+    let some = and_parts (nat_le 1 (length name))
+    (nat_le (length name) 64 && list_all is_name_byte name) is in
+    let few = and_parts (nat_le (length name) 64) (list_all is_name_byte name) some.1 in
+    let short : nat_le (length name) 64 ≡ true = few.0 in
+    grind (arith, nat_tests)
+
+sized : (a b c d : List ℕ)
+    → length (a ++ 44 ∷ (b ++ 44 ∷ (c ++ 44 ∷ (d ++ 10 ∷ []))))
+    ≡ length a + length b + length c + length d + 4
+sized a b c d =
+    omega (
+      arith,
+      length-append a (44 ∷ (b ++ 44 ∷ (c ++ 44 ∷ (d ++ 10 ∷ [])))),
+      length-append b (44 ∷ (c ++ 44 ∷ (d ++ 10 ∷ []))),
+      length-append c (44 ∷ (d ++ 10 ∷ [])),
+      length-append d (10 ∷ []),
+    )
+
+cut_once : (a b c d : List ℕ)
+    → a ++ 44 ∷ (b ++ 44 ∷ (c ++ 44 ∷ d)) ≡ ((a ++ 44 ∷ b) ++ 44 ∷ c) ++ 44 ∷ d
+cut_once a b c d = sym (simp append_assoc)
+
+written_short : (cut : TracedLine) → IsTraced cut → length (traced_text cut) ≤ 352
+written_short cut is =
+    let digits : length (decimal cut.upload) ≤ 10 =
+    length-decimal-le 10 cut.upload (omega arith) (omega (arith, is.upload))
+    (omega (arith, is.upload)) in
+    let more : length (decimal cut.place) ≤ 20 =
+    length-decimal-le 20 cut.place (omega arith) (omega (arith, is.place)) is.place in
+    omega (
+      arith,
+      sized cut.fields cut.class (decimal cut.upload) (decimal cut.place),
+      is.fields,
+      class_short cut.class is.class,
+      digits,
+      more,
+    )
+
+class_back : (cut : TracedLine) → IsTraced cut
+    → class_in cut.upload cut.place (cut.fields ++ 44 ∷ cut.class) ≡ Some cut
+class_back cut is =
+    let fit : (nat_lt (length cut.fields) 255 && is_class_name cut.class) ≡ true =
+    and_from (nat_lt (length cut.fields) 255) (is_class_name cut.class)
+    (lt-ltb (length cut.fields) 255 is.fields) is.class in
+    ap (λ (o : Option (List ℕ × List ℕ)). on o (λ parts.
+    value_if (nat_lt (length parts.0) 255 && is_class_name parts.1) (record {
+      fields = parts.0;
+      class = parts.1;
+      upload = cut.upload;
+      place = cut.place;
+    }))) (last_is cut.fields cut.class (class_lacks cut.class is.class))
+    ∙ ap (λ (b : Bool). value_if b cut) fit
+
+upload_back : (cut : TracedLine) → IsTraced cut
+    → upload_in cut.place ((cut.fields ++ 44 ∷ cut.class) ++ 44 ∷ decimal cut.upload) ≡ Some cut
+upload_back cut is =
+    let front = cut.fields ++ 44 ∷ cut.class in
+    ap (λ (o : Option (List ℕ × List ℕ)). on o (λ parts.
+    on (number_in (2 ^ 32) parts.1) (λ upload. class_in upload cut.place parts.0)))
+    (last_is front (decimal cut.upload) (decimal_lacks cut.upload (omega (arith, is.upload))))
+    ∙ ap (λ (o : Option ℕ). on o (λ upload. class_in upload cut.place front))
+    (number_complete (2 ^ 32) cut.upload (omega (arith, is.upload)) is.upload)
+    ∙ class_back cut is
+
+columns_back : (cut : TracedLine) → IsTraced cut → columns_in (traced_text cut) ≡ Some cut
+columns_back cut is =
+    let front = (cut.fields ++ 44 ∷ cut.class) ++ 44 ∷ decimal cut.upload in
+    let end = decimal cut.place ++ 10 ∷ [] in
+    ap columns_in (cut_once cut.fields cut.class (decimal cut.upload) end)
+    ∙ ap (λ (o : Option (List ℕ × List ℕ)). on o (λ parts.
+    on (number_line parts.1) (λ place. upload_in place parts.0)))
+    (last_is front end (lacks-append 44 (decimal cut.place) (10 ∷ [])
+    (decimal_lacks cut.place is.place) (lacks-tested 44 (10 ∷ []) refl)))
+    ∙ ap (λ (o : Option ℕ). on o (λ place. upload_in place front))
+    (line_complete (number_law (2 ^ 64) wide_64) refl cut.place (decimal cut.place)
+    (is.place, refl))
+    ∙ upload_back cut is
+
+pub read_back : ColumnsAreReadBack
+unfolding cut_line
+read_back cut is =
+    ap (λ (b : Bool). if b then None else columns_in (traced_text cut))
+    (le-ltb 352 (length (traced_text cut)) (written_short cut is))
+    ∙ columns_back cut is

@@ -1,6 +1,6 @@
 -- A line names one tap.
 use Rattle.std.proofs.Common.{◌≡◌, ℕ, ◌+◌, ◌/◌, ◌%◌, ◌^◌, ◌<◌, pos, List, ◌∷◌, ◌++◌, get_or, Ok}
-use Rattle.std.proofs.Common.{refl, sym, ap, subst, ◌∙◌, arith, decimal}
+use Rattle.std.proofs.Common.{refl, sym, ap, subst, ◌∙◌, arith, decimal, inl, inr, []}
 use Rattle.std.proofs.lemmas.Fmt.{decimal_injective}
 use Rattle.hex.specs.Hex.{decode_sized, encode_lower}
 use Rattle.hex.proofs.HexLemmas.{decode_sized-encode_lower}
@@ -14,12 +14,39 @@ use Rattle.tap_views.specs.Token.{Fits, bytes_of}
 use Rattle.tap_views.specs.declared.token.Token.{Token}
 use Rattle.tap_views.proofs.TokenLemmas.{bytes_of-injective}
 use Rattle.tap_views.proofs.TokenBytes.{token_bytes, token_length}
-use Rattle.ledger_check.specs.Recounts.{IsLineOfTap}
+use Rattle.ledger_check.specs.Recounts.{EndsField, IsLineOfTap}
 use Rattle.ledger_check.specs.inside.Fronts.{HasFront}
 use Rattle.ledger_check.proofs.FieldLemmas.{date_bytes, date_shown, decimal_lacks, moment_lacks}
 use Rattle.ledger_check.proofs.FieldLemmas.{moment_parts, token_lacks}
-use Rattle.ledger_check.proofs.LineLemmas.{same_cut}
+use Rattle.std.proofs.lemmas.List.{append_cancel_right}
+use Rattle.ledger_check.specs.Lines.{Lacks}
+use Rattle.ledger_check.proofs.LineLemmas.{lacks-append, lacks-end, lacks-tested, same_cut}
 use Rattle.ledger_check.proofs.MomentLemmas.{clock_number}
+
+-- a text without a comma has none before its line feed
+no_comma : (a more b : List ℕ) → Lacks 44 b → a ++ 44 ∷ more ≡ b ++ 10 ∷ [] → ⊥
+no_comma a more b lacks is =
+    (lacks-end 44 a (44 ∷ more) (subst (Lacks 44) (sym is)
+    (lacks-append 44 b (10 ∷ []) lacks (lacks-tested 44 (10 ∷ []) refl)))).0 refl
+
+-- a field ends in one way
+pub field_same : (a b x y : List ℕ) → Lacks 44 a → Lacks 44 b → EndsField x → EndsField y
+    → a ++ x ≡ b ++ y → (a ≡ b) × (x ≡ y)
+field_same a b x y lacks lacks_too (inl (more, is)) (inl (more_too, is_too)) same =
+    let cut = same_cut 44 a more b more_too lacks lacks_too
+    (sym (ap (λ (t : List ℕ). a ++ t) is) ∙ same ∙ ap (λ (t : List ℕ). b ++ t) is_too) in
+    (cut.0, is ∙ ap (λ (t : List ℕ). 44 ∷ t) cut.1 ∙ sym is_too)
+field_same a b x y lacks lacks_too (inl (more, is)) (inr is_too) same =
+    absurd (no_comma a more b lacks_too
+    (sym (ap (λ (t : List ℕ). a ++ t) is) ∙ same ∙ ap (λ (t : List ℕ). b ++ t) is_too))
+field_same a b x y lacks lacks_too (inr is) (inl (more_too, is_too)) same =
+    absurd (no_comma b more_too a lacks
+    (sym (ap (λ (t : List ℕ). b ++ t) is_too) ∙ sym same ∙ ap (λ (t : List ℕ). a ++ t) is))
+field_same a b x y lacks lacks_too (inr is) (inr is_too) same = (
+  append_cancel_right a b (10 ∷ [])
+      (sym (ap (λ (t : List ℕ). a ++ t) is) ∙ same ∙ ap (λ (t : List ℕ). b ++ t) is_too),
+  is ∙ sym is_too,
+)
 
 -- the same fields
 pub record SameFront
@@ -37,15 +64,15 @@ pub front_same : (line token number moment validator rest token' number' moment'
     → HasFront line token' number' moment' validator' rest'
     → SameFront token number moment validator rest token' number' moment' validator' rest'
 front_same line token number moment validator rest token' number' moment' validator' rest' a b =
-    let one = same_cut 44 token (number ++ 44 ∷ (moment ++ 44 ∷ (validator ++ 44 ∷ rest))) token'
-    (number' ++ 44 ∷ (moment' ++ 44 ∷ (validator' ++ 44 ∷ rest')))
+    let one = same_cut 44 token (number ++ 44 ∷ (moment ++ 44 ∷ (validator ++ rest))) token'
+    (number' ++ 44 ∷ (moment' ++ 44 ∷ (validator' ++ rest')))
     a.token_field b.token_field (sym a.shown ∙ b.shown) in
-    let two = same_cut 44 number (moment ++ 44 ∷ (validator ++ 44 ∷ rest)) number'
-    (moment' ++ 44 ∷ (validator' ++ 44 ∷ rest')) a.number_field b.number_field one.1 in
-    let three = same_cut 44 moment (validator ++ 44 ∷ rest) moment' (validator' ++ 44 ∷ rest')
+    let two = same_cut 44 number (moment ++ 44 ∷ (validator ++ rest)) number'
+    (moment' ++ 44 ∷ (validator' ++ rest')) a.number_field b.number_field one.1 in
+    let three = same_cut 44 moment (validator ++ rest) moment' (validator' ++ rest')
     a.moment_field b.moment_field two.1 in
-    let four = same_cut 44 validator rest validator' rest' a.validator_field b.validator_field
-    three.1 in
+    let four = field_same validator validator' rest rest' a.validator_field b.validator_field
+    a.ends_field b.ends_field three.1 in
     record { token_is = one.0; moment_is = three.0; validator_is = four.0; rest_is = four.1 }
 
 -- a line of a tap has these fields
@@ -60,6 +87,7 @@ tap_front line token validator moment rest is =
       number_field = is.one_field;
       moment_field = moment_lacks moment is.moment_text is.early is.is;
       validator_field = decimal_lacks validator (omega arith);
+      ends_field = is.ends_field;
       shown = is.shown;
     }
 

@@ -27,6 +27,11 @@ pub lacks-end : (byte : ℕ) (a b : List ℕ) → Lacks byte (a ++ b) → Lacks 
 lacks-end byte [] b lacks = lacks
 lacks-end byte (x ∷ a) b lacks = lacks-end byte a b lacks.1
 
+-- and its front
+pub lacks-start : (byte : ℕ) (a b : List ℕ) → Lacks byte (a ++ b) → Lacks byte a
+lacks-start byte [] b lacks = tt
+lacks-start byte (x ∷ a) b lacks = (lacks.0, lacks-start byte a b lacks.1)
+
 -- a text that ends with the byte does not lack it
 pub lacks-last : (byte : ℕ) (front text : List ℕ) → text ≡ front ++ byte ∷ [] → Lacks byte text → ⊥
 lacks-last byte front text is lacks =

@@ -191,7 +191,7 @@ next_line_tap fares earlier entry line is =
     let front = line_head entry.token
     (length (own entry.token earlier) + 1)
     ++ (shown.moment ++ (entry_fields fares entry ++ shown.reason_fields)) in (
-      fields.rest,
+      44 ∷ fields.rest,
       record {
         fits = is.postable.token;
         small = is.postable.validator;
@@ -202,6 +202,7 @@ next_line_tap fares earlier entry line is =
         moment_text = fields.moment;
         is = fields.is;
         shown = fields.shown;
+        ends_field = inl (fields.rest, refl);
         front = front;
         ends = shown.shown ∙ ends (line_head entry.token (length (own entry.token earlier) + 1))
             shown.moment (entry_fields fares entry) shown.reason_fields;

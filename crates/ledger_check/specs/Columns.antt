@@ -1,14 +1,13 @@
 -- The three columns of a traced ledger's line: the class of the token's rider, the number of an
 -- upload, and the tap's place there.
-use Rattle.std.specs.Prelude.{ℕ, ◌^◌, ◌&&◌, ◌||◌, ◌==◌, ◌-◌, Bool, List, [], ◌∷◌, ◌++◌, codes}
-use Rattle.std.specs.Prelude.{length}
-use Rattle.std.specs.Prelude.{if◌then◌else◌, nat_le, nat_lt, Option, None, Some, option_map, take}
+use Rattle.std.specs.Prelude.{◌≡◌, ℕ, ◌^◌, ◌&&◌, ◌||◌, ◌==◌, ◌<◌, Bool, true, List, [], ◌∷◌, ◌++◌}
+use Rattle.std.specs.Prelude.{codes, if◌then◌else◌, length, nat_le, nat_lt, Option, None, Some, take}
 use Rattle.std.specs.Fmt.{decimal}
 use Rattle.std.specs.List.{list_all}
-use Rattle.std.specs.Option.{option_and_then}
 use Rattle.std.specs.Str.{bytes_eq}
-use Rattle.std.specs.Str.Parse.{digits_value}
 use Rattle.fare_texts.specs.LedgerLines.{head_text}
+use Rattle.line_forms.specs.Forms.{said_by, value_if}
+use Rattle.line_forms.specs.Numbers.{number_at, number_in}
 use Rattle.ledger_check.specs.Lines.{lines_of}
 use Rattle.ledger_check.specs.declared.columns.CutLine.{CutLine}
 
@@ -39,25 +38,6 @@ unfoldable pub last_field : List ℕ → Option (List ℕ × List ℕ)
 last_field [] = None
 last_field (byte ∷ text) = with_byte byte text (last_field text)
 
--- the number, if it is below the limit and the text is this one
-abbrev pub number_if : ℕ → ℕ → List ℕ → List ℕ → Option ℕ
-number_if limit number text written =
-    if nat_lt number limit && bytes_eq text written then Some number else None
-
--- the number below the limit that the digits write, without leading zeros
-unfoldable pub number_below : ℕ → List ℕ → Option ℕ
-number_below limit digits =
-    number_if limit (digits_value 10 digits) digits (decimal (digits_value 10 digits))
-
--- the text without its last byte
-abbrev pub but_last : List ℕ → List ℕ
-but_last text = take (length text - 1) text
-
--- the number below the limit that the text writes, with a line feed behind it
-unfoldable pub number_and_feed : ℕ → List ℕ → Option ℕ
-number_and_feed limit text = number_if limit (digits_value 10 (but_last text)) text
-    (decimal (digits_value 10 (but_last text)) ++ 10 ∷ [])
-
 -- a letter, a digit, a hyphen or a low line
 abbrev pub is_name_byte : ℕ → Bool
 is_name_byte byte =
@@ -68,25 +48,6 @@ is_name_byte byte =
 abbrev pub is_class_name : List ℕ → Bool
 is_class_name name =
     nat_le 1 (length name) && (nat_le (length name) 64 && list_all is_name_byte name)
-
--- the place that ends a line, and what stands before its comma
-unfoldable pub place_of : List ℕ → Option (List ℕ × ℕ)
-place_of line = option_and_then (λ parts. option_map (λ place. (parts.0, place))
-    (number_and_feed (2 ^ 64) parts.1)) (last_field line)
-
--- the upload's number that ends a text, and what stands before its comma
-unfoldable pub upload_of : List ℕ → Option (List ℕ × ℕ)
-upload_of text = option_and_then (λ parts. option_map (λ upload. (parts.0, upload))
-    (number_below (2 ^ 32) parts.1)) (last_field text)
-
--- the fields and the class, if the class can be one of a ledger and the fields those of a line
-abbrev pub fields_and_class : List ℕ × List ℕ → Option (List ℕ × List ℕ)
-fields_and_class parts =
-    if nat_lt (length parts.0) 255 && is_class_name parts.1 then Some parts else None
-
--- the class that ends a text, and the fields before its comma
-unfoldable pub class_of : List ℕ → Option (List ℕ × List ℕ)
-class_of text = option_and_then fields_and_class (last_field text)
 
 -- a line of a traced ledger: the twelve fields of a ledger's line, and the columns
 pub record TracedLine : Type 0 where
@@ -104,24 +65,40 @@ cut_of cut = record {
   place = cut.place;
 }
 
--- the columns that stand before a place, cut off one after another
-abbrev pub cut_class : ℕ → ℕ → List ℕ → Option TracedLine
-cut_class place upload text = option_map (λ parts. record {
-  fields = parts.0;
-  class = parts.1;
-  upload = upload;
-  place = place;
-}) (class_of text)
+-- what follows from a value, if there is one
+abbrev pub on : {A B : Type 0} → Option A → (A → Option B) → Option B
+on None next = None
+on (Some value) next = next value
 
-abbrev pub cut_upload : ℕ → List ℕ → Option TracedLine
-cut_upload place text = option_and_then (λ parts. cut_class place parts.1 parts.0) (upload_of text)
+-- the class that ends a text, and the fields before its comma, if the class can be one of a ledger
+-- and the fields those of a line
+abbrev pub class_in : ℕ → ℕ → List ℕ → Option TracedLine
+class_in upload place text = on (last_field text) (λ parts.
+    value_if (nat_lt (length parts.0) 255 && is_class_name parts.1) (record {
+      fields = parts.0;
+      class = parts.1;
+      upload = upload;
+      place = place;
+    }))
+
+-- the upload's number that ends a text, and the class and the fields before it
+abbrev pub upload_in : ℕ → List ℕ → Option TracedLine
+upload_in place text = on (last_field text) (λ parts.
+    on (number_in (2 ^ 32) parts.1) (λ upload. class_in upload place parts.0))
+
+-- the number with a line feed behind it
+abbrev pub number_line : List ℕ → Option ℕ
+number_line text = said_by (number_at (2 ^ 64)) text
+
+-- the place that ends a line, and what stands before it
+abbrev pub columns_in : List ℕ → Option TracedLine
+columns_in line =
+    on (last_field line) (λ parts. on (number_line parts.1) (λ place. upload_in place parts.0))
 
 -- The line's fields and its columns, if it has the form of a traced ledger's line. Then it has at
 -- most 352 bytes.
 unfoldable pub cut_line : List ℕ → Option TracedLine
-cut_line line =
-    if nat_lt 352 (length line) then None
-    else option_and_then (λ parts. cut_upload parts.1 parts.0) (place_of line)
+cut_line line = if nat_lt 352 (length line) then None else columns_in line
 
 -- what is read in place of a line: its fields, the head line of a ledger for that of a traced one,
 -- or an empty line, which stands in no ledger
@@ -140,3 +117,19 @@ untraced_lines (line ∷ lines) = untraced_line line ++ untraced_lines lines
 -- the ledger that is read of a file: a traced ledger without its columns, and any other as it is
 abbrev pub read_as : Bool → List ℕ → List ℕ
 read_as traced file = if traced then untraced_lines (lines_of file) else file
+
+-- the columns can be those of a ledger's line, and the fields those of one
+pub record IsTraced (cut : TracedLine) : Type 0 where
+  pub fields : length cut.fields < 255
+  pub class : is_class_name cut.class ≡ true
+  pub upload : cut.upload < 2 ^ 32
+  pub place : cut.place < 2 ^ 64
+
+-- the fields, and the columns behind them: `..,adult,0,1`
+abbrev pub traced_text : TracedLine → List ℕ
+traced_text cut = cut.fields ++ (codes "," ++ (cut.class ++ (codes "," ++ (decimal cut.upload
+    ++ (codes "," ++ (decimal cut.place ++ codes "\n"))))))
+
+-- what is written so is read back: the same fields and class, the same place of the same upload
+abbrev pub ColumnsAreReadBack : Type 0
+ColumnsAreReadBack = (cut : TracedLine) → IsTraced cut → cut_line (traced_text cut) ≡ Some cut

@@ -25,6 +25,10 @@ use Rattle.ledger_check.specs.declared.walk.LineFinding.{LineFinding}
 use Rattle.ledger_check.specs.declared.walk.Remark.{Remark}
 use Rattle.ledger_check.specs.declared.walk.Remark.TheVariants.{Nothing, Wants, NoLine}
 
+-- a field ends at a comma, or at the end of its line
+abbrev pub EndsField : List ℕ → Type 0
+EndsField rest = ((more : List ℕ) × (rest ≡ 44 ∷ more)) ⊎ (rest ≡ 10 ∷ [])
+
 -- The line names this tap: its first four fields are the token, any text, the moment and the
 -- validator. Nothing is said of what stands behind them.
 pub record IsLineOfTap (line : List ℕ) (token : Token) (validator moment : ℕ) (rest : List ℕ)
@@ -37,13 +41,14 @@ pub record IsLineOfTap (line : List ℕ) (token : Token) (validator moment : ℕ
   pub moment_text : List ℕ
   pub is : IsMomentText moment moment_text
   pub shown : line ≡ encode_lower (bytes_of token) ++ 44 ∷ (number ++ 44 ∷ (moment_text
-      ++ 44 ∷ (decimal validator ++ 44 ∷ rest)))
+      ++ 44 ∷ (decimal validator ++ rest)))
+  pub ends_field : EndsField rest
   -- it ends with its newline, and has at most 255 bytes
   pub front : List ℕ
   pub ends : line ≡ front ++ 10 ∷ []
   pub short : length line ≤ 255
 
--- behind the validator the third field is this number
+-- the third field behind the validator is this number
 pub record IsCentsField (rest : List ℕ) (cents : ℕ) : Type 0 where
   pub mode : List ℕ
   pub mode_field : Lacks 44 mode
@@ -51,7 +56,7 @@ pub record IsCentsField (rest : List ℕ) (cents : ℕ) : Type 0 where
   pub answer_field : Lacks 44 answer
   pub behind : List ℕ
   pub small : cents < 2 ^ 32
-  pub shown : rest ≡ mode ++ 44 ∷ (answer ++ 44 ∷ (decimal cents ++ 44 ∷ behind))
+  pub shown : rest ≡ 44 ∷ (mode ++ 44 ∷ (answer ++ 44 ∷ (decimal cents ++ 44 ∷ behind)))
 
 -- the cents that the line asks for, or 0 if its cents are no number
 abbrev pub AreCents : List ℕ → ℕ → Type 0

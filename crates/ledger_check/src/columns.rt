@@ -3,16 +3,17 @@
 ghost use Rattle.std.specs.Prelude.{◌≡◌, ◌^◌, ◌&&◌, ◌||◌, ◌==◌, ◌<◌, List, IfSome};
 ghost use Rattle.std.specs.Prelude.{length, nat_le, nat_lt, option_map, true};
 ghost use Rattle.std.specs.List.{list_all};
-ghost use Rattle.ledger_check.specs.Columns.{class_of, cut_line, cut_of};
-ghost use Rattle.ledger_check.specs.Columns.{has_ledger_head, has_traced_head, is_class_name};
-ghost use Rattle.ledger_check.specs.Columns.{has_plain_head, is_name_byte};
-ghost use Rattle.ledger_check.specs.Columns.{last_field, number_and_feed, number_below, place_of};
-ghost use Rattle.ledger_check.specs.Columns.{traced_head, upload_of};
+ghost use Rattle.line_forms.specs.Numbers.{number_in};
+ghost use Rattle.ledger_check.specs.Columns.{class_in, columns_in, cut_line, cut_of};
+ghost use Rattle.ledger_check.specs.Columns.{has_ledger_head, has_plain_head, has_traced_head};
+ghost use Rattle.ledger_check.specs.Columns.{is_class_name, is_name_byte, last_field, number_line};
+ghost use Rattle.ledger_check.specs.Columns.{traced_head, upload_in};
 
-use crate::bytes::split_at_byte;
-use crate::exact::{exact_long_number, exact_number};
+use crate::exact::exact_number;
 use crate::replay::MAX_LINE_BYTES;
 use fare_texts::head_line;
+use line_forms::forms::line_of;
+use line_forms::number::Number64;
 use memchr::memrchr;
 
 /// The most bytes of a traced ledger's line, with its line feed.
@@ -89,33 +90,18 @@ fn is_class_name(name: &[u8]) -> bool
     1 <= name.len() && (name.len() <= MAX_NAME_BYTES && are_name_bytes(name))
 }
 
-/// The number below 2^64 that the text writes, with a line feed behind it.
-fn number_and_feed(text: &[u8]) -> Option<u64>
-    ensures { result ≡ number_and_feed (2 ^ 64) text.now }
+/// The number of at most 64 bits that the text writes, with a line feed behind it.
+fn number_line(text: &[u8]) -> Option<u64>
+    ensures { result ≡ number_line text.now }
 {
-    let (digits, behind) = split_at_byte(text, b'\n')?;
-    if !behind.is_empty() {
-        return None;
-    }
-    exact_long_number(digits)
+    line_of(&Number64, text)
 }
 
-/// The place that ends the line, and what stands before its comma.
-fn place_of(line: &[u8]) -> Option<(&[u8], u64)>
-    ensures { option_map (λ parts. (parts.0.now, parts.1)) result ≡ place_of line.now }
+/// The number of at most 32 bits that the digits write.
+fn small_number(digits: &[u8]) -> Option<u32>
+    ensures { result ≡ number_in (2 ^ 32) digits.now }
 {
-    let (text, end) = last_field(line)?;
-    let place = number_and_feed(end)?;
-    Some((text, place))
-}
-
-/// The upload's number that ends the text, and what stands before its comma.
-fn upload_of(text: &[u8]) -> Option<(&[u8], u32)>
-    ensures { option_map (λ parts. (parts.0.now, parts.1)) result ≡ upload_of text.now }
-{
-    let (front, digits) = last_field(text)?;
-    let upload = exact_number(digits)?;
-    Some((front, upload))
+    exact_number(digits)
 }
 
 /// Whether these can be the fields of a ledger's line and the class of a rider.
@@ -124,19 +110,6 @@ fn are_fields_and_class(fields: &[u8], class: &[u8]) -> bool
     ensures both { result ≡ (nat_lt (length fields.now) 255 && is_class_name class.now) }
 {
     fields.len() < MAX_LINE_BYTES && is_class_name(class)
-}
-
-/// The class that ends the text, and the fields before its comma.
-fn class_of(text: &[u8]) -> Option<(&[u8], &[u8])>
-    ensures parts { option_map (λ parts. (parts.0.now, parts.1.now)) result ≡ class_of text.now }
-    ensures short { IfSome result (λ parts. length parts.0.now < 255) }
-{
-    let (fields, class) = last_field(text)?;
-    if are_fields_and_class(fields, class) {
-        Some((fields, class))
-    } else {
-        None
-    }
 }
 
 /// A line of a traced ledger: the twelve fields of a ledger's line, and the columns.
@@ -152,8 +125,47 @@ pub struct CutLine<'a> {
     pub place: u64,
 }
 
+/// The class that ends the text, and the fields before it.
+fn class_in(text: &[u8], upload: u32, place: u64) -> Option<CutLine<'_>>
+    ensures cut { option_map cut_of result ≡ class_in upload place text.now }
+    ensures short { IfSome result (λ cut. length cut.fields.now < 255) }
+{
+    let (fields, class) = last_field(text)?;
+    if are_fields_and_class(fields, class) {
+        Some(CutLine {
+            fields,
+            class,
+            upload,
+            place,
+        })
+    } else {
+        None
+    }
+}
+
+/// The upload's number that ends the text, and what stands before it.
+fn upload_in(text: &[u8], place: u64) -> Option<CutLine<'_>>
+    ensures cut { option_map cut_of result ≡ upload_in place text.now }
+    ensures short { IfSome result (λ cut. length cut.fields.now < 255) }
+{
+    let (front, digits) = last_field(text)?;
+    let upload = small_number(digits)?;
+    class_in(front, upload, place)
+}
+
+/// The place that ends the line, and what stands before it.
+fn columns_in(line: &[u8]) -> Option<CutLine<'_>>
+    ensures cut { option_map cut_of result ≡ columns_in line.now }
+    ensures short { IfSome result (λ cut. length cut.fields.now < 255) }
+{
+    let (text, end) = last_field(line)?;
+    let place = number_line(end)?;
+    upload_in(text, place)
+}
+
 /// The fields and the columns of the line, which ends with its line feed; `None` if it has not the
 /// form of a traced ledger's line.
+#[tactic(auto, unfolding(crate::specs::Columns::cut_line))]
 pub fn cut_line(line: &[u8]) -> Option<CutLine<'_>>
     ensures cut { option_map cut_of result ≡ cut_line line.now }
     ensures short { IfSome result (λ cut. length cut.fields.now < 255) }
@@ -161,13 +173,5 @@ pub fn cut_line(line: &[u8]) -> Option<CutLine<'_>>
     if line.len() > MAX_TRACED_BYTES {
         return None;
     }
-    let (text, place) = place_of(line)?;
-    let (text, upload) = upload_of(text)?;
-    let (fields, class) = class_of(text)?;
-    Some(CutLine {
-        fields,
-        class,
-        upload,
-        place,
-    })
+    columns_in(line)
 }

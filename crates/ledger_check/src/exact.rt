@@ -9,15 +9,16 @@ ghost use Rattle.fare_texts.specs.Moments.{IsMomentText};
 ghost use Rattle.tap_views.specs.Token.{Fits, bytes_of};
 ghost use Rattle.tap_views.specs.declared.token.Token.{Token as AToken};
 ghost use Rattle.ledger_check.specs.Lines.{Lacks};
-ghost use Rattle.ledger_check.specs.Recounts.{IsCentsField, IsLineOfTap};
+ghost use Rattle.ledger_check.specs.Recounts.{EndsField, IsCentsField, IsLineOfTap};
 ghost use Rattle.ledger_check.specs.Taps.{IsTapOfLine};
 ghost use Rattle.ledger_check.specs.inside.Fronts.{HasFront, IsFrontOf};
 
-use crate::bytes::{field, same_bytes};
+use crate::bytes::{field, same_bytes, split_at_byte};
 use crate::moment::read_moment;
-use crate::tap::{Tap, read_long_number, read_small_number, read_token};
+use crate::tap::{Tap, read_small_number, read_token};
 use fare_texts::write_moment;
 use itoa::Buffer;
+use line_forms::forms::after_word;
 use std::alloc::AllocError;
 use tap_views::{TapFields, Token};
 
@@ -30,11 +31,36 @@ pub(crate) struct Front<'a> {
     moment: &'a [u8],
     /// The fourth field.
     validator: &'a [u8],
-    /// What stands behind the fourth field.
+    /// What stands from the end of the fourth field on.
     rest: &'a [u8],
 }
 
-/// The first four fields of the line.
+/// What stands before the line feed that ends the text.
+fn before_feed(text: &[u8]) -> Option<&[u8]>
+    ensures { MatchOption result ((front : List ℕ) → ¬ (text.now ≡ front ++ 10 ∷ []))
+        (λ front. text.now ≡ front.now ++ 10 ∷ []) }
+{
+    let (last, front) = text.split_last()?;
+    if *last == b'\n' { Some(front) } else { None }
+}
+
+/// The field with which the text begins, and what stands from its end on: a comma, or the line's end.
+fn open_field(text: &[u8]) -> Option<(&[u8], &[u8])>
+    ensures some { IfSome result (λ parts. Lacks 44 parts.0.now × EndsField parts.1.now
+        × (text.now ≡ parts.0.now ++ parts.1.now)) }
+    ensures none { IfNone result ((front rest : List ℕ) → Lacks 44 front → EndsField rest
+        → ¬ (text.now ≡ front ++ rest)) }
+{
+    if let Some((front, _behind)) = split_at_byte(text, b',') {
+        return Some((front, &text[front.len()..]));
+    }
+    match before_feed(text) {
+        Some(front) => Some((front, b"\n")),
+        None => None,
+    }
+}
+
+/// The first four fields of the line, of which the last may end it.
 fn front_of(line: &[u8]) -> Option<Front<'_>>
     ensures some { IfSome result (IsFrontOf line.now) }
     ensures none { IfNone result ((token number moment validator rest : List ℕ)
@@ -43,7 +69,7 @@ fn front_of(line: &[u8]) -> Option<Front<'_>>
     let (token, behind) = field(line)?;
     let (_number, behind) = field(behind)?;
     let (moment, behind) = field(behind)?;
-    let (validator, rest) = field(behind)?;
+    let (validator, rest) = open_field(behind)?;
     Some(Front {
         token,
         moment,
@@ -92,21 +118,6 @@ pub(crate) fn exact_number(digits: &[u8]) -> Option<u32>
     }
 }
 
-/// The number of at most 64 bits that the digits write, if they are written as the number is.
-pub(crate) fn exact_long_number(digits: &[u8]) -> Option<u64>
-    ensures { MatchOption result
-        ((number : ℕ) → number < 2 ^ 64 → ¬ (digits.now ≡ decimal number))
-        (λ number. (number < 2 ^ 64) × (digits.now ≡ decimal number)) }
-{
-    let number = read_long_number(digits)?;
-    let mut buffer = Buffer::new();
-    if digits == buffer.format(number).as_bytes() {
-        Some(number)
-    } else {
-        None
-    }
-}
-
 /// Whether the text is that of the moment. The text in `again` is replaced.
 fn is_moment_text(text: &[u8], moment: u64, again: &mut String) -> Result<bool, AllocError>
     ensures { IfOk result (λ same. IsTrue same ↔ IsMomentText moment text.now) }
@@ -116,7 +127,7 @@ fn is_moment_text(text: &[u8], moment: u64, again: &mut String) -> Result<bool, 
     Ok(same_bytes(again.as_bytes(), text))
 }
 
-/// The tap that the line names, and what stands behind its validator. The text in `again` is
+/// The tap that the line names, and what stands from the end of its validator on. The text in `again` is
 /// replaced.
 pub(crate) fn exact_tap<'a>(
     line: &'a [u8],
@@ -166,12 +177,13 @@ pub fn tap_of_line(line: &[u8], again: &mut String) -> Result<Option<TapFields>,
     }
 }
 
-/// The cents that a line asks for, from what stands behind its validator.
+/// The cents that a line asks for, from what stands from the end of its validator on.
 pub(crate) fn exact_cents(rest: &[u8]) -> Option<u32>
     ensures { MatchOption result ((cents : ℕ) → ¬ (IsCentsField rest.now cents))
         (λ cents. IsCentsField rest.now cents) }
 {
-    let (_mode, behind) = field(rest)?;
+    let fields = after_word(rest, b",")?;
+    let (_mode, behind) = field(fields)?;
     let (_answer, behind) = field(behind)?;
     let (digits, _behind) = field(behind)?;
     let cents = exact_number(digits)?;

@@ -4,8 +4,9 @@
 //! no ledger line at all. Nothing is promised of it.
 
 use crate::bytes::field;
+use crate::exact::exact_number;
 use crate::moment::{read_any_moment, read_moment};
-use crate::tap::read_small_number;
+use line_forms::number::number_of;
 
 /// Twelve fields with the newline behind them, each a text of its kind within its range. What
 /// [`read_tap`](crate::tap::read_tap) reads of the first four is not looked at again.
@@ -64,26 +65,14 @@ fn is_token(text: &[u8]) -> bool {
             .all(|byte| matches!(*byte, b'0'..=b'9' | b'a'..=b'f'))
 }
 
-/// Whether the text is a number as a ledger has it, of at most 64 bits.
+/// Whether the text is a number of at most 64 bits, as it is written.
 fn is_number(text: &[u8]) -> bool {
-    match std::str::from_utf8(text) {
-        Ok(digits) => is_written_so(text) && digits.parse::<u64>().is_ok(),
-        Err(_) => false,
-    }
+    number_of(text).is_some()
 }
 
-/// Whether the text is a number as a ledger has it, of at most 32 bits.
+/// Whether the text is a number of at most 32 bits, as it is written.
 fn is_small_number(text: &[u8]) -> bool {
-    is_written_so(text) && read_small_number(text).is_some()
-}
-
-/// Whether the text has no sign, and no zero before a number.
-fn is_written_so(text: &[u8]) -> bool {
-    match text.first() {
-        Some(b'0') => text.len() == 1,
-        Some(b'1'..=b'9') => true,
-        _ => false,
-    }
+    exact_number(text).is_some()
 }
 
 /// Whether the text is a word of at most 16 letters and hyphens, or nothing.

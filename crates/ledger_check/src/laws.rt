@@ -1,5 +1,6 @@
-//! What follows from a verdict, and from a recount.
+//! What follows from a verdict, from a recount, and from the columns of a line.
 
+ghost use Rattle.ledger_check.specs.Columns.{ColumnsAreReadBack};
 ghost use Rattle.ledger_check.specs.FirstLines.{RecountsGoOn};
 ghost use Rattle.ledger_check.specs.Orders.{OrdersDecide};
 ghost use Rattle.ledger_check.specs.Recounts.{RecountsDecide};
@@ -25,4 +26,10 @@ pub fn recounts_decide()
 /// reports.
 pub fn recounts_go_on()
     ensures { RecountsGoOn }
+{}
+
+/// The columns that stand behind the fields of a line are read back as they were written: the same
+/// fields and class, and the same place of the same upload.
+pub fn columns_are_read_back()
+    ensures { ColumnsAreReadBack }
 {}

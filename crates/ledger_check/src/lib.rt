@@ -41,4 +41,4 @@ pub use legal::write_legal;
 pub use moment::read_moment;
 pub use places::{PlaceFinding, Places};
 pub use recount::{Recount, Recounted};
-pub use tap::read_small_number;
+pub use tap::{read_small_number, read_token};

@@ -42,7 +42,7 @@ impl Tap {
 }
 
 /// The token of 32 hexadecimal digits.
-pub(crate) fn read_token(digits: &[u8]) -> Option<Token>
+pub fn read_token(digits: &[u8]) -> Option<Token>
     ensures fits { IfSome result Fits }
     ensures found { (token : Token) → Fits token → digits.now ≡ encode_lower (bytes_of token)
         → result ≡ Some token }
@@ -61,17 +61,6 @@ pub fn read_small_number(digits: &[u8]) -> Option<u32>
 {
     match std::str::from_utf8(digits) {
         Ok(digits) => digits.parse::<u32>().ok(),
-        Err(_) => None,
-    }
-}
-
-/// A number of at most 64 bits.
-pub(crate) fn read_long_number(digits: &[u8]) -> Option<u64>
-    ensures found { (number : ℕ) → number < 2 ^ 64 → digits.now ≡ decimal number
-        → result ≡ Some number }
-{
-    match std::str::from_utf8(digits) {
-        Ok(digits) => digits.parse::<u64>().ok(),
         Err(_) => None,
     }
 }

@@ -17,6 +17,8 @@ mod draws;
 #[cfg(test)]
 mod filling;
 #[cfg(test)]
+mod parts;
+#[cfg(test)]
 mod reference;
 #[cfg(test)]
 mod rows;

@@ -4,7 +4,6 @@
 //! | module | what it does |
 //! |---|---|
 //! | `lines` | reports and ledgers of others |
-//! | `list_words` | the list of files that the words name |
 //! | `manner` | what the words ask for, as far as the system matters |
 //! | `output` | standard output |
 //! | `progress` | how far a long run is, on a terminal |
@@ -17,7 +16,6 @@
 
 mod files_made;
 mod lines;
-mod list_words;
 mod manner;
 mod output;
 mod placed;
@@ -26,20 +24,36 @@ mod quotes;
 mod run;
 mod texts;
 
-use list_words::words_with_list;
-use program_manners::{Complaints, unread_words, words_of};
+use program_manners::{Complaints, Escaping, take_list, unread_words, words_of};
 use run::run;
+use std::io::Write;
 use std::process::ExitCode;
+use tool_words::list_words;
+
+/// The words of the command line with the names of the list that they name, if they name one. On an
+/// error the reason was printed, and the error is the status.
+fn words_with_list(rt: &HostRuntime) -> Result<Vec<String>, u8> {
+    let mut err = Complaints::new(Escaping::new(rt.stderr()));
+    let words = named_words(rt, &mut err);
+    err.into_writer().finish();
+    words
+}
+
+/// The same. On an error the reason was reported.
+fn named_words<E: Write>(rt: &HostRuntime, err: &mut Complaints<E>) -> Result<Vec<String>, u8> {
+    let words = match words_of(rt) {
+        Ok(words) => words,
+        Err(fault) => return Err(unread_words(&fault, err)),
+    };
+    let list = list_words(rt.alloc(), &words);
+    let more = take_list(rt, &words, list, None, err)?;
+    Ok(more.unwrap_or(words))
+}
 
 /// The program.
 fn main(rt: HostRuntime) -> ExitCode {
-    let mut err = Complaints::new(rt.stderr());
-    let words = match words_of(&rt) {
-        Ok(words) => words,
-        Err(fault) => return ExitCode::from(unread_words(&fault, &mut err)),
-    };
-    let status = match words_with_list(&rt, &words, &mut err) {
-        Ok(more) => run(&rt, &rt, &more.unwrap_or(words), &mut err),
+    let status = match words_with_list(&rt) {
+        Ok(words) => run(&rt, &rt, &words, &mut Complaints::new(rt.stderr())),
         Err(status) => status,
     };
     ExitCode::from(status)

@@ -1,11 +1,7 @@
 pub mod Decided
 pub mod Differences
-pub mod EndsReported
 pub mod EntryLines
-pub mod Feeds
 pub mod OpenSums
 pub mod SummedLines
-pub mod Through
-pub mod UploadLines
-pub mod Verdicts
+pub mod Uploads
 pub mod WithoutMoments

@@ -1,5 +1,5 @@
 -- The lines of a ledger whose entries were added.
-use Rattle.std.proofs.Common.{◌≡◌, ℕ, ◌<◌, ◌≤◌, ◌^◌, Bool, true, false, List, [], ◌∷◌, ◌++◌, length}
+use Rattle.std.proofs.Common.{◌≡◌, ◌≢◌, ℕ, ◌<◌, ◌≤◌, ◌^◌, Bool, true, false, List, [], ◌∷◌, ◌++◌, length}
 use Rattle.std.proofs.Common.{map, Some, None, All, refl, sym, ap, subst, ◌∙◌, arith, append_assoc}
 use Rattle.std.proofs.Common.{append-nil, length-append, ⊎_elim}
 use Rattle.std.specs.Prelude.{MatchBool}
@@ -7,16 +7,15 @@ use Rattle.std.proofs.lemmas.Bool.{cases_Bool, MatchBool-at_true, MatchBool-at_f
 use Rattle.std.proofs.lemmas.List.{length-map, map-append}
 use Rattle.std.proofs.lemmas.List.Elements.{All-map}
 use Rattle.tariffs.specs.Fares.{Fares}
-use Rattle.fare_texts.specs.LedgerLines.{IsLedgerLine, entry_fields, head_text, line_head}
-use Rattle.account_rule.specs.declared.reason.Reason.{Reason}
+use Rattle.fare_texts.specs.LedgerLines.{head_text}
 use Rattle.histories.specs.declared.entry.Entry.{Entry}
 use Rattle.tap_views.specs.declared.token.Token.{Token}
 use Rattle.ledger_check.specs.Ledger.{AreNext, IsLedger, IsLedgerOf, IsNext, token_number}
 use Rattle.ledger_check.specs.Lines.{IsLine, Lacks, lines_of}
 use Rattle.ledger_check.proofs.EntryLists.{next-parts, none_left}
-use Rattle.ledger_check.proofs.CheckerLemmas.{head_ends}
-use Rattle.ledger_check.proofs.LineLemmas.{lacks-append, lacks-end, lines-line, lines-open}
-use Rattle.ledger_check.proofs.LineLemmas.{lines-part}
+use Rattle.ledger_check.proofs.CheckerLemmas.{head_ends, next_ends}
+use Rattle.ledger_check.proofs.RecountLemmas.{split_line_at, split_part}
+use Rattle.ledger_check.proofs.LineLemmas.{lacks-append, lines-open, lines-part}
 use Rattle.report_check.specs.LedgerSums.{AreBehindHead, AreSummed, HasSummed, IsSummed}
 use Rattle.report_check.specs.inside.LedgerSums.{HasNoLedger}
 use Rattle.report_check.specs.Sums.{AreSumsOf}
@@ -144,44 +143,13 @@ falls fares sums lines line read is some found below =
     tokens a b is = cc
 
 -- ---- texts
--- a ledger's line ends with its line feed
-line_ends : (fares : Fares) (token : Token) (number : ℕ) (entry : Entry) (why : Reason)
-    (line : List ℕ)
-    → IsLedgerLine fares token number entry why line → Lacks 10 line → ⊥
-line_ends fares token number entry why line is lacks =
-    let one = lacks-end 10 (line_head token number) _ (subst (Lacks 10) is.shown lacks) in
-    let two = lacks-end 10 is.moment _ one in
-    let three = lacks-end 10 (entry_fields fares entry) _ two in
-    let four = lacks-end 10 is.reason_fields (10 ∷ []) three in
-    four.0 refl
-
--- behind a piece
-piece_more : (fares : Fares) (sums : LedgerSums) (text piece : List ℕ)
-    (is : IsSummed fares sums text)
-    (more : List ℕ)
-    → lines_of ((text ++ piece) ++ more)
-    ≡ is.lines ++ lines_of ((sums.begun.items ++ piece) ++ more)
-piece_more fares sums text piece is more =
-    ap lines_of (append_assoc text piece more) ∙ is.split (piece ++ more)
-    ∙ ap (λ (t : List ℕ). is.lines ++ lines_of t) (sym (append_assoc sums.begun.items piece more))
-
 -- behind a piece that ends a line
 line_more : (fares : Fares) (sums : LedgerSums) (text line : List ℕ) (is : IsSummed fares sums text)
     → IsLine line → (more : List ℕ)
     → lines_of ((text ++ line) ++ more)
     ≡ (is.lines ++ (sums.begun.items ++ line) ∷ []) ++ lines_of more
 line_more fares sums text line is ends more =
-    let begun = sums.begun.items in
-    let whole : begun ++ line ≡ (begun ++ ends.front) ++ 10 ∷ [] =
-    ap (λ (l : List ℕ). begun ++ l) ends.shown ∙ sym (append_assoc begun ends.front (10 ∷ [])) in
-    let split : (begun ++ line) ++ more ≡ (begun ++ ends.front) ++ 10 ∷ more =
-    ap (λ (l : List ℕ). l ++ more) whole ∙ append_assoc (begun ++ ends.front) (10 ∷ []) more in
-    piece_more fares sums text line is more
-    ∙ ap (λ (t : List ℕ). is.lines ++ lines_of t) split
-    ∙ ap (λ (ls : List (List ℕ)). is.lines ++ ls)
-    (lines-line (begun ++ ends.front) more (lacks-append 10 begun ends.front is.lacks ends.lacks))
-    ∙ ap (λ (l : List ℕ). is.lines ++ l ∷ lines_of more) (sym whole)
-    ∙ sym (append_assoc is.lines ((begun ++ line) ∷ []) (lines_of more))
+    split_line_at is.lines text sums.begun.items line is.split is.lacks ends more
 
 -- a line was read whole, and is one of a ledger's
 pub read_on : (fares : Fares) (old new : LedgerSums) (text line whole : List ℕ)
@@ -223,7 +191,7 @@ pub kept_on : (fares : Fares) (old new : LedgerSums) (text piece : List ℕ) →
 kept_on fares old new text piece is lacks same begun short = record {
   lines = is.lines;
   summed = subst (λ (l : LineSums). AreSummed fares l is.lines) (sym same) is.summed;
-  split = λ more. piece_more fares old text piece is more
+  split = λ more. split_part is.lines text old.begun.items piece is.split more
       ∙ ap (λ (b : List ℕ). is.lines ++ lines_of (b ++ more)) (sym begun);
   lacks = subst (Lacks 10) (sym begun) (lacks-append 10 old.begun.items piece is.lacks lacks);
   short = short;
@@ -232,26 +200,30 @@ kept_on fares old new text piece is lacks same begun short = record {
 head_length : length head_text ≤ 255
 head_length = omega arith
 
--- a line that is too long for a ledger's
-long_line : (fares : Fares) (lines : List (List ℕ)) (line : List ℕ) (after : List (List ℕ))
-    → 255 < length line → (entries : List Entry) (others : List (List ℕ))
+-- a line that is neither the head line nor an entry's stands in no ledger
+no_line : (fares : Fares) (lines : List (List ℕ)) (line : List ℕ) (after : List (List ℕ))
+    → line ≢ head_text → ((earlier : List Entry) (entry : Entry) → ¬ (IsNext fares earlier entry line))
+    → (entries : List Entry) (others : List (List ℕ))
     → lines ++ line ∷ after ≡ head_text ∷ others → AreNext fares [] entries others → ⊥
-long_line fares [] line after long entries others is are =
-    let same : line ≡ head_text = heads line head_text after others is in
-    let short : length line ≤ 255 = subst (λ (l : List ℕ). length l ≤ 255) (sym same) head_length in
-    omega (arith, short, long)
+no_line fares [] line after other none entries others is are =
+    other (heads line head_text after others is)
   where
     heads : (x y : List ℕ) (xs ys : List (List ℕ)) → x ∷ xs ≡ y ∷ ys → x ≡ y
     heads x y xs ys is = cc
-long_line fares (h ∷ rest) line after long entries others is are =
+no_line fares (h ∷ rest) line after other none entries others is are =
     let whole : AreNext fares [] entries (rest ++ line ∷ after) =
     subst (λ (ls : List (List ℕ)). AreNext fares [] entries ls)
     (sym (tails h head_text (rest ++ line ∷ after) others is)) are in
     let parts = next-parts fares [] entries rest line after whole in
-    omega (arith, parts.is.short, long)
+    none parts.entries parts.entry parts.is
   where
     tails : (x y : List ℕ) (xs ys : List (List ℕ)) → x ∷ xs ≡ y ∷ ys → xs ≡ ys
     tails x y xs ys is = cc
+
+long_head : (line : List ℕ) → 255 < length line → line ≢ head_text
+long_head line long is =
+    let short : length line ≤ 255 = subst (λ (l : List ℕ). length l ≤ 255) (sym is) head_length in
+    omega (arith, short, long)
 
 pub kept_none : (fares : Fares) (old : LedgerSums) (text piece whole : List ℕ)
     → IsSummed fares old text
@@ -262,36 +234,21 @@ kept_none fares old text piece whole is lacks same long more (entries, ledger) =
     let size : 255 < length joined = subst (λ (p : List ℕ). 255 < length p) same long in
     let opens = lines-open joined more (lacks-append 10 old.begun.items piece is.lacks lacks)
     (omega (arith, size)) in
-    long_line fares is.lines (joined ++ opens.rest) opens.after
-    (omega (arith, size, length-append joined opens.rest)) entries ledger.lines
+    let line = joined ++ opens.rest in
+    let longer : 255 < length line = omega (arith, size, length-append joined opens.rest) in
+    no_line fares is.lines line opens.after (long_head line longer)
+    (λ earlier entry next. omega (arith, longer, next.short)) entries ledger.lines
     (ap (λ (ls : List (List ℕ)). is.lines ++ ls) (sym opens.is)
-    ∙ sym (piece_more fares old text piece is more) ∙ ledger.split) ledger.are
-
--- a line without its line feed is none of a ledger's
-cut_line : (fares : Fares) (lines : List (List ℕ)) (line : List ℕ) (after : List (List ℕ))
-    → Lacks 10 line → (entries : List Entry) (others : List (List ℕ))
-    → lines ++ line ∷ after ≡ head_text ∷ others → AreNext fares [] entries others → ⊥
-cut_line fares [] line after lacks entries others is are =
-    head_ends line lacks (heads line head_text after others is)
-  where
-    heads : (x y : List ℕ) (xs ys : List (List ℕ)) → x ∷ xs ≡ y ∷ ys → x ≡ y
-    heads x y xs ys is = cc
-cut_line fares (h ∷ rest) line after lacks entries others is are =
-    let whole : AreNext fares [] entries (rest ++ line ∷ after) =
-    subst (λ (ls : List (List ℕ)). AreNext fares [] entries ls)
-    (sym (tails h head_text (rest ++ line ∷ after) others is)) are in
-    let parts = next-parts fares [] entries rest line after whole in
-    line_ends fares _ _ _ _ line parts.is.shown lacks
-  where
-    tails : (x y : List ℕ) (xs ys : List (List ℕ)) → x ∷ xs ≡ y ∷ ys → xs ≡ ys
-    tails x y xs ys is = cc
+    ∙ sym (split_part is.lines text old.begun.items piece is.split more) ∙ ledger.split)
+    ledger.are
 
 pub cut_none : (fares : Fares) (sums : LedgerSums) (text : List ℕ) → IsSummed fares sums text
     → 0 < length sums.begun.items → ¬ (IsLedger fares text)
 cut_none fares sums text is some (entries, ledger) =
     let begun = sums.begun.items in
     let last = lines-part begun is.lacks some in
-    cut_line fares is.lines begun [] is.lacks entries ledger.lines
+    no_line fares is.lines begun [] (head_ends begun is.lacks)
+    (λ earlier entry next. next_ends fares earlier entry begun next is.lacks) entries ledger.lines
     (ap (λ (ls : List (List ℕ)). is.lines ++ ls) (sym last)
     ∙ ap (λ (b : List ℕ). is.lines ++ lines_of b) (sym (append-nil begun))
     ∙ sym (is.split []) ∙ ap lines_of (append-nil text) ∙ ledger.split) ledger.are

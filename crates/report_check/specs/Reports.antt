@@ -1,16 +1,17 @@
 -- What a check finds of a report beside the entries of a ledger.
-use Rattle.std.specs.Prelude.{◌≡◌, ◌≢◌, ◌⊎◌, ◌↔◌, ◌==◌, ℕ, ◌+◌, ◌<◌, ◌^◌, All, List, [], ◌∷◌, ◌++◌}
-use Rattle.std.specs.Prelude.{Option, Some, None, Bool, true, false, codes, count_by, length, sum_by}
-use Rattle.std.specs.Io.BufRead.{take_through}
-use Rattle.fare_texts.specs.ReportLines.{number_line}
+use Rattle.std.specs.Prelude.{◌≡◌, ◌↔◌, ℕ, ◌+◌, ◌<◌, ◌^◌, All, List, [], ◌∷◌, Option, Some, None}
+use Rattle.std.specs.Prelude.{Bool, true, false, Result, Ok, Err, length, nat_eq, sum_by}
+use Rattle.ledger_check.specs.Lines.{lines_of}
+use Rattle.line_forms.specs.Forms.{after}
 use Rattle.report_texts.specs.Numbers.{IsUploadEnd}
-use Rattle.report_texts.specs.Report.{report, upload_line, upload_lines, uploads_section}
+use Rattle.report_texts.specs.Report.{report}
 use Rattle.tap_views.specs.UploadEnds.{taps_of_end}
 use Rattle.tap_views.specs.declared.upload_end.UploadEnd.{UploadEnd}
 use Rattle.tap_views.specs.declared.upload_end.UploadEnd.TheVariants.{Posted, Refused, Cut, Undrawn}
 use Rattle.histories.specs.Sums.{sums}
 use Rattle.histories.specs.SumsByKey.{sums_by_token, sums_by_validator}
 use Rattle.histories.specs.declared.entry.Entry.{Entry}
+use Rattle.report_check.specs.Uploads.{uploads_in}
 use Rattle.report_check.specs.declared.verdict.ReportVerdict.{ReportVerdict}
 use Rattle.report_check.specs.declared.verdict.ReportVerdict.TheVariants.{OfLedger, Wants, NoLine}
 use Rattle.report_check.specs.declared.verdict.ReportVerdict.TheVariants.{Taps}
@@ -40,111 +41,65 @@ pub record IsReportOfLedger (entries : List Entry) (text : List ℕ) : Type 0 wh
   pub have : HaveTapsOf ends entries
   pub shown : text ≡ report_of ends entries
 
--- how many line feeds the text has
-abbrev pub line_feeds : List ℕ → ℕ
-line_feeds text = count_by (λ byte. byte == 10) text
+-- what follows from the rest of a text, or that the line of this number should be this one
+abbrev pub rest_or : ℕ → List ℕ → (List ℕ → Option (ℕ × Option (List ℕ))) → Option (List ℕ)
+    → Option (ℕ × Option (List ℕ))
+rest_or number line next None = Some (number, Some line)
+rest_or number line next (Some rest) = next rest
 
--- the text is nothing, or ends with a line feed
-abbrev pub EndsLine : List ℕ → Type 0
-EndsLine text = (text ≡ []) ⊎ ((front : List ℕ) × (text ≡ front ++ 10 ∷ []))
+-- The first difference of a text from the lines that are wanted, of which the first has this number:
+-- the number of a line, and the line that is wanted there, or none if all stand before it.
+abbrev pub difference : ℕ → List (List ℕ) → List ℕ → Option (ℕ × Option (List ℕ))
+difference number [] [] = None
+difference number [] (byte ∷ text) = Some (number, None)
+difference number (line ∷ lines) text =
+    rest_or number line (λ rest. difference (number + 1) lines rest) (after line text)
 
--- The line of this number is the first of the text that is not that of the wanted text, which has
--- this line there.
-pub record IsWrongLine (text wanted : List ℕ) (number : ℕ) (line : List ℕ) : Type 0 where
-  pub before : List ℕ
-  pub whole : EndsLine before
-  pub counted : number ≡ line_feeds before + 1
-  pub left : List ℕ
-  pub some : left ≢ []
-  pub wants : wanted ≡ before ++ left
-  pub line_is : line ≡ take_through 10 left
-  pub rest : List ℕ
-  pub has : text ≡ before ++ rest
-  pub wrong : (more : List ℕ) → ¬ (rest ≡ line ++ more)
+-- the verdict is that this is the first difference
+abbrev pub IsDifference : Option (ℕ × Option (List ℕ)) → ReportVerdict → Type 0
+IsDifference found OfLedger = found ≡ None
+IsDifference found (Wants number line) = found ≡ Some (number, Some line.items)
+IsDifference found (NoLine number) = found ≡ Some (number, None)
+IsDifference found (Taps line uploads ledger) = ⊥
 
--- the wanted text stands there, and the line of this number is behind it
-pub record HasLineBehind (text wanted : List ℕ) (number : ℕ) : Type 0 where
-  pub more : List ℕ
-  pub some : more ≢ []
-  pub has : text ≡ wanted ++ more
-  pub counted : number ≡ line_feeds wanted + 1
-
--- the text begins with the lines of uploads that ended so
-pub record BeginsWithUploads (text : List ℕ) (ends : List UploadEnd) : Type 0 where
-  pub each : All IsReportEnd ends
-  pub number : length ends < 2 ^ 64
-  pub rest : List ℕ
-  pub has : text ≡ uploads_section ends ++ rest
-
--- the report of the entries is another from the line of this number on, up to which it has the
--- lines of uploads with as many taps
-pub record HasWrongLine (entries : List Entry) (text : List ℕ) (number : ℕ) (line : List ℕ)
-    : Type 0 where
-  pub ends : List UploadEnd
-  pub have : HaveTapsOf ends entries
-  pub begins : BeginsWithUploads text ends
-  pub is : IsWrongLine text (report_of ends entries) number line
-
--- the text is a report of the entries, with more behind it, which is the line of this number
-pub record HasReportBefore (entries : List Entry) (text : List ℕ) (number : ℕ) : Type 0 where
-  pub ends : List UploadEnd
-  pub have : HaveTapsOf ends entries
-  pub is : HasLineBehind text (report_of ends entries) number
-
--- behind the lines of these uploads, which are not all, the next line is of no upload
-pub record IsNoUploadLine (text : List ℕ) (number : ℕ) : Type 0 where
-  pub uploads : ℕ
-  pub ends : List UploadEnd
-  pub each : All IsReportEnd ends
-  pub fewer : length ends < uploads
-  pub small : uploads < 2 ^ 64
-  pub rest : List ℕ
-  pub has : text ≡ number_line (codes "uploads ") uploads ++ (upload_lines 0 ends ++ rest)
-  pub counted : number ≡ length ends + 2
-  pub wrong : (end : UploadEnd) → IsReportEnd end
-      → ¬ (take_through 10 rest ≡ upload_line (length ends) end)
-
--- the first line does not say how many uploads there are
-abbrev pub HasNoUploads : List ℕ → Type 0
-HasNoUploads text = (uploads : ℕ) → uploads < 2 ^ 64
-    → ¬ (take_through 10 text ≡ number_line (codes "uploads ") uploads)
-
--- no report has a line of this number there
-abbrev pub IsNoReportLine : List ℕ → ℕ → Type 0
-IsNoReportLine text number =
-    ((number ≡ 1) × HasNoUploads text) ⊎ IsNoUploadLine text number
-
--- the uploads, whose last line is `line`, have `uploads` taps; the ledger has `ledger`, another
--- number
-pub record HasOtherTaps (entries : List Entry) (text : List ℕ) (line uploads ledger : ℕ)
-    : Type 0 where
-  pub ends : List UploadEnd
-  pub begins : BeginsWithUploads text ends
-  pub counted : line ≡ length ends + 1
-  pub reported : uploads ≡ sum_by taps_of_end ends
-  pub has : ledger ≡ length entries
-  pub apart : uploads ≢ ledger
-
--- the verdict on the text is true of it, beside the entries of the ledger
-abbrev pub IsReportVerdict : List Entry → List ℕ → ReportVerdict → Type 0
-IsReportVerdict entries text OfLedger = IsReportOfLedger entries text
-IsReportVerdict entries text (Wants number line) = HasWrongLine entries text number line.items
-IsReportVerdict entries text (NoLine number) =
-    IsNoReportLine text number ⊎ HasReportBefore entries text number
-IsReportVerdict entries text (Taps line uploads ledger) =
-    HasOtherTaps entries text line uploads ledger
-
--- the first line of the text that is not that of the wanted text
+-- the verdict is the first difference of the text from the wanted one
 abbrev pub IsDifferenceFrom : List ℕ → List ℕ → ReportVerdict → Type 0
-IsDifferenceFrom text wanted OfLedger = text ≡ wanted
-IsDifferenceFrom text wanted (Wants number line) = IsWrongLine text wanted number line.items
-IsDifferenceFrom text wanted (NoLine number) = HasLineBehind text wanted number
-IsDifferenceFrom text wanted (Taps line uploads ledger) = ⊥
+IsDifferenceFrom text wanted verdict = IsDifference (difference 1 (lines_of wanted) text) verdict
 
--- the same, beside uploads whose ends are known: the first difference from the report of these ends
+-- the verdict is that no report has the line of this number
+abbrev pub IsNoLine : ℕ → ReportVerdict → Type 0
+IsNoLine number OfLedger = ⊥
+IsNoLine number (Wants other line) = ⊥
+IsNoLine number (NoLine other) = other ≡ number
+IsNoLine number (Taps line uploads ledger) = ⊥
+
+-- the verdict is that up to their last line these uploads have another number of taps
+abbrev pub AreOtherTaps : List UploadEnd → List Entry → ReportVerdict → Type 0
+AreOtherTaps ends entries OfLedger = ⊥
+AreOtherTaps ends entries (Wants number line) = ⊥
+AreOtherTaps ends entries (NoLine number) = ⊥
+AreOtherTaps ends entries (Taps line uploads ledger) = (line ≡ length ends + 1)
+    × (uploads ≡ sum_by taps_of_end ends) × (ledger ≡ length entries)
+
+-- the verdict beside these uploads, by whether they have as many taps as the ledger
+abbrev pub IsVerdictBy : Bool → List UploadEnd → List Entry → List ℕ → ReportVerdict → Type 0
+IsVerdictBy true ends entries text verdict =
+    IsDifferenceFrom text (report_of ends entries) verdict
+IsVerdictBy false ends entries text verdict = AreOtherTaps ends entries verdict
+
+-- the verdict by what the lines of the uploads say
+abbrev pub IsVerdictOn : Result (List UploadEnd) ℕ → List Entry → List ℕ → ReportVerdict → Type 0
+IsVerdictOn (Ok ends) entries text verdict =
+    IsVerdictBy (nat_eq (sum_by taps_of_end ends) (length entries)) ends entries text verdict
+IsVerdictOn (Err number) entries text verdict = IsNoLine number verdict
+
+-- The verdict on the text beside the entries of the ledger. If it is known how the uploads ended, it
+-- is the first difference from the report of these ends. Else it is that from the report of the ends
+-- that its own first lines say, if these have as many taps.
 abbrev pub IsReportVerdictBeside : Option (List UploadEnd) → List Entry → List ℕ → ReportVerdict
     → Type 0
-IsReportVerdictBeside None entries text verdict = IsReportVerdict entries text verdict
+IsReportVerdictBeside None entries text verdict =
+    IsVerdictOn (uploads_in (lines_of text)) entries text verdict
 IsReportVerdictBeside (Some ends) entries text verdict =
     IsDifferenceFrom text (report_of ends entries) verdict
 

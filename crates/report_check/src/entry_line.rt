@@ -1,6 +1,7 @@
 //! What the line of a ledger's entry says of its sums.
 
 ghost use Rattle.std.specs.Prelude.{◌≡◌, ◌<◌, ◌^◌, ◌∷◌, ◌++◌, ℕ, List, IfSome, IsSomeAnd, Some};
+ghost use Rattle.std.specs.Prelude.{MatchOption};
 ghost use Rattle.std.specs.Fmt.{decimal};
 ghost use Rattle.hex.specs.Hex.{encode_lower};
 ghost use Rattle.account_rule.specs.declared.reply.Answer.{Answer as AnAnswer};
@@ -17,8 +18,7 @@ ghost use Rattle.report_check.specs.inside.RideTerms.{HasRideTerms};
 
 use account_rule::Answer;
 use histories::Entry;
-use ledger_check::{field, read_moment, read_small_number};
-use report_texts::{after_word, token_before};
+use ledger_check::{field, read_moment, read_small_number, read_token};
 use tap_views::Token;
 use tariffs::{FareTable, Terms};
 
@@ -63,8 +63,8 @@ fn token_of(line: &[u8]) -> Option<(Token, &[u8])>
         → line.now ≡ encode_lower (bytes_of token) ++ 44 ∷ behind
         → IsSomeAnd result (λ parts. (parts.0 ≡ token) × (parts.1.now ≡ behind)) }
 {
-    let (token, rest) = token_before(line)?;
-    let behind = after_word(rest, b",")?;
+    let (digits, behind) = field(line)?;
+    let token = read_token(digits)?;
     Some((token, behind))
 }
 
@@ -83,6 +83,14 @@ fn validator_of(text: &[u8]) -> Option<(u64, u32, &[u8])>
     let (digits, rest) = field(rest)?;
     let validator = read_small_number(digits)?;
     Some((moment, validator, rest))
+}
+
+/// What follows the word with which the text begins.
+fn after_word<'a>(text: &'a [u8], word: &[u8]) -> Option<&'a [u8]>
+    ensures { MatchOption result ((rest : List ℕ) → ¬ (text.now ≡ word.now ++ rest))
+        (λ rest. text.now ≡ word.now ++ rest.now) }
+{
+    text.strip_prefix(word)
 }
 
 /// The answer and the cents, behind the mode.

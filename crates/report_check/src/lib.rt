@@ -10,7 +10,7 @@ mod entry_line;
 pub mod laws;
 mod ledger_sums;
 mod open_sums;
-mod upload_lines;
+mod uploads;
 mod verdict;
 
 pub use ledger_sums::LedgerSums;

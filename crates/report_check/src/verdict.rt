@@ -1,16 +1,14 @@
 //! The verdict on a report beside the sums of a ledger's entries.
 
-ghost use Rattle.std.specs.Prelude.{◌≡◌, List, IfOk, option_map};
+ghost use Rattle.std.specs.Prelude.{◌≡◌, List, IfOk, None, option_map};
 ghost use Rattle.histories.specs.declared.entry.Entry.{Entry};
 ghost use Rattle.report_check.specs.Sums.{AreSumsOf};
-ghost use Rattle.report_check.specs.Reports.{IsDifferenceFrom, IsReportVerdict};
-ghost use Rattle.report_check.specs.Reports.{IsReportVerdictBeside, report_of};
-ghost use Rattle.report_check.specs.inside.Differences.{EndsWithFeed};
+ghost use Rattle.report_check.specs.Reports.{IsDifferenceFrom, IsReportVerdictBeside, report_of};
 
 use crate::open_sums::EntrySums;
-use crate::upload_lines::{UploadLines, upload_lines};
-use ledger_check::split_line;
-use report_texts::{after_word, write_report};
+use crate::uploads::{UploadLines, first_line, taps_of, upload_lines};
+use line_forms::forms::after_word;
+use report_texts::write_report;
 use std::alloc::Global;
 use tap_views::{NoMemory, UploadEnd};
 
@@ -34,18 +32,15 @@ pub enum ReportVerdict {
     },
 }
 
-/// The first line of the text that is not that of the wanted text, whose last line is whole.
+/// The first line of the text that is not that of the wanted text.
 fn first_difference(alloc: Global, text: &[u8], wanted: &[u8]) -> Result<ReportVerdict, NoMemory>
-    requires { EndsWithFeed wanted.now }
     ensures { IfOk result (IsDifferenceFrom text.now wanted.now) }
 {
     let mut rest = text;
     let mut left = wanted;
     let mut number: u64 = 1;
     while !left.is_empty() {
-        let Some((line, behind)) = split_line(left) else {
-            unreachable!();
-        };
+        let (line, behind) = first_line(left);
         let Some(more) = after_word(rest, line) else {
             let mut own = Vec::new(alloc);
             own.extend_from_slice(line)?;
@@ -63,9 +58,8 @@ fn first_difference(alloc: Global, text: &[u8], wanted: &[u8]) -> Result<ReportV
 
 /// The report of the uploads that ended so, and of the sums.
 fn wanted_report(alloc: Global, ends: &[UploadEnd], sums: &EntrySums) -> Result<Vec<u8>, NoMemory>
-    ensures report { IfOk result (λ text. (entries : List Entry) → AreSumsOf entries sums.now
+    ensures { IfOk result (λ text. (entries : List Entry) → AreSumsOf entries sums.now
         → text.items ≡ report_of ends.now entries) }
-    ensures ends { IfOk result (λ text. EndsWithFeed text.items) }
 {
     let mut text = Vec::new(alloc);
     match write_report(
@@ -81,6 +75,20 @@ fn wanted_report(alloc: Global, ends: &[UploadEnd], sums: &EntrySums) -> Result<
     }
 }
 
+/// The first difference of the text from the report of the uploads that ended so, and of the sums.
+fn check_ends(
+    alloc: Global,
+    ends: &[UploadEnd],
+    sums: &EntrySums,
+    text: &[u8],
+) -> Result<ReportVerdict, NoMemory>
+    ensures { IfOk result (λ verdict. (entries : List Entry) → AreSumsOf entries sums.now
+        → IsDifferenceFrom text.now (report_of ends.now entries) verdict) }
+{
+    let wanted = wanted_report(alloc, ends, sums)?;
+    first_difference(alloc, text, &wanted)
+}
+
 /// Whether the report is that of the ledger whose entries have these sums, and of some uploads with
 /// as many taps; or the first line that is not.
 fn check_any_uploads(
@@ -89,20 +97,20 @@ fn check_any_uploads(
     text: &[u8],
 ) -> Result<ReportVerdict, NoMemory>
     ensures { IfOk result (λ verdict. (entries : List Entry) → AreSumsOf entries sums.now
-        → IsReportVerdict entries text.now verdict) }
+        → IsReportVerdictBeside None entries text.now verdict) }
 {
     match upload_lines(alloc, text)? {
         UploadLines::NoLine(number) => Ok(ReportVerdict::NoLine(number)),
-        UploadLines::Reported(ends, taps) => {
-            if taps != sums.totals.taps {
-                return Ok(ReportVerdict::Taps {
-                    line: ends.len() as u64 + 1,
-                    uploads: taps,
-                    ledger: sums.totals.taps,
-                });
+        UploadLines::Reported(ends) => {
+            let taps = taps_of(&ends);
+            if taps == sums.totals.taps {
+                return check_ends(alloc, &ends, sums, text);
             }
-            let wanted = wanted_report(alloc, &ends, sums)?;
-            first_difference(alloc, text, &wanted)
+            Ok(ReportVerdict::Taps {
+                line: ends.len() as u64 + 1,
+                uploads: taps,
+                ledger: sums.totals.taps,
+            })
         }
     }
 }
@@ -119,9 +127,8 @@ pub fn check_report(
     ensures { IfOk result (λ verdict. (entries : List Entry) → AreSumsOf entries sums.now
         → IsReportVerdictBeside (option_map (λ e. e.now) ends.entry) entries text.now verdict) }
 {
-    let Some(ends) = ends else {
-        return check_any_uploads(alloc, sums, text);
-    };
-    let wanted = wanted_report(alloc, ends, sums)?;
-    first_difference(alloc, text, &wanted)
+    match ends {
+        Some(ends) => check_ends(alloc, ends, sums, text),
+        None => check_any_uploads(alloc, sums, text),
+    }
 }

@@ -7,16 +7,10 @@ use Rattle.tap_views.specs.Names.{fault_name}
 use Rattle.tap_views.specs.declared.fault.LayoutFault.{LayoutFault}
 use Rattle.tap_views.specs.declared.fault.LayoutFault.TheVariants.{Short, Magic, Flags, TooMany}
 use Rattle.tap_views.specs.declared.fault.LayoutFault.TheVariants.{Length, Moment}
-use Rattle.fare_texts.specs.ReportLines.{number_line}
-use Rattle.report_texts.specs.Numbers.{IsUploadEnd}
 use Rattle.report_texts.specs.Report.{upload_line}
-use Rattle.report_texts.specs.inside.Counted.{BeginsWithNoDigit}
 use Rattle.report_texts.specs.inside.EndWords.{end_words, fault_number, fault_words}
 use Rattle.tap_views.specs.declared.upload_end.UploadEnd.{UploadEnd}
 use Rattle.tap_views.specs.declared.upload_end.UploadEnd.TheVariants.{Posted, Refused, Cut, Undrawn}
-
-pub end_begins : (end : UploadEnd) → BeginsWithNoDigit (end_words end)
-end_begins end = refl
 
 -- an upload's line by its words
 pub line_words : (number : ℕ) (end : UploadEnd)
@@ -56,14 +50,3 @@ small_number Flags = omega arith
 small_number (TooMany count) = omega arith
 small_number (Length want have) = omega arith
 small_number (Moment index) = omega arith
-
--- a text with no line of a posted upload, nor of a refused one, has no line of an end
-pub no_end : (text : List ℕ) (end : UploadEnd) → IsUploadEnd end
-    → ((taps : ℕ) → taps < 2 ^ 64 → ¬ (text ≡ number_line (codes " posted ") taps))
-    → ((taps offset : ℕ) (fault : LayoutFault) → taps < 2 ^ 64 → offset < 2 ^ 64
-    → ¬ (text ≡ end_words (Refused taps offset fault))) → text ≡ end_words end → ⊥
-no_end text (Posted taps) fits posted refused is = posted taps fits is
-no_end text (Refused taps offset fault) fits posted refused is =
-    refused taps offset fault fits.0 fits.1 is
-no_end text (Cut taps) fits posted refused is = absurd fits
-no_end text Undrawn fits posted refused is = absurd fits

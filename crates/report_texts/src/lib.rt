@@ -6,14 +6,10 @@ mod front;
 pub mod laws;
 mod line;
 mod report;
-mod report_lines;
 mod token_lines;
 mod wrong;
 
 pub use front::{write_section_head, write_upload, write_validator};
 pub use report::write_report;
-pub use report_lines::{
-    after_word, end_of, head_of, token_before, token_sum_of, totals_of, validator_sum_of,
-};
 pub use tap_views::UploadEnd;
 pub use wrong::Wrong;

@@ -1,4 +1,5 @@
 pub mod Counted
+mod JoinedParts
 pub mod LedgerBegun
 pub mod OpenBills
 pub mod OwnTaps

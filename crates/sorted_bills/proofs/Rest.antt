@@ -25,41 +25,10 @@ use Rattle.sorted_taps.specs.Reading.{AreTapsBetween}
 use Rattle.sorted_taps.specs.Readers.{IsAdvanced, StandsIn, ahead}
 use Rattle.sorted_taps.specs.Sorted.{IsSortedFile}
 use Rattle.sorted_taps.specs.declared.reader.TapReader.{TapReader}
+use Rattle.sorted_taps.proofs.Behind.{behind_read, none_of_nothing}
 use Rattle.sorted_taps.proofs.Taking.{same_head}
 
 -- ---- one file
--- a file that begins with batches goes on with the others
-file_split : (bytes front back : List ℕ) (some all : List (List Tap)) → bytes ≡ front ++ back
-    → AreBatches front some → IsFile bytes all []
-    → (more : List (List Tap)) × (all ≡ some ++ more) × IsFile back more []
-file_split bytes front back [] all is none file =
-    let same : bytes ≡ back = is ∙ ap (λ l. l ++ back) none in
-    (all, refl, subst (λ l. IsFile l all []) same file)
-file_split bytes front back (batch ∷ some) [] is (first, rest, is_batch, cut, others)
-    (empty, none) =
-    let whole : [] ≡ first ++ (rest ++ back) =
-    sym empty ∙ is ∙ ap (λ l. l ++ back) cut ∙ append_assoc first rest back in
-    absurd (none first (rest ++ back) batch is_batch whole)
-file_split bytes front back (batch ∷ some) (other ∷ all) is (first, rest, is_batch, cut, others)
-    (head, behind, is_other, whole, file)
-    =
-    let one : bytes ≡ first ++ (rest ++ back) =
-    is ∙ ap (λ l. l ++ back) cut ∙ append_assoc first rest back in
-    let (same, left, heads) =
-    one_batch bytes first head (rest ++ back) behind batch other is_batch one
-    is_other whole in
-    let (more, joined, last) = file_split behind rest back some all (sym left) others file in
-    (more, ap (λ batch. batch ∷ all) (sym same) ∙ ap (λ l. batch ∷ l) joined, last)
-
--- no bytes are no batches
-none_of_nothing : (batches : List (List Tap)) → IsFile [] batches [] → batches ≡ []
-none_of_nothing [] file = refl
-none_of_nothing (batch ∷ batches) (front, back, is_batch, whole, file) =
-    let some = batch_some front batch is_batch in
-    let sizes = ap length whole in
-    let both = length-append front back in
-    absurd (omega (arith, some, sizes, both))
-
 -- the taps from the one on at which the reader stands, up to the file's end
 record IsLeftOf (all : List ℕ) (reader : TapReader) (list : List TapFields) : Type 0 where
   batches : List (List Tap)
@@ -87,24 +56,6 @@ begins_left all reader list tap is from = by_list (ahead reader) refl from
     by_list (head ∷ rest) e begin =
         subst (λ l. BeginsNotBefore tap l) (sym (is.joined
         ∙ ap (λ l. l ++ map fields_of (taps_of_batches is.batches)) e)) begin
-
--- behind batches that were read, the others are left
-behind_read : (all : List ℕ) (from to : ℕ) (read : List TapFields) (batches : List (List Tap))
-    → AreTapsBetween all from to read → IsFile (drop from all) batches []
-    → (more : List (List Tap)) × IsFile (drop to all) more []
-    × (map fields_of (taps_of_batches batches)
-    ≡ read ++ map fields_of (taps_of_batches more))
-behind_read all from to read batches between file =
-    let (more, joined, last) = file_split (drop from all) between.front (drop to all)
-    between.batches batches between.cut between.are file in (
-      more,
-      last,
-      ap (λ batches. map fields_of (taps_of_batches batches)) joined
-          ∙ ap (map fields_of)
-          (flat_map-append (λ (batch : List Tap). batch) between.batches more)
-          ∙ map-append fields_of (taps_of_batches between.batches) (taps_of_batches more)
-          ∙ ap (λ taps. taps ++ map fields_of (taps_of_batches more)) between.read,
-    )
 
 -- at the begin of a sorted file all its taps are left
 left_at_begin : (all : List ℕ) (reader : TapReader) (list : List TapFields)

@@ -1,3 +1,4 @@
 pub mod Faults
 pub mod Ledgers
+pub mod Parts
 pub mod inside

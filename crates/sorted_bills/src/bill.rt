@@ -56,7 +56,7 @@ fn bill_of<F: Placed>(
 
 /// Why the files are not charged, if one of them was refused on the way: the first fault in the
 /// order of the files.
-fn first_fault<F: Placed>(alloc: Global, files: &[F], met: BillFault) -> BillFault
+pub(crate) fn first_fault<F: Placed>(alloc: Global, files: &[F], met: BillFault) -> BillFault
     requires of_files { (all : List (List ℕ)) → map F.bytes files.now ≡ map Some all
         → IsBillFault all met }
     requires unwritten { met ≢ BillFault.Write }

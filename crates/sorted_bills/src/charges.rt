@@ -27,6 +27,7 @@ pub(crate) fn charge<F: Placed>(
 ) -> Result<(), BillFault>
     requires ready { IsReady (length files.now) taker.old }
     requires none { IsOpenBill table.now [] so_far.old }
+    ensures ready { OnOk result (IsReady (length files.now) taker.new) }
     ensures charged { OnOk result (IsCharged table.now (map F.bytes files.now)
         taker.old.merge.readers.items so_far.old.replay.token taker.new.merge.readers.items
         so_far.new) }

@@ -1,6 +1,6 @@
 //! Laws of merged files, each as the contract of a small function.
 
-ghost use Rattle.std.specs.Prelude.{◌≡◌, ℕ, List, All, map};
+ghost use Rattle.std.specs.Prelude.{◌≡◌, ℕ, List, All, flat_map, map};
 ghost use Rattle.std.specs.List.Sorted.{IsSorted};
 ghost use Rattle.tariffs.specs.Fares.{Fares};
 ghost use Rattle.tap_views.specs.Encoding.{fields_of};
@@ -12,7 +12,11 @@ ghost use Rattle.histories.specs.Plain.{plain};
 ghost use Rattle.settlement.specs.Posted.{HasName};
 ghost use Rattle.settlement.specs.Settled.{IsSettledHistory};
 ghost use Rattle.settlement.specs.SettledTaps.{AreSettledTaps};
+ghost use Rattle.tap_views.specs.UploadEnds.{ArePlainEnds};
+ghost use Rattle.tap_views.specs.declared.upload_end.UploadEnd.TheVariants.{Posted};
+ghost use Rattle.sorted_bills.specs.Parts.{ArePartsOf, DoRise, PartView, numbers_of_parts};
 ghost use Rattle.sorted_taps.specs.Merged.{IsMerged};
+ghost use Rattle.sorted_taps.specs.Places.{AreWhole};
 ghost use Rattle.sorted_taps.specs.Merges.{AreAtEnd, AreBegun, AreTaken};
 ghost use Rattle.sorted_taps.specs.declared.reader.TapReader.{TapReader};
 
@@ -41,4 +45,19 @@ pub fn taken_taps_are_settled()
         → AreSettledTaps files taps }
 {
     taken_taps_are_canonical();
+}
+
+/// Parts of the same files that join from the begins of the files to their ends, each with tokens
+/// below those of all later ones: their histories, one behind the other, are the settled history of
+/// the files, and each file ends with as many taps as all parts have of it.
+pub fn joined_parts_are_settled()
+    ensures settled { (fares : Fares) (files : List (List ℕ)) (parts : List PartView)
+        → ArePartsOf fares files parts → AreWhole (map (λ part. part.spans) parts)
+        → DoRise (map (λ part. part.history) parts)
+        → IsSettledHistory fares files (flat_map (λ part. part.history) parts) }
+    ensures ended { (fares : Fares) (files : List (List ℕ)) (parts : List PartView)
+        → ArePartsOf fares files parts → AreWhole (map (λ part. part.spans) parts)
+        → ArePlainEnds files (map Posted (numbers_of_parts parts)) }
+{
+    settlement::laws::posted_taps();
 }

@@ -16,12 +16,16 @@ mod open_bill;
 mod own_by_threads;
 mod own_taps;
 mod part;
+mod part_ledger;
 mod range;
 mod rounds;
 mod taker;
 mod tap_numbers;
+mod token_part;
 
 pub use bill::sorted_bill;
 pub use fault::BillFault;
 pub use ledger::write_sorted_ledger;
 pub use own_taps::sorted_taps_of;
+pub use part_ledger::write_part_ledger;
+pub use token_part::{PartBill, part_bill, part_spans};

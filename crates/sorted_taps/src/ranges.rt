@@ -3,19 +3,24 @@
 //! The guesses suit files of batches of 512 taps that are in order. Nothing rests on them: whether
 //! ranges lie one behind the other is seen where they are joined.
 
-ghost use Rattle.std.specs.Prelude.{◌≤◌, IfOk, length};
+ghost use Rattle.std.specs.Prelude.{◌≤◌, IfOk, IfSome, length};
+ghost use Rattle.sorted_taps.specs.Places.{IsPlacedAnew};
 ghost use Rattle.sorted_taps.specs.Reading.{window_bytes};
 
 use crate::fault::SortedFault;
 use crate::file_batches::{FIRST_READ_BYTES, fill_at};
+use crate::places::{Place, PlacedReader};
 use crate::reader::TapReader;
 use placed_files::Placed;
 use std::alloc::Global;
 use tap_views::{TAP1_HEADER_BYTES, TAP1_TAP_BYTES, Token};
 
-const BATCH_TAPS: u64 = 512;
+pub(crate) const BATCH_TAPS: u64 = 512;
 
 const BATCH_BYTES: u64 = FIRST_READ_BYTES as u64;
+
+/// The header of a `TAP1` batch of 512 taps.
+const FULL_HEADER: [u8; TAP1_HEADER_BYTES] = *b"TAP1\x02\x00\x00\x00";
 
 /// A tap begins with its token.
 const TOKEN_BYTES: usize = 16;
@@ -24,7 +29,7 @@ const TOKEN_BYTES: usize = 16;
 const SHORT_BATCHES: u64 = 64;
 
 /// How many taps in front of a range are passed at most.
-const PASSED_TAPS: usize = 1024;
+const PASSED_TAPS: u64 = 1024;
 
 /// The number of batches of the file, if all have 512 taps but for the last.
 fn batches_in<F: Placed>(file: &F) -> Result<u64, SortedFault> {
@@ -35,7 +40,7 @@ fn batches_in<F: Placed>(file: &F) -> Result<u64, SortedFault> {
 }
 
 /// The token of the tap with this number, counted from 0, or none if the file ends before it.
-fn token_at<F: Placed>(file: &F, tap: u64) -> Result<Option<Token>, SortedFault> {
+pub(crate) fn token_at<F: Placed>(file: &F, tap: u64) -> Result<Option<Token>, SortedFault> {
     let place = TAP1_HEADER_BYTES as u64 + tap % BATCH_TAPS * TAP1_TAP_BYTES as u64;
     let Some(batch) = (tap / BATCH_TAPS).checked_mul(BATCH_BYTES) else {
         return Ok(None);
@@ -48,14 +53,28 @@ fn token_at<F: Placed>(file: &F, tap: u64) -> Result<Option<Token>, SortedFault>
     Ok(Some(Token::of(&bytes)))
 }
 
-/// The offset of a batch that begins with a token below this one, and is followed by none that
-/// does; 0 if there is none.
+/// The token of the first tap of the batch with this number, counted from 0, if all before it have
+/// 512 taps and so has this one; none if it has not.
+fn first_token<F: Placed>(file: &F, batch: u64) -> Result<Option<Token>, SortedFault> {
+    let Some(offset) = batch.checked_mul(BATCH_BYTES) else {
+        return Ok(None);
+    };
+    let mut bytes = [0u8; TAP1_HEADER_BYTES + TOKEN_BYTES];
+    let count = fill_at(file, &mut bytes, offset)?;
+    if count < bytes.len() || !bytes.starts_with(&FULL_HEADER) {
+        return Ok(None);
+    }
+    Ok(Some(Token::of(&bytes[TAP1_HEADER_BYTES..])))
+}
+
+/// The offset of a batch of 512 taps that begins with a token below this one, and if all batches
+/// have 512 taps, is followed by at most one that does; 0 if there is none.
 fn offset_below<F: Placed>(file: &F, token: Token) -> Result<u64, SortedFault> {
     let mut low = 0u64;
     let mut high = batches_in(file)?;
     while high - low > 1 {
         let middle = low + (high - low) / 2;
-        match token_at(file, middle.saturating_mul(BATCH_TAPS))? {
+        match first_token(file, middle)? {
             Some(first) if first < token => low = middle,
             _ => high = middle,
         }
@@ -63,7 +82,38 @@ fn offset_below<F: Placed>(file: &F, token: Token) -> Result<u64, SortedFault> {
     Ok(low.saturating_mul(BATCH_BYTES))
 }
 
-/// A reader at the first tap of the file that has this token or a higher one.
+/// A reader at the first tap of the file that has this token or a higher one, and its place. It is
+/// sought among the taps of batches from a place on that serves, at most `most` of them.
+pub(crate) fn reader_from<F: Placed>(
+    alloc: Global,
+    file: &F,
+    token: Token,
+    most: u64,
+    window: &mut [u8],
+) -> Result<PlacedReader, SortedFault>
+    requires { window_bytes ≤ length window.old }
+    ensures { IfOk result (λ made. IfSome (F.bytes file.now)
+        (λ all. IsPlacedAnew all made.place made.reader)) }
+{
+    let offset = offset_below(file, token)?;
+    let mut reader = TapReader::at(alloc, file, offset, window)?;
+    for _ in 0..most {
+        match reader.head() {
+            Some(tap) if Token::of(&tap.token) < token => {}
+            _ => {
+                let skip = reader.passed();
+                reader.count_anew();
+                let place = Place { offset, skip };
+                return Ok(PlacedReader { place, reader });
+            }
+        }
+        reader.advance(file, window)?;
+    }
+    Err(SortedFault::Unread)
+}
+
+/// A reader at the first tap of the file that has this token or a higher one, if no more than
+/// `PASSED_TAPS` taps are passed on the way.
 pub(crate) fn reader_near<F: Placed>(
     alloc: Global,
     file: &F,
@@ -72,19 +122,8 @@ pub(crate) fn reader_near<F: Placed>(
 ) -> Result<TapReader, SortedFault>
     requires { window_bytes ≤ length window.old }
 {
-    let offset = offset_below(file, token)?;
-    let mut reader = TapReader::at(alloc, file, offset, window)?;
-    for _ in 0..PASSED_TAPS {
-        match reader.head() {
-            Some(tap) if Token::of(&tap.token) < token => {}
-            _ => {
-                reader.count_anew();
-                return Ok(reader);
-            }
-        }
-        reader.advance(file, window)?;
-    }
-    Err(SortedFault::Unread)
+    let PlacedReader { place: _, reader } = reader_from(alloc, file, token, PASSED_TAPS, window)?;
+    Ok(reader)
 }
 
 /// The longest of the files, if there is one.

@@ -112,7 +112,9 @@ impl TapReader {
     }
 
     /// Counts the taps that it passes from 0 on.
-    pub(crate) fn count_anew(&mut self) {
+    pub(crate) fn count_anew(&mut self)
+        ensures { self.new ≡ record self.old { passed = 0 } }
+    {
         self.passed = 0;
     }
 

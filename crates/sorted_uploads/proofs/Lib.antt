@@ -1,4 +1,2 @@
 mod Unwritten
 mod Loaded
-mod PlaceLemmas
-mod PartOrders

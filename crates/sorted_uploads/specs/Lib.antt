@@ -1,2 +1,1 @@
 pub mod SortedUploads
-pub mod Split

@@ -1,4 +1,4 @@
-//! The good taps of uploads, written as one sorted file, or as one for each part.
+//! The good taps of uploads, written as one sorted file.
 #![tactic(auto)]
 
 ghost use Rattle.std.specs.Prelude.{◌≡◌, IfErr, IfOk, flat_map, map};
@@ -7,12 +7,8 @@ ghost use Rattle.settlement.specs.SettledTaps.{AreSettledTaps};
 ghost use Rattle.sorted_taps.specs.Written.{IsBegun};
 ghost use Rattle.sorted_uploads.specs.SortedUploads.{IsSortedFileOf};
 
-mod places;
-mod split;
-
 use settlement::{LoadedUploads, SettledTaps, settled_taps};
 use sorted_taps::{WriteFault, write_taps};
-pub use split::{PartFiles, Split};
 use std::alloc::Global;
 use std::io::Write;
 use std::marker::Sync;

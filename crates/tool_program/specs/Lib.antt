@@ -1,4 +1,3 @@
 pub mod Merge
-pub mod MergeLedgers
 pub mod Program
 pub mod inside

@@ -8,8 +8,8 @@ use Rattle.program_manners.specs.TableWords.{date_text}
 use Rattle.world.specs.declared.faults.LoadFault.{LoadFault}
 use Rattle.program_manners.specs.declared.output.WriteEnd.{WriteEnd}
 use Rattle.program_manners.specs.declared.table_words.DateFault.{DateFault}
-use Rattle.tool_program.specs.Merge.{GivesUpMerge, MergesReports}
-use Rattle.tool_program.specs.MergeLedgers.{GivesUpLedgers, MergesLedgers}
+use Rattle.tool_program.specs.Merge.{GivesUpMerge, MergesParts}
+use Rattle.tool_tasks.specs.Bounds.{PrintsBounds}
 use Rattle.tool_tasks.specs.Corrections.{Corrects, GivesUpCorrections, IsWarned}
 use Rattle.tool_tasks.specs.Decode.{AreReported, Decoded, Decodes, DecodesFaulty, GivesUpDecode}
 use Rattle.tool_tasks.specs.Decode.{are_whole}
@@ -22,7 +22,6 @@ use Rattle.tool_tasks.specs.MergeSorted.{GivesUpMergeSorted, Merges}
 use Rattle.tool_tasks.specs.Names.{escaped}
 use Rattle.tool_tasks.specs.Sink.{Made}
 use Rattle.tool_tasks.specs.Sort.{GivesUpSort, Sorts, ends_name, refused_lines}
-use Rattle.tool_tasks.specs.Split.{GivesUpSplit, Splits}
 use Rattle.tool_tasks.specs.Table.{EndsIll, EndsWell}
 use Rattle.tool_tasks.specs.Uploads.{GivesUpWith, Listed, ListsFaulty, ListsWith, are_sound}
 use Rattle.tool_tasks.specs.declared.encode_rows.RowsOutcome.{RowsOutcome}
@@ -31,10 +30,9 @@ use Rattle.tool_tasks.specs.declared.fault.Fault.{Fault}
 use Rattle.tool_tasks.specs.declared.fault.Fault.TheVariants.{NoMemory}
 use Rattle.tool_tasks.specs.declared.sink.NewFault.{NewFault}
 use Rattle.tool_tasks.specs.declared.sort.SortWords.{SortWords}
-use Rattle.tool_tasks.specs.declared.split.SplitWords.{SplitWords}
-use Rattle.tool_words.specs.Asked.{Asked, CorrectionsAsked, RowsAsked, SortAsked, SplitAsked}
-use Rattle.tool_words.specs.Asked.{corrections, decode, encode, encode_rows, good_part, look, merge}
-use Rattle.tool_words.specs.Asked.{merge_ledgers, mistake, sort, split, table, uploads, wrong_date}
+use Rattle.tool_words.specs.Asked.{Asked, RowsAsked, SortAsked, bounds, corrections, decode, encode}
+use Rattle.tool_words.specs.Asked.{encode_rows, good_part, look, merge, mistake, sort, table}
+use Rattle.tool_words.specs.Asked.{uploads, wrong_date}
 use Rattle.tool_words.specs.Mistakes.{mistake_text}
 use Rattle.tool_words.specs.Tasks.{good_part_of, look_of, rows_words_of, table_of}
 use Rattle.tool_words.specs.declared.task.GoodPartWords.{GoodPartWords}
@@ -74,12 +72,6 @@ IfKept run Fact = (kept : List Loaded) → run.loaded ≡ Some kept → Fact
 pub record AreSortWords (asked : SortAsked) (words : SortWords) : Type 0 where
   pub out : words.out.now ≡ asked.out
   pub ends : ends_name words ≡ asked.ends
-
--- these are the parts that `split` makes
-pub record AreSplitWords (asked : SplitAsked) (words : SplitWords) : Type 0 where
-  pub parts : words.parts ≡ asked.parts
-  pub folder : words.folder.now ≡ asked.folder
-  pub first : words.first ≡ asked.first
 
 -- what is known of the files that are merged
 abbrev pub known_of : Run → List (List ℕ) → List (Option (List ℕ))
@@ -131,31 +123,24 @@ IsDone (table asked) run Silent = ((question : TableQuestion) × (table_of quest
     Silent) × (run.is_flushed ≡ true)
 IsDone (sort asked) run Silent =
     MatchBool asked.is_merge (MergesAll asked run) (IfKept run (SortsAll asked run true)) × Silent
-IsDone (split asked) run Silent = IfKept run ((words : SplitWords) × AreSplitWords asked words
-    × Splits words asked.uploads run.loaded run.loaded' run.made run.made' run.out run.out')
+IsDone (merge parts) run Silent =
+    IfKept run (MergesParts parts run.loaded run.loaded' run.out run.out')
     × (run.is_flushed ≡ true) × Silent
-IsDone (merge ends reports) run Silent =
-    IfKept run (MergesReports ends reports run.loaded run.loaded' run.out run.out' true)
-    × (run.is_flushed ≡ true) × Silent
-IsDone (merge_ledgers ledgers reports) run Silent =
-    IfKept run (MergesLedgers ledgers reports run.loaded run.loaded' run.out run.out')
-    × (run.is_flushed ≡ true) × Silent
+IsDone (bounds parts words) run Silent =
+    PrintsBounds parts run.out run.out' × (run.is_flushed ≡ true) × Silent
 IsDone (corrections ledgers) run Silent = (run.is_flushed ≡ true) × IfKept run ((removed : ℕ)
     × Corrects ledgers.is_by_token ledgers.old ledgers.new run.loaded run.loaded' run.out run.out'
     removed × IsWarned ledgers.old ledgers.new removed run.said run.said' run.unsaid Silent)
 IsDone (mistake why) run Silent = ⊥
 IsDone (wrong_date word why) run Silent = ⊥
 
--- It was done, with status 3: an upload has a layout fault, which `sort` reports, or was refused, or
--- rows were refused.
+-- It was done, with status 3: an upload has a layout fault, which `sort` reports, or rows were
+-- refused.
 abbrev pub IsPartlyDone : Asked → Run → Type 0
 IsPartlyDone (encode_rows word asked) run =
     EncodesSo outcomes.SomeRefused word asked run × (run.is_flushed ≡ true)
 IsPartlyDone (sort asked) run =
     MatchBool asked.is_merge ⊥ (IfKept run (SortsAll asked run false))
-IsPartlyDone (merge ends reports) run =
-    IfKept run (MergesReports ends reports run.loaded run.loaded' run.out run.out' false)
-    × (run.is_flushed ≡ true)
 IsPartlyDone asked run = ⊥
 
 -- a fault was reported, of which this holds
@@ -201,14 +186,9 @@ IsGivenUp (sort asked) run Silent = Faults run (λ fault. (words : SortWords)
     run.unmade fault)
     (IfKept run (GivesUpSort words asked.uploads run.loaded run.loaded' run.refused run.made
     run.made' run.unmade fault)))
-IsGivenUp (split asked) run Silent = Faults run (λ fault. (words : SplitWords)
-    × AreSplitWords asked words × IfKept run (GivesUpSplit words asked.uploads run.loaded
-    run.loaded' run.refused run.made run.made' run.unmade run.end fault run.out run.out'))
-IsGivenUp (merge ends reports) run Silent = Faults run (λ fault. IfKept run
-    (GivesUpMerge ends reports run.loaded run.loaded' run.refused run.end fault run.out run.out'))
-IsGivenUp (merge_ledgers ledgers reports) run Silent = Faults run (λ fault. IfKept run
-    (GivesUpLedgers ledgers reports run.loaded run.loaded' run.refused run.end fault run.out
-    run.out'))
+IsGivenUp (merge parts) run Silent = Faults run (λ fault.
+    IfKept run (GivesUpMerge parts run.loaded run.loaded' run.refused run.end fault))
+IsGivenUp (bounds parts words) run Silent = Faults run (λ fault. ⊤)
 IsGivenUp (corrections ledgers) run Silent = Faults run (λ fault. IfKept run
     (GivesUpCorrections ledgers.is_by_token ledgers.old ledgers.new run.loaded run.loaded'
     run.refused run.end fault

@@ -1,27 +1,17 @@
 //! The tools' program over any source of bytes and any writers: from its words to the status. Each
-//! subcommand has a function `.._over`: those that merge what parts of a run wrote are here, and all
-//! others in `tool_tasks`.
+//! subcommand has a function `.._over`: that of `merge` is here, and all others are in `tool_tasks`.
 //!
 //! | module | what it does |
 //! |---|---|
 //! | `merge` | `merge` |
-//! | `merge_ledgers` | `merge-ledgers` |
 //! | `answers` | what clap answers if there is nothing to do |
 //! | `program` | the whole, from the words to the status |
 #![tactic(auto)]
 
 mod answers;
 mod merge;
-mod merge_ledgers;
 mod program;
 
 pub use merge::merge_over;
-pub use merge_ledgers::merge_ledgers_over;
 pub use program::main_over;
-pub use tool_tasks::{
-    AtTap, Cause, Escaped, Fault, MakeFault, Name, NewFault, PlacedFiles, Remedy, Shown, Sink,
-    SortWords, Source, SplitWords, WrongDevices, WrongRows, WrongTapTable, corrections_over,
-    decode_over, encode_over, encode_rows_over, finish, good_part_over, look_over,
-    merge_sorted_over, push_moment, say, sort_over, split_over, table_over, upload_text,
-    uploads_over,
-};
+pub use tool_tasks::{Fault, MakeFault, Name, NewFault, PlacedFiles, Shown, Sink, Source, say};

@@ -14,7 +14,6 @@ ghost use Rattle.tool_words.specs.ToolLine.{AsksForText, Parses};
 
 use crate::answers::show;
 use crate::merge::merge_over;
-use crate::merge_ledgers::merge_ledgers_over;
 use jiff::Timestamp;
 use program_manners::{Complaints, Output, WrongWord};
 use std::alloc::Global;
@@ -23,9 +22,9 @@ use std::io::Write;
 use std::marker::Sync;
 use std::thread::Threads;
 use tool_tasks::{
-    Escaped, Fault, PlacedFiles, Sink, SortWords, Source, SplitWords, corrections_over,
+    Escaped, Fault, PlacedFiles, Sink, SortWords, Source, bounds_over, corrections_over,
     decode_over, encode_over, encode_rows_over, good_part_over, look_over, merge_sorted_over, say,
-    sort_over, split_over, table_over, uploads_over,
+    sort_over, table_over, uploads_over,
 };
 use tool_words::{Mistake, SortingWords, Task, read};
 
@@ -151,18 +150,8 @@ fn task_over<R: Threads + Sync, S: Source, D: PlacedFiles, K: Sink, W: Write, E:
         Task::Look(words, names) => look_over(threads, alloc, &words, &names, source, out, err),
         Task::Table(question) => table_over(alloc, &question, moment, source, out, err),
         Task::Sort(words) => sort_task(threads, alloc, &words, source, files, sink, err),
-        Task::Split(words) => {
-            let asked = SplitWords {
-                parts: words.parts,
-                folder: words.folder,
-                first: words.first,
-            };
-            split_over(alloc, &asked, &words.uploads, source, sink, out, err)
-        }
-        Task::Merge(words) => merge_over(alloc, &words.ends, &words.reports, source, out, err),
-        Task::MergeLedgers(words) => {
-            merge_ledgers_over(alloc, &words.ledgers, &words.reports, source, out, err)
-        }
+        Task::Merge(parts) => merge_over(alloc, &parts, source, out, err),
+        Task::Bounds(words) => bounds_over(alloc, &words, files, out, err),
         Task::Corrections(words) => corrections_over(alloc, &words, source, out, err),
         Task::Mistake(mistake) => report_mistake(err, mistake),
         Task::WrongDate(wrong) => report_wrong_date(alloc, err, &wrong),

@@ -15,6 +15,5 @@ pub mod MergedUploads
 pub mod Opened
 pub mod SeenUploads
 pub mod Sorting
-pub mod Splitting
 pub mod TableEnds
 pub mod Tables

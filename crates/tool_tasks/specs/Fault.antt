@@ -18,25 +18,17 @@ use Rattle.tool_tasks.specs.declared.fault.Fault.{Fault}
 use Rattle.tool_tasks.specs.declared.fault.Fault.TheVariants.{Changed, Closed, Devices, Exists}
 use Rattle.tool_tasks.specs.declared.fault.Fault.TheVariants.{FareTable}
 use Rattle.tool_tasks.specs.declared.fault.Fault.TheVariants.{Layout, Line, NoMemory, OutOfOrder}
-use Rattle.tool_tasks.specs.declared.fault.Fault.TheVariants.{Rows, SomeChanged, TapTable, Taps}
-use Rattle.tool_tasks.specs.declared.fault.Fault.TheVariants.{TooLong, TooManyOpen, Unmade}
-use Rattle.tool_tasks.specs.declared.fault.Fault.TheVariants.{UnmadePart, Unread, Unsettled}
-use Rattle.tool_tasks.specs.declared.fault.Fault.TheVariants.{Write}
+use Rattle.tool_tasks.specs.declared.fault.Fault.TheVariants.{Rows, SomeChanged, SomeUnread}
+use Rattle.tool_tasks.specs.declared.fault.Fault.TheVariants.{TapTable}
+use Rattle.tool_tasks.specs.declared.fault.Fault.TheVariants.{TooLong, TooManyOpen, Unmade, Unread}
+use Rattle.tool_tasks.specs.declared.fault.Fault.TheVariants.{Unsettled, Write}
 
 -- what is wrong with a line of a part's text
 abbrev pub wrong_text : Wrong → List ℕ
 wrong_text wrong.Form = codes "no such line stands there"
 wrong_text wrong.NotPosted = codes "the upload of a part was not posted"
-wrong_text wrong.Order = codes "it does not come after the line before it"
-wrong_text wrong.Twice = codes "its token is in two parts"
-wrong_text wrong.Sums = codes "the sums are too large"
-wrong_text wrong.Validators = codes "the validators do not add up to the totals"
-wrong_text wrong.Tokens = codes "the tokens do not add up to the totals"
-wrong_text wrong.MoreThanReport = codes "its token has more, up to it, than in the report"
-wrong_text wrong.LessThanReport = codes "the token before it has less than in the report"
-wrong_text wrong.OtherToken = codes "its token is not the next one of the report"
-wrong_text wrong.MissingToken = codes "the ledger ends, and the report has one more token"
-wrong_text wrong.OtherValidators = codes "the validators have other sums than in the report"
+wrong_text wrong.Order = codes "it does not follow the line or the part before it"
+wrong_text wrong.Totals = codes "the sums do not add up to the totals"
 
 -- the line of a layout fault, in the batch at this offset
 abbrev pub layout_text : List ℕ → ℕ → LayoutFault → List ℕ
@@ -46,13 +38,12 @@ layout_text word offset fault = codes "fault: " ++ (called word ++ (codes " at "
 -- the line of a fault
 abbrev pub fault_text : Fault → List ℕ
 fault_text (Unread word) = codes "fault: cannot read " ++ called word.now
+fault_text SomeUnread = codes "fault: cannot read a file"
 fault_text (TooLong word) = codes "fault: " ++ (called word.now ++ codes " is too long")
 fault_text (TooManyOpen word) =
     codes "fault: cannot open " ++ (called word.now ++ codes ": too many files are open")
 fault_text (Exists word) = codes "fault: " ++ (called word.now ++ codes " is there already")
 fault_text (Unmade word) = codes "fault: cannot make " ++ called word.now
-fault_text (UnmadePart word part) = codes "fault: cannot make "
-    ++ (called word.now ++ (codes "/" ++ (decimal part ++ codes ".tap")))
 fault_text (Layout word offset wrong) = layout_text word.now offset wrong
 fault_text (OutOfOrder word tap) = codes "fault: " ++ (called word.now ++ (codes ": tap "
     ++ (decimal tap ++ codes " is out of order")))
@@ -71,8 +62,6 @@ fault_text (Line word number why) = codes "fault: " ++ (called word.now ++ (code
     ++ (decimal number ++ (codes ": " ++ wrong_text why))))
 fault_text (Unsettled word number) = codes "fault: " ++ (called word.now ++ (codes " line "
     ++ (decimal number ++ codes ": out of order; is the ledger settled?")))
-fault_text (Taps reports uploads) = codes "fault: the reports have " ++ (decimal reports
-    ++ (codes " taps, the uploads " ++ decimal uploads))
 fault_text Write = codes "fault: cannot write"
 fault_text Closed = codes "fault: cannot write"
 fault_text NoMemory = codes "fault: out of memory"

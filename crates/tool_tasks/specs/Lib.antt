@@ -1,3 +1,4 @@
+pub mod Bounds
 pub mod Corrections
 pub mod Decode
 pub mod Encode
@@ -14,7 +15,6 @@ pub mod Names
 pub mod Sink
 pub mod Sort
 pub mod Source
-pub mod Split
 pub mod Table
 pub mod UploadTokens
 pub mod Uploads

@@ -10,10 +10,3 @@ pub record HasOpened (words : List (List ℕ)) (loaded loaded' : Option (List Lo
   pub named : map (λ load. load.name) loads ≡ map file_named words
   pub bytes : map (λ load. load.bytes) loads ≡ texts
   pub is_loaded : LoadsAll loaded loaded' loads
-
--- the texts of the first words were opened, in order, and then those of the second ones
-pub record OpensBoth (first second : List (List ℕ)) (loaded loaded' : Option (List Loaded))
-    (first_texts second_texts : List (List ℕ)) : Type 0 where
-  pub between : Option (List Loaded)
-  pub opens_first : HasOpened first loaded between first_texts
-  pub opens_second : HasOpened second between loaded' second_texts

@@ -6,7 +6,6 @@ pub mod GoodPart
 pub mod Look
 pub mod LookRows
 pub mod Sort
-pub mod Split
 pub mod Table
 pub mod UploadTokens
 pub mod Uploads

@@ -25,6 +25,8 @@ use tap_views::{LayoutFault, NoMemory};
 pub enum Fault<'a> {
     /// The file could not be opened, or not be read to its end.
     Unread(&'a str),
+    /// A file could not be read.
+    SomeUnread,
     /// The file is longer than it may be.
     TooLong(&'a str),
     /// The file could not be opened, since the system has too many open.
@@ -33,8 +35,6 @@ pub enum Fault<'a> {
     Exists(&'a str),
     /// The file could not be made.
     Unmade(&'a str),
-    /// The file of this part, in this folder, could not be made.
-    UnmadePart(&'a str, u32),
     /// The upload has this layout fault, in the batch at this offset in bytes.
     Layout(&'a str, u64, LayoutFault),
     /// The tap of this number, from 0, in this file, belongs before the tap before it.
@@ -55,8 +55,6 @@ pub enum Fault<'a> {
     Line(&'a str, u64, Wrong),
     /// The line of this number, from 1, in this ledger, belongs before the line before it.
     Unsettled(&'a str, u64),
-    /// The reports of the parts have the first number of taps, and the uploads the second.
-    Taps(u128, u128),
     /// A write failed.
     Write,
     /// A write failed since the reader is gone: nothing is said of it.
@@ -136,16 +134,8 @@ fn wrong_text(wrong: Wrong) -> &'static str
     match wrong {
         Wrong::Form => "no such line stands there",
         Wrong::NotPosted => "the upload of a part was not posted",
-        Wrong::Order => "it does not come after the line before it",
-        Wrong::Twice => "its token is in two parts",
-        Wrong::Sums => "the sums are too large",
-        Wrong::Validators => "the validators do not add up to the totals",
-        Wrong::Tokens => "the tokens do not add up to the totals",
-        Wrong::MoreThanReport => "its token has more, up to it, than in the report",
-        Wrong::LessThanReport => "the token before it has less than in the report",
-        Wrong::OtherToken => "its token is not the next one of the report",
-        Wrong::MissingToken => "the ledger ends, and the report has one more token",
-        Wrong::OtherValidators => "the validators have other sums than in the report",
+        Wrong::Order => "it does not follow the line or the part before it",
+        Wrong::Totals => "the sums do not add up to the totals",
     }
 }
 
@@ -155,6 +145,7 @@ impl fmt::Display for Fault<'_> {
     fn fmt<W: fmt::Write>(&self, f: &mut fmt::Formatter<W>) -> fmt::Result {
         match self {
             Fault::Unread(word) => write!(f, "fault: cannot read {}", Name(word)),
+            Fault::SomeUnread => f.write_str("fault: cannot read a file"),
             Fault::TooLong(word) => write!(f, "fault: {} is too long", Name(word)),
             Fault::TooManyOpen(word) => {
                 write!(
@@ -165,9 +156,6 @@ impl fmt::Display for Fault<'_> {
             }
             Fault::Exists(word) => write!(f, "fault: {} is there already", Name(word)),
             Fault::Unmade(word) => write!(f, "fault: cannot make {}", Name(word)),
-            Fault::UnmadePart(word, part) => {
-                write!(f, "fault: cannot make {}/{part}.tap", Name(word))
-            }
             Fault::Layout(word, offset, fault) => {
                 let (cause, remedy) = (Cause(*fault), Remedy(*fault));
                 write!(f, "fault: {} at {offset}: {cause}; {remedy}", Name(word))
@@ -197,12 +185,6 @@ impl fmt::Display for Fault<'_> {
                 write!(
                     f,
                     "fault: {name} line {number}: out of order; is the ledger settled?"
-                )
-            }
-            Fault::Taps(reports, uploads) => {
-                write!(
-                    f,
-                    "fault: the reports have {reports} taps, the uploads {uploads}"
                 )
             }
             Fault::Write | Fault::Closed => f.write_str("fault: cannot write"),

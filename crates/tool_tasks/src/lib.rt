@@ -15,7 +15,7 @@
 //! | `placed` | files that are read at any offset |
 //! | `sort` | `sort` of uploads that are loaded |
 //! | `merge_sorted` | `sort --merge` |
-//! | `split` | `split` |
+//! | `bounds` | `bounds` |
 //! | `uploads` | `uploads`: what each upload has |
 //! | `upload_tokens` | `uploads --tokens` |
 //! | `good_part` | `uploads --good-part` |
@@ -25,6 +25,7 @@
 //! | `refused_text` | why a text is none of a fare table, in words |
 #![tactic(auto)]
 
+mod bounds;
 mod corrections;
 mod decode;
 mod encode;
@@ -40,12 +41,12 @@ mod refused_text;
 mod sink;
 mod sort;
 mod source;
-mod split;
 mod table;
 mod upload_tokens;
 mod uploads;
 mod wrong_tables;
 
+pub use bounds::bounds_over;
 pub use corrections::corrections_over;
 pub use decode::decode_over;
 pub use encode::encode_over;
@@ -55,12 +56,11 @@ pub use good_part::good_part_over;
 pub use layout::{AtTap, Cause, Remedy};
 pub use look::look_over;
 pub use merge_sorted::merge_sorted_over;
-pub use names::{Escaped, Name};
+pub use names::{Escaped, Name, word_at};
 pub use placed::PlacedFiles;
 pub use sink::{MakeFault, NewFault, Sink};
 pub use sort::{SortWords, sort_over};
-pub use source::{Both, Shown, Source, open_both};
-pub use split::{SplitWords, split_over};
+pub use source::{Shown, Source, open_all};
 pub use table::table_over;
 pub use uploads::{push_moment, upload_text, uploads_over};
 pub use wrong_tables::{WrongDevices, WrongRows, WrongTapTable};

@@ -18,7 +18,7 @@ pub fn file_of<'a>(word: &'a str) -> Option<&'a str>
 }
 
 /// The word of this number, from 0.
-pub(crate) fn word_at<'a>(words: &[&'a str], number: usize) -> Option<&'a str>
+pub fn word_at<'a>(words: &[&'a str], number: usize) -> Option<&'a str>
     ensures { option_map (λ w. w.now) result ≡ slice_get (map (λ w. w.now) words.now) number }
 {
     if number < words.len() {

@@ -5,7 +5,7 @@ ghost use Rattle.program_manners.specs.Loads.{Loaded, LoadsOne, OpensOne};
 ghost use Rattle.program_manners.specs.Refusals.{IsOneOf};
 ghost use Rattle.tool_tasks.specs.Fault.{IsRefusal};
 ghost use Rattle.tool_tasks.specs.Names.{file_named};
-ghost use Rattle.tool_tasks.specs.Source.{HasOpened, OpensBoth};
+ghost use Rattle.tool_tasks.specs.Source.{HasOpened};
 
 use crate::fault::Fault;
 use crate::names::file_of;
@@ -174,7 +174,7 @@ pub(crate) fn load_all<'a, S: Source>(
 }
 
 /// Opens what each word names, in their order.
-pub(crate) fn open_all<'a, S: Source>(
+pub fn open_all<'a, S: Source>(
     alloc: Global,
     source: &mut S,
     words: &[&'a str],
@@ -183,9 +183,8 @@ pub(crate) fn open_all<'a, S: Source>(
         → S.loaded source.old ≡ Some kept → (texts : List (List ℕ))
         × HasOpened (map (λ w. w.now) words.now) (S.loaded source.old) (S.loaded source.new) texts
         × AreLeft S.Text.remaining readers.items texts) }
-    ensures refusal { IfErr result (λ fault. (all : List (List ℕ))
-        → ((word : List ℕ) → IsOneOf word (map (λ w. w.now) words.now) → IsOneOf word all)
-        → IsRefusal (S.refused source.new) all fault) }
+    ensures refusal { IfErr result (λ fault. IsRefusal (S.refused source.new)
+        (map (λ w. w.now) words.now) fault) }
 {
     let mut texts = Vec::new(alloc);
     for word in words {
@@ -193,33 +192,4 @@ pub(crate) fn open_all<'a, S: Source>(
         texts.push(text)?;
     }
     Ok(texts)
-}
-
-/// Two lists of texts that were opened.
-pub struct Both<T> {
-    /// Those of the first words.
-    pub first: Vec<T>,
-    /// Those of the second ones.
-    pub second: Vec<T>,
-}
-
-/// Opens what each word of two lists names, in their order.
-pub fn open_both<'a, S: Source>(
-    alloc: Global,
-    source: &mut S,
-    first: &[&'a str],
-    second: &[&'a str],
-) -> Result<Both<S::Text>, Fault<'a>>
-    ensures opened { IfOk result (λ both. (kept : List Loaded)
-        → S.loaded source.old ≡ Some kept → (first_texts second_texts : List (List ℕ))
-        × OpensBoth (map (λ w. w.now) first.now) (map (λ w. w.now) second.now)
-        (S.loaded source.old) (S.loaded source.new) first_texts second_texts
-        × AreLeft S.Text.remaining both.first.items first_texts
-        × AreLeft S.Text.remaining both.second.items second_texts) }
-    ensures refusal { IfErr result (λ fault. IsRefusal (S.refused source.new)
-        (map (λ w. w.now) first.now ++ map (λ w. w.now) second.now) fault) }
-{
-    let first = open_all(alloc, source, first)?;
-    let second = open_all(alloc, source, second)?;
-    Ok(Both { first, second })
 }

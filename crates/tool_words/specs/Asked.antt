@@ -1,5 +1,5 @@
 -- What the words of the tools ask for.
-use Rattle.std.specs.Prelude.{ℕ, Bool, ◌+◌, ◌==◌, ◌&&◌, ◌||◌, ◌^◌, ◌++◌, if◌then◌else◌, not, nat_lt}
+use Rattle.std.specs.Prelude.{ℕ, Bool, ◌+◌, ◌&&◌, ◌||◌, ◌^◌, ◌++◌, if◌then◌else◌, nat_lt}
 use Rattle.std.specs.Prelude.{List, [], ◌∷◌, Option, Some, None, ◌*◌, ℤ, codes, false}
 use Rattle.std.specs.Prelude.{length, map, unwrap_or}
 use Rattle.std.specs.List.{count_by, list_all, list_any}
@@ -74,15 +74,6 @@ pub record SortAsked : Type 0 where
   pub ends : Option Text
   pub uploads : List Text
 
--- what `split` is asked for
-pub record SplitAsked : Type 0 where
-  pub parts : ℕ
-  -- the folder of the parts' files
-  pub folder : Text
-  -- the number of the first upload
-  pub first : ℕ
-  pub uploads : List Text
-
 -- what `corrections` is asked for: the ledger of the bill that was issued, and the one in its place
 pub record CorrectionsAsked : Type 0 where
   pub old : Text
@@ -102,9 +93,9 @@ pub data Asked : Type 0 where
   look : LookAsked → List Text → Asked
   table : TableAsked → Asked
   sort : SortAsked → Asked
-  split : SplitAsked → Asked
-  merge : List Text → List Text → Asked
-  merge_ledgers : List Text → List Text → Asked
+  merge : List Text → Asked
+  -- how many parts at most, and the uploads
+  bounds : ℕ → List Text → Asked
   corrections : CorrectionsAsked → Asked
   mistake : Mistake → Asked
   -- the word of a later table, and what is wrong with its date
@@ -130,8 +121,7 @@ names_input name rows = list_any is_input (named name rows)
 abbrev pub has_input_twice : List Row → Bool
 has_input_twice rows = option_map_or is_input (first_of (codes "files-from") rows) false
     && (names_input (codes "FILE") rows || (names_input (codes "UPLOAD") rows
-    || (names_input (codes "reports") rows || (names_input (codes "ends") rows
-    || names_input (codes "table") rows))))
+    || (names_input (codes "PART") rows || names_input (codes "table") rows)))
 
 -- the digits write a number of 32 bits
 abbrev pub is_number : Text → Bool
@@ -149,9 +139,9 @@ abbrev pub number_in : Text → ℕ → List Row → ℕ
 number_in name default rows =
     option_map_or (λ text. number_or default text) (one_of name rows) default
 
--- the nearest number from 1 to 65,535
+-- the nearest number from 1 to 65,536
 abbrev pub as_parts : ℕ → ℕ
-as_parts number = if nat_lt number 1 then 1 else (if nat_lt 65535 number then 65535 else number)
+as_parts number = if nat_lt number 1 then 1 else (if nat_lt 65536 number then 65536 else number)
 
 -- standard input if there are no words
 abbrev pub or_input : List Text → List Text
@@ -286,25 +276,14 @@ sort_asked rows =
       uploads = named (codes "UPLOAD") rows;
     }))
 
-abbrev pub split_asked : List Row → Asked
-split_asked rows = split (record {
-  parts = as_parts (number_in (codes "parts") 1 rows);
-  folder = unwrap_or (first_of (codes "part-files") rows) (codes ".");
-  first = number_in (codes "first") 0 rows;
-  uploads = named (codes "FILE") rows;
-})
+abbrev pub merge_asked : List Text → Asked
+merge_asked parts =
+    if nat_lt 1 (inputs_in parts) then mistake wrong.InputTwice else merge parts
 
--- the files of the uploads' ends, and the reports
-abbrev pub merge_asked : List Text → List Text → Asked
-merge_asked ends reports = if nat_lt 1 (inputs_in ends + inputs_in reports)
-    then mistake wrong.InputTwice else merge ends reports
-
--- the ledgers, and a report for each if there are reports
-abbrev pub merge_ledgers_asked : List Text → List Text → Asked
-merge_ledgers_asked ledgers reports =
-    if nat_lt 1 (inputs_in ledgers + inputs_in reports) then mistake wrong.InputTwice
-    else (if not (length reports == 0) && not (length reports == length ledgers)
-    then mistake wrong.NotEachReport else merge_ledgers ledgers reports)
+-- Uploads that are sampled are read at any offset, too.
+abbrev pub bounds_asked : ℕ → List Text → Asked
+bounds_asked parts files =
+    if nat_lt 0 (inputs_in files) then mistake wrong.InputSampled else bounds parts files
 
 abbrev pub corrections_asked : CorrectionsAsked → Asked
 corrections_asked ledgers = if is_input ledgers.old && is_input ledgers.new
@@ -325,13 +304,11 @@ asked_of_name name rows =
     else (if bytes_eq name (codes "decode") then decode (or_input (named (codes "FILE") rows))
     else (if bytes_eq name (codes "uploads") then uploads_asked rows
     else (if bytes_eq name (codes "sort") then sort_asked rows
-    else (if bytes_eq name (codes "split") then split_asked rows
-    else (if bytes_eq name (codes "merge")
-    then merge_asked (named (codes "ends") rows) (named (codes "reports") rows)
-    else (if bytes_eq name (codes "merge-ledgers")
-    then merge_ledgers_asked (named (codes "FILE") rows) (named (codes "reports") rows)
+    else (if bytes_eq name (codes "merge") then merge_asked (named (codes "PART") rows)
+    else (if bytes_eq name (codes "bounds")
+    then bounds_asked (as_parts (number_in (codes "parts") 1 rows)) (named (codes "FILE") rows)
     else (if bytes_eq name (codes "corrections") then corrections_asked (ledgers_named rows)
-    else table_asked rows)))))))
+    else table_asked rows))))))
 
 -- the same, unless standard input is named twice
 abbrev pub asked_once : Text → List Row → Asked

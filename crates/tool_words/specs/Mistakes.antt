@@ -7,7 +7,7 @@ use Rattle.tool_words.specs.declared.mistake.Mistake.TheVariants as wrong
 abbrev pub mistake_text : Mistake → List ℕ
 mistake_text wrong.InputTwice = codes "error: - can be named only once"
 mistake_text wrong.InputMerged = codes "error: --merge reads files, and - is none"
-mistake_text wrong.NotEachReport = codes "error: --reports needs one report for each ledger"
+mistake_text wrong.InputSampled = codes "error: bounds reads files, and - is none"
 mistake_text wrong.NoColumns = codes "error: --only, --separator and --refused need --columns"
 mistake_text wrong.NoColumnsForValidators = codes "error: --validators needs --columns"
 mistake_text wrong.Columns =
@@ -23,4 +23,4 @@ mistake_text wrong.Order = codes "error: --until needs a moment after --from"
 mistake_text wrong.TablesAsSql = codes "error: --table cannot be used with --sql"
 mistake_text wrong.Arguments = codes "error: arguments do not go together, or files are missing"
 mistake_text wrong.NoSubcommand =
-    codes "error: a subcommand is needed: encode, decode, uploads, table, split, merge, .."
+    codes "error: a subcommand is needed: encode, decode, uploads, table, sort, merge, .."

@@ -4,15 +4,14 @@ use Rattle.std.specs.Borrow.{Bor}
 use Rattle.clap.specs.Words.{Text}
 use Rattle.tap_rows.specs.declared.agency.choice.Condition.{Condition}
 use Rattle.tool_words.specs.Asked.{Asked, CorrectionsAsked, GoodPartAsked, LookAsked, RowsAsked}
-use Rattle.tool_words.specs.Asked.{SortAsked, SplitAsked, TableAsked, corrections, decode, encode}
-use Rattle.tool_words.specs.Asked.{encode_rows, good_part, look, merge, merge_ledgers, mistake}
-use Rattle.tool_words.specs.Asked.{sort, split, table, uploads, wrong_date}
+use Rattle.tool_words.specs.Asked.{SortAsked, TableAsked, bounds, corrections, decode, encode}
+use Rattle.tool_words.specs.Asked.{encode_rows, good_part, look, merge, mistake, sort, table}
+use Rattle.tool_words.specs.Asked.{uploads, wrong_date}
 use Rattle.tool_words.specs.declared.task.CorrectionsWords.{CorrectionsWords}
 use Rattle.tool_words.specs.declared.task.GoodPartWords.{GoodPartWords}
 use Rattle.tool_words.specs.declared.task.LookWords.{LookWords}
 use Rattle.tool_words.specs.declared.task.RowsWords.{RowsWords}
 use Rattle.tool_words.specs.declared.task.SortingWords.{SortingWords}
-use Rattle.tool_words.specs.declared.task.SplittingWords.{SplittingWords}
 use Rattle.tool_words.specs.declared.task.TableQuestion.{TableQuestion}
 use Rattle.tool_words.specs.declared.task.Task.{Task}
 use Rattle.tool_words.specs.declared.task.Task.TheVariants as task
@@ -79,14 +78,6 @@ sorting_of words = record {
   uploads = texts_of words.uploads.items;
 }
 
-abbrev pub splitting_of : SplittingWords → SplitAsked
-splitting_of words = record {
-  parts = words.parts;
-  folder = words.folder.now;
-  first = words.first;
-  uploads = texts_of words.uploads.items;
-}
-
 abbrev pub corrections_of : CorrectionsWords → CorrectionsAsked
 corrections_of words = record {
   old = words.old.now;
@@ -104,10 +95,8 @@ asked_of (task.GoodPart words) = good_part (good_part_of words)
 asked_of (task.Look words names) = look (look_of words) (texts_of names.items)
 asked_of (task.Table question) = table (table_of question)
 asked_of (task.Sort words) = sort (sorting_of words)
-asked_of (task.Split words) = split (splitting_of words)
-asked_of (task.Merge words) = merge (texts_of words.ends.items) (texts_of words.reports.items)
-asked_of (task.MergeLedgers words) =
-    merge_ledgers (texts_of words.ledgers.items) (texts_of words.reports.items)
+asked_of (task.Merge parts) = merge (texts_of parts.items)
+asked_of (task.Bounds words) = bounds words.parts (texts_of words.uploads.items)
 asked_of (task.Corrections words) = corrections (corrections_of words)
 asked_of (task.Mistake why) = mistake why
 asked_of (task.WrongDate wrong) = wrong_date wrong.word.now wrong.fault

@@ -9,16 +9,12 @@ use Rattle.clap.specs.Words.{with_subcommand}
 use Rattle.clap.specs.declared.builder.action.ArgAction.TheVariants.{Append, Set}
 use Rattle.clap.specs.declared.builder.value_parser.ValueParser.TheVariants.{Signed}
 use Rattle.clap.specs.declared.error.kind.ErrorKind.TheVariants.{DisplayHelp, DisplayVersion}
-use Rattle.program_manners.specs.Words.{files_rule, flag_rule, is_given, list_option, named_app}
+use Rattle.program_manners.specs.Words.{flag_rule, is_given, list_option, named_app}
 use Rattle.program_manners.specs.Words.{null_flag, option_rule, positional_rule, repeated_rule}
 
 -- the argument must be there
 abbrev pub needed : Rule → Rule
 needed rule = record rule { required = true }
-
--- the argument has this value if it is not given
-abbrev pub or_default : Text → Rule → Rule
-or_default text rule = record rule { defaults = text ∷ [] }
 
 -- `--NAME N`, a number from the first to the last one
 abbrev pub range_rule : Text → ℤ → ℤ → Rule
@@ -62,22 +58,14 @@ abbrev pub sort_rules : List Rule
 sort_rules = flag_rule (codes "merge") ∷ needed (option_rule (codes "out"))
     ∷ option_rule (codes "ends") ∷ list_option ∷ null_flag ∷ words_rule (codes "UPLOAD") ∷ []
 
--- `split --parts N --part-files DIR [--first K] [--files-from LIST [-0]] FILE..`
-abbrev pub split_rules : List Rule
-split_rules = needed (range_rule (codes "parts") (pos 1) (pos 65535))
-    ∷ needed (option_rule (codes "part-files"))
-    ∷ or_default (codes "0") (range_rule (codes "first") (pos 0) (pos 4294967295))
-    ∷ list_option ∷ null_flag ∷ words_rule (codes "FILE") ∷ []
-
--- `merge --ends FILE.. --reports FILE.. [--files-from LIST [-0]]`
-abbrev pub merge_rules : List Rule
-merge_rules = needed (files_rule (codes "ends")) ∷ files_rule (codes "reports") ∷ list_option
-    ∷ null_flag ∷ []
-
--- `merge-ledgers [--reports FILE..] [--files-from LIST [-0]] FILE..`
-abbrev pub merge_ledgers_rules : List Rule
-merge_ledgers_rules = files_rule (codes "reports") ∷ list_option ∷ null_flag
+-- `bounds --parts N [--files-from LIST [-0]] FILE..`
+abbrev pub bounds_rules : List Rule
+bounds_rules = needed (range_rule (codes "parts") (pos 1) (pos 65536)) ∷ list_option ∷ null_flag
     ∷ words_rule (codes "FILE") ∷ []
+
+-- `merge [--files-from LIST [-0]] PART..`
+abbrev pub merge_rules : List Rule
+merge_rules = list_option ∷ null_flag ∷ words_rule (codes "PART") ∷ []
 
 -- `corrections [--tokens] OLD NEW`
 abbrev pub corrections_rules : List Rule
@@ -105,11 +93,9 @@ app_of_texts = with_subcommand (with_subcommand (with_subcommand (with_subcomman
 
 -- all words that the program takes, but for the rules between arguments
 unfoldable pub program : App
-program = with_subcommand (with_subcommand (with_subcommand (with_subcommand (with_subcommand
-    app_of_texts (subcommand (codes "sort") sort_rules)) (subcommand (codes "split") split_rules))
-    (subcommand (codes "merge") merge_rules))
-    (subcommand (codes "merge-ledgers") merge_ledgers_rules))
-    (subcommand (codes "corrections") corrections_rules)
+program = with_subcommand (with_subcommand (with_subcommand (with_subcommand app_of_texts
+    (subcommand (codes "sort") sort_rules)) (subcommand (codes "bounds") bounds_rules))
+    (subcommand (codes "merge") merge_rules)) (subcommand (codes "corrections") corrections_rules)
 
 -- whether a value is given under this name
 abbrev pub has_value : Text → List Row → Bool
@@ -142,9 +128,8 @@ breaks_rule name rows =
     if bytes_eq name (codes "uploads") then breaks_uploads rows
     else (if bytes_eq name (codes "table") then breaks_table rows
     else (if bytes_eq name (codes "sort") then lacks_files (codes "UPLOAD") rows
-    else (if bytes_eq name (codes "merge") then lacks_files (codes "reports") rows
-    else ((bytes_eq name (codes "split") || bytes_eq name (codes "merge-ledgers"))
-    && lacks_files (codes "FILE") rows))))
+    else (if bytes_eq name (codes "merge") then lacks_files (codes "PART") rows
+    else (bytes_eq name (codes "bounds") && lacks_files (codes "FILE") rows))))
 
 -- the same of what a parse entered
 abbrev pub breaks : Option (Text × List Row) → Bool

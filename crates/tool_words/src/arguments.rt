@@ -6,9 +6,7 @@ ghost use Rattle.tool_words.specs.inside.Rows.{with_rules};
 
 use clap::builder::ValueParser;
 use clap::{Arg, ArgAction, Command};
-use program_manners::{
-    add_list_args, files_arg, flag_arg, option_arg, positional_arg, repeated_arg,
-};
+use program_manners::{add_list_args, flag_arg, option_arg, positional_arg};
 use std::alloc::{AllocError, Global};
 
 /// What an argument takes. First is its name, last is what the help says of it, and before that
@@ -23,8 +21,6 @@ pub(crate) enum Takes {
     Values(&'static str, &'static str, &'static str),
     /// A number from the first to the second one: `--NAME N`.
     Number(&'static str, &'static str, i64, i64, &'static str),
-    /// One or more files, as often as it is given: `--NAME FILE..`.
-    Files(&'static str, &'static str),
     /// A word at its place.
     Word(&'static str, &'static str),
     /// Words at their place.
@@ -42,8 +38,6 @@ pub(crate) enum Need {
     WithoutList,
     /// Not beside these arguments.
     Apart(&'static [&'static str]),
-    /// It has this value if it is not given.
-    Default(&'static str),
 }
 
 /// A row of the table.
@@ -69,7 +63,6 @@ fn begun_arg<'a>(alloc: Global, takes: Takes) -> Arg<'a>
         Takes::Number(name, value, first, last, help) => {
             option_arg(alloc, name, value, help).value_parser(ValueParser::signed(first, last))
         }
-        Takes::Files(name, help) => files_arg(alloc, name, help),
         Takes::Word(name, help) => positional_arg(alloc, name, ArgAction::Set, help),
         Takes::Words(name, help) => positional_arg(alloc, name, ArgAction::Append, help),
     }
@@ -85,7 +78,6 @@ fn arg<'a>(alloc: Global, takes: Takes, need: Need, is_whole: bool) -> Result<Ar
     match need {
         Need::Never => Ok(begun),
         Need::Always => Ok(begun.required(true)),
-        Need::Default(value) => Ok(begun.default_value(value)),
         Need::WithoutList => {
             if is_whole {
                 begun.required_unless_present("files-from")

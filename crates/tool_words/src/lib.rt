@@ -4,8 +4,8 @@
 //! | module | what it does |
 //! |---|---|
 //! | `arguments` | the arguments of a subcommand, as rows of a table |
-//! | `encode`, `decode`, `uploads`, `table`, `sort`, `split` | a subcommand: its arguments and help |
-//! | `merge`, `merge_ledgers`, `corrections` | the same |
+//! | `encode`, `decode`, `uploads`, `table`, `sort` | a subcommand: its arguments and help |
+//! | `merge`, `bounds`, `corrections` | the same |
 //! | `program` | the whole command line |
 //! | `rules` | the rules between the arguments of a subcommand |
 //! | `reading` | what is given to a subcommand |
@@ -21,13 +21,13 @@
 #![tactic(auto)]
 
 mod arguments;
+mod bounds;
 mod corrections;
 mod decode;
 mod encode;
 mod encode_words;
 mod later_table;
 mod merge;
-mod merge_ledgers;
 mod mistake;
 mod moments;
 mod named_list;
@@ -35,7 +35,6 @@ mod program;
 mod reading;
 mod rules;
 mod sort;
-mod split;
 mod table;
 mod table_words;
 mod task;
@@ -48,7 +47,7 @@ pub use mistake::Mistake;
 pub use named_list::list_words;
 pub use reading::is_input;
 pub use task::{
-    CorrectionsWords, GoodPartWords, LedgersWords, LookWords, MergeWords, RowsWords, SortingWords,
-    SplittingWords, TableQuestion, Task,
+    BoundsWords, CorrectionsWords, GoodPartWords, LookWords, RowsWords, SortingWords,
+    TableQuestion, Task,
 };
 pub use words::read;

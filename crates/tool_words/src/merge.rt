@@ -10,37 +10,31 @@ use std::alloc::{AllocError, Global};
 
 /// What the exit status of `merge` says.
 const MERGE_STATUS: &str = "Exit status:
-  0  the report is written, and no upload was refused
-  1  a text is wrong, or could not be read or written, as a line `fault: ..` on the standard error
-     says; what was written is not the report
-  2  the command line is wrong
-  3  the report is written, and an upload was refused";
+  0  the report or the ledger is written
+  1  a part is wrong, or could not be read or written, as a line `fault: ..` on the standard error
+     says; what was written is not the whole
+  2  the command line is wrong";
 
 /// What `merge` does.
 const MERGE_ABOUT: &str =
-    "Merges the reports of all parts into that of the whole, on standard output.
+    "Merges the parts of a run into the report or the ledger of the whole, on standard output.
 
-The uploads were split by omny_tools split, which wrote how they ended, and each part was posted by
-a run of omny_cli --settle. The report is that of one such run over the uploads. A report is
-refused if its totals are not the sums of its validators and of its tokens. The reports are read as
-the whole's is written, so they may be larger than memory.";
+Each part was written by a run of omny_cli --settle --sorted --tokens FROM..BELOW over the same
+files. The parts stand in their order: each begins at the tokens at which the one before it ends. A
+part is refused if it does not begin where the one before it ends, or if its sums do not add up. The
+parts are read as the whole is written, so they may be larger than memory.";
 
-/// The help of `--ends`.
-const ENDS_HELP: &str =
-    "The lines that split wrote, in the order of the uploads; - stands for standard input";
+/// The help of the parts.
+const PARTS_HELP: &str = "The parts, in the order of their tokens; - stands for standard input";
 
-/// The help of the reports.
-const REPORTS_HELP: &str = "The reports of the parts, in any order; - stands for standard input";
-
-/// `merge --ends FILE... --reports FILE... [--files-from LIST [-0]]`
+/// `merge [--files-from LIST [-0]] PART...`
 pub(crate) fn merge_command<'a>(alloc: Global, is_whole: bool) -> Result<Command<'a>, AllocError>
     ensures { is_whole ≡ false → IfOk result
         (λ command. app_of command ≡ leaf (codes "merge") merge_rules) }
 {
     let rows = [
-        Row::One(Takes::Files("ends", ENDS_HELP), Need::Always),
-        Row::One(Takes::Files("reports", REPORTS_HELP), Need::WithoutList),
         Row::List,
+        Row::One(Takes::Words("PART", PARTS_HELP), Need::WithoutList),
     ];
     subcommand(alloc, "merge", MERGE_ABOUT, MERGE_STATUS, &rows, is_whole)
 }

@@ -10,8 +10,8 @@ pub enum Mistake {
     InputTwice,
     /// Standard input is to be merged, which is read at any offset.
     InputMerged,
-    /// There are more or fewer reports than ledgers.
-    NotEachReport,
+    /// Standard input is to be sampled, which is read at any offset.
+    InputSampled,
     /// An option of `encode` needs `--columns`.
     NoColumns,
     /// `--validators` needs `--columns`.
@@ -52,9 +52,7 @@ impl fmt::Display for Mistake {
         match self {
             Mistake::InputTwice => f.write_str("error: - can be named only once"),
             Mistake::InputMerged => f.write_str("error: --merge reads files, and - is none"),
-            Mistake::NotEachReport => {
-                f.write_str("error: --reports needs one report for each ledger")
-            }
+            Mistake::InputSampled => f.write_str("error: bounds reads files, and - is none"),
             Mistake::NoColumns => {
                 f.write_str("error: --only, --separator and --refused need --columns")
             }
@@ -79,7 +77,7 @@ impl fmt::Display for Mistake {
                 f.write_str("error: arguments do not go together, or files are missing")
             }
             Mistake::NoSubcommand => f.write_str(
-                "error: a subcommand is needed: encode, decode, uploads, table, split, merge, ..",
+                "error: a subcommand is needed: encode, decode, uploads, table, sort, merge, ..",
             ),
         }
     }

@@ -6,19 +6,8 @@ use crate::words::{entered, matched};
 use program_manners::{ListFault, ListWords};
 use std::alloc::Global;
 
-/// The option that takes the names of a list at the subcommand of this name, if they are no
-/// positional arguments.
-fn option_of(name: &str) -> Option<&'static str> {
-    if name == "merge" {
-        Some("reports")
-    } else {
-        None
-    }
-}
-
-/// The list of files that the words name, if they name one, and the option that takes its names, if
-/// they are no positional arguments. Words that are no command line name none: the program says
-/// why, or shows its help.
+/// The list of files that the words name, if they name one. Words that are no command line name
+/// none: the program says why, or shows its help.
 ///
 /// # Errors
 ///
@@ -27,7 +16,7 @@ fn option_of(name: &str) -> Option<&'static str> {
 pub fn list_words<'a>(
     alloc: Global,
     words: &'a [String],
-) -> Result<Option<(ListWords<'a>, Option<&'static str>)>, ListFault> {
+) -> Result<Option<ListWords<'a>>, ListFault> {
     let matches = match matched(alloc, words) {
         Ok(matches) => matches,
         Err(error) => {
@@ -47,5 +36,5 @@ pub fn list_words<'a>(
     if has_input_twice(&found) {
         return Err(ListFault::InputTwice);
     }
-    Ok(Some((list, option_of(name))))
+    Ok(Some(list))
 }

@@ -3,13 +3,12 @@ ghost use Rattle.std.specs.Prelude.{◌≡◌, IfOk, [], false, true};
 ghost use Rattle.clap.specs.Words.{App, Shape, app_of, with_subcommand};
 ghost use Rattle.tool_words.specs.ToolLine.{app_of_name, app_of_texts, program};
 
+use crate::bounds::bounds_command;
 use crate::corrections::corrections_command;
 use crate::decode::decode_command;
 use crate::encode::encode_command;
 use crate::merge::merge_command;
-use crate::merge_ledgers::merge_ledgers_command;
 use crate::sort::sort_command;
-use crate::split::split_command;
 use crate::table::table_command;
 use crate::uploads::uploads_command;
 use clap::Command;
@@ -63,8 +62,7 @@ pub(crate) fn command<'a>(alloc: Global, is_whole: bool) -> Result<Command<'a>, 
 {
     let texts = texts_command(alloc, is_whole)?;
     let one = with_leaf(texts, sort_command(alloc, is_whole)?)?;
-    let two = with_leaf(one, split_command(alloc, is_whole)?)?;
+    let two = with_leaf(one, bounds_command(alloc, STATUS, is_whole)?)?;
     let three = with_leaf(two, merge_command(alloc, is_whole)?)?;
-    let four = with_leaf(three, merge_ledgers_command(alloc, is_whole)?)?;
-    with_leaf(four, corrections_command(alloc, is_whole)?)
+    with_leaf(three, corrections_command(alloc, is_whole)?)
 }

@@ -14,7 +14,7 @@ use clap::ArgMatches;
 const INPUT_WORD: &str = "-";
 
 /// The most parts.
-const MAX_PARTS: u32 = 65_535;
+const MAX_PARTS: u32 = 65_536;
 
 /// Whether the word stands for standard input.
 pub fn is_input(word: &str) -> bool
@@ -72,7 +72,7 @@ pub(crate) fn number_in(matches: &ArgMatches<'_>, name: &str, default: u32) -> u
 pub(crate) fn as_parts(number: u32) -> u32
     ensures nearest { result ≡ as_parts number }
     ensures some { 1 ≤ result }
-    ensures few { result ≤ 65535 }
+    ensures few { result ≤ 65536 }
 {
     if number < 1 {
         return 1;
@@ -110,7 +110,6 @@ pub(crate) fn has_input_twice(matches: &ArgMatches<'_>) -> bool
     is_input(list)
         && (names_input(matches, "FILE")
             || names_input(matches, "UPLOAD")
-            || names_input(matches, "reports")
-            || names_input(matches, "ends")
+            || names_input(matches, "PART")
             || names_input(matches, "table"))
 }

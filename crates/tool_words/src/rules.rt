@@ -57,7 +57,7 @@ pub(crate) fn breaks_rule(name: &str, matches: &ArgMatches<'_>) -> bool
         return lacks_files(matches, "UPLOAD");
     }
     if name == "merge" {
-        return lacks_files(matches, "reports");
+        return lacks_files(matches, "PART");
     }
-    (name == "split" || name == "merge-ledgers") && lacks_files(matches, "FILE")
+    name == "bounds" && lacks_files(matches, "FILE")
 }

@@ -88,37 +88,15 @@ pub struct SortingWords<'a> {
     pub uploads: Vec<&'a str>,
 }
 
-/// What `split` is asked for.
+/// What `bounds` is asked for.
 #[derive(Drop)]
-pub struct SplittingWords<'a> {
-    /// How many parts, 1 to 65,535.
+pub struct BoundsWords<'a> {
+    /// How many parts at most, 1 to 65,536.
     pub parts: u32,
-    /// The folder of the parts' files.
-    pub folder: &'a str,
-    /// The number of the first upload.
-    pub first: u32,
     /// The uploads, in order.
     pub uploads: Vec<&'a str>,
     ghost some_part: { 1 ≤ parts },
-    ghost few_parts: { parts ≤ 65535 },
-}
-
-/// What `merge` is asked for.
-#[derive(Drop)]
-pub struct MergeWords<'a> {
-    /// The files of the uploads' ends, in order.
-    pub ends: Vec<&'a str>,
-    /// The reports of the parts.
-    pub reports: Vec<&'a str>,
-}
-
-/// What `merge-ledgers` is asked for.
-#[derive(Drop)]
-pub struct LedgersWords<'a> {
-    /// The ledgers of the parts.
-    pub ledgers: Vec<&'a str>,
-    /// The report of each part, in the order of the ledgers; none if nothing is compared.
-    pub reports: Vec<&'a str>,
+    ghost few_parts: { parts ≤ 65536 },
 }
 
 /// What `corrections` is asked for.
@@ -151,12 +129,10 @@ pub enum Task<'a> {
     Table(TableQuestion<'a>),
     /// Uploads in one order.
     Sort(SortingWords<'a>),
-    /// Uploads in parts.
-    Split(SplittingWords<'a>),
-    /// The reports of parts as one.
-    Merge(MergeWords<'a>),
-    /// The ledgers of parts as one.
-    MergeLedgers(LedgersWords<'a>),
+    /// The texts of parts as that of the whole.
+    Merge(Vec<&'a str>),
+    /// The tokens at which to divide a run over uploads.
+    Bounds(BoundsWords<'a>),
     /// The corrections from one ledger to another.
     Corrections(CorrectionsWords<'a>),
     /// Nothing, since the words are wrong in this way.

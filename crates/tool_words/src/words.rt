@@ -1,14 +1,12 @@
 //! From the words to what they ask for.
-ghost use Rattle.std.specs.Prelude.{◌≡◌, ◌⊎◌, ◌≢◌, IfErr, IfOk, IfSome, [], codes, map, option_map};
+ghost use Rattle.std.specs.Prelude.{◌≡◌, ◌≤◌, ◌⊎◌, ◌≢◌, IfErr, IfOk, IfSome, [], codes, map, option_map};
 ghost use Rattle.std.specs.Prelude.{string_bytes};
 ghost use Rattle.clap.specs.Words.{FailsBy, fault_of, found_of, kind_of, matches_of, rows_of};
 ghost use Rattle.clap.specs.Words.{subcommand_of, subcommand_rows_of};
 ghost use Rattle.program_manners.specs.Words.{IsRequest};
-ghost use Rattle.tool_words.specs.Asked.{asked_by, asked_of_name, asked_once, corrections_asked};
-ghost use Rattle.tool_words.specs.Asked.{decode, encode_asked};
-ghost use Rattle.tool_words.specs.Asked.{merge_asked, merge_ledgers_asked, named, or_input};
-ghost use Rattle.tool_words.specs.Asked.{sort_asked, split_asked, uploads_asked};
-ghost use Rattle.tool_words.specs.Asked.{ledgers_named};
+ghost use Rattle.tool_words.specs.Asked.{asked_by, asked_of_name, asked_once, bounds_asked};
+ghost use Rattle.tool_words.specs.Asked.{corrections_asked, decode, encode_asked, ledgers_named};
+ghost use Rattle.tool_words.specs.Asked.{merge_asked, named, or_input, sort_asked, uploads_asked};
 ghost use Rattle.tool_words.specs.Tasks.{asked_of, corrections_of, texts_of};
 ghost use Rattle.tool_words.specs.ToolLine.{AsksForText, Parses, program};
 
@@ -20,7 +18,7 @@ use crate::reading::{
 };
 use crate::rules::{breaks_rule, looks};
 use crate::table_words::table_task;
-use crate::task::{CorrectionsWords, LedgersWords, MergeWords, SortingWords, SplittingWords, Task};
+use crate::task::{BoundsWords, CorrectionsWords, SortingWords, Task};
 use crate::uploads_words::{good_part_task, look_task};
 use clap::error::ErrorKind;
 use clap::{ArgMatches, Error};
@@ -97,41 +95,26 @@ fn sort_task<'a>(alloc: Global, matches: &ArgMatches<'a>) -> Result<Task<'a>, Al
     }))
 }
 
-/// What `split` is asked for.
-fn split_task<'a>(alloc: Global, matches: &ArgMatches<'a>) -> Result<Task<'a>, AllocError>
-    ensures { IfOk result (λ task. asked_of task ≡ split_asked (rows_of (found_of matches.now))) }
+/// What `merge` is asked for with these parts.
+fn merge_task<'a>(parts: Vec<&'a str>) -> Task<'a>
+    ensures { asked_of result ≡ merge_asked (texts_of parts.entry.items) }
 {
-    Ok(Task::Split(SplittingWords {
-        parts: as_parts(number_in(matches, "parts", 1)),
-        folder: value_in(matches, "part-files").unwrap_or("."),
-        first: number_in(matches, "first", 0),
-        uploads: names_in(alloc, matches, "FILE")?,
-    }))
-}
-
-/// What `merge` is asked for with these files.
-fn merge_task<'a>(words: MergeWords<'a>) -> Task<'a>
-    ensures { asked_of result ≡ merge_asked (texts_of words.entry.ends.items)
-        (texts_of words.entry.reports.items) }
-{
-    if inputs_in(&words.ends).saturating_add(inputs_in(&words.reports)) > 1 {
+    if inputs_in(&parts) > 1 {
         return Task::Mistake(Mistake::InputTwice);
     }
-    Task::Merge(words)
+    Task::Merge(parts)
 }
 
-/// What `merge-ledgers` is asked for with these files.
-fn merge_ledgers_task<'a>(words: LedgersWords<'a>) -> Task<'a>
-    ensures { asked_of result ≡ merge_ledgers_asked (texts_of words.entry.ledgers.items)
-        (texts_of words.entry.reports.items) }
+/// What `bounds` is asked for with this number of parts and these uploads.
+fn bounds_task<'a>(parts: u32, uploads: Vec<&'a str>) -> Task<'a>
+    requires some { 1 ≤ parts }
+    requires few { parts ≤ 65536 }
+    ensures { asked_of result ≡ bounds_asked parts (texts_of uploads.entry.items) }
 {
-    if inputs_in(&words.ledgers).saturating_add(inputs_in(&words.reports)) > 1 {
-        return Task::Mistake(Mistake::InputTwice);
+    if inputs_in(&uploads) > 0 {
+        return Task::Mistake(Mistake::InputSampled);
     }
-    if !words.reports.is_empty() && words.reports.len() != words.ledgers.len() {
-        return Task::Mistake(Mistake::NotEachReport);
-    }
-    Task::MergeLedgers(words)
+    Task::Bounds(BoundsWords { parts, uploads })
 }
 
 /// The ledgers of `corrections`.
@@ -176,20 +159,12 @@ fn task_of_name<'a>(
     if name == "sort" {
         return sort_task(alloc, &matches);
     }
-    if name == "split" {
-        return split_task(alloc, &matches);
-    }
     if name == "merge" {
-        return Ok(merge_task(MergeWords {
-            ends: names_in(alloc, &matches, "ends")?,
-            reports: names_in(alloc, &matches, "reports")?,
-        }));
+        return Ok(merge_task(names_in(alloc, &matches, "PART")?));
     }
-    if name == "merge-ledgers" {
-        return Ok(merge_ledgers_task(LedgersWords {
-            ledgers: names_in(alloc, &matches, "FILE")?,
-            reports: names_in(alloc, &matches, "reports")?,
-        }));
+    if name == "bounds" {
+        let parts = as_parts(number_in(&matches, "parts", 1));
+        return Ok(bounds_task(parts, names_in(alloc, &matches, "FILE")?));
     }
     if name == "corrections" {
         return Ok(corrections_task(ledgers_in(&matches)));

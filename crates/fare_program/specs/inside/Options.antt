@@ -21,6 +21,7 @@ asked_of options = record {
   ledger = options.ledger;
   explain = options.explain;
   traced = options.traced;
+  tokens = option_map (λ t. t.now) options.tokens;
   files = map (λ f. f.now) options.files.items;
 }
 

@@ -1,6 +1,7 @@
 -- The first four fields of a line.
 use Rattle.std.specs.Prelude.{◌≡◌, List, ℕ, ◌∷◌, ◌++◌}
 use Rattle.ledger_check.specs.Lines.{Lacks}
+use Rattle.ledger_check.specs.Recounts.{EndsField}
 use Rattle.ledger_check.specs.declared.exact.Front.{Front}
 
 -- these are the first four fields, and this stands behind them
@@ -9,8 +10,8 @@ pub record HasFront (line token number moment validator rest : List ℕ) : Type 
   pub number_field : Lacks 44 number
   pub moment_field : Lacks 44 moment
   pub validator_field : Lacks 44 validator
-  pub shown : line
-      ≡ token ++ 44 ∷ (number ++ 44 ∷ (moment ++ 44 ∷ (validator ++ 44 ∷ rest)))
+  pub ends_field : EndsField rest
+  pub shown : line ≡ token ++ 44 ∷ (number ++ 44 ∷ (moment ++ 44 ∷ (validator ++ rest)))
 
 -- these fields, whatever the second is
 abbrev pub IsFrontOf : List ℕ → Front → Type 0

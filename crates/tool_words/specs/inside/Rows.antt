@@ -1,10 +1,9 @@
 -- The rows of the table of arguments, as clap's rules.
 use Rattle.std.specs.Prelude.{List, [], ◌∷◌}
 use Rattle.clap.specs.Words.{App, Rule, Text, new_app, with_rule}
-use Rattle.program_manners.specs.Words.{files_rule, flag_rule, list_option, null_flag, option_rule}
+use Rattle.program_manners.specs.Words.{flag_rule, list_option, null_flag, option_rule}
 use Rattle.program_manners.specs.Words.{repeated_rule}
-use Rattle.tool_words.specs.ToolLine.{needed, or_default, range_rule, subcommand, word_rule}
-use Rattle.tool_words.specs.ToolLine.{words_rule}
+use Rattle.tool_words.specs.ToolLine.{needed, range_rule, subcommand, word_rule, words_rule}
 use Rattle.tool_words.specs.declared.arguments.Need.{Need}
 use Rattle.tool_words.specs.declared.arguments.Need.TheVariants as need
 use Rattle.tool_words.specs.declared.arguments.Row.{Row}
@@ -18,14 +17,12 @@ taken_rule (takes.Flag name help) = flag_rule name.now
 taken_rule (takes.Value name value help) = option_rule name.now
 taken_rule (takes.Values name value help) = repeated_rule name.now
 taken_rule (takes.Number name value first last help) = range_rule name.now first last
-taken_rule (takes.Files name help) = files_rule name.now
 taken_rule (takes.Word name help) = word_rule name.now
 taken_rule (takes.Words name help) = words_rule name.now
 
 -- the same with what is wanted of it by itself
 abbrev pub rule_by : Need → Rule → Rule
 rule_by need.Always rule = needed rule
-rule_by (need.Default text) rule = or_default text.now rule
 rule_by _ rule = rule
 
 -- the rules of a row

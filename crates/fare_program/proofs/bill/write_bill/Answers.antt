@@ -1,4 +1,7 @@
 use Rattle.std.proofs.lemmas.Result.{IfErr-weaker, IfOk-weaker}
+use Rattle.std.proofs.Common.{refl}
+use Rattle.tap_views.specs.UploadEnds.{are_posted}
+use Rattle.fare_program.specs.Parts.{report_over}
 use Rattle.fare_program.proofs.bill.write_bill.Goals as goal
 
 pub write_billed-requires : goal.write_billed-requires
@@ -9,41 +12,42 @@ write_billed-requires g c =
 pub returns-clause-ok : goal.returns-clause-ok
 returns-clause-ok g c =
     let (files, read, ended, billed) = c.in_ok-made.ensures in
+    let ends = c.in_ok-made.made.ends.items in
     IfOk-weaker c.write_billed.result _ _
     (λ well made. (
       files,
-      made.0,
+      report_over ends billed.0,
       read,
       record {
         history = billed.0;
         is_settled = billed.1;
-        shows = made.1 files billed.0 billed.2 ended;
-        ends = c.in_ok-made.made.ends.items;
+        shows = record { ends = ends; of_uploads = ended; shown = refl };
+        ends = ends;
         ended = ended;
-        is_well = made.2;
+        is_well = made.0;
       },
-      made.3,
+      made.1 billed.0 billed.2,
     ))
     c.write_billed.ensures.ok
 
 pub returns-clause-begun : goal.returns-clause-begun
 returns-clause-begun g c =
     let (files, read, ended, billed) = c.in_ok-made.ensures in
+    let ends = c.in_ok-made.made.ends.items in
     IfErr-weaker c.write_billed.result _ _
-    (λ fault begun write.
-    let made = begun write in (
-      made.0,
+    (λ fault begun write. (
+      are_posted ends,
       files,
-      made.1,
+      report_over ends billed.0,
       read,
       record {
         history = billed.0;
         is_settled = billed.1;
-        shows = made.2 files billed.0 billed.2 ended;
-        ends = c.in_ok-made.made.ends.items;
+        shows = record { ends = ends; of_uploads = ended; shown = refl };
+        ends = ends;
         ended = ended;
-        is_well = made.3;
+        is_well = refl;
       },
-      made.4,
+      begun write billed.0 billed.2,
     ))
     c.write_billed.ensures.begun

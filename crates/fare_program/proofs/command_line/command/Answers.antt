@@ -3,7 +3,7 @@ use Rattle.std.proofs.lemmas.Result.{IfOk-weaker}
 use Rattle.clap.specs.Words.{App, with_rule}
 use Rattle.program_manners.specs.Words.{list_option, null_flag}
 use Rattle.fare_program.specs.Options.{explain_flag, file_argument, ledger_flag, program}
-use Rattle.fare_program.specs.Options.{traced_flag}
+use Rattle.fare_program.specs.Options.{tokens_option, traced_flag}
 use Rattle.fare_program.proofs.command_line.command.Goals as goal
 
 pub returns : goal.returns
@@ -27,8 +27,7 @@ returns c =
     ∙ ap₂ with_rule seven c.option_arg-token.ensures.rule in
     IfOk-weaker c.with_texts.result _ _
     (λ command is. is ∙ ap
-    (λ (a : App). with_rule
-    (with_rule
+    (λ (a : App). with_rule (with_rule (with_rule
     (with_rule (with_rule (with_rule (with_rule a ledger_flag) explain_flag) traced_flag)
-    list_option) null_flag) file_argument) eight)
+    tokens_option) list_option) null_flag) file_argument) eight)
     c.with_texts.ensures

@@ -60,6 +60,7 @@ returns c = λ name words names.
     let ledger = ap flag_of (has.others (codes "ledger") refl) in
     let explain = ap flag_of (has.others (codes "explain") refl) in
     let traced = ap flag_of (has.others (codes "traced") refl) in
+    let tokens = ap first_text (has.others (codes "tokens") refl) in
     λ i. record {
       table = table i;
       list = list i;
@@ -72,5 +73,6 @@ returns c = λ name words names.
       ledger = ledger i;
       explain = explain i;
       traced = traced i;
+      tokens = tokens i;
       files = has.more i;
     }

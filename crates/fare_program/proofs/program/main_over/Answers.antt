@@ -1,6 +1,6 @@
 use Rattle.std.proofs.Common.{◌≡◌, ◌∙◌, ◌++◌, ℕ, Bool, List, None, Option, Some, arith, codes, inl}
 use Rattle.std.proofs.Common.{inr, map, refl, subst, sym, true}
-use Rattle.std.specs.Prelude.{◌≢◌, MatchOption, string_bytes}
+use Rattle.std.specs.Prelude.{◌≢◌, ◌⊎◌, MatchOption, is_some, string_bytes}
 use Rattle.clap.specs.Words.{IsAmong, Text, fault_of, kind_of}
 use Rattle.clap.specs.declared.error.kind.ErrorKind.{ErrorKind}
 use Rattle.fare_program.specs.Begun.{AreOfBytes, HasBegun, IsLeftBy}
@@ -167,6 +167,24 @@ returns-clause-mistaken g c = λ first parses found.
             (λ sorted late. not_late fault is.1 late);
       },
     )
+
+-- a fault with that status is such a mistake, or a wrong date
+for_words : (first : Option Fault) (found : Option (List ℕ × DateFault)) (fault : Fault)
+    → MatchOption first (MatchOption found (status_of fault ≡ 1)
+    (λ other. (fault_text fault ≡ codes "fault: " ++ date_text other.0 other.1)
+    × (status_of fault ≡ 2))) (λ mistaken. (fault ≡ mistaken) × (status_of fault ≡ 2))
+    → status_of fault ≡ 2 → (is_some first ≡ true) ⊎ (is_some found ≡ true)
+for_words (Some mistaken) found fault why two = inl refl
+for_words None (Some wrong) fault why two = inr refl
+for_words None None fault one two = absurd (omega (arith, one, two))
+
+pub returns-clause-right : goal.returns-clause-right
+returns-clause-right g c = λ two.
+    let fault = c.in-Err-work.fault in
+    let asked = asked_by (map string_bytes c.args.words.now) in
+    inr (for_words (mistake asked) (wrong_date asked) fault
+    (subst (λ (a : Asked). IsWhyOf a fault) c.in-Ok.ensures.asked c.in-Err-work.ensures.why)
+    (sym c.as_remembered.ensures.status ∙ (sym c.report.ensures.status ∙ two)))
 
 -- ---- a word of a fare table with a wrong date
 -- none is found, or one is

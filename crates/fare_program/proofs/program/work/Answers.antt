@@ -1,5 +1,6 @@
 use Rattle.std.proofs.Common.{ap, subst, ◌≡◌, refl}
-use Rattle.std.specs.Prelude.{IfSome, is_some}
+use Rattle.std.specs.Prelude.{IfSome, is_some, map, option_map}
+use Rattle.std.specs.Borrow.{Bor}
 use Rattle.std.specs.Io.KnownBytes.{Appends}
 use Rattle.fare_texts.specs.WrittenOut.{Begins}
 use Rattle.std.proofs.KnownBytes.{Keeps-refl, Keeps-trans}
@@ -7,6 +8,7 @@ use Rattle.std.proofs.lemmas.Result.{IfErr-weaker, IfOk-weaker, err_from_is_err_
 use Rattle.tariffs.specs.Fares.{Fares}
 use Rattle.tap_views.specs.declared.token.Token.{Token}
 use Rattle.fare_program.specs.Program.{Does, IsTokenIn, LoadsTable}
+use Rattle.fare_program.specs.Parts.{IsPartText}
 use Rattle.fare_program.specs.Settling.{ShowsSettled}
 use Rattle.fare_program.specs.declared.fault.Fault.{Fault}
 use Rattle.fare_program.specs.declared.fault.Fault.TheVariants.{Write}
@@ -14,7 +16,8 @@ use Rattle.fare_program.proofs.WritesFailed.{begun_by, begun_so}
 use Rattle.fare_program.specs.inside.ChargedAhead.{IsChargedAhead}
 use Rattle.fare_program.specs.inside.Options.{asked_of}
 use Rattle.fare_program.proofs.SortedRuns.{does_sorted, does_traced, does_untraced, has_table}
-use Rattle.fare_program.proofs.SortedRuns.{one_table, traced_table}
+use Rattle.fare_program.proofs.SortedRuns.{names_range, one_table, shown_part, shown_settled}
+use Rattle.fare_program.proofs.SortedRuns.{traced_table}
 use Rattle.fare_program.proofs.Works.{does_ahead}
 use Rattle.std.proofs.Common.{◌∙◌, ℕ, List, None, Option, Some, true, sym}
 use Rattle.tap_views.proofs.Choices.{IfErr_handed_on}
@@ -22,8 +25,11 @@ use Rattle.fare_program.specs.Causes.{IsRightFault}
 use Rattle.fare_program.specs.Fault.{status_of}
 use Rattle.fare_program.proofs.program.work.Goals as goal
 
-pub returns-in-Some-clause-ok : goal.returns-in-Some-clause-ok
-returns-in-Some-clause-ok g c =
+abbrev written : Bor (List ℕ) → List ℕ
+written text = text.now
+
+pub returns-in-Some-2-clause-ok : goal.returns-in-Some-2-clause-ok
+returns-in-Some-2-clause-ok g c =
     let asked = asked_of c.args.options.now in
     let under = g.D.Disk.bytes_under c.args.disk.now in
     let origin = g.D.Disk.origin c.args.disk.now in
@@ -31,11 +37,11 @@ returns-in-Some-clause-ok g c =
     let new = g.W.Write.contents c.charge_ahead.new.out in
     let between = g.S.FileSource.loaded c.load_table.new.source in
     let last = g.S.FileSource.loaded c.charge_ahead.new.source in
-    let well = c.in-Some.well in
+    let well = c.in-Some-2.well in
     let done : IsChargedAhead asked origin between last c.in_ok-table.table c.in_ok-token.token
     (Appends out new) well =
     subst (λ d. IfSome d (IsChargedAhead asked origin between last c.in_ok-table.table
-    c.in_ok-token.token (Appends out new))) c.in-Some.is c.in_ok-well.ensures.done in
+    c.in_ok-token.token (Appends out new))) c.in-Some-2.is c.in_ok-well.ensures.done in
     does_untraced asked under origin _ _ out new well c.if-options.false
     (does_ahead asked under origin _ between last c.in_ok-table.table c.in_ok-token.token
     (Appends out new) out new well c.in_ok-table.ensures.ok c.in_ok-token.ensures.token done
@@ -66,6 +72,18 @@ work_sorted-requires-clause-table g c κs within =
     c.if-options-2.true c.in_ok-table.ensures.ok in
     ap is_some is
 
+pub work_part-requires-clause-table : goal.work_part-requires-clause-table
+work_part-requires-clause-table g c κs within =
+    let (f, is) = has_table (asked_of c.args.options.now) _ _ c.in_ok-table.table
+    c.in_ok-token.ensures.right
+    c.if-options-2.true c.in_ok-table.ensures.ok in
+    ap is_some is
+
+pub work_part-requires-clause-word : goal.work_part-requires-clause-word
+work_part-requires-clause-word g c κs within =
+    names_range (asked_of c.args.options.now) c.in-Some.word.now c.in_ok-token.ensures.right
+    (ap (option_map written) c.in-Some.is)
+
 pub work_traced-requires-clause-table : goal.work_traced-requires-clause-table
 work_traced-requires-clause-table g c κs within =
     traced_table (asked_of c.args.options.now) c.in_ok-token.ensures.right c.if-options.true
@@ -92,20 +110,46 @@ returns-then-options-clause-fault g c =
 pub returns-then-options-2-clause-ok : goal.returns-then-options-2-clause-ok
 returns-then-options-2-clause-ok g c =
     let asked = asked_of c.args.options.now in
+    let under = g.D.Disk.bytes_under c.args.disk.now in
+    let origin = g.D.Disk.origin c.args.disk.now in
     IfOk-weaker c.work_sorted.result _ _
-    (λ well done. does_untraced asked (g.D.Disk.bytes_under c.args.disk.now) (g.D.Disk.origin c.args.disk.now) _ _ _ _ well
-    c.if-options.false
-    (does_sorted asked (g.D.Disk.bytes_under c.args.disk.now) (g.D.Disk.origin c.args.disk.now) _ _ c.in_ok-table.table
-    c.in_ok-token.token _ _ well c.in_ok-token.ensures.right c.if-options-2.true
-    c.in_ok-table.ensures.ok
-    c.in_ok-token.ensures.token done))
+    (λ well done. does_untraced asked under origin _ _ _ _ well c.if-options.false
+    (does_sorted asked under origin _ _ c.in_ok-table.table c.in_ok-token.token _ _ well
+    c.in_ok-token.ensures.right c.if-options-2.true c.in_ok-table.ensures.ok
+    c.in_ok-token.ensures.token (
+      done.0,
+      λ f is. shown_settled asked (map under asked.files) f c.in_ok-token.token _ _
+          (ap (option_map written) c.in_default.is) (done.1 f is),
+    )))
     c.work_sorted.ensures.ok
+
+pub returns-in-Some-clause-ok : goal.returns-in-Some-clause-ok
+returns-in-Some-clause-ok g c =
+    let asked = asked_of c.args.options.now in
+    let under = g.D.Disk.bytes_under c.args.disk.now in
+    let origin = g.D.Disk.origin c.args.disk.now in
+    IfOk-weaker c.work_part.result _ _
+    (λ well done. does_untraced asked under origin _ _ _ _ well c.if-options.false
+    (does_sorted asked under origin _ _ c.in_ok-table.table c.in_ok-token.token _ _ well
+    c.in_ok-token.ensures.right c.if-options-2.true c.in_ok-table.ensures.ok
+    c.in_ok-token.ensures.token (
+      done.0,
+      λ f is. shown_part asked (map under asked.files) f c.in_ok-token.token _ _
+          c.in-Some.word.now (ap (option_map written) c.in-Some.is) (done.1 f is),
+    )))
+    c.work_part.ensures.ok
 
 pub returns-then-options-2-clause-fault : goal.returns-then-options-2-clause-fault
 returns-then-options-2-clause-fault g c =
     IfErr-weaker c.work_sorted.result _ _
     (λ fault kept write late. kept write (late c.if-options-2.true))
     c.work_sorted.ensures.fault
+
+pub returns-in-Some-clause-fault : goal.returns-in-Some-clause-fault
+returns-in-Some-clause-fault g c =
+    IfErr-weaker c.work_part.result _ _
+    (λ fault kept write late. kept write (late c.if-options-2.true))
+    c.work_part.ensures.fault
 
 pub returns-in_err-table-clause-right_fault : goal.returns-in_err-table-clause-right_fault
 returns-in_err-table-clause-right_fault g c =
@@ -210,7 +254,7 @@ returns-then-options-2-clause-begun g c =
     c.if-options-2.true c.in_ok-table.ensures.ok in
     IfErr-weaker c.work_sorted.result _ _
     (λ fault begun write other.
-    let is = begun write (λ ledger none. other (
+    let is = begun write (λ ledger none. other.1 (
       c.if-options-2.true,
       ledger,
       no_token asked.token c.in_ok-token.token c.in_ok-token.ensures.token none,
@@ -219,18 +263,54 @@ returns-then-options-2-clause-begun g c =
       begun_by out out new is.text
           (λ all. Does asked under origin (g.S.FileSource.loaded c.args.source.now)
           (g.S.FileSource.loaded c.load_table.new.source) out all true) (Keeps-refl out) is.begun
-          (λ all written. does_untraced asked under origin _ _ out all true c.if-options.false
+          (λ all is_written. does_untraced asked under origin _ _ out all true c.if-options.false
           (does_sorted asked under origin _ _ c.in_ok-table.table c.in_ok-token.token out all true
           c.in_ok-token.ensures.right c.if-options-2.true c.in_ok-table.ensures.ok
           c.in_ok-token.ensures.token (
             refl,
-            λ f same. record {
-              text = is.text;
-              shows = λ files are. subst (λ (fares : Fares). ShowsSettled asked fares files
-                  c.in_ok-token.token is.text true) (one_table table.0 f (sym table.1 ∙ same))
-                  (is.shows files are);
-              written = written;
-            },
+            λ f same. shown_settled asked (map under asked.files) f c.in_ok-token.token out all
+                (ap (option_map written) c.in_default.is)
+                (record {
+                  text = is.text;
+                  shows = λ files are. subst (λ (fares : Fares). ShowsSettled asked fares files
+                      c.in_ok-token.token is.text true) (one_table table.0 f (sym table.1 ∙ same))
+                      (is.shows files are);
+                  written = is_written;
+                }),
           ))),
     ))
     c.work_sorted.ensures.begun
+
+pub returns-in-Some-clause-begun : goal.returns-in-Some-clause-begun
+returns-in-Some-clause-begun g c =
+    let asked = asked_of c.args.options.now in
+    let under = g.D.Disk.bytes_under c.args.disk.now in
+    let origin = g.D.Disk.origin c.args.disk.now in
+    let out = g.W.Write.contents c.args.out.now in
+    let new = g.W.Write.contents c.work_part.new.out in
+    let named : asked.tokens ≡ Some c.in-Some.word.now = ap (option_map written) c.in-Some.is in
+    let table = has_table asked _ _ c.in_ok-table.table c.in_ok-token.ensures.right
+    c.if-options-2.true c.in_ok-table.ensures.ok in
+    IfErr-weaker c.work_part.result _ _
+    (λ fault begun write other.
+    let is = begun write (λ ledger. other.0 (ap is_some named, ledger)) table.0 table.1 in (
+      true,
+      begun_by out out new is.text
+          (λ all. Does asked under origin (g.S.FileSource.loaded c.args.source.now)
+          (g.S.FileSource.loaded c.load_table.new.source) out all true) (Keeps-refl out) is.begun
+          (λ all is_written. does_untraced asked under origin _ _ out all true c.if-options.false
+          (does_sorted asked under origin _ _ c.in_ok-table.table c.in_ok-token.token out all true
+          c.in_ok-token.ensures.right c.if-options-2.true c.in_ok-table.ensures.ok
+          c.in_ok-token.ensures.token (
+            refl,
+            λ f same. shown_part asked (map under asked.files) f c.in_ok-token.token out all
+                c.in-Some.word.now named
+                (record {
+                  text = is.text;
+                  shows = λ files are. subst (λ (fares : Fares). IsPartText asked.ledger fares files
+                      is.text) (one_table table.0 f (sym table.1 ∙ same)) (is.shows files are);
+                  written = is_written;
+                }),
+          ))),
+    ))
+    c.work_part.ensures.begun

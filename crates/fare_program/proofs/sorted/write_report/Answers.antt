@@ -1,6 +1,7 @@
 use Rattle.std.proofs.Common.{◌≡◌, ◌∙◌, Bool, None, false, refl, sym, true}
 use Rattle.std.proofs.lemmas.Result.{err_from_is_err_and}
 use Rattle.fare_program.specs.inside.Options.{asked_of}
+use Rattle.fare_program.specs.Parts.{report_over}
 use Rattle.fare_program.proofs.Billed.{shows_bill}
 use Rattle.fare_program.proofs.sorted.write_report.Goals as goal
 
@@ -12,20 +13,24 @@ write_billed-requires g c =
 pub returns-in_ok-write_billed-in-Ok-clause-ok : goal.returns-in_ok-write_billed-in-Ok-clause-ok
 returns-in_ok-write_billed-in-Ok-clause-ok g c = λ report.
     let (history, is, few, settled) = c.in-Ok.ensures.billed in
-    let (text, shows, posted, written) = c.in_ok-write_billed-in-Ok.ensures.ok in
+    let ends = c.in-Ok.made.ends.items in
     record {
-      text = text;
-      shows = λ all are. shows_bill (asked_of c.args.options.now) c.args.table.now all None text
-          true report refl
+      text = report_over ends history;
+      shows = λ all are. shows_bill (asked_of c.args.options.now) c.args.table.now all None
+          (report_over ends history) true report refl
           (record {
             history = history;
             is_settled = settled all are;
-            shows = shows all history is (c.in-Ok.ensures.ended all are);
-            ends = c.in-Ok.made.ends.items;
+            shows = record {
+              ends = ends;
+              of_uploads = c.in-Ok.ensures.ended all are;
+              shown = refl;
+            };
+            ends = ends;
             ended = c.in-Ok.ensures.ended all are;
             is_well = sym c.in-Ok.ensures.posted;
           });
-      written = written;
+      written = c.in_ok-write_billed-in-Ok.ensures.ok.1 history is;
     }
 
 -- ---- what a write that failed left
@@ -40,22 +45,24 @@ returns-in_err-write_billed-in-Ok-clause-begun g c =
     let asked = asked_of c.args.options.now in
     let p = err_from_is_err_and c.from_residual-in_err-write_billed-in-Ok.result
     c.from_residual-in_err-write_billed-in-Ok.ensures.1 in
-    rw p.1 (λ write other.
-    let (well, text, shows, posted, begun) =
-    c.in_err-write_billed-in-Ok.ensures.begun (sym p.2 ∙ write) in
-    record {
-      text = text;
-      shows = λ all are. shows_bill asked c.args.table.now all None text true
+    let ends = c.in-Ok.made.ends.items in
+    rw p.1 (λ write other. record {
+      text = report_over ends history;
+      shows = λ all are. shows_bill asked c.args.table.now all None (report_over ends history) true
           (not_true asked.ledger other) refl
           (record {
             history = history;
             is_settled = settled all are;
-            shows = shows all history is (c.in-Ok.ensures.ended all are);
-            ends = c.in-Ok.made.ends.items;
+            shows = record {
+              ends = ends;
+              of_uploads = c.in-Ok.ensures.ended all are;
+              shown = refl;
+            };
+            ends = ends;
             ended = c.in-Ok.ensures.ended all are;
             is_well = sym c.in-Ok.ensures.posted;
           });
-      begun = begun;
+      begun = c.in_err-write_billed-in-Ok.ensures.begun (sym p.2 ∙ write) history is;
     })
 
 pub returns-in-Err-clause-begun : goal.returns-in-Err-clause-begun

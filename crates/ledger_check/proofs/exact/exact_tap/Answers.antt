@@ -67,10 +67,11 @@ returns c =
       shown = fields.1.shown
           ∙ ap (λ (t : List ℕ).
           t ++ 44 ∷ (fields.0 ++ 44
-          ∷ (front.moment.now ++ 44 ∷ (front.validator.now ++ 44 ∷ front.rest.now)))) token.1
+          ∷ (front.moment.now ++ 44 ∷ (front.validator.now ++ front.rest.now)))) token.1
           ∙ ap (λ (v : List ℕ). encode_lower
           (bytes_of c.in-Some-exact_token.token) ++ 44
-          ∷ (fields.0 ++ 44 ∷ (front.moment.now ++ 44 ∷ (v ++ 44 ∷ front.rest.now)))) number.1;
+          ∷ (fields.0 ++ 44 ∷ (front.moment.now ++ 44 ∷ (v ++ front.rest.now)))) number.1;
+      ends_field = fields.1.ends_field;
       front = c.requires.line.0;
       ends = c.requires.line.1;
       short = c.requires.short;

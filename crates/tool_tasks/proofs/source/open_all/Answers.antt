@@ -1,5 +1,5 @@
 use Rattle.std.proofs.Common.{◌≡◌, ◌++◌, ◌∷◌, [], ℕ, List, Bor, get_or}
-use Rattle.std.proofs.Common.{refl, subst, sym, take, take_all}
+use Rattle.std.proofs.Common.{map, refl, subst, sym, take, take_all}
 use Rattle.std.proofs.lemmas.Result.{err_from_is_err_and}
 use Rattle.report_texts.specs.Texts.{AreLeft}
 use Rattle.program_manners.proofs.Refusals.{is_one_at}
@@ -44,5 +44,5 @@ returns-in_err-text-clause-refusal g c =
     let place = c.loop-word.word-index in
     let word = (get_or words place no_word).now in
     let p = err_from_is_err_and c.from_residual.result c.from_residual.ensures.1 in
-    rw (p.1, p.2) (λ all within. c.in_err-text.ensures.refusal all
-    (within word (is_one_at words place no_word word c.loop-word-test.true refl)))
+    rw (p.1, p.2) (c.in_err-text.ensures.refusal (map (λ w. w.now) words)
+    (is_one_at words place no_word word c.loop-word-test.true refl))

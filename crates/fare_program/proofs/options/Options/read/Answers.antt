@@ -25,6 +25,8 @@ returns-clause-asked c =
     let ledger = c.flag_in-5.ensures ∙ ap (is_given (codes "ledger")) rows in
     let explain = c.flag_in-6.ensures ∙ ap (is_given (codes "explain")) rows in
     let traced = c.flag_in-7.ensures ∙ ap (is_given (codes "traced")) rows in
+    let tokens = c.get_str-2.ensures ∙ first_value-rows found (codes "tokens")
+    ∙ ap (first_of (codes "tokens")) rows in
     let files = c.in_ok-names_in.ensures ∙ ap (λ r. unwrap_or (all_of (codes "FILE") r) []) rows in
     λ i. record {
       table = table i;
@@ -38,5 +40,6 @@ returns-clause-asked c =
       ledger = ledger i;
       explain = explain i;
       traced = traced i;
+      tokens = tokens i;
       files = files i;
     }

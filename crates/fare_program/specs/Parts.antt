@@ -1,0 +1,42 @@
+-- The text of a part of sorted files: of the taps of a range of tokens.
+use Rattle.std.specs.Prelude.{◌≡◌, ◌++◌, ℕ, Bool, List, MatchBool, MatchOption, None, Option, length}
+use Rattle.std.specs.Prelude.{map}
+use Rattle.tariffs.specs.Fares.{Fares}
+use Rattle.tap_views.specs.declared.encoder.TapFields.{TapFields}
+use Rattle.tap_views.specs.declared.token.Token.{Token}
+use Rattle.tap_views.specs.declared.upload_end.UploadEnd.{UploadEnd}
+use Rattle.tap_views.specs.declared.upload_end.UploadEnd.TheVariants.{Posted}
+use Rattle.histories.specs.Sums.{sums}
+use Rattle.histories.specs.SumsByKey.{sums_by_token, sums_by_validator}
+use Rattle.histories.specs.declared.entry.Entry.{Entry}
+use Rattle.fare_texts.specs.Ledger.{IsLedgerOver}
+use Rattle.report_texts.specs.Report.{report}
+use Rattle.sorted_taps.specs.declared.places.FileSpan.{FileSpan}
+use Rattle.sorted_bills.specs.Parts.{IsPartOf}
+use Rattle.part_texts.specs.Heads.{part_head}
+use Rattle.fare_program.specs.Options.{Asked}
+use Rattle.fare_program.specs.Settling.{ShowsSettled}
+
+-- the report over a history of uploads with these ends
+abbrev pub report_over : List UploadEnd → List Entry → List ℕ
+report_over ends history =
+    report ends (sums history) (sums_by_validator history) (sums_by_token history)
+
+-- The text says which span of each file the part has. Then comes the report of the taps of these
+-- spans, or their ledger if that is asked for.
+pub record IsPartText (ledger : Bool) (fares : Fares) (files : List (List ℕ)) (text : List ℕ)
+    : Type 0 where
+  pub spans : List FileSpan
+  pub lists : List (List TapFields)
+  pub history : List Entry
+  pub part : IsPartOf fares files spans lists history
+  pub body : List ℕ
+  pub shows : MatchBool ledger (IsLedgerOver fares history None body)
+      (body ≡ report_over (map Posted (map length lists)) history)
+  pub whole : text ≡ part_head spans ++ body
+
+-- the text is what is asked for of sorted files: of a part of them if a range of tokens is named
+abbrev pub ShowsSorted : Asked → Fares → List (List ℕ) → Option Token → List ℕ → Bool → Type 0
+ShowsSorted asked fares files token text well = MatchOption asked.tokens
+    (ShowsSettled asked fares files token text well)
+    (λ word. IsPartText asked.ledger fares files text)

@@ -1,0 +1,259 @@
+-- The lines of uploads say how these ended, and nothing else.
+use Rattle.std.proofs.Common.{◌≡◌, ◌∙◌, ℕ, zero, suc, ◌+◌, ◌<◌, ◌^◌, All, Bool, true, false, List, []}
+use Rattle.std.proofs.Common.{◌∷◌, ◌++◌, length, Option, Some, None, Result, Ok, Err, codes, refl, sym}
+use Rattle.std.proofs.Common.{ap, subst, arith, append_assoc, append-nil, length-append, option_map}
+use Rattle.std.proofs.Common.{◌-◌, ◌≤◌, eq-eqb, nat_eq}
+use Rattle.std.specs.Fmt.{decimal}
+use Rattle.std.specs.Str.{bytes_eq}
+use Rattle.std.specs.List.{AllByRecursion}
+use Rattle.std.proofs.lemmas.List.Elements.{All-nil, All-push, recursion_from_All}
+use Rattle.fare_texts.specs.ReportLines.{number_line}
+use Rattle.ledger_check.proofs.ColumnLemmas.{decimal_lacks_feed}
+use Rattle.ledger_check.proofs.LineLemmas.{lacks-tested, lines-line}
+use Rattle.ledger_check.proofs.RecountLemmas.{line_ends}
+use Rattle.ledger_check.specs.Lines.{IsLine, Lacks, lines_of}
+use Rattle.line_forms.specs.Forms.{value_if}
+use Rattle.report_texts.proofs.EndTexts.{line_words, refused_spelt, small_number}
+use Rattle.report_texts.proofs.Lines.{head_complete, head_sound, upload_complete, upload_sound}
+use Rattle.report_texts.specs.FormLaws.{count_form, some_one}
+use Rattle.report_texts.specs.Forms.{count_at, head_in, upload_if, upload_in}
+use Rattle.report_texts.specs.Numbers.{IsUploadEnd}
+use Rattle.report_texts.specs.Report.{upload_line, upload_lines}
+use Rattle.report_texts.specs.inside.EndWords.{end_words, fault_number}
+use Rattle.tap_views.specs.declared.upload_end.UploadEnd.{UploadEnd}
+use Rattle.tap_views.specs.declared.upload_end.UploadEnd.TheVariants.{Posted, Refused, Cut, Undrawn}
+use Rattle.report_check.specs.Reports.{IsReportEnd}
+use Rattle.report_check.specs.Uploads.{cut_or, end_at, end_if, end_in, ends_from, found_or, numbered}
+use Rattle.report_check.specs.Uploads.{or_else, unfinished_in, uploads_in}
+
+-- ---- one line
+count_upload : (number : ℕ) (end : UploadEnd) → number < 2 ^ 64
+    → count_at (codes "upload ") (upload_line number end) ≡ Some (number, end_words end)
+count_upload number end small =
+    ap (λ (t : List ℕ). count_at (codes "upload ") t) (line_words number end)
+    ∙ (count_form (codes "upload ")).complete number (codes "upload " ++ decimal number)
+    (end_words end) (decimal number, (small, refl), refl) refl
+
+pub end_complete : (number : ℕ) (end : UploadEnd) → number < 2 ^ 64 → IsReportEnd end
+    → end_in (upload_line number end) ≡ Some (number, end)
+end_complete number (Posted taps) small fits =
+    ap (λ (o : Option (ℕ × UploadEnd)). or_else o (unfinished_in (upload_line number (Posted taps))))
+    (upload_complete number (Posted taps) small fits)
+end_complete number (Refused taps offset fault) small fits =
+    ap (λ (o : Option (ℕ × UploadEnd)). or_else o
+    (unfinished_in (upload_line number (Refused taps offset fault))))
+    (upload_complete number (Refused taps offset fault) small fits)
+end_complete number (Cut taps) small fits =
+    let count = count_upload number (Cut taps) small in
+    ap (λ (o : Option (ℕ × List ℕ)). or_else (upload_if o) (numbered o)) count
+    ∙ ap (λ (o : Option ℕ). option_map (λ end. (number, end)) (cut_or o (end_words (Cut taps))))
+    (head_complete (codes " cut ") taps fits)
+end_complete number Undrawn small fits =
+    ap (λ (o : Option (ℕ × List ℕ)). or_else (upload_if o) (numbered o))
+    (count_upload number Undrawn small)
+
+finished : (end : UploadEnd) → IsUploadEnd end → IsReportEnd end
+finished (Posted taps) fits = fits
+finished (Refused taps offset fault) fits = fits
+finished (Cut taps) fits = absurd fits
+finished Undrawn fits = absurd fits
+
+end_of_found : {a : ℕ × UploadEnd} {b : ℕ × UploadEnd} → Some a ≡ Some b → a.1 ≡ b.1
+end_of_found e = some_one (ap (option_map (λ (p : ℕ × UploadEnd). p.1)) e)
+
+undrawn_sound : (number : ℕ) (b : Bool) (found : ℕ × UploadEnd)
+    → option_map (λ end. (number, end)) (value_if b Undrawn) ≡ Some found → IsReportEnd found.1
+undrawn_sound number true found e = subst IsReportEnd (end_of_found e) tt
+undrawn_sound number false found e = absurd (cc)
+
+cut_sound : (number : ℕ) (text : List ℕ) (o : Option ℕ) → head_in (codes " cut ") text ≡ o
+    → (found : ℕ × UploadEnd) → option_map (λ end. (number, end)) (cut_or o text) ≡ Some found
+    → IsReportEnd found.1
+cut_sound number text (Some taps) is found e =
+    subst IsReportEnd (end_of_found e) (head_sound (codes " cut ") text taps is).0
+cut_sound number text None is found e =
+    undrawn_sound number (bytes_eq text (codes " undrawn\n")) found e
+
+unfinished_sound : (o : Option (ℕ × List ℕ)) (found : ℕ × UploadEnd) → numbered o ≡ Some found
+    → IsReportEnd found.1
+unfinished_sound None found e = absurd (cc)
+unfinished_sound (Some parts) found e =
+    cut_sound parts.0 parts.1 (head_in (codes " cut ") parts.1) refl found e
+
+sound_by : (line : List ℕ) (o : Option (ℕ × UploadEnd)) → upload_in line ≡ o
+    → (found : ℕ × UploadEnd) → or_else o (unfinished_in line) ≡ Some found → IsReportEnd found.1
+sound_by line (Some own) is found e =
+    finished found.1 (upload_sound line found.0 found.1 (is ∙ e)).0.1
+sound_by line None is found e = unfinished_sound (count_at (codes "upload ") line) found e
+
+at_by : (upload : ℕ) (line : List ℕ) (o : Option (ℕ × UploadEnd)) → end_in line ≡ o
+    → (end : UploadEnd) → end_if upload o ≡ Some end → IsReportEnd end
+at_by upload line None is end e = absurd (cc)
+at_by upload line (Some found) is end e = at (nat_eq found.0 upload) e
+  where
+    at : (b : Bool) → value_if b found.1 ≡ Some end → IsReportEnd end
+    at true e = subst IsReportEnd (some_one e) (sound_by line (upload_in line) refl found is)
+    at false e = absurd (cc)
+
+-- ---- all lines
+Read : ℕ → List UploadEnd → List UploadEnd → Type 0
+Read left ends all = All IsReportEnd all × (length all ≡ length ends + left)
+
+sound_step : (left : ℕ) (ends all : List UploadEnd) (line : List ℕ) (lines : List (List ℕ))
+    → ((end : UploadEnd) → IsReportEnd end → ends_from left (ends ++ end ∷ []) lines ≡ Ok all
+    → All IsReportEnd all × (length all ≡ length (ends ++ end ∷ []) + left))
+    → (o : Option UploadEnd) → end_at (length ends) line ≡ o
+    → found_or (length ends + 2) o (λ end. ends_from left (ends ++ end ∷ []) lines) ≡ Ok all
+    → All IsReportEnd all × (length all ≡ length ends + suc left)
+sound_step left ends all line lines more None is e = absurd (cc)
+sound_step left ends all line lines more (Some end) is e =
+    let rest = more end (at_by (length ends) line (end_in line) refl end is) e in
+    (rest.0, omega (arith, rest.1, length-append ends (end ∷ [])))
+
+ends_sound : (left : ℕ) (ends all : List UploadEnd) (lines : List (List ℕ))
+    → All IsReportEnd ends → ends_from left ends lines ≡ Ok all
+    → All IsReportEnd all × (length all ≡ length ends + left)
+ends_sound zero ends all lines each e =
+    let same : ends ≡ all = cc in
+    let size : length all ≡ length ends = ap length (sym same) in
+    (subst (λ (es : List UploadEnd). All IsReportEnd es) same each, omega (arith, size))
+ends_sound (suc left) ends all [] each e = absurd (cc)
+ends_sound (suc left) ends all (line ∷ lines) each e =
+    sound_step left ends all line lines
+    (λ end fits more. ends_sound left (ends ++ end ∷ []) all lines
+    (All-push IsReportEnd ends end each fits) more)
+    (end_at (length ends) line) refl e
+
+pub record AreRead (ends : List UploadEnd) : Type 0 where
+  pub each : All IsReportEnd ends
+  pub number : length ends < 2 ^ 64
+
+head_step : (lines : List (List ℕ)) (head : List ℕ) (ends : List UploadEnd) (o : Option ℕ)
+    → head_in (codes "uploads ") head ≡ o
+    → found_or 1 o (λ uploads. ends_from uploads [] lines) ≡ Ok ends → AreRead ends
+head_step lines head ends None is e = absurd (cc)
+head_step lines head ends (Some uploads) is e =
+    let read = ends_sound uploads [] ends lines (All-nil IsReportEnd) e in
+    let small : uploads < 2 ^ 64 = (head_sound (codes "uploads ") head uploads is).0 in
+    record { each = read.0; number = omega (arith, read.1, small) }
+
+pub uploads_sound : (lines : List (List ℕ)) (ends : List UploadEnd) → uploads_in lines ≡ Ok ends
+    → AreRead ends
+uploads_sound [] ends e = absurd (cc)
+uploads_sound (head ∷ lines) ends e =
+    head_step lines head ends (head_in (codes "uploads ") head) refl e
+
+-- ---- each line is one
+feed : IsLine (codes "\n")
+feed = record { front = []; lacks = tt; shown = refl }
+
+pub number_line_is : (word : List ℕ) (number : ℕ) → Lacks 10 word → number < 2 ^ 64
+    → IsLine (number_line word number)
+number_line_is word number lacks small =
+    line_ends word _ lacks (line_ends (decimal number) _ (decimal_lacks_feed number small) feed)
+
+words_are : (end : UploadEnd) → IsReportEnd end → IsLine (end_words end)
+words_are (Posted taps) fits =
+    number_line_is (codes " posted ") taps (lacks-tested 10 (codes " posted ") refl) fits
+words_are (Refused taps offset fault) fits =
+    subst IsLine (sym (refused_spelt taps offset fault))
+    (line_ends (codes " refused ") _ (lacks-tested 10 (codes " refused ") refl)
+    (line_ends (decimal taps) _ (decimal_lacks_feed taps fits.0)
+    (line_ends (codes " at ") _ (lacks-tested 10 (codes " at ") refl)
+    (line_ends (decimal offset) _ (decimal_lacks_feed offset fits.1)
+    (number_line_is (codes " L") (fault_number fault) (lacks-tested 10 (codes " L") refl)
+    (small_number fault))))))
+words_are (Cut taps) fits =
+    number_line_is (codes " cut ") taps (lacks-tested 10 (codes " cut ") refl) fits
+words_are Undrawn fits = record {
+  front = codes " undrawn";
+  lacks = lacks-tested 10 (codes " undrawn") refl;
+  shown = refl;
+}
+
+upload_line_is : (number : ℕ) (end : UploadEnd) → number < 2 ^ 64 → IsReportEnd end
+    → IsLine (upload_line number end)
+upload_line_is number end small fits =
+    subst IsLine (sym (line_words number end))
+    (line_ends (codes "upload ") _ (lacks-tested 10 (codes "upload ") refl)
+    (line_ends (decimal number) _ (decimal_lacks_feed number small) (words_are end fits)))
+
+pub line_first : (line behind : List ℕ) → IsLine line
+    → lines_of (line ++ behind) ≡ line ∷ lines_of behind
+line_first line behind is =
+    ap lines_of (ap (λ (t : List ℕ). t ++ behind) is.shown ∙ append_assoc is.front (10 ∷ []) behind)
+    ∙ lines-line is.front behind is.lacks
+    ∙ ap (λ (l : List ℕ). l ∷ lines_of behind) (sym is.shown)
+
+ends_complete : (more ends : List UploadEnd) (behind : List ℕ) → AllByRecursion IsReportEnd more
+    → length ends + length more < 2 ^ 64
+    → ends_from (length more) ends (lines_of (upload_lines (length ends) more ++ behind))
+    ≡ Ok (ends ++ more)
+ends_complete [] ends behind each small = ap (λ (es : List UploadEnd). Ok es) (sym (append-nil ends))
+ends_complete (end ∷ more) ends behind each small =
+    let n = length ends in
+    let here : n < 2 ^ 64 = omega (arith, small) in
+    let rest = upload_lines (n + 1) more ++ behind in
+    let split = ap lines_of (append_assoc (upload_line n end) (upload_lines (n + 1) more) behind)
+    ∙ line_first (upload_line n end) rest (upload_line_is n end here each.0) in
+    let at : end_at n (upload_line n end) ≡ Some end =
+    ap (end_if n) (end_complete n end here each.0)
+    ∙ ap (λ (b : Bool). value_if b end) (eq-eqb n n refl) in
+    let next : n + 1 ≡ length (ends ++ end ∷ []) = omega (arith, length-append ends (end ∷ [])) in
+    ap (ends_from (suc (length more)) ends) split
+    ∙ ap (λ (o : Option UploadEnd). found_or (n + 2) o
+    (λ e. ends_from (length more) (ends ++ e ∷ []) (lines_of rest))) at
+    ∙ ap (λ (k : ℕ). ends_from (length more) (ends ++ end ∷ [])
+    (lines_of (upload_lines k more ++ behind))) next
+    ∙ ends_complete more (ends ++ end ∷ []) behind each.1 (omega (arith, small, next))
+    ∙ ap (λ (es : List UploadEnd). Ok es) (append_assoc ends (end ∷ []) more)
+
+pub uploads_complete : (ends : List UploadEnd) (behind : List ℕ) → All IsReportEnd ends
+    → length ends < 2 ^ 64
+    → uploads_in (lines_of (number_line (codes "uploads ") (length ends)
+    ++ (upload_lines 0 ends ++ behind))) ≡ Ok ends
+uploads_complete ends behind each small =
+    let lines = lines_of (upload_lines 0 ends ++ behind) in
+    ap uploads_in (line_first (number_line (codes "uploads ") (length ends))
+    (upload_lines 0 ends ++ behind)
+    (number_line_is (codes "uploads ") (length ends) (lacks-tested 10 (codes "uploads ") refl)
+    small))
+    ∙ ap (λ (o : Option ℕ). found_or 1 o (λ uploads. ends_from uploads [] lines))
+    (head_complete (codes "uploads ") (length ends) small)
+    ∙ ends_complete ends [] behind (recursion_from_All IsReportEnd ends each)
+    (omega (arith, small))
+
+-- ---- the next line of a loop
+pub next_line : (uploads upload : ℕ) (ends : List UploadEnd) (line : List ℕ)
+    (lines : List (List ℕ)) (o : Option UploadEnd) → upload < uploads
+    → end_at (length ends) line ≡ o
+    → ends_from (uploads - upload) ends (line ∷ lines)
+    ≡ found_or (length ends + 2) o
+    (λ end. ends_from (uploads - (upload + 1)) (ends ++ end ∷ []) lines)
+next_line uploads upload ends line lines o below is =
+    let left : uploads - upload ≡ suc (uploads - (upload + 1)) = omega (arith, below) in
+    ap (λ (n : ℕ). ends_from n ends (line ∷ lines)) left
+    ∙ ap (λ (found : Option UploadEnd). found_or (length ends + 2) found
+    (λ end. ends_from (uploads - (upload + 1)) (ends ++ end ∷ []) lines)) is
+
+pub no_line : (uploads upload : ℕ) (ends : List UploadEnd) → upload < uploads
+    → ends_from (uploads - upload) ends [] ≡ Err (length ends + 2)
+no_line uploads upload ends below =
+    let left : uploads - upload ≡ suc (uploads - (upload + 1)) = omega (arith, below) in
+    ap (λ (n : ℕ). ends_from n ends []) left
+
+pub first_lines : (text head behind : List ℕ) (uploads : ℕ) (ends : List UploadEnd)
+    → lines_of text ≡ head ∷ lines_of behind → Some uploads ≡ head_in (codes "uploads ") head
+    → ends ≡ [] → uploads_in (lines_of text) ≡ ends_from (uploads - 0) ends (lines_of behind)
+first_lines text head behind uploads ends lines is none =
+    let all : uploads ≡ uploads - 0 = omega arith in
+    ap uploads_in lines
+    ∙ ap (λ (o : Option ℕ). found_or 1 o (λ n. ends_from n [] (lines_of behind))) (sym is)
+    ∙ ap (λ (n : ℕ). ends_from n [] (lines_of behind)) all
+    ∙ ap (λ (es : List UploadEnd). ends_from (uploads - 0) es (lines_of behind)) (sym none)
+
+pub last_lines : (uploads upload : ℕ) (ends : List UploadEnd) (lines : List (List ℕ))
+    → uploads ≤ upload → ends_from (uploads - upload) ends lines ≡ Ok ends
+last_lines uploads upload ends lines over =
+    let none : uploads - upload ≡ 0 = omega (arith, over) in
+    ap (λ (n : ℕ). ends_from n ends lines) none

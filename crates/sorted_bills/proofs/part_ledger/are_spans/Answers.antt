@@ -1,0 +1,12 @@
+use Rattle.std.proofs.Common.{◌≡◌, ◌⊎◌, ℕ, ◌<◌, ◌≤◌, ◌+◌, ◌∙◌, arith, inl, inr, sym, subst}
+use Rattle.std.proofs.Common.{get_or, length}
+use Rattle.std.proofs.lemmas.List.{same_lists}
+use Rattle.sorted_taps.specs.declared.places.FileSpan.{FileSpan}
+use Rattle.sorted_bills.proofs.part_ledger.are_spans.Goals as goal
+
+pub returns : goal.returns
+returns c = λ yes.
+    let long = c.if-made-spans.false in
+    let stop = c.loop-at-test.false in
+    same_lists c.args.made.now c.args.spans.now (omega (arith, long))
+    (λ k d low. c.loop-at.invariant k d (omega (arith, low, stop)))

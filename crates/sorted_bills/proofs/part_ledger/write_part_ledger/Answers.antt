@@ -1,0 +1,159 @@
+-- The lines of the taps between the places of the spans are the ledger of the part.
+use Rattle.std.proofs.Common.{ℕ, List, [], ◌++◌, map, length, string_bytes, sym, ap, subst, ◌∙◌}
+use Rattle.std.proofs.Common.{arith, refl, ◌^◌, ◌<◌}
+use Rattle.std.proofs.lemmas.Result.{err_from_is_err_and}
+use Rattle.std.specs.Io.KnownBytes.{Appends}
+use Rattle.fare_texts.specs.LedgerLines.{head_text}
+use Rattle.fare_texts.specs.WrittenOut.{Begins}
+use Rattle.fare_texts.proofs.Along.{ledger_along}
+use Rattle.fare_texts.proofs.Beginnings.{goes_last}
+use Rattle.fare_texts.proofs.PieceWriting.{come_first}
+use Rattle.settlement.specs.Posted.{posted}
+use Rattle.settled_texts.proofs.Rows.{posted_falls}
+use Rattle.sorted_taps.specs.Places.{DoSpan}
+use Rattle.sorted_taps.specs.declared.places.FileSpan.{FileSpan}
+use Rattle.sorted_taps.specs.declared.places.Place.{Place}
+use Rattle.sorted_taps.specs.declared.reader.TapReader.{TapReader}
+use Rattle.sorted_taps.proofs.Files.{known_number}
+use Rattle.sorted_taps.proofs.Placing.{span_alike, taken_between}
+use Rattle.sorted_bills.specs.inside.Explained.{AreExplainedSoFar, IsBegunSoFar}
+use Rattle.sorted_bills.proofs.Counted.{late_no_write, late_says_nothing}
+use Rattle.sorted_bills.proofs.Explained.{begun_waiting, explained_begun}
+use Rattle.sorted_bills.proofs.part_ledger.write_part_ledger.Goals as goal
+
+pub explain_below-requires-clause-room : goal.explain_below-requires-clause-room
+explain_below-requires-clause-room g c =
+    let none = c.of-explainer.ensures.none in omega (arith, none)
+
+pub explain_below-requires-clause-explained : goal.explain_below-requires-clause-explained
+explain_below-requires-clause-explained g c =
+    let fares = c.args.table.now in
+    let explainer = c.of-explainer.result in
+    let readers = c.in_ok-begun.begun.taker.merge.readers.items in
+    let bytes = g.W.Write.contents c.args.out.now in
+    let waits = string_bytes c.in_ok-text.text in (
+      [],
+      readers,
+      explainer.token,
+      bytes,
+      waits,
+      explained_begun fares (map g.F.Placed.bytes c.args.files.now) [] readers explainer bytes waits
+          (come_first fares explainer (c.of-explainer.ensures.explained fares)),
+    )
+
+pub returns-clause-ok : goal.returns-clause-ok
+returns-clause-ok g c =
+    let fares = c.args.table.now in
+    let known = map g.F.Placed.bytes c.args.files.now in
+    let explainer = c.of-explainer.result in
+    let begin = c.in_ok-begun.begun.taker.merge.readers.items in
+    let end = c.explain_below.new.taker.merge.readers.items in
+    let places = c.in_ok-begun.begun.places.items in
+    let bytes = g.W.Write.contents c.args.out.now in
+    let waits = string_bytes c.in_ok-text.text in
+    let spans = c.args.spans.now in
+    let same = sym c.deref-3.ensures.value ∙ c.are_spans.ensures refl in
+    let explained = c.in_ok-explain_below.ensures.explained [] begin explainer.token bytes waits
+    (explained_begun fares known [] begin explainer bytes waits
+    (come_first fares explainer (c.of-explainer.ensures.explained fares))) in
+    let history = posted fares explained.taps in (
+      head_text ++ explained.lines,
+      λ all are.
+          let way = explained.come all are in
+          let number = known_number g.F.Placed.bytes c.args.files.now all are in
+          let readers = c.in_ok-begun.ensures.ready.readers in
+          let after = c.in_ok-explain_below.ensures.ready.readers in
+          let stand = way.stand.number in
+          let many = c.in_ok-made.ensures.number in
+          let made = c.in_ok-made.made.items in
+          let ends : DoSpan all places end made =
+          subst (λ (rs : List TapReader). DoSpan all places rs made) c.readers.ensures
+          (subst (λ (ps : List Place). DoSpan all ps c.readers.result.now made)
+          c.deref.ensures.value (c.in_ok-made.ensures.spanned all are)) in
+          let between = taken_between all places begin way.to spans explained.taps
+          (omega (arith, number, readers))
+          (ap length (sym same) ∙ many ∙ number)
+          (c.in_ok-begun.ensures.placed all are) way.taken
+          (subst (λ (ss : List FileSpan). DoSpan all places way.to ss) same
+          (span_alike all places way.to end made way.stand (omega (arith, stand, after, many))
+          ends)) in (
+            between.lists,
+            history,
+            record {
+              taps = explained.taps;
+              spanned = between.spanned;
+              canonical = between.canonical;
+              named = explained.named;
+              posted_are = refl;
+            },
+            ledger_along fares history explained.lines
+                (posted_falls fares explainer.token explained.taps explained.no_fall)
+                explained.explained.are,
+          ),
+      subst (λ (head : List ℕ). Appends bytes
+          (g.W.Write.contents c.pass_on.new.out) (head ++ explained.lines)) c.in_ok-text.ensures
+          (goes_last bytes (g.W.Write.contents c.explain_below.new.out)
+          (g.W.Write.contents c.pass_on.new.out) waits
+          (string_bytes c.explain_below.new.text) explained.lines explained.gone
+          c.in_ok-pass_on.ensures.whole),
+    )
+
+-- ---- a beginning was written
+pub returns-in_err-explain_below-clause-begun : goal.returns-in_err-explain_below-clause-begun
+returns-in_err-explain_below-clause-begun g c =
+    let p = err_from_is_err_and c.from_residual-in_err-explain_below.result
+    c.from_residual-in_err-explain_below.ensures.1 in
+    let fares = c.args.table.now in
+    let explainer = c.of-explainer.result in
+    let begin = c.in_ok-begun.begun.taker.merge.readers.items in
+    let bytes = g.W.Write.contents c.args.out.now in
+    let waits = string_bytes c.in_ok-text.text in
+    let some = c.in_err-explain_below.ensures.begun [] begin explainer.token bytes waits
+    (explained_begun fares (map g.F.Placed.bytes c.args.files.now) [] begin explainer bytes waits
+    (come_first fares explainer (c.of-explainer.ensures.explained fares))) in
+    rw (p.1) (λ is_write. (
+      some.taps,
+      some.lines,
+      some.are,
+      subst (λ (head : List ℕ). Begins bytes (g.W.Write.contents c.explain_below.new.out)
+          (head ++ some.lines)) c.in_ok-text.ensures some.written,
+    ))
+
+pub returns-in_err-pass_on-clause-begun : goal.returns-in_err-pass_on-clause-begun
+returns-in_err-pass_on-clause-begun g c =
+    let p = err_from_is_err_and c.from_residual-in_err-pass_on.result
+    c.from_residual-in_err-pass_on.ensures.1 in
+    let fares = c.args.table.now in
+    let known = map g.F.Placed.bytes c.args.files.now in
+    let explainer = c.of-explainer.result in
+    let begin = c.in_ok-begun.begun.taker.merge.readers.items in
+    let bytes = g.W.Write.contents c.args.out.now in
+    let waits = string_bytes c.in_ok-text.text in
+    let some = begun_waiting fares known [] begin explainer.token bytes waits
+    c.explain_below.new.taker.merge.readers.items c.explain_below.new.explainer
+    (g.W.Write.contents c.explain_below.new.out) (g.W.Write.contents c.pass_on.new.out)
+    (string_bytes c.explain_below.new.text)
+    (c.in_ok-explain_below.ensures.explained [] begin explainer.token bytes waits
+    (explained_begun fares known [] begin explainer bytes waits
+    (come_first fares explainer (c.of-explainer.ensures.explained fares))))
+    c.in_err-pass_on.ensures.begun in
+    rw (p.1) (λ is_write. (
+      some.taps,
+      some.lines,
+      some.are,
+      subst (λ (head : List ℕ). Begins bytes (g.W.Write.contents c.pass_on.new.out)
+          (head ++ some.lines)) c.in_ok-text.ensures some.written,
+    ))
+
+-- ---- other faults
+pub returns-in_err-begun-clause-begun : goal.returns-in_err-begun-clause-begun
+returns-in_err-begun-clause-begun g c =
+    let p = err_from_is_err_and c.from_residual-in_err-begun.result
+    c.from_residual-in_err-begun.ensures.1 in
+    rw (p.1, p.2) (λ is_write. absurd (late_no_write c.in_err-begun.field-0.0 is_write))
+
+pub returns-in_err-begun-clause-fault : goal.returns-in_err-begun-clause-fault
+returns-in_err-begun-clause-fault g c =
+    let p = err_from_is_err_and c.from_residual-in_err-begun.result
+    c.from_residual-in_err-begun.ensures.1 in
+    rw (p.1, p.2) (λ all are. late_says_nothing all c.in_err-begun.field-0.0)

@@ -1,0 +1,23 @@
+use Rattle.std.proofs.Common.{List, map, length, subst, arith}
+use Rattle.sorted_taps.specs.Places.{DoSpan}
+use Rattle.sorted_taps.specs.declared.places.Place.{Place}
+use Rattle.sorted_taps.specs.declared.reader.TapReader.{TapReader}
+use Rattle.sorted_taps.proofs.Files.{known_number}
+use Rattle.sorted_taps.proofs.Placing.{taken_between}
+use Rattle.sorted_bills.proofs.token_part.spans_of_part.Goals as goal
+
+pub returns-clause-spanned : goal.returns-clause-spanned
+returns-clause-spanned g c = λ all are.
+    let (taps, taken) = c.in_ok-pass_taps.ensures.taken in
+    let number = known_number g.F.Placed.bytes c.args.files.now all are in
+    let readers = c.in_ok-begun.ensures.ready.readers in
+    let many = c.in_ok-spans.ensures.number in
+    let between = taken_between all c.in_ok-begun.begun.places.items
+    c.in_ok-begun.begun.taker.merge.readers.items c.pass_taps.new.taker.merge.readers.items
+    c.in_ok-spans.spans.items taps (omega (arith, number, readers)) (omega (arith, number, many))
+    (c.in_ok-begun.ensures.placed all are) (taken.taken all are)
+    (subst (λ (rs : List TapReader).
+    DoSpan all c.in_ok-begun.begun.places.items rs c.in_ok-spans.spans.items) c.readers.ensures
+    (subst (λ (ps : List Place).
+    DoSpan all ps c.readers.result.now c.in_ok-spans.spans.items) c.deref.ensures.value
+    (c.in_ok-spans.ensures.spanned all are))) in (between.lists, between.spanned)

@@ -1,0 +1,98 @@
+//! The ledger of a part of sorted files.
+
+ghost use Rattle.std.specs.Prelude.{◌≡◌, ◌++◌, [], ℕ, List, IfErr, IsTrue, OnOk, None, Some, map};
+ghost use Rattle.std.specs.Io.KnownBytes.{Appends};
+ghost use Rattle.tap_views.specs.declared.encoder.TapFields.{TapFields};
+ghost use Rattle.fare_texts.specs.Ledger.{IsLedgerOver};
+ghost use Rattle.fare_texts.specs.LedgerLines.{head_text};
+ghost use Rattle.fare_texts.specs.Lines.{AreLinesAlong};
+ghost use Rattle.fare_texts.specs.WrittenOut.{Begins};
+ghost use Rattle.histories.specs.declared.entry.Entry.{Entry};
+ghost use Rattle.settlement.specs.Posted.{posted};
+ghost use Rattle.sorted_bills.specs.Faults.{IsBeforeText, IsBillFault};
+ghost use Rattle.sorted_bills.specs.Parts.{IsPartOf};
+ghost use Rattle.sorted_bills.specs.declared.fault.BillFault.TheVariants.{Write as AFailedWrite};
+
+use crate::fault::BillFault;
+use crate::lines_below::explain_below;
+use crate::token_part::{BegunPart, begin_part, end_part};
+use fare_texts::{Explainer, head_with_room, pass_on};
+use placed_files::Placed;
+use settled_texts::{STRIDE_ROOM_BYTES, least_token};
+use sorted_taps::{FileSpan, WINDOW_BYTES, have_stamps, stamps_of};
+use std::alloc::Global;
+use std::io::Write;
+use tap_views::Token;
+use tariffs::FareTable;
+
+fn are_spans(made: &[FileSpan], spans: &[FileSpan]) -> bool
+    ensures { IsTrue result → made.now ≡ spans.now }
+{
+    if made.len() != spans.len() {
+        return false;
+    }
+    for at in 0..made.len() {
+        if made[at] != spans[at] {
+            return false;
+        }
+    }
+    true
+}
+
+/// Writes the ledger of a part of sorted files: the head line, and a line for each of their taps
+/// with tokens from one on and below another, or without a bound if there is none. The part lies in
+/// these spans, as `part_spans` gives them. If it lies elsewhere when its taps are taken, the files
+/// are reported as changed, with a beginning of the ledger written.
+pub fn write_part_ledger<F: Placed, W: Write>(
+    alloc: Global,
+    table: &FareTable,
+    files: &[F],
+    from: Option<Token>,
+    below: Option<Token>,
+    spans: &[FileSpan],
+    out: &mut W,
+) -> Result<(), BillFault>
+    ensures ok { OnOk result ((text : List ℕ)
+        × ((all : List (List ℕ)) → map F.bytes files.now ≡ map Some all
+        → (lists : List (List TapFields)) × (history : List Entry)
+        × IsPartOf table.now all spans.now lists history
+        × IsLedgerOver table.now history None text)
+        × Appends (W.contents out.old) (W.contents out.new) text) }
+    ensures kept { IfErr result (λ fault. IsBeforeText fault → out.new ≡ out.old) }
+    // If a write failed, a beginning of the head line and of lines of taps was written.
+    ensures begun { IfErr result (λ fault. fault ≡ AFailedWrite → (taps : List TapFields)
+        × (lines : List ℕ) × AreLinesAlong table.now [] (posted table.now taps) lines
+        × Begins (W.contents out.old) (W.contents out.new) (head_text ++ lines)) }
+    ensures fault { IfErr result (λ fault. (all : List (List ℕ))
+        → map F.bytes files.now ≡ map Some all → IsBillFault all fault) }
+{
+    let stamps = stamps_of(alloc, files)?;
+    let mut window = vec![in alloc; 0u8; WINDOW_BYTES]?;
+    let clock = table.clock(alloc)?;
+    let mut text = head_with_room(alloc, STRIDE_ROOM_BYTES)?;
+    let begun = begin_part(alloc, files, from, &mut window)?;
+    let BegunPart { places, mut taker } = begun;
+    let mut explainer = Explainer::of(from.unwrap_or(least_token()));
+    let mut left = u64::MAX;
+    explain_below(
+        &mut text,
+        table,
+        &clock,
+        &mut explainer,
+        &mut taker,
+        files,
+        below,
+        &mut left,
+        out,
+    )?;
+    let readers = taker.merge.readers();
+    let made = end_part(alloc, files, &places, readers, below, &mut window)?;
+    if !are_spans(&made, spans) {
+        return Err(BillFault::Changed);
+    }
+    pass_on(&mut text, out)?;
+    if !have_stamps(files, &stamps) {
+        return Err(BillFault::Changed);
+    }
+    Ok(())
+}

@@ -1,0 +1,242 @@
+//! A part of sorted files: the taps of a range of tokens, and where they lie in each file.
+
+ghost use Rattle.std.specs.Prelude.{◌≡◌, ◌≢◌, ◌≤◌, ◌^◌, true, ℕ, List, IfErr, IfOk};
+ghost use Rattle.std.specs.Prelude.{OnOk, Some, length, map};
+ghost use Rattle.tap_views.specs.UploadEnds.{are_posted};
+ghost use Rattle.tap_views.specs.declared.encoder.TapFields.{TapFields};
+ghost use Rattle.tap_views.specs.declared.upload_end.UploadEnd.TheVariants.{Posted};
+ghost use Rattle.histories.specs.declared.entry.Entry.{Entry};
+ghost use Rattle.settlement.specs.Bills.{IsBillOf};
+ghost use Rattle.sorted_taps.specs.Places.{ArePlaced, AreSpanned, DoSpan};
+ghost use Rattle.sorted_taps.specs.Reading.{window_bytes};
+ghost use Rattle.sorted_bills.specs.Faults.{IsBeforeText, IsBillFault};
+ghost use Rattle.sorted_bills.specs.Parts.{IsPartOf};
+ghost use Rattle.sorted_bills.specs.inside.Taken.{AreTapsTaken, IsReady};
+
+use crate::bill::first_fault;
+use crate::charges::charge;
+use crate::fault::BillFault;
+use crate::open_bill::OpenBill;
+use crate::taker::Taker;
+use crate::tap_numbers::ends_of;
+use histories::HashSeed;
+use placed_files::Placed;
+use settled_texts::least_token;
+use settlement::Billed;
+use sorted_taps::{
+    FileSpan, Place, PlacedReaders, SortedFault, TapReader, WINDOW_BYTES, have_stamps,
+    readers_from, spans_to, stamps_of,
+};
+use std::alloc::Global;
+use tap_views::Token;
+use tariffs::FareTable;
+
+/// The bill of a part, with how many taps it has of each file, and where it lies in each.
+#[derive(Drop)]
+pub struct PartBill {
+    pub spans: Vec<FileSpan>,
+    pub billed: Billed,
+}
+
+/// Merged files at the places where a part begins.
+#[derive(Drop)]
+pub(crate) struct BegunPart {
+    pub(crate) places: Vec<Place>,
+    pub(crate) taker: Taker,
+}
+
+/// The files at their first taps with this token or a higher one, or at their first taps of all.
+pub(crate) fn begin_part<F: Placed>(
+    alloc: Global,
+    files: &[F],
+    from: Option<Token>,
+    window: &mut [u8],
+) -> Result<BegunPart, SortedFault>
+    requires { window_bytes ≤ length window.old }
+    ensures ready { IfOk result (λ begun. IsReady (length files.now) begun.taker) }
+    ensures places { IfOk result (λ begun. length begun.places.items ≡ length files.now) }
+    ensures placed { IfOk result (λ begun. (all : List (List ℕ))
+        → map F.bytes files.now ≡ map Some all
+        → ArePlaced all begun.places.items begun.taker.merge.readers.items) }
+{
+    let placed = readers_from(alloc, files, from, window)?;
+    let PlacedReaders { places, readers } = placed;
+    let room = vec![in alloc; 0u8; WINDOW_BYTES]?;
+    let taker = Taker::over(alloc, readers, room)?;
+    Ok(BegunPart { places, taker })
+}
+
+/// Where the part lies that begins at these places and ends where the readers stand. `Changed` if
+/// that is not where a part would begin that goes on from the bound.
+pub(crate) fn end_part<F: Placed>(
+    alloc: Global,
+    files: &[F],
+    places: &[Place],
+    readers: &[TapReader],
+    below: Option<Token>,
+    window: &mut [u8],
+) -> Result<Vec<FileSpan>, BillFault>
+    requires window { window_bytes ≤ length window.old }
+    requires places { length places.now ≡ length files.now }
+    requires readers { length readers.now ≡ length files.now }
+    ensures number { IfOk result (λ spans. length spans.items ≡ length files.now) }
+    ensures spanned { IfOk result (λ spans. (all : List (List ℕ))
+        → map F.bytes files.now ≡ map Some all
+        → DoSpan all places.now readers.now spans.items) }
+    ensures fault { IfErr result (λ fault. (all : List (List ℕ)) → IsBillFault all fault) }
+    ensures unwritten { IfErr result (λ fault. fault ≢ BillFault.Write) }
+    ensures late { IfErr result (λ fault. IsBeforeText fault → ⊥) }
+{
+    match spans_to(alloc, files, places, readers, below, window)? {
+        Some(spans) => Ok(spans),
+        None => Err(BillFault::Changed),
+    }
+}
+
+/// The bill of a part, in one pass. Its fault need not be the first one of the files.
+fn bill_part<F: Placed>(
+    alloc: Global,
+    table: &FareTable,
+    seed: HashSeed,
+    files: &[F],
+    from: Option<Token>,
+    below: Option<Token>,
+) -> Result<PartBill, BillFault>
+    ensures billed { IfOk result (λ made. (history : List Entry)
+        × IsBillOf history made.billed.bill × (length history ≤ 2 ^ 95)
+        × ((all : List (List ℕ)) → map F.bytes files.now ≡ map Some all
+        → (lists : List (List TapFields))
+        × IsPartOf table.now all made.spans.items lists history
+        × (made.billed.ends.items ≡ map Posted (map length lists)))) }
+    ensures posted { IfOk result (λ made. are_posted made.billed.ends.items ≡ true) }
+    ensures fault { IfErr result (λ fault. (all : List (List ℕ)) → IsBillFault all fault) }
+    ensures unwritten { IfErr result (λ fault. fault ≢ BillFault.Write) }
+{
+    let mut window = vec![in alloc; 0u8; WINDOW_BYTES]?;
+    let begun = begin_part(alloc, files, from, &mut window)?;
+    let BegunPart { places, mut taker } = begun;
+    let mut so_far = OpenBill::new(alloc, seed, from.unwrap_or(least_token()));
+    charge(alloc, table, files, below, &mut taker, &mut so_far)?;
+    let numbers = taker.merge.numbers(alloc)?;
+    let ends = ends_of(alloc, &numbers)?;
+    let bill = so_far.into_bill(alloc)?;
+    let readers = taker.merge.readers();
+    let spans = end_part(alloc, files, &places, readers, below, &mut window)?;
+    let billed = Billed { ends, bill };
+    Ok(PartBill { spans, billed })
+}
+
+/// The bill of a part of sorted files, in one pass by one worker: of their taps with tokens from
+/// one on and below another, or without a bound if there is none. The files are merged, each tap is
+/// posted by its token's account, and the sums are kept.
+///
+/// Each span of the part begins and ends at a place that is found by the same steps from the same
+/// token. So parts of the same files join, whoever charges them, if each goes on from the token
+/// below which the one before it ends. In files of batches of 512 taps, as `sort` writes them, the
+/// places are found at once.
+///
+/// If a file is not sorted, the fault is the first one of all files, also behind the part. A file
+/// that was written meanwhile, or has another length at the end, is reported as changed.
+pub fn part_bill<F: Placed>(
+    alloc: Global,
+    table: &FareTable,
+    seed: HashSeed,
+    files: &[F],
+    from: Option<Token>,
+    below: Option<Token>,
+) -> Result<PartBill, BillFault>
+    ensures billed { IfOk result (λ made. (history : List Entry)
+        × IsBillOf history made.billed.bill × (length history ≤ 2 ^ 95)
+        × ((all : List (List ℕ)) → map F.bytes files.now ≡ map Some all
+        → (lists : List (List TapFields))
+        × IsPartOf table.now all made.spans.items lists history
+        × (made.billed.ends.items ≡ map Posted (map length lists)))) }
+    ensures posted { IfOk result (λ made. are_posted made.billed.ends.items ≡ true) }
+    ensures fault { IfErr result (λ fault. (all : List (List ℕ))
+        → map F.bytes files.now ≡ map Some all → IsBillFault all fault) }
+    ensures unwritten { IfErr result (λ fault. fault ≢ BillFault.Write) }
+{
+    let stamps = stamps_of(alloc, files)?;
+    match bill_part(alloc, table, seed, files, from, below) {
+        Ok(made) => {
+            if !have_stamps(files, &stamps) {
+                return Err(BillFault::Changed);
+            }
+            Ok(made)
+        }
+        Err(met) => Err(first_fault(alloc, files, met)),
+    }
+}
+
+/// Takes the taps of the files that have tokens below the bound, or all if there is none.
+fn pass_taps<F: Placed>(
+    files: &[F],
+    below: Option<Token>,
+    taker: &mut Taker,
+) -> Result<(), BillFault>
+    requires { IsReady (length files.now) taker.old }
+    ensures ready { OnOk result (IsReady (length files.now) taker.new) }
+    ensures taken { OnOk result ((taps : List TapFields)
+        × AreTapsTaken (map F.bytes files.now) taker.old.merge.readers.items taps
+        taker.new.merge.readers.items) }
+    ensures fault { IfErr result (λ fault. (all : List (List ℕ)) → IsBillFault all fault) }
+    ensures unwritten { IfErr result (λ fault. fault ≢ BillFault.Write) }
+{
+    for _ in 0..u64::MAX {
+        taker.take(files, least_token(), below)?;
+        if taker.taps.is_empty() {
+            return Ok(());
+        }
+    }
+    Err(BillFault::Changed)
+}
+
+/// Where a part lies, in one pass. Its fault need not be the first one of the files.
+fn spans_of_part<F: Placed>(
+    alloc: Global,
+    files: &[F],
+    from: Option<Token>,
+    below: Option<Token>,
+) -> Result<Vec<FileSpan>, BillFault>
+    ensures spanned { IfOk result (λ spans. (all : List (List ℕ))
+        → map F.bytes files.now ≡ map Some all
+        → (lists : List (List TapFields)) × AreSpanned all spans.items lists) }
+    ensures fault { IfErr result (λ fault. (all : List (List ℕ)) → IsBillFault all fault) }
+    ensures unwritten { IfErr result (λ fault. fault ≢ BillFault.Write) }
+{
+    let mut window = vec![in alloc; 0u8; WINDOW_BYTES]?;
+    let begun = begin_part(alloc, files, from, &mut window)?;
+    let BegunPart { places, mut taker } = begun;
+    pass_taps(files, below, &mut taker)?;
+    let readers = taker.merge.readers();
+    let spans = end_part(alloc, files, &places, readers, below, &mut window)?;
+    Ok(spans)
+}
+
+/// Where a part lies in each file: its taps with tokens from one on and below another, or without a
+/// bound if there is none. They are the spans of `part_bill`. All taps of the part are read once:
+/// so a text that is made of them then meets no fault of a file, if the files stay as they are.
+pub fn part_spans<F: Placed>(
+    alloc: Global,
+    files: &[F],
+    from: Option<Token>,
+    below: Option<Token>,
+) -> Result<Vec<FileSpan>, BillFault>
+    ensures spanned { IfOk result (λ spans. (all : List (List ℕ))
+        → map F.bytes files.now ≡ map Some all
+        → (lists : List (List TapFields)) × AreSpanned all spans.items lists) }
+    ensures fault { IfErr result (λ fault. (all : List (List ℕ))
+        → map F.bytes files.now ≡ map Some all → IsBillFault all fault) }
+    ensures unwritten { IfErr result (λ fault. fault ≢ BillFault.Write) }
+{
+    let stamps = stamps_of(alloc, files)?;
+    match spans_of_part(alloc, files, from, below) {
+        Ok(spans) => {
+            if !have_stamps(files, &stamps) {
+                return Err(BillFault::Changed);
+            }
+            Ok(spans)
+        }
+        Err(met) => Err(first_fault(alloc, files, met)),
+    }
+}

@@ -1,0 +1,44 @@
+use Rattle.std.proofs.Common.{List, [], ◌∷◌, ◌++◌, arith, ap, subst, sym, ◌∙◌, length}
+use Rattle.tap_views.specs.declared.encoder.TapFields.{TapFields}
+use Rattle.sorted_taps.specs.Readers.{IsAdvanced, StandsIn}
+use Rattle.sorted_taps.specs.declared.reader.TapReader.{TapReader}
+use Rattle.sorted_taps.proofs.Known.{known_map, known_map2}
+use Rattle.sorted_taps.proofs.Standing.{stands_on}
+use Rattle.sorted_taps.proofs.Taking.{lies_of}
+use Rattle.sorted_taps.proofs.ranges.reader_from.Goals as goal
+
+pub loop-preserved : goal.loop-preserved
+loop-preserved g c =
+    let offset = c.in_ok-offset.offset in
+    let old = c.loop.reader in
+    let new = c.advance.new.self in
+    let long = c.advance.auto.window in
+    let room = c.loop.invariant.room in
+    record {
+      room = omega (arith, long, room);
+      stands = known_map2 (λ all. (passed : List TapFields) × StandsIn all offset passed old)
+          (λ all. IsAdvanced all old new)
+          (λ all. (passed : List TapFields) × StandsIn all offset passed new)
+          (g.F.Placed.bytes c.args.file.now)
+          (λ all stands is.
+          (stands.0 ++ is.tap ∷ [], stands_on all offset stands.0 old new stands.1 is))
+          c.loop.invariant.stands c.in_ok-advance.ensures.kept;
+    }
+
+pub returns-in_default : goal.returns-in_default
+returns-in_default g c =
+    let offset = c.in_ok-offset.offset in
+    let old = c.loop.reader in
+    known_map (λ all. (passed : List TapFields) × StandsIn all offset passed old) _
+    (g.F.Placed.bytes c.args.file.now)
+    (λ all stands. (
+      record {
+        passed = stands.0;
+        skip = c.passed-skip.ensures ∙ stands.1.number;
+        stands = subst
+            (λ (r : TapReader). StandsIn all offset stands.0
+            (record r { passed = length stands.0 })) (sym c.count_anew.ensures)
+            (lies_of all offset stands.0 old stands.1);
+      },
+      ap (λ (r : TapReader). r.passed) c.count_anew.ensures,
+    )) c.loop.invariant.stands

@@ -1,0 +1,161 @@
+//! Places in sorted files, at which parts of them begin and end.
+
+ghost use Rattle.std.specs.Prelude.{◌≡◌, ◌≤◌, ℕ, List, length, map, IfOk, IfSome, Some};
+ghost use Rattle.sorted_taps.specs.Places.{ArePlaced, DoSpan, IsAt, IsPlacedAnew};
+ghost use Rattle.sorted_taps.specs.Reading.{window_bytes};
+
+use crate::fault::SortedFault;
+use crate::ranges::reader_from;
+use crate::reader::TapReader;
+use placed_files::Placed;
+use std::alloc::Global;
+use tap_views::Token;
+
+/// A place in a file: behind some taps of the batches that begin at an offset. It is found in the
+/// same way by each run that looks for the same token in the same bytes.
+#[derive(Clone, Copy, Debug, PartialEq, Eq)]
+pub struct Place {
+    /// The offset of the first byte of a batch.
+    pub offset: u64,
+    /// How many taps of the batches from there on lie before the place.
+    pub skip: u64,
+}
+
+/// The taps of a file between two places.
+#[derive(Clone, Copy, Debug, PartialEq, Eq)]
+pub struct FileSpan {
+    pub from: Place,
+    /// None at the file's end.
+    pub to: Option<Place>,
+}
+
+/// A reader that stands at a place.
+#[derive(Drop)]
+pub(crate) struct PlacedReader {
+    pub(crate) place: Place,
+    pub(crate) reader: TapReader,
+}
+
+/// Readers of files, each at the place of its file.
+#[derive(Drop)]
+pub struct PlacedReaders {
+    pub places: Vec<Place>,
+    pub readers: Vec<TapReader>,
+}
+
+/// A reader at the first tap with this token or a higher one, or at the file's first tap.
+fn placed_reader<F: Placed>(
+    alloc: Global,
+    file: &F,
+    from: Option<Token>,
+    window: &mut [u8],
+) -> Result<PlacedReader, SortedFault>
+    requires { window_bytes ≤ length window.old }
+    ensures { IfOk result (λ made. IfSome (F.bytes file.now)
+        (λ all. IsPlacedAnew all made.place made.reader)) }
+{
+    match from {
+        Some(token) => reader_from(alloc, file, token, u64::MAX, window),
+        None => {
+            let reader = TapReader::at(alloc, file, 0, window)?;
+            Ok(PlacedReader {
+                place: Place { offset: 0, skip: 0 },
+                reader,
+            })
+        }
+    }
+}
+
+/// A reader of each file, at its first tap with this token or a higher one, or at its first tap of
+/// all if there is no token. In files of batches of 512 taps each place is found at once. In others
+/// all taps from the last such batch on are read that is known to begin below the token, or from
+/// the file's begin on. The window has `WINDOW_BYTES` at least.
+pub fn readers_from<F: Placed>(
+    alloc: Global,
+    files: &[F],
+    from: Option<Token>,
+    window: &mut [u8],
+) -> Result<PlacedReaders, SortedFault>
+    requires { window_bytes ≤ length window.old }
+    ensures number { IfOk result (λ made. length made.readers.items ≡ length files.now) }
+    ensures places { IfOk result (λ made. length made.places.items ≡ length files.now) }
+    ensures placed { IfOk result (λ made. (all : List (List ℕ))
+        → map F.bytes files.now ≡ map Some all
+        → ArePlaced all made.places.items made.readers.items) }
+{
+    let mut places = Vec::new(alloc);
+    let mut readers = Vec::new(alloc);
+    for file in files {
+        let placed = placed_reader(alloc, file, from, window)?;
+        let PlacedReader { place, reader } = placed;
+        places.push(place)?;
+        readers.push(reader)?;
+    }
+    Ok(PlacedReaders { places, readers })
+}
+
+/// The span from a place to where the reader stands, if it stands at the file's first tap with the
+/// token of the bound or a higher one, or at the file's end if there is no bound.
+fn span_to<F: Placed>(
+    alloc: Global,
+    file: &F,
+    from: Place,
+    reader: &TapReader,
+    below: Option<Token>,
+    window: &mut [u8],
+) -> Result<Option<FileSpan>, SortedFault>
+    requires { window_bytes ≤ length window.old }
+    ensures from { IfOk result (λ made. IfSome made (λ span. span.from ≡ from)) }
+    ensures to { IfOk result (λ made. IfSome made (λ span. IfSome (F.bytes file.now)
+        (λ all. IsAt all span.to reader.now))) }
+{
+    match below {
+        Some(token) => {
+            let end = reader_from(alloc, file, token, u64::MAX, window)?;
+            if !reader.is_at(&end.reader) {
+                return Ok(None);
+            }
+            let to = Some(end.place);
+            Ok(Some(FileSpan { from, to }))
+        }
+        None => {
+            if reader.head().is_some() {
+                return Ok(None);
+            }
+            Ok(Some(FileSpan { from, to: None }))
+        }
+    }
+}
+
+/// The spans from these places to where the readers stand, if each stands at its file's first tap
+/// with the token of the bound or a higher one, or at the file's end if there is no bound. The
+/// window has `WINDOW_BYTES` at least.
+pub fn spans_to<F: Placed>(
+    alloc: Global,
+    files: &[F],
+    places: &[Place],
+    readers: &[TapReader],
+    below: Option<Token>,
+    window: &mut [u8],
+) -> Result<Option<Vec<FileSpan>>, SortedFault>
+    requires window { window_bytes ≤ length window.old }
+    requires places { length places.now ≡ length files.now }
+    requires readers { length readers.now ≡ length files.now }
+    ensures number { IfOk result (λ made. IfSome made
+        (λ spans. length spans.items ≡ length files.now)) }
+    ensures spanned { IfOk result (λ made. IfSome made (λ spans. (all : List (List ℕ))
+        → map F.bytes files.now ≡ map Some all
+        → DoSpan all places.now readers.now spans.items)) }
+{
+    let mut spans = Vec::new(alloc);
+    for at in 0..files.len() {
+        let file = &files[at];
+        let reader = &readers[at];
+        let place = &places[at];
+        let Some(span) = span_to(alloc, file, *place, reader, below, window)? else {
+            return Ok(None);
+        };
+        spans.push(span)?;
+    }
+    Ok(Some(spans))
+}

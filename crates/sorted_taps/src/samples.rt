@@ -1,0 +1,129 @@
+//! Bounds of parts of files, from a sample of the files' tokens.
+//!
+//! The sample suits files of batches of 512 taps. Nothing but speed rests on it.
+
+ghost use Rattle.std.specs.Prelude.{◌≡◌, ◌+◌, ◌-◌, ◌<◌, ◌≤◌, IfOk, IsTrue, OnOk, get_or, length};
+ghost use Rattle.std.specs.declared.cmp.Ordering.TheVariants.{Less};
+ghost use Rattle.tap_views.specs.Token.{token_cmp};
+ghost use Rattle.tap_views.specs.declared.token.Token.{Token as AToken};
+ghost use Rattle.sorted_taps.specs.Ranges.{DoTokensRise};
+
+use crate::fault::SortedFault;
+use crate::file_batches::FIRST_READ_BYTES;
+use crate::ranges::{BATCH_TAPS, token_at};
+use placed_files::Placed;
+use std::alloc::{AllocError, Global};
+use tap_views::{TAP1_HEADER_BYTES, TAP1_TAP_BYTES, Token};
+
+/// How many tokens are read for a part.
+const PART_TOKENS: u64 = 64;
+
+/// How many tokens are read of all files at most.
+const MOST_TOKENS: u64 = 65_536;
+
+/// The number of the file's taps, if all batches have 512 but for the last.
+fn taps_in<F: Placed>(file: &F) -> Result<u64, SortedFault> {
+    let Ok(stamp) = file.stamp() else {
+        return Err(SortedFault::Unread);
+    };
+    let batch = FIRST_READ_BYTES as u64;
+    let full = (stamp.bytes / batch).saturating_mul(BATCH_TAPS);
+    let last = (stamp.bytes % batch).saturating_sub(TAP1_HEADER_BYTES as u64);
+    Ok(full.saturating_add(last / TAP1_TAP_BYTES as u64))
+}
+
+/// Adds the tokens of the taps at these equal distances from the first one on, and returns how far
+/// behind the file's end the next one would be.
+fn push_tokens<F: Placed>(
+    file: &F,
+    first: u64,
+    step: u64,
+    tokens: &mut Vec<Token>,
+) -> Result<u64, SortedFault> {
+    let taps = taps_in(file)?;
+    let mut tap = first;
+    for _ in 0..MOST_TOKENS {
+        if tap >= taps {
+            break;
+        }
+        if let Some(token) = token_at(file, tap)? {
+            tokens.push(token)?;
+        }
+        tap = tap.saturating_add(step);
+    }
+    Ok(tap.saturating_sub(taps))
+}
+
+/// Tokens of all files at equal distances, rising.
+fn sample_of<F: Placed>(alloc: Global, files: &[F], most: u64) -> Result<Vec<Token>, SortedFault>
+    requires { 1 ≤ most }
+{
+    let mut taps = 0u64;
+    for file in files {
+        taps = taps.saturating_add(taps_in(file)?);
+    }
+    let step = (taps / most).saturating_add(1);
+    let mut next = step / 2;
+    let mut tokens = Vec::new(alloc);
+    for file in files {
+        next = push_tokens(file, next, step, &mut tokens)?;
+    }
+    tokens.sort_unstable();
+    Ok(tokens)
+}
+
+/// Whether the token is above the last bound, or above the least token if there is no bound.
+fn is_above(bounds: &[Token], least: Token, token: Token) -> bool
+    ensures { IsTrue result → (d : AToken) → 0 < length bounds.now
+        → token_cmp (get_or bounds.now (length bounds.now - 1) d) token ≡ Less }
+{
+    match bounds.last() {
+        Some(last) => *last < token,
+        None => least < token,
+    }
+}
+
+/// Adds the token if it is above the last bound, or above the least token if there is no bound.
+fn push_above(bounds: &mut Vec<Token>, least: Token, token: Token) -> Result<(), AllocError>
+    requires { DoTokensRise bounds.old.items }
+    ensures few { OnOk result (length bounds.new.items ≤ length bounds.old.items + 1) }
+    ensures rise { OnOk result (DoTokensRise bounds.new.items) }
+{
+    if is_above(bounds, least, token) {
+        bounds.push(token)?;
+    }
+    Ok(())
+}
+
+/// At most `most` of the tokens, which rise, at equal distances: each once, and not the first one.
+fn picked(alloc: Global, tokens: &[Token], most: u32) -> Result<Vec<Token>, AllocError>
+    ensures few { IfOk result (λ bounds. length bounds.items ≤ most) }
+    ensures rise { IfOk result (λ bounds. DoTokensRise bounds.items) }
+{
+    let mut bounds = Vec::new(alloc);
+    let Some(least) = tokens.first() else {
+        return Ok(bounds);
+    };
+    for bound in 0..most {
+        let at = (tokens.len() as u64).saturating_mul(bound as u64 + 1) / (most as u64 + 1);
+        if let Some(token) = tokens.get(at as usize) {
+            push_above(&mut bounds, *least, *token)?;
+        }
+    }
+    Ok(bounds)
+}
+
+/// At most `most` tokens, rising: bounds of parts of about as many taps, by a sample of all files.
+/// They are fewer if a token has the taps of several parts, or if the files are short.
+pub fn bounds_of_parts<F: Placed>(
+    alloc: Global,
+    files: &[F],
+    most: u32,
+) -> Result<Vec<Token>, SortedFault>
+    ensures few { IfOk result (λ bounds. length bounds.items ≤ most) }
+    ensures rise { IfOk result (λ bounds. DoTokensRise bounds.items) }
+{
+    let wanted = (most as u64 + 1) * PART_TOKENS;
+    let tokens = sample_of(alloc, files, wanted.min(MOST_TOKENS))?;
+    Ok(picked(alloc, &tokens, most)?)
+}
