@@ -339,7 +339,7 @@ merged_text s views text ok = by (sections_of 0 None views) refl ok
     by (Ok end) is ok = ((end, is), sym (ok_one ok))
     by (Err wrong) is ok = absurd (cc)
 
-pub whole_ok : (s : FrontsView) (views : List OpenView) (before now after : Option (List ℕ))
+whole_ok : (s : FrontsView) (views : List OpenView) (before now after : Option (List ℕ))
     → Appends before now (whole_front s)
     → Copied {T = Unit {0}} (λ (s : Option Token). tt) (sections_of 0 None views) (lines_left views)
     now after (Ok tt)
@@ -350,7 +350,7 @@ whole_ok s views before now after wrote (end, said, is, added) = (
   Appends-trans before now after (whole_front s) (lines_left views) wrote added,
 )
 
-pub whole_fault : (s : FrontsView) (views : List OpenView) (before now after : Option (List ℕ))
+whole_fault : (s : FrontsView) (views : List OpenView) (before now after : Option (List ℕ))
     (fault : MergeFault) → Appends before now (whole_front s)
     → Copied {T = Unit {0}} (λ (s : Option Token). tt) (sections_of 0 None views) (lines_left views)
     now after (Err fault)
@@ -364,12 +364,23 @@ whole_fault s views before now after fault wrote (is, some) = (
 )
 
 pub whole_unwritten : (s : FrontsView) (views : List OpenView) (before after : Option (List ℕ))
-    → Begins before after (whole_front s) → MergedAs (merged (s, views)) before after (Err Write)
-whole_unwritten s views before after begins = (
+    (front : List ℕ) → front ≡ whole_front s → Begins before after front
+    → MergedAs (merged (s, views)) before after (Err Write)
+whole_unwritten s views before after front is begins = (
   tt,
   λ text ok.
       let (said, shown) = merged_text s views text ok in
       subst (AppendsPrefix before after) (sym shown)
       (prefix_more before after (whole_front s) (lines_left views)
-      (begins_prefix before after (whole_front s) begins)),
+      (subst (AppendsPrefix before after) is (begins_prefix before after front begins))),
 )
+
+pub whole_all : (s : FrontsView) (views : List OpenView) (before now after : Option (List ℕ))
+    (result : Result Unit MergeFault) → Appends before now (whole_front s)
+    → Copied {T = Unit {0}} (λ (s : Option Token). tt) (sections_of 0 None views) (lines_left views)
+    now after result
+    → MergedAs (merged (s, views)) before after result
+whole_all s views before now after (Ok tt) wrote copied =
+    whole_ok s views before now after wrote copied
+whole_all s views before now after (Err fault) wrote copied =
+    whole_fault s views before now after fault wrote copied
