@@ -1,4 +1,4 @@
-use Rattle.std.proofs.Common.{◌≡◌, ◌≤◌, ◌∙◌, ℕ, length, sym, ap, subst, Vec, Global}
+use Rattle.std.proofs.Common.{◌≤◌, ◌∙◌, ℕ, length, sym, ap, subst, Vec, Global}
 use Rattle.sorted_taps.specs.Heads.{IsRanked}
 use Rattle.sorted_taps.specs.Reading.{window_bytes}
 use Rattle.sorted_taps.specs.declared.merge.Merge.{Merge}
