@@ -5,8 +5,8 @@ use Rattle.std.specs.Prelude.{codes, Option, Some, None}
 use Rattle.std.specs.Fmt.{decimal}
 use Rattle.std.proofs.lemmas.List.{take_more}
 use Rattle.part_texts.specs.Heads.{place_text, span_line, span_lines, to_text}
-use Rattle.part_texts.specs.declared.spans.Place.{Place}
-use Rattle.part_texts.specs.declared.spans.FileSpan.{FileSpan}
+use Rattle.sorted_taps.specs.declared.places.Place.{Place}
+use Rattle.sorted_taps.specs.declared.places.FileSpan.{FileSpan}
 
 -- one file more
 pub span_lines-push : (file : ℕ) (spans : List FileSpan) (span : FileSpan)
