@@ -1,7 +1,7 @@
 -- The lines of parts, copied one after the other.
 use Rattle.std.proofs.Common.{◌≡◌, ◌∙◌, ◌+◌, ℕ, Bool, true, false, cond, List, [], ◌∷◌, ◌++◌, map}
 use Rattle.std.proofs.Common.{Option, Some, None, Result, Ok, Err, IfSome, option_map, refl, sym, ap, subst}
-use Rattle.std.proofs.Common.{append_assoc, append-nil}
+use Rattle.std.proofs.Common.{append_assoc, append-nil, arith, length, ◌<◌}
 use Rattle.std.specs.Prelude.{flat_map}
 use Rattle.std.specs.Io.KnownBytes.{Appends}
 use Rattle.std.proofs.KnownBytes.{Appends-nil, Appends-trans}
@@ -16,9 +16,11 @@ use Rattle.line_folds.specs.declared.lines.Stop.TheVariants.{TooLong as StopLong
 use Rattle.line_folds.proofs.Runs.{prefix_behind, prefix_more, prefix_none}
 use Rattle.report_texts.specs.declared.wrong.Wrong.{Wrong}
 use Rattle.report_texts.specs.declared.wrong.Wrong.TheVariants.{Form}
-use Rattle.part_texts.specs.Fronts.{FrontsView, no_sums}
+use Rattle.report_texts.specs.Texts.{AreLeft}
+use Rattle.part_texts.specs.Fronts.{FrontsView, no_fronts, no_sums}
 use Rattle.part_texts.specs.Sections.{SectionView, section_end, section_step}
 use Rattle.part_texts.specs.Merged.{IsFaultOf, MergedAs, OpenView, WrongLine, and_then, end_or}
+use Rattle.part_texts.specs.Merged.{fronts_of, merge_of}
 use Rattle.part_texts.specs.Merged.{lines_left, merged, section_at, section_ended, section_of}
 use Rattle.part_texts.specs.Merged.{sections_of, whole_front}
 use Rattle.part_texts.specs.Opened.{AreOpen, Copied, fault_by, open_view}
@@ -26,7 +28,7 @@ use Rattle.part_texts.specs.declared.fault.MergeFault.{MergeFault}
 use Rattle.part_texts.specs.declared.fault.MergeFault.TheVariants.{Line, Unread, Write, NoMemory}
 use Rattle.part_texts.specs.declared.fault.MergeFault.TheVariants.{TooLong}
 use Rattle.part_texts.specs.declared.merging.Open.{Open}
-use Rattle.part_texts.proofs.Opening.{fault_goes, fault_same, if_some}
+use Rattle.part_texts.proofs.Opening.{fault_goes, fault_same, if_some, left_none}
 
 abbrev never : SectionView → Bool
 never s = false
@@ -339,7 +341,7 @@ merged_text s views text ok = by (sections_of 0 None views) refl ok
     by (Ok end) is ok = ((end, is), sym (ok_one ok))
     by (Err wrong) is ok = absurd (cc)
 
-pub whole_ok : (s : FrontsView) (views : List OpenView) (before now after : Option (List ℕ))
+whole_ok : (s : FrontsView) (views : List OpenView) (before now after : Option (List ℕ))
     → Appends before now (whole_front s)
     → Copied {T = Unit {0}} (λ (s : Option Token). tt) (sections_of 0 None views) (lines_left views)
     now after (Ok tt)
@@ -350,7 +352,7 @@ whole_ok s views before now after wrote (end, said, is, added) = (
   Appends-trans before now after (whole_front s) (lines_left views) wrote added,
 )
 
-pub whole_fault : (s : FrontsView) (views : List OpenView) (before now after : Option (List ℕ))
+whole_fault : (s : FrontsView) (views : List OpenView) (before now after : Option (List ℕ))
     (fault : MergeFault) → Appends before now (whole_front s)
     → Copied {T = Unit {0}} (λ (s : Option Token). tt) (sections_of 0 None views) (lines_left views)
     now after (Err fault)
@@ -364,12 +366,66 @@ whole_fault s views before now after fault wrote (is, some) = (
 )
 
 pub whole_unwritten : (s : FrontsView) (views : List OpenView) (before after : Option (List ℕ))
-    → Begins before after (whole_front s) → MergedAs (merged (s, views)) before after (Err Write)
-whole_unwritten s views before after begins = (
+    (front : List ℕ) → front ≡ whole_front s → Begins before after front
+    → MergedAs (merged (s, views)) before after (Err Write)
+whole_unwritten s views before after front is begins = (
   tt,
   λ text ok.
       let (said, shown) = merged_text s views text ok in
       subst (AppendsPrefix before after) (sym shown)
       (prefix_more before after (whole_front s) (lines_left views)
-      (begins_prefix before after (whole_front s) begins)),
+      (subst (AppendsPrefix before after) is (begins_prefix before after front begins))),
 )
+
+pub whole_all : (s : FrontsView) (views : List OpenView) (before now after : Option (List ℕ))
+    (result : Result Unit MergeFault) → Appends before now (whole_front s)
+    → Copied {T = Unit {0}} (λ (s : Option Token). tt) (sections_of 0 None views) (lines_left views)
+    now after result
+    → MergedAs (merged (s, views)) before after result
+whole_all s views before now after (Ok done) wrote (end, said, is, added) =
+    whole_ok s views before now after wrote (end, said, refl, added)
+whole_all s views before now after (Err fault) wrote copied =
+    whole_fault s views before now after fault wrote copied
+
+-- ---- all parts
+merge_is : {R : Type 0} (remaining : R → Option (List ℕ)) (parts : List R) (texts : List (List ℕ))
+    → 0 < length parts → AreLeft remaining parts texts
+    → merge_of texts ≡ and_then (fronts_of no_fronts [] texts) merged
+merge_is remaining [] texts some are = absurd (omega (arith, some))
+merge_is remaining (part ∷ parts) [] some are = absurd (cc)
+merge_is remaining (part ∷ parts) (text ∷ texts) some are = refl
+
+pub merge_none : {R : Type 0} (remaining : R → Option (List ℕ)) (parts : List R)
+    (texts : List (List ℕ)) (before : Option (List ℕ)) → parts ≡ [] → AreLeft remaining parts texts
+    → MergedAs (merge_of texts) before before (Err (Line 0 1 Form))
+merge_none remaining parts texts before none are =
+    let no_texts : texts ≡ [] =
+    left_none remaining texts (subst (λ ps. AreLeft remaining ps texts) none are) in
+    let said : merge_of texts ≡ Err (0, (1, Form)) = ap merge_of no_texts in
+    (said, λ text ok. absurd (let e = sym said ∙ ok in cc))
+
+pub merge_fault : {R : Type 0} (remaining : R → Option (List ℕ)) (parts : List R)
+    (texts : List (List ℕ)) (before : Option (List ℕ)) (first : FrontsView) (fault : MergeFault)
+    → 0 < length parts → AreLeft remaining parts texts → first ≡ no_fronts
+    → IsFaultOf (fronts_of first [] texts) fault
+    → MergedAs (merge_of texts) before before (Err fault)
+merge_fault remaining parts texts before first fault some are begin is = (
+  fault_same (merge_of texts) (and_then (fronts_of first [] texts) merged) fault
+      (merge_is remaining parts texts some are
+      ∙ ap (λ s. and_then (fronts_of s [] texts) merged) (sym begin))
+      (fault_goes (fronts_of first [] texts) merged fault is),
+  λ text ok. prefix_none before text,
+)
+
+pub merge_whole : {R : Type 0} (remaining : R → Option (List ℕ)) (parts : List R)
+    (texts : List (List ℕ)) (before after : Option (List ℕ)) (first now : FrontsView)
+    (views : List OpenView) (result : Result Unit MergeFault)
+    → 0 < length parts → AreLeft remaining parts texts → first ≡ no_fronts
+    → fronts_of first [] texts ≡ Ok (now, views)
+    → MergedAs (merged (now, views)) before after result
+    → MergedAs (merge_of texts) before after result
+merge_whole remaining parts texts before after first now views result some are begin read whole =
+    subst (λ r. MergedAs r before after result)
+    (sym (merge_is remaining parts texts some are
+    ∙ ap (λ s. and_then (fronts_of s [] texts) merged) (sym begin)
+    ∙ ap (λ r. and_then r merged) read)) whole

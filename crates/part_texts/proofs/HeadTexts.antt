@@ -5,8 +5,8 @@ use Rattle.std.specs.Prelude.{codes, Option, Some, None}
 use Rattle.std.specs.Fmt.{decimal}
 use Rattle.std.proofs.lemmas.List.{take_more}
 use Rattle.part_texts.specs.Heads.{place_text, span_line, span_lines, to_text}
-use Rattle.part_texts.specs.declared.spans.Place.{Place}
-use Rattle.part_texts.specs.declared.spans.FileSpan.{FileSpan}
+use Rattle.sorted_taps.specs.declared.places.Place.{Place}
+use Rattle.sorted_taps.specs.declared.places.FileSpan.{FileSpan}
 
 -- one file more
 pub span_lines-push : (file : ℕ) (spans : List FileSpan) (span : FileSpan)
@@ -23,7 +23,13 @@ span_lines-push file (first ∷ spans) span =
     (span_line (file + length (first ∷ spans)) span))
 
 -- what was written of the files before one, and the line of that one
-pub spans_more : (start : List ℕ) (spans : List FileSpan) (d : FileSpan) (i : ℕ)
+abbrev no_place : Place
+no_place = record { offset = 0; skip = 0 }
+
+abbrev no_span : FileSpan
+no_span = record { from = no_place; to = None }
+
+spans_more : (start : List ℕ) (spans : List FileSpan) (d : FileSpan) (i : ℕ)
     → i < length spans
     → (start ++ span_lines 0 (take i spans)) ++ span_line i (get_or spans i d)
     ≡ start ++ span_lines 0 (take (i + 1) spans)
@@ -50,3 +56,12 @@ in_line start a b c d done file span p1 p2 p3 p4 p5 =
     joined : (s f n w p t e l : List ℕ) → ((((s ++ (f ++ (n ++ w))) ++ p) ++ t) ++ e) ++ l
         ≡ s ++ (f ++ (n ++ (w ++ (p ++ (t ++ (e ++ l))))))
     joined s f n w p t e l = simp append_assoc
+
+pub spans_written : (start now new : List ℕ) (spans : List FileSpan) (one : FileSpan) (i : ℕ)
+    → i < length spans → new ≡ now ++ span_line i one
+    → now ≡ start ++ span_lines 0 (take i spans) → one ≡ get_or spans i no_span
+    → new ≡ start ++ span_lines 0 (take (i + 1) spans)
+spans_written start now new spans one i within wrote before is =
+    wrote ∙ ap (λ t. t ++ span_line i one) before
+    ∙ ap (λ s. (start ++ span_lines 0 (take i spans)) ++ span_line i s) is
+    ∙ spans_more start spans no_span i within

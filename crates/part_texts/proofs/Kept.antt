@@ -14,12 +14,13 @@ use Rattle.part_texts.specs.Fronts.{no_sums, shown_sums, sums_within, with_valid
 found_shown : (test : ℕ → Bool) (entries : List (ℕ × Totals))
     → lookup test (shown_sums sums_of entries) ≡ option_map sums_of (lookup test entries)
 found_shown test [] = refl
-found_shown test (e ∷ entries) = by (test e.0)
+found_shown test (e ∷ entries) = by (found_shown test entries) (test e.0)
   where
-    by : (b : Bool) → cond b (Some (sums_of e.1)) (lookup test (shown_sums sums_of entries))
+    by : lookup test (shown_sums sums_of entries) ≡ option_map sums_of (lookup test entries)
+        → (b : Bool) → cond b (Some (sums_of e.1)) (lookup test (shown_sums sums_of entries))
         ≡ option_map sums_of (cond b (Some e.1) (lookup test entries))
-    by true = refl
-    by false = found_shown test entries
+    by rest true = refl
+    by rest false = rest
 
 pub kept_some : (test : ℕ → Bool) (entries : List (ℕ × Totals)) (found : Option Totals) (kept : Totals)
     → found ≡ lookup test entries → found ≡ Some kept
@@ -40,18 +41,19 @@ inserted_shown : (v : ℕ) (totals : Totals) (entries : List (ℕ × Totals))
     → shown_sums sums_of (insert_entry nat_cmp entries v totals)
     ≡ insert_entry nat_cmp (shown_sums sums_of entries) v (sums_of totals)
 inserted_shown v totals [] = refl
-inserted_shown v totals (e ∷ entries) = by (nat_cmp v e.0)
+inserted_shown v totals (e ∷ entries) = by (inserted_shown v totals entries) (nat_cmp v e.0)
   where
-    by : (order : Ordering)
+    by : shown_sums sums_of (insert_entry nat_cmp entries v totals)
+        ≡ insert_entry nat_cmp (shown_sums sums_of entries) v (sums_of totals)
+        → (order : Ordering)
         → shown_sums sums_of (match_ordering order ((v, totals) ∷ e ∷ entries) ((e.0, totals) ∷ entries)
         (e ∷ insert_entry nat_cmp entries v totals))
         ≡ match_ordering order ((v, sums_of totals) ∷ (e.0, sums_of e.1) ∷ shown_sums sums_of entries)
         ((e.0, sums_of totals) ∷ shown_sums sums_of entries)
         ((e.0, sums_of e.1) ∷ insert_entry nat_cmp (shown_sums sums_of entries) v (sums_of totals))
-    by Less = refl
-    by Equal = refl
-    by Greater =
-        ap (λ (more : List (ℕ × Sums)). (e.0, sums_of e.1) ∷ more) (inserted_shown v totals entries)
+    by rest Less = refl
+    by rest Equal = refl
+    by rest Greater = ap (λ (more : List (ℕ × Sums)). (e.0, sums_of e.1) ∷ more) rest
 
 pub added_one : (v : ℕ) (old new : List (ℕ × Totals)) (kept sum : Sums) (all : Totals)
     → kept ≡ unwrap_or (lookup (is_at (nat_cmp v)) (shown_sums sums_of old)) no_sums

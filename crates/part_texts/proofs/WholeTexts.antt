@@ -23,7 +23,7 @@ map_length f [] = refl
 map_length f (x ∷ xs) = let rest = map_length f xs in omega (arith, rest)
 
 -- what was written of the uploads before one, and the line of that one
-pub uploads_more : (start : List ℕ) (taps : List ℕ) (d i : ℕ) → i < length taps
+uploads_more : (start : List ℕ) (taps : List ℕ) (d i : ℕ) → i < length taps
     → (start ++ upload_lines 0 (map Posted (take i taps))) ++ upload_line i (Posted (get_or taps i d))
     ≡ start ++ upload_lines 0 (map Posted (take (i + 1) taps))
 uploads_more start taps d i within =
@@ -92,3 +92,12 @@ front_joined s uploads validators none a b c d e whole n m p0 p1 p2 p3 p4 p5 p6 
     joined : (u l t v f k : List ℕ) → ((((u ++ l) ++ t) ++ v) ++ f) ++ k
         ≡ (u ++ l) ++ (t ++ ((v ++ f) ++ k))
     joined u l t v f k = simp append_assoc
+
+pub uploads_written : (start now new taps : List ℕ) (one i : ℕ) → i < length taps
+    → new ≡ now ++ upload_line i (Posted one)
+    → now ≡ start ++ upload_lines 0 (map Posted (take i taps)) → one ≡ get_or taps i 0
+    → new ≡ start ++ upload_lines 0 (map Posted (take (i + 1) taps))
+uploads_written start now new taps one i within wrote before is =
+    wrote ∙ ap (λ t. t ++ upload_line i (Posted one)) before
+    ∙ ap (λ n. (start ++ upload_lines 0 (map Posted (take i taps))) ++ upload_line i (Posted n)) is
+    ∙ uploads_more start taps 0 i within

@@ -2,8 +2,8 @@
 use Rattle.std.specs.Prelude.{ℕ, List, Option, Some, None, codes, option_map}
 use Rattle.line_forms.specs.Forms.{Reader, after, said_by, then_read}
 use Rattle.report_texts.specs.Forms.{chosen, count_at}
-use Rattle.part_texts.specs.declared.spans.Place.{Place}
-use Rattle.part_texts.specs.declared.spans.FileSpan.{FileSpan}
+use Rattle.sorted_taps.specs.declared.places.Place.{Place}
+use Rattle.sorted_taps.specs.declared.places.FileSpan.{FileSpan}
 
 abbrev pub place_by : ℕ × ℕ → Option Place
 place_by numbers = Some (record { offset = numbers.0; skip = numbers.1 })

@@ -7,7 +7,7 @@ use Rattle.line_forms.specs.Numbers.{BeginsWithNoDigit, number_in, with_rest}
 use Rattle.report_texts.specs.Forms.{chosen, count_at}
 use Rattle.report_texts.specs.FormLaws.{IsChosen, IsCount, begins, chosen_law, count_form, some_one}
 use Rattle.part_texts.specs.HeadForms.{end_if, place_by, place_read, to_or, to_read}
-use Rattle.part_texts.specs.declared.spans.Place.{Place}
+use Rattle.sorted_taps.specs.declared.places.Place.{Place}
 
 -- the text says the place, behind the word
 abbrev pub IsPlaceText : List ℕ → Place → List ℕ → Type 0

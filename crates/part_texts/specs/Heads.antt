@@ -2,8 +2,8 @@
 use Rattle.std.specs.Prelude.{ℕ, ◌+◌, List, [], ◌∷◌, ◌++◌, Option, Some, None, length, codes}
 use Rattle.std.specs.Fmt.{decimal}
 use Rattle.fare_texts.specs.ReportLines.{number_line}
-use Rattle.part_texts.specs.declared.spans.Place.{Place}
-use Rattle.part_texts.specs.declared.spans.FileSpan.{FileSpan}
+use Rattle.sorted_taps.specs.declared.places.Place.{Place}
+use Rattle.sorted_taps.specs.declared.places.FileSpan.{FileSpan}
 
 -- `14344 skip 25`
 abbrev pub place_text : Place → List ℕ

@@ -6,9 +6,9 @@ use Rattle.histories.specs.Sums.{sums}
 use Rattle.histories.specs.SumsByKey.{sums_by_token, sums_by_validator, token_of}
 use Rattle.histories.specs.declared.entry.Entry.{Entry}
 use Rattle.report_texts.specs.Numbers.{AreCounts, IsTokenSum, IsValidatorSum}
-use Rattle.part_texts.specs.Places.{AreWhole}
+use Rattle.sorted_taps.specs.Places.{AreWhole}
 use Rattle.part_texts.specs.Shown.{PartReport, SpanFits, sum_up}
-use Rattle.part_texts.specs.declared.spans.FileSpan.{FileSpan}
+use Rattle.sorted_taps.specs.declared.places.FileSpan.{FileSpan}
 
 -- where a part lies in each file, how many taps each file has there, and the history of the taps
 pub record HistoryPart : Type 0 where

@@ -1,5 +1,6 @@
 -- Parts whose fronts are read, as the program has them. Private functions alone cite this.
 use Rattle.std.specs.Prelude.{◌≡◌, ℕ, List, Option, Some, None, Result, Ok, Err, Vec, map, option_map}
+use Rattle.std.specs.declared.alloc.Global.{Global}
 use Rattle.std.specs.Io.KnownBytes.{Appends}
 use Rattle.histories.specs.Sums.{sums_of}
 use Rattle.tap_views.specs.declared.token.Token.{Token}
@@ -48,7 +49,7 @@ FrontRead said new left (Err fault) = IsFaultOf said fault
 
 -- the fronts are read as they are defined
 abbrev pub FrontsRead : {R : Type 0} → (R → Option (List ℕ))
-    → Result (FrontsView × List OpenView) WrongLine → FrontsView → Result (Vec (Open R)) MergeFault
+    → Result (FrontsView × List OpenView) WrongLine → FrontsView → Result (Vec (Open R) Global) MergeFault
     → Type 0
 FrontsRead remaining said new (Ok opens) =
     (views : List OpenView) × AreOpen remaining opens.items views × (said ≡ Ok (new, views))

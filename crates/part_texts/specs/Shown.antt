@@ -11,8 +11,8 @@ use Rattle.part_texts.specs.Fronts.{is_above, may_end, no_sums, starts, sums_wit
 use Rattle.part_texts.specs.Fronts.{with_validator}
 use Rattle.part_texts.specs.Heads.{part_head}
 use Rattle.part_texts.specs.Sections.{is_token_above}
-use Rattle.part_texts.specs.declared.spans.Place.{Place}
-use Rattle.part_texts.specs.declared.spans.FileSpan.{FileSpan}
+use Rattle.sorted_taps.specs.declared.places.Place.{Place}
+use Rattle.sorted_taps.specs.declared.places.FileSpan.{FileSpan}
 
 -- what the report of a part says
 pub record PartReport : Type 0 where

@@ -8,8 +8,8 @@ use Rattle.part_texts.specs.EntryLines.{entry_token_in}
 use Rattle.part_texts.specs.Heads.{part_head}
 use Rattle.part_texts.specs.Sections.{may_follow}
 use Rattle.part_texts.specs.Shown.{SpanFits, are_joined, is_none_behind}
-use Rattle.part_texts.specs.declared.spans.Place.{Place}
-use Rattle.part_texts.specs.declared.spans.FileSpan.{FileSpan}
+use Rattle.sorted_taps.specs.declared.places.Place.{Place}
+use Rattle.sorted_taps.specs.declared.places.FileSpan.{FileSpan}
 
 -- a line of a ledger, and its token
 pub record EntryLine : Type 0 where

@@ -17,7 +17,7 @@ ghost use Rattle.part_texts.specs.FrontSteps.{ledger_step, span_step, tokens_ste
 ghost use Rattle.part_texts.specs.FrontSteps.{upload_step, uploads_step, validator_step, validators_step};
 
 use crate::head::span_in;
-use crate::spans::{FileSpan, Place};
+use sorted_taps::{FileSpan, Place};
 use fare_texts::head_line;
 use histories::{Totals, ValidatorSum};
 use line_folds::{Fold, Refusal};

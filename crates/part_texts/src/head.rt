@@ -9,7 +9,7 @@ ghost use Rattle.fare_texts.specs.declared.print_fault.PrintFault.TheVariants.{W
 ghost use Rattle.part_texts.specs.HeadForms.{span_in};
 ghost use Rattle.part_texts.specs.Heads.{part_head, place_text, span_line, span_lines, to_text};
 
-use crate::spans::{FileSpan, Place};
+use sorted_taps::{FileSpan, Place};
 use fare_texts::{PrintFault, write_out};
 use line_forms::form::FormOf;
 use line_forms::forms::{Behind, Then, after_word, line_of};
@@ -112,7 +112,7 @@ impl<'a, 'w> FormOf<'a> for PlaceBehind<'w> {
     type Value = Place;
 
     ghost use Rattle.line_forms.specs.Numbers.{BeginsWithNoDigit};
-    ghost use Rattle.part_texts.specs.declared.spans.Place.{Place as APlace};
+    ghost use Rattle.sorted_taps.specs.declared.places.Place.{Place as APlace};
     ghost use Rattle.part_texts.specs.HeadForms.{place_read};
     ghost use Rattle.part_texts.specs.HeadLaws.{IsPlaceText, place_law};
 
@@ -146,7 +146,7 @@ impl<'a> FormOf<'a> for SpanEnd {
 
     ghost use Rattle.std.specs.Prelude.{Option};
     ghost use Rattle.line_forms.specs.Numbers.{BeginsWithNoDigit};
-    ghost use Rattle.part_texts.specs.declared.spans.Place.{Place as APlace};
+    ghost use Rattle.sorted_taps.specs.declared.places.Place.{Place as APlace};
     ghost use Rattle.part_texts.specs.HeadForms.{to_read};
     ghost use Rattle.part_texts.specs.HeadLaws.{IsToText, to_law};
 

@@ -6,9 +6,7 @@ mod fronts;
 mod head;
 mod merging;
 mod sections;
-mod spans;
 
 pub use fault::MergeFault;
 pub use head::{span_in, write_part_head};
 pub use merging::merge;
-pub use spans::{FileSpan, Place};

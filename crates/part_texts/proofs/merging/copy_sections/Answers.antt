@@ -14,15 +14,14 @@ loop-part-init g c = record {
       c.into_iter-part-iterator.ensures.into_iter_gives.0;
 }
 
-pub returns-in_err-copy_section : goal.returns-in_err-copy_section
-returns-in_err-copy_section g c =
-    let p = err_from_is_err_and c.from_residual-in_err-copy_section.result
-    c.from_residual-in_err-copy_section.ensures.1 in
+pub returns-in_err-last : goal.returns-in_err-last
+returns-in_err-last g c =
+    let p = err_from_is_err_and c.from_residual.result c.from_residual.ensures.1 in
     rw (p.1, p.2) (copies_fault g.R.Read.remaining c.args.opens.items c.loop-part.place
     c.loop-part.last c.loop-part.part-iterator.rest.items c.next.new.self.rest.items c.in-Some.part
     (g.W.Write.contents c.args.out.now) (g.W.Write.contents c.loop-part.out)
-    (g.W.Write.contents c.copy_section.new.out) c.in_err-copy_section.field-0.0
-    c.in-Some.ensures.steps.0 c.loop-part.invariant.copies c.in_err-copy_section.ensures)
+    (g.W.Write.contents c.copy_section.new.out) c.in_err-last.field-0.0
+    c.in-Some.ensures.steps.0 c.loop-part.invariant.copies c.in_err-last.ensures)
 
 pub loop-part-preserved : goal.loop-part-preserved
 loop-part-preserved g c =
@@ -39,13 +38,13 @@ loop-part-preserved g c =
           ∙ ap (λ left. c.loop-part.yielded ++ left) (sym split) ∙ c.loop-part.invariant.all;
       place = next ∙ omega (arith, c.loop-part.invariant.place, length-append c.loop-part.yielded (c.in-Some.part ∷ []));
       copies = subst (λ place. CopiesAt g.R.Read.remaining c.args.opens.items place
-          c.in_ok-copy_section.field-0 c.next.new.self.rest.items (g.W.Write.contents c.args.out.now)
+          c.in_ok-last.field-0 c.next.new.self.rest.items (g.W.Write.contents c.args.out.now)
           (g.W.Write.contents c.copy_section.new.out)) (sym next)
           (copies_more g.R.Read.remaining c.args.opens.items c.loop-part.place c.loop-part.last
-          c.in_ok-copy_section.field-0 c.loop-part.part-iterator.rest.items c.next.new.self.rest.items
+          c.in_ok-last.field-0 c.loop-part.part-iterator.rest.items c.next.new.self.rest.items
           c.in-Some.part (g.W.Write.contents c.args.out.now) (g.W.Write.contents c.loop-part.out)
           (g.W.Write.contents c.copy_section.new.out) split c.loop-part.invariant.copies
-          c.in_ok-copy_section.ensures);
+          c.in_ok-last.ensures);
     }
 
 pub returns : goal.returns

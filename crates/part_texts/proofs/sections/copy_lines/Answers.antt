@@ -62,8 +62,8 @@ returns-in-Err-write_out-clause-written g c =
     subst (λ (l : List ℕ). section_step now l ≡ Ok (section_view c.in-Ok.next)) c.deref.ensures.value
     c.in-Ok.ensures in
     let some : AppendsPrefix old new items =
-    subst (AppendsPrefix old new) c.deref-2.ensures.value
-    (begins_prefix old new c.deref-2.result.now c.in-Err-write_out.ensures.begun) in
+    subst (AppendsPrefix old new) c.deref-in-loop-number.ensures.value
+    (begins_prefix old new c.deref-in-loop-number.result.now c.in-Err-write_out.ensures.begun) in
     at_broken never Form section_step itself c.args.first (section_view c.args.section.now)
     (g.R.Read.remaining c.args.from.now) c.loop-number.number now
     (g.R.Read.remaining c.loop-number.from) (g.W.Write.contents c.args.out.now) old new
@@ -81,7 +81,7 @@ loop-number-preserved g c =
     subst (λ (l : List ℕ). section_step now l ≡ Ok (section_view c.in-Ok.next)) c.deref.ensures.value
     c.in-Ok.ensures in
     let all : Appends old new items =
-    subst (Appends old new) c.deref-2.ensures.value c.in-Ok-write_out.ensures.ok in
+    subst (Appends old new) c.deref-in-loop-number.ensures.value c.in-Ok-write_out.ensures.ok in
     at_more never Form section_step itself c.args.first (section_view c.args.section.now)
     (g.R.Read.remaining c.args.from.now) c.loop-number.number now
     (g.R.Read.remaining c.loop-number.from) (g.W.Write.contents c.args.out.now) old
