@@ -149,6 +149,7 @@ rows_rise text rows is = by_lines (lines_of text) is
     by_head : (lines : List (List ℕ)) (b : Bool) → cond b (rows_from 2 None lines) (Err (1, Form)) ≡ Ok rows → Rise rows
     by_head lines true is = from_rises 2 None lines rows is
     by_head lines false is = absurd (wrong_is_right (1, Form) rows is)
+
     by_lines : (lines : List (List ℕ)) → rows_behind_head lines ≡ Ok rows → Rise rows
     by_lines [] is = absurd (wrong_is_right (1, Form) rows is)
     by_lines (line ∷ lines) is = by_head lines (bytes_eq line head_text) is

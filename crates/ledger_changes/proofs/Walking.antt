@@ -1,25 +1,29 @@
 -- Two ledgers that are read side by side: what was written, and what is left.
 use Rattle.std.proofs.Common.{◌≡◌, ◌+◌, ℕ, Bool, true, false, List, [], ◌∷◌, ◌++◌, length, Option, Some, None, Result, Ok, Err}
-use Rattle.std.proofs.Common.{refl, sym, ap, subst, ◌∙◌, arith, append-nil, append_assoc, filter, length-append, map, IfSome, option_map}
+use Rattle.std.proofs.Common.{refl, sym, ap, subst, ◌∙◌, arith, append-nil, append_assoc, filter, if◌then◌else◌, length-append, map, IfSome, option_map}
 use Rattle.std.specs.Io.KnownBytes.{Appends}
 use Rattle.std.specs.declared.cmp.Ordering.{Ordering}
 use Rattle.std.specs.declared.cmp.Ordering.TheVariants.{Less, Equal, Greater}
 use Rattle.std.proofs.KnownBytes.{Appends-nil, Appends-trans}
 use Rattle.std.proofs.lemmas.List.Elements.{filter-append}
 use Rattle.fare_texts.specs.WrittenOut.{Begins}
-use Rattle.fare_texts.proofs.Beginnings.{begins_behind, begins_front, begins_more, begins_whole}
+use Rattle.fare_texts.proofs.Beginnings.{begins_behind, begins_front, begins_nothing}
 use Rattle.ledger_fields.specs.Rows.{Row}
 use Rattle.ledger_changes.specs.Changes.{Pair, beside, changes_between, is_changed, next_sides, pairs_by, pairs_of, pairs_with, sides_by}
-use Rattle.ledger_changes.specs.Ledgers.{cons_row}
+use Rattle.line_folds.specs.Folds.{lines_of}
+use Rattle.ledger_changes.specs.Faults.{IsNoLine}
+use Rattle.ledger_changes.specs.Ledgers.{NamesFirstWrong, cons_row, rows_from, rows_of}
 use Rattle.ledger_changes.specs.Rows.{key_cmp}
 use Rattle.ledger_changes.specs.Texts.{correction_line, corrections_lines, is_removed, removed_in}
-use Rattle.ledger_changes.specs.Tokens.{TokenSum, all_lines, change_lines, changes_of_both, last_sums, lines_of_changes, sums_line, sums_with}
-use Rattle.ledger_changes.specs.declared.fault.Bill.{Bill}
+use Rattle.ledger_changes.specs.Tokens.{TokenSum, all_lines, change_lines, changes_of_both, corrections_of, head_of, last_sums}
+use Rattle.ledger_changes.specs.Tokens.{lines_of_changes, sums_line, sums_with, text_of}
 use Rattle.ledger_changes.specs.declared.fault.Bill.TheVariants.{New, Old}
 use Rattle.ledger_changes.specs.declared.fault.CorrectionsFault.{CorrectionsFault}
 use Rattle.ledger_changes.specs.declared.fault.CorrectionsFault.TheVariants.{Line, Unread, Write, NoMemory}
 use Rattle.ledger_changes.specs.declared.fault.WrongLine.{WrongLine}
+use Rattle.ledger_changes.specs.declared.row.LedgerRow.{LedgerRow}
 use Rattle.ledger_changes.specs.inside.Readings.{IsWrongAs, Moves, rows_with, with_row}
+use Rattle.ledger_changes.specs.inside.Views.{row_in}
 use Rattle.ledger_changes.specs.inside.Walks.{AreWritten, IsBegun, IsNamed, OfBoth, Said}
 
 -- ---- the text of corrections, in two parts
@@ -118,7 +122,8 @@ pub row_of_said : (row : Option Row) (number : ℕ) (left : Option (List ℕ)) (
 row_of_said row number None said is = absurd (cc)
 row_of_said None number (Some text) said is = let t : Ok [] ≡ said = cc in sym t
 row_of_said (Some row) number (Some text) said is =
-    let t : rows_with (Some row) number text ≡ said = cc in (_, sym t)
+    let t : rows_with (Some row) number text ≡ said = cc in
+    (rows_from (number + 1) (Some row) (lines_of text), sym t)
 
 heads : (row : Option Row) (said : Said) (rows : List Row) → HasRow row said → said ≡ Ok rows → Heads row rows
 heads None said rows is right = let t : [] ≡ rows = cc in sym t
@@ -326,13 +331,215 @@ pub end_begun : (by_token : Bool) (before after new : Option (List ℕ)) (remove
     → Begins after new (sums_line last) → IsBegun by_token before new old0 new0
 end_begun by_token before after new removed last old0 new0 old new_said done left wrote no_old no_new begun =
     let all = left.left ∙ ap (λ (s : Said). Behind done (changes_of_both s new_said)) no_old
-        ∙ ap (λ (s : Said). Behind done (changes_of_both (Ok []) s)) no_new ∙ ap (λ (l : List Pair). Some l) (append-nil done) in
+    ∙ ap (λ (s : Said). Behind done (changes_of_both (Ok []) s)) no_new ∙ ap (λ (l : List Pair). Some l) (append-nil done) in
     subst (λ (all : Option (List Pair)). IfSome all (λ changes. Begins before new (all_lines by_token changes))) (sym all)
     (subst (λ (l : Option TokenSum). Begins before new (lines_of_changes by_token None done ++ sums_line l)) wrote.open_sums
     (begins_behind before after new (lines_of_changes by_token None done) (sums_line last) wrote.written begun))
 
-named_line : (bill : Bill) (number : ℕ) (why : WrongLine) (old0 new0 old new : Said) (done : List Pair)
-    → Left old0 new0 old new done → (bill ≡ Old → old ≡ Err (number, why)) → (bill ≡ New → new ≡ Err (number, why))
-    → IsNamed (Line bill number why) old0 new0
-named_line Old number why old0 new0 old new done left is_old is_new = left.wrong_old (number, why) (is_old refl)
-named_line New number why old0 new0 old new done left is_old is_new = left.wrong_new (number, why) (is_new refl)
+-- ---- behind both rows
+pub if_some_at : {A : Type 0} (o : Option A) (a : A) (P : A → Type 0) → o ≡ Some a → IfSome o P → P a
+if_some_at None a P is h = absurd (cc)
+if_some_at (Some b) a P is h = let t : b ≡ a = cc in subst P t h
+
+taken_row : (is_taken : Bool) (row : Option LedgerRow) → row_in (if is_taken then row else None) ≡ taken_if is_taken (row_in row)
+taken_row true row = refl
+taken_row false row = refl
+
+taken_none : (is_taken : Bool) (row : Option Row) → row ≡ None → taken_if is_taken row ≡ None
+taken_none true row none = none
+taken_none false row none = refl
+
+abbrev SaidBy : Option LedgerRow → ℕ → Option (List ℕ) → Option Said
+SaidBy row number left = option_map (rows_with (row_in row) number) left
+
+pub record Moved (by_token : Bool) (before after : Option (List ℕ)) (removed : ℕ) (last : Option TokenSum)
+    (o n : Option Said) (pairs : List Pair) (old0 new0 : Said) : Type 0 where
+  pub old : Said
+  pub new : Said
+  pub is_old : o ≡ Some old
+  pub is_new : n ≡ Some new
+  pub done : List Pair
+  pub rest : Left old0 new0 old new (done ++ filter is_changed pairs)
+  pub wrote : Wrote by_token before after removed last done
+  pub over : [] ≡ pairs → (old ≡ Ok []) × (new ≡ Ok [])
+
+pub moved : (by_token : Bool) (before after : Option (List ℕ)) (removed : ℕ) (last : Option TokenSum)
+    (O N o n : Option Said) (old_row new_row b a : Option LedgerRow) (old_number new_number : ℕ)
+    (old_left new_left : Option (List ℕ)) (sides : Bool × Bool)
+    → sides ≡ next_sides (row_in old_row) (row_in new_row)
+    → b ≡ (if sides.0 then old_row else None) → a ≡ (if sides.1 then new_row else None)
+    → IfSome (option_map (rows_with (row_in old_row) old_number) old_left) (Moves (row_in b) o)
+    → IfSome (option_map (rows_with (row_in new_row) new_number) new_left) (Moves (row_in a) n)
+    → OfBoth O N (Walked by_token before after removed last
+    (option_map (rows_with (row_in old_row) old_number) old_left)
+    (option_map (rows_with (row_in new_row) new_number) new_left))
+    → OfBoth O N (Moved by_token before after removed last o n (pairs_of (row_in b) (row_in a)))
+moved by_token before after removed last O N o n old_row new_row b a old_number new_number old_left new_left sides
+    is_sides is_b is_a old_moves new_moves walked =
+    both O N _ _ (λ old0 new0 w.
+    let old_said = SaidBy old_row old_number old_left in
+    let new_said = SaidBy new_row new_number new_left in
+    let (old', is_old, old_is) = if_some_at old_said w.old (Moves (row_in b) o) w.is_old old_moves in
+    let (new', is_new, new_is) = if_some_at new_said w.new (Moves (row_in a) n) w.is_new new_moves in
+    let row_o = row_of_said (row_in old_row) old_number old_left w.old w.is_old in
+    let row_n = row_of_said (row_in new_row) new_number new_left w.new w.is_new in
+    let b_is : row_in b ≡ taken_if sides.0 (row_in old_row) = ap row_in is_b ∙ taken_row sides.0 old_row in
+    let a_is : row_in a ≡ taken_if sides.1 (row_in new_row) = ap row_in is_a ∙ taken_row sides.1 new_row in
+    record {
+      old = old';
+      new = new';
+      is_old = is_old;
+      is_new = is_new;
+      done = w.done;
+      rest = left_more (row_in old_row) (row_in new_row) old0 new0 w.old w.new old' new' w.done (row_in b) (row_in a)
+          sides.0 sides.1 is_sides b_is a_is row_o row_n old_is new_is w.rest;
+      wrote = w.wrote;
+      over = λ none.
+          let (no_old, no_new) = no_rows (row_in old_row) (row_in new_row) (row_in b) (row_in a) sides.0 sides.1 is_sides b_is a_is none in (
+            ap (λ (r : Option Row). with_row r old') (sym (b_is ∙ taken_none sides.0 (row_in old_row) no_old))
+                ∙ sym old_is ∙ no_row (row_in old_row) w.old row_o no_old,
+            ap (λ (r : Option Row). with_row r new') (sym (a_is ∙ taken_none sides.1 (row_in new_row) no_new))
+                ∙ sym new_is ∙ no_row (row_in new_row) w.new row_n no_new,
+          );
+    }) walked
+
+pub moved_next : (by_token : Bool) (before after new : Option (List ℕ)) (removed counted : ℕ) (last last' : Option TokenSum)
+    (O N o n : Option Said) (pairs : List Pair) (pair : Pair) → pair ∷ [] ≡ pairs
+    → Appends after new (lines_of_changes by_token last (filter is_changed (pair ∷ [])))
+    → last' ≡ last_sums by_token last (filter is_changed (pair ∷ []))
+    → counted ≡ removed + removed_in (filter is_changed (pair ∷ []))
+    → OfBoth O N (Moved by_token before after removed last o n pairs)
+    → OfBoth O N (Walked by_token before new counted last' o n)
+moved_next by_token before after new removed counted last last' O N o n pairs pair is more sums count at =
+    both O N _ _ (λ old0 new0 m. record {
+      old = m.old;
+      new = m.new;
+      is_old = m.is_old;
+      is_new = m.is_new;
+      done = m.done ++ filter is_changed (pair ∷ []);
+      rest = subst (λ (l : List Pair). Left old0 new0 m.old m.new (m.done ++ filter is_changed l)) (sym is) m.rest;
+      wrote = wrote_more by_token before after new removed counted last last' m.done (filter is_changed (pair ∷ [])) m.wrote more sums count;
+    }) at
+
+pub moved_begun : (by_token : Bool) (before after new : Option (List ℕ)) (removed : ℕ) (last : Option TokenSum)
+    (O N o n : Option Said) (pairs : List Pair) (pair : Pair) → pair ∷ [] ≡ pairs
+    → Begins after new (lines_of_changes by_token last (filter is_changed (pair ∷ [])))
+    → OfBoth O N (Moved by_token before after removed last o n pairs) → OfBoth O N (IsBegun by_token before new)
+moved_begun by_token before after new removed last O N o n pairs pair is more at =
+    both O N _ _ (λ old0 new0 m.
+    is_begun by_token before after new removed last old0 new0 m.old m.new m.done (filter is_changed (pair ∷ []))
+    (subst (λ (l : List Pair). Left old0 new0 m.old m.new (m.done ++ filter is_changed l)) (sym is) m.rest) m.wrote more) at
+
+at_end : (old0 new0 old new : Said) (done pairs : List Pair) → [] ≡ pairs → Left old0 new0 old new (done ++ filter is_changed pairs)
+    → Left old0 new0 old new done
+at_end old0 new0 old new done pairs none left =
+    subst (Left old0 new0 old new) (ap (λ (l : List Pair). done ++ filter is_changed l) (sym none) ∙ append-nil done) left
+
+pub moved_end : (by_token : Bool) (before after new : Option (List ℕ)) (removed : ℕ) (last : Option TokenSum)
+    (O N o n : Option Said) (pairs : List Pair) → [] ≡ pairs → Appends after new (sums_line last)
+    → OfBoth O N (Moved by_token before after removed last o n pairs) → OfBoth O N (AreWritten by_token removed before new)
+moved_end by_token before after new removed last O N o n pairs none more at =
+    both O N _ _ (λ old0 new0 m.
+    let (no_old, no_new) = m.over none in
+    all_written by_token before after new removed last old0 new0 m.old m.new m.done
+    (at_end old0 new0 m.old m.new m.done pairs none m.rest) m.wrote no_old no_new more) at
+
+pub moved_end_begun : (by_token : Bool) (before after new : Option (List ℕ)) (removed : ℕ) (last : Option TokenSum)
+    (O N o n : Option Said) (pairs : List Pair) → [] ≡ pairs → Begins after new (sums_line last)
+    → OfBoth O N (Moved by_token before after removed last o n pairs) → OfBoth O N (IsBegun by_token before new)
+moved_end_begun by_token before after new removed last O N o n pairs none more at =
+    both O N _ _ (λ old0 new0 m.
+    let (no_old, no_new) = m.over none in
+    end_begun by_token before after new removed last old0 new0 m.old m.new m.done
+    (at_end old0 new0 m.old m.new m.done pairs none m.rest) m.wrote no_old no_new more) at
+
+pub walked_begun : (by_token : Bool) (before after : Option (List ℕ)) (removed : ℕ) (last : Option TokenSum)
+    (O N o n : Option Said) → OfBoth O N (Walked by_token before after removed last o n)
+    → OfBoth O N (IsBegun by_token before after)
+walked_begun by_token before after removed last O N o n at =
+    both O N _ _ (λ old0 new0 w.
+    is_begun by_token before after after removed last old0 new0 w.old w.new w.done []
+    (subst (Left old0 new0 w.old w.new) (sym (append-nil w.done)) w.rest) w.wrote
+    (begins_nothing after (lines_of_changes by_token last []))) at
+
+-- ---- the whole text
+of_both_at : (O N : Option Said) (old new : Said) (P : Said → Said → Type 0) → O ≡ Some old → N ≡ Some new → OfBoth O N P → P old new
+of_both_at O N old new P is_old is_new h =
+    if_some_at N new (P old) is_new (if_some_at O old (λ a. IfSome N (λ b. P a b)) is_old h)
+
+pub whole_text : (by_token : Bool) (out mid end : Option (List ℕ)) (removed : ℕ) (old_text new_text : List ℕ) (O N : Option Said)
+    → O ≡ Some (rows_of old_text) → N ≡ Some (rows_of new_text) → Appends out mid (head_of by_token)
+    → OfBoth O N (AreWritten by_token removed mid end)
+    → (text : List ℕ) × (corrections_of by_token old_text new_text ≡ Some (text, removed)) × Appends out end text
+whole_text by_token out mid end removed old_text new_text O N is_old is_new head written =
+    let (changes, is, counted, wrote) =
+    of_both_at O N (rows_of old_text) (rows_of new_text) (AreWritten by_token removed mid end) is_old is_new written in (
+      head_of by_token ++ all_lines by_token changes,
+      ap (option_map (text_of by_token)) is
+          ∙ ap (λ (n : ℕ). Some (head_of by_token ++ all_lines by_token changes, n)) (sym counted),
+      Appends-trans out mid end (head_of by_token) (all_lines by_token changes) head wrote,
+    )
+
+pub head_begun : (by_token : Bool) (out mid : Option (List ℕ)) (old_text new_text : List ℕ) → Begins out mid (head_of by_token)
+    → IfSome (corrections_of by_token old_text new_text) (λ made. Begins out mid made.0)
+head_begun by_token out mid old_text new_text begun = by (changes_of_both (rows_of old_text) (rows_of new_text))
+  where
+    by : (changes : Option (List Pair)) → IfSome (option_map (text_of by_token) changes) (λ made. Begins out mid made.0)
+    by None = tt
+    by (Some changes) = begins_front out mid (head_of by_token) (all_lines by_token changes) begun
+
+pub nothing_begun : (by_token : Bool) (out : Option (List ℕ)) (old_text new_text : List ℕ)
+    → IfSome (corrections_of by_token old_text new_text) (λ made. Begins out out made.0)
+nothing_begun by_token out old_text new_text = head_begun by_token out out old_text new_text (begins_nothing out (head_of by_token))
+
+pub whole_begun : (by_token : Bool) (out mid end : Option (List ℕ)) (old_text new_text : List ℕ) (O N : Option Said)
+    → O ≡ Some (rows_of old_text) → N ≡ Some (rows_of new_text) → Appends out mid (head_of by_token)
+    → OfBoth O N (IsBegun by_token mid end)
+    → IfSome (corrections_of by_token old_text new_text) (λ made. Begins out end made.0)
+whole_begun by_token out mid end old_text new_text O N is_old is_new head begun =
+    by (changes_of_both (rows_of old_text) (rows_of new_text))
+    (of_both_at O N (rows_of old_text) (rows_of new_text) (IsBegun by_token mid end) is_old is_new begun)
+  where
+    by : (changes : Option (List Pair)) → IfSome changes (λ changes. Begins mid end (all_lines by_token changes))
+        → IfSome (option_map (text_of by_token) changes) (λ made. Begins out end made.0)
+    by None begun = tt
+    by (Some changes) begun = begins_behind out mid end (head_of by_token) (all_lines by_token changes) head begun
+
+-- ---- which line is the first wrong one
+pub named_of_both : (old_text new_text : List ℕ) (O N : Option Said) (fault : CorrectionsFault)
+    → O ≡ Some (rows_of old_text) → N ≡ Some (rows_of new_text) → OfBoth O N (IsNamed fault)
+    → NamesFirstWrong old_text new_text fault
+named_of_both old_text new_text O N fault is_old is_new named =
+    by fault (of_both_at O N (rows_of old_text) (rows_of new_text) (IsNamed fault) is_old is_new named)
+  where
+    by : (fault : CorrectionsFault) → IsNamed fault (rows_of old_text) (rows_of new_text) → NamesFirstWrong old_text new_text fault
+    by (Line Old number why) is = is
+    by (Line New number why) is = is
+    by (Unread bill) is = tt
+    by Write is = tt
+    by NoMemory is = tt
+
+other_bill : {A : Type 0} → Old ≡ New → A
+other_bill e = absurd (cc)
+
+pub named_old : (old_text new_text : List ℕ) (fault : CorrectionsFault) → IsWrongAs Old (rows_of old_text) fault
+    → NamesFirstWrong old_text new_text fault
+named_old old_text new_text (Line Old number why) is = is.1
+named_old old_text new_text (Line New number why) is = other_bill (sym is.0)
+named_old old_text new_text (Unread bill) is = tt
+named_old old_text new_text Write is = tt
+named_old old_text new_text NoMemory is = tt
+
+pub named_new : (old_text new_text : List ℕ) (fault : CorrectionsFault) → IsWrongAs New (rows_of new_text) fault
+    → NamesFirstWrong old_text new_text fault
+named_new old_text new_text (Line Old number why) is = other_bill is.0
+named_new old_text new_text (Line New number why) is = is.1
+named_new old_text new_text (Unread bill) is = tt
+named_new old_text new_text Write is = tt
+named_new old_text new_text NoMemory is = tt
+
+pub named_none : (old_text new_text : List ℕ) (fault : CorrectionsFault) → IsNoLine fault → NamesFirstWrong old_text new_text fault
+named_none old_text new_text (Line bill number why) is = absurd is
+named_none old_text new_text (Unread bill) is = tt
+named_none old_text new_text Write is = tt
+named_none old_text new_text NoMemory is = tt

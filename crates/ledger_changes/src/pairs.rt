@@ -46,10 +46,7 @@ fn agree(before: &Option<LineCharge>, after: &Option<LineCharge>) -> bool
 
 impl LinePair {
     /// The pair of these rows; none if there is no row.
-    pub(crate) fn of_rows(
-        before: Option<LedgerRow>,
-        after: Option<LedgerRow>,
-    ) -> Option<LinePair>
+    pub(crate) fn of_rows(before: Option<LedgerRow>, after: Option<LedgerRow>) -> Option<LinePair>
         ensures { option_to_list (option_map pair_of result)
             ≡ pairs_of (row_in before) (row_in after) }
     {

@@ -147,7 +147,7 @@ fn parts_join_to_the_whole(rt: HostRuntime) -> Result<(), Fail> {
     assert!(rt; do_join(&rt, alloc, &files, &[token(255)])?);
     assert!(rt; do_join(&rt, alloc, &files, &[token(6), token(7), token(8)])?);
     assert!(rt;
-        check(
+        do_join(
             &rt,
             alloc,
             &files,

@@ -1,7 +1,6 @@
 //! The whole program over the system, from the words to the status.
 
 use crate::files_made::FilesMade;
-use crate::lines::Looks;
 use crate::manner::{Manner, manner_of};
 use crate::output::collect;
 use crate::placed::FilesByName;
@@ -17,16 +16,14 @@ use std::thread::Threads;
 use tool_program::{Fault, main_over, say};
 use world::Recorded;
 
-/// What a terminal shows beside a run, and what is looked at in texts, by the subcommand.
+/// What a terminal shows beside a run, by the subcommand.
 #[derive(Clone, Copy)]
 struct Shows {
     /// Whether counts are shown also where the text goes to a terminal: it is made behind them, or
     /// none is.
     counts: bool,
-    /// Whether it is shown how much of the text is written.
+    /// Whether it is shown how much of the text is written. Then reports or ledgers are read.
     text: bool,
-    /// What is looked at in the lines of texts.
-    looks: Looks,
 }
 
 impl Shows {
@@ -39,11 +36,6 @@ impl Shows {
         Shows {
             counts: name == "uploads" || name == "table" || name == "sort",
             text: name == "merge" || name == "corrections",
-            looks: match name {
-                "merge" => Looks::Controls,
-                "corrections" => Looks::Length,
-                _ => Looks::None,
-            },
         }
     }
 }
@@ -56,7 +48,10 @@ fn texts_of<'r>(rt: &'r HostRuntime, manner: Manner, shows: Shows) -> Texts<'r> 
     if shows.counts {
         return Texts::shown(rt);
     }
-    Texts::of_others(rt, shows.looks)
+    if shows.text {
+        return Texts::of_others(rt);
+    }
+    Texts::new(rt)
 }
 
 /// The whole program over the system: reads the words, of which the first is the program's name,

@@ -1,6 +1,6 @@
 //! The texts of the system, for the subcommands of `tool_program`.
 
-use crate::lines::{Lines, Looks};
+use crate::lines::Lines;
 use crate::progress::{Progress, Watched};
 use crate::quotes::Quotes;
 use program_manners::{LoadFault, Opened, load_file, load_from, open_file};
@@ -37,8 +37,8 @@ pub(crate) struct Texts<'r> {
     rt: &'r HostRuntime,
     /// Where counts are shown.
     progress: Progress<'r>,
-    /// What is looked at in their lines.
-    looks: Looks,
+    /// Whether their lines are to be short.
+    has_short_lines: bool,
     /// What stands between two fields of a CSV whose quotes are looked at, if they are.
     separator: Option<u8>,
 }
@@ -49,19 +49,16 @@ impl<'r> Texts<'r> {
         Texts {
             rt,
             progress: Progress::beside_text(rt),
-            looks: Looks::None,
+            has_short_lines: false,
             separator: None,
         }
     }
 
-    /// The same, of reports and ledgers of others, in whose lines something is looked at.
-    pub(crate) fn of_others(rt: &'r HostRuntime, looks: Looks) -> Texts<'r> {
-        Texts {
-            rt,
-            progress: Progress::beside_text(rt),
-            looks,
-            separator: None,
-        }
+    /// The same, of reports and ledgers of others, whose lines are short.
+    pub(crate) fn of_others(rt: &'r HostRuntime) -> Texts<'r> {
+        let mut texts = Texts::new(rt);
+        texts.has_short_lines = true;
+        texts
     }
 
     /// The same, of an agency's CSV with this byte between two fields.
@@ -84,7 +81,7 @@ impl<'r> Texts<'r> {
         Texts {
             rt,
             progress: Progress::new(rt),
-            looks: Looks::None,
+            has_short_lines: false,
             separator: None,
         }
     }
@@ -96,7 +93,7 @@ impl<'r> Texts<'r> {
         progress: Progress<'r>,
         shown: Shown,
     ) -> Result<BufReader<Watched<'r, Lines<Quotes<'r, Opened>>>>, LoadFault> {
-        let from = Lines::new(self.quotes(name)?, self.looks);
+        let from = Lines::new(self.quotes(name)?, self.has_short_lines);
         let watched = Watched::new(from, progress, Some(shown.bytes), shown.verb);
         match BufReader::with_capacity(self.rt.alloc(), READ_BYTES, watched) {
             Ok(reader) => Ok(reader),

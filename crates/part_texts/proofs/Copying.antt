@@ -37,49 +37,56 @@ line_itself s line = line
 ok_one : {A E : Type 0} {a b : A} → ◌≡◌ {A = Result A E} (Ok a) (Ok b) → a ≡ b
 ok_one e = cc
 
+one_written : (number : ℕ) (line : List ℕ) (lines : List (List ℕ))
+    (end : ℕ × SectionView × List (List ℕ)) (said : Result SectionView Wrong)
+    → ((next : SectionView)
+    → run never (bounded Form section_step) (number + 1) next lines ≡ Ok end
+    → written never (bounded Form section_step) line_itself next lines
+    ≡ flat_map (λ line. line) lines)
+    → carry (λ next. run never (bounded Form section_step) (number + 1) next lines)
+    (λ why. (number, why)) said ≡ Ok end
+    → written_on line (λ next. written never (bounded Form section_step) line_itself next lines)
+    said ≡ line ++ flat_map (λ line. line) lines
+one_written number line lines end (Ok next) more ran = ap (λ rest. line ++ rest) (more next ran)
+one_written number line lines end (Err why) more ran = absurd (cc)
+
 -- what a run that goes through writes are all lines
 all_written : (number : ℕ) (s : SectionView) (lines : List (List ℕ))
     (end : ℕ × SectionView × List (List ℕ))
     → run never (bounded Form section_step) number s lines ≡ Ok end
     → written never (bounded Form section_step) line_itself s lines ≡ flat_map (λ line. line) lines
 all_written number s [] end ran = refl
-all_written number s (line ∷ lines) end ran = by (bounded Form section_step s line) ran
-  where
-    by : (said : Result SectionView Wrong)
-        → carry (λ next. run never (bounded Form section_step) (number + 1) next lines)
-        (λ why. (number, why)) said ≡ Ok end
-        → written_on line (λ next. written never (bounded Form section_step) line_itself next lines)
-        said ≡ line ++ flat_map (λ line. line) lines
-    by (Ok next) ran = ap (λ rest. line ++ rest) (all_written (number + 1) next lines end ran)
-    by (Err why) ran = absurd (cc)
+all_written number s (line ∷ lines) end ran =
+    one_written number line lines end (bounded Form section_step s line)
+    (λ next more. all_written (number + 1) next lines end more) ran
 
 -- what an open part is
-view_of : {R : Type 0} (remaining : R → Option (List ℕ)) (open : Open R) (view : OpenView)
-    → open_view remaining open ≡ Some view
-    → (rest : List ℕ) × (remaining open.from ≡ Some rest)
+view_of : {R : Type 0} (remaining : R → Option (List ℕ)) (opening : Open R) (view : OpenView)
+    → open_view remaining opening ≡ Some view
+    → (rest : List ℕ) × (remaining opening.from ≡ Some rest)
     × (record {
-      is_ledger = open.is_ledger;
-      left = open.left;
-      part = sums_of open.part;
-      number = open.number;
+      is_ledger = opening.is_ledger;
+      left = opening.left;
+      part = sums_of opening.part;
+      number = opening.number;
       lines = lines_of rest;
     } ≡ view)
-view_of remaining open view is = by (remaining open.from) refl is
+view_of remaining opening view is = by (remaining opening.from) refl is
   where
-    by : (r : Option (List ℕ)) → remaining open.from ≡ r
+    by : (r : Option (List ℕ)) → remaining opening.from ≡ r
         → option_map (λ rest. record {
-          is_ledger = open.is_ledger;
-          left = open.left;
-          part = sums_of open.part;
-          number = open.number;
+          is_ledger = opening.is_ledger;
+          left = opening.left;
+          part = sums_of opening.part;
+          number = opening.number;
           lines = lines_of rest;
         }) r ≡ Some view
-        → (rest : List ℕ) × (remaining open.from ≡ Some rest)
+        → (rest : List ℕ) × (remaining opening.from ≡ Some rest)
         × (record {
-          is_ledger = open.is_ledger;
-          left = open.left;
-          part = sums_of open.part;
-          number = open.number;
+          is_ledger = opening.is_ledger;
+          left = opening.left;
+          part = sums_of opening.part;
+          number = opening.number;
           lines = lines_of rest;
         } ≡ view)
     by None here is = absurd (cc)
@@ -87,75 +94,75 @@ view_of remaining open view is = by (remaining open.from) refl is
 
 -- the part's lines, as the program begins with them
 abbrev pub begins_at : {R : Type 0} → Open R → Option Token → SectionView
-begins_at open last = record {
-  is_ledger = open.is_ledger;
+begins_at opening last = record {
+  is_ledger = opening.is_ledger;
   is_first = true;
-  left = open.left;
+  left = opening.left;
   last = last;
-  part = sums_of open.part;
+  part = sums_of opening.part;
   so_far = no_sums;
 }
 
 module _ {R : Type 0} (remaining : R → Option (List ℕ)) (place : ℕ) (last : Option Token)
-    (open : Open R) (start end : SectionView) (left before after : Option (List ℕ))
-    (begins : start ≡ begins_at open last) where
+    (opening : Open R) (start end : SectionView) (left before after : Option (List ℕ))
+    (begins : start ≡ begins_at opening last) where
   -- what is said of the part, by the run from where the program begins
   said_by_run : (view : OpenView) (rest : List ℕ) → record {
-        is_ledger = open.is_ledger;
-        left = open.left;
-        part = sums_of open.part;
-        number = open.number;
+        is_ledger = opening.is_ledger;
+        left = opening.left;
+        part = sums_of opening.part;
+        number = opening.number;
         lines = lines_of rest;
       } ≡ view
       → section_of place last view
-      ≡ section_ended place (run never (bounded Form section_step) open.number start (lines_of rest))
+      ≡ section_ended place (run never (bounded Form section_step) opening.number start (lines_of rest))
   said_by_run view rest is =
       ap (section_of place last) (sym is)
       ∙ ap (λ s. section_ended place
-      (run never (bounded Form section_step) open.number s (lines_of rest))) (sym begins)
+      (run never (bounded Form section_step) opening.number s (lines_of rest))) (sym begins)
 
-  pub section_ok : (number : ℕ) (view : OpenView) → open_view remaining open ≡ Some view
-      → IfSome (remaining open.from) (λ text. StopsAs
-      (run never (bounded Form section_step) open.number start (lines_of text)) end left (Ok number))
-      → IfSome (remaining open.from) (λ text. HasWritten {W = Wrong} before after
+  pub section_ok : (number : ℕ) (view : OpenView) → open_view remaining opening ≡ Some view
+      → IfSome (remaining opening.from) (λ text. StopsAs
+      (run never (bounded Form section_step) opening.number start (lines_of text)) end left (Ok number))
+      → IfSome (remaining opening.from) (λ text. HasWritten {W = Wrong} before after
       (written never (bounded Form section_step) line_itself start (lines_of text)) (Ok number))
       → section_end end ≡ None
       → Copied (λ (s : SectionView). s.last) (section_of place last view)
       (flat_map (λ line. line) view.lines) before after (Ok end.last)
   section_ok number view is stops wrote ends =
-      let (rest, here, same) = view_of remaining open view is in
-      let (behind, lefts, ran) = if_some _ (remaining open.from) rest here stops in
-      let all = if_some _ (remaining open.from) rest here wrote in
+      let (rest, here, same) = view_of remaining opening view is in
+      let (behind, lefts, ran) = if_some _ (remaining opening.from) rest here stops in
+      let all = if_some _ (remaining opening.from) rest here wrote in
       (
         end,
         said_by_run view rest same ∙ ap (section_ended place) ran
             ∙ ap (end_or (place, (number, Form)) end) ends,
         refl,
         subst (Appends before after)
-            (all_written open.number start (lines_of rest) (number, end, lines_of behind) ran
+            (all_written opening.number start (lines_of rest) (number, end, lines_of behind) ran
             ∙ ap (λ (v : OpenView). flat_map (λ line. line) v.lines) same) all,
       )
 
   pub section_wrong : (number : ℕ) (why : Wrong) (view : OpenView)
-      → open_view remaining open ≡ Some view
-      → IfSome (remaining open.from) (λ text. StopsAs
-      (run never (bounded Form section_step) open.number start (lines_of text)) end left (Ok number))
+      → open_view remaining opening ≡ Some view
+      → IfSome (remaining opening.from) (λ text. StopsAs
+      (run never (bounded Form section_step) opening.number start (lines_of text)) end left (Ok number))
       → section_end end ≡ Some why
       → Copied {T = Option Token} (λ (s : SectionView). s.last) (section_of place last view)
       (flat_map (λ line. line) view.lines) before after (Err (Line place number why))
   section_wrong number why view is stops ends =
-      let (rest, here, same) = view_of remaining open view is in
-      let (behind, lefts, ran) = if_some _ (remaining open.from) rest here stops in
+      let (rest, here, same) = view_of remaining opening view is in
+      let (behind, lefts, ran) = if_some _ (remaining opening.from) rest here stops in
       let said = said_by_run view rest same ∙ ap (section_ended place) ran
       ∙ ap (end_or (place, (number, Form)) end) ends in
       (said, λ s is_ok. absurd (let e = sym said ∙ is_ok in cc))
 
   -- a prefix of all lines is written, if the lines are those of a part
   prefix_of : (stop : Stop Wrong) (view : OpenView) (rest : List ℕ) → record {
-        is_ledger = open.is_ledger;
-        left = open.left;
-        part = sums_of open.part;
-        number = open.number;
+        is_ledger = opening.is_ledger;
+        left = opening.left;
+        part = sums_of opening.part;
+        number = opening.number;
         lines = lines_of rest;
       } ≡ view
       → AppendsPrefix before after
@@ -163,51 +170,51 @@ module _ {R : Type 0} (remaining : R → Option (List ℕ)) (place : ℕ) (last 
       → (s : SectionView) → section_of place last view ≡ Ok s
       → AppendsPrefix before after (flat_map (λ line. line) view.lines)
   prefix_of stop view rest same some s ok =
-      through (run never (bounded Form section_step) open.number start (lines_of rest)) refl
+      through (run never (bounded Form section_step) opening.number start (lines_of rest)) refl
       (sym (said_by_run view rest same) ∙ ok)
     where
       through : (ran : Result (ℕ × SectionView × List (List ℕ)) (ℕ × Wrong))
-          → run never (bounded Form section_step) open.number start (lines_of rest) ≡ ran
+          → run never (bounded Form section_step) opening.number start (lines_of rest) ≡ ran
           → section_ended place ran ≡ Ok s
           → AppendsPrefix before after (flat_map (λ line. line) view.lines)
       through (Ok read) is done =
           subst (AppendsPrefix before after)
-          (all_written open.number start (lines_of rest) read is
+          (all_written opening.number start (lines_of rest) read is
           ∙ ap (λ (v : OpenView). flat_map (λ line. line) v.lines) same) some
       through (Err wrong) is done = absurd (cc)
 
-  pub section_fault : (stop : Stop Wrong) (view : OpenView) → open_view remaining open ≡ Some view
-      → IfSome (remaining open.from) (λ text. StopsAs
-      (run never (bounded Form section_step) open.number start (lines_of text)) end left (Err stop))
-      → IfSome (remaining open.from) (λ text. HasWritten before after
+  pub section_fault : (stop : Stop Wrong) (view : OpenView) → open_view remaining opening ≡ Some view
+      → IfSome (remaining opening.from) (λ text. StopsAs
+      (run never (bounded Form section_step) opening.number start (lines_of text)) end left (Err stop))
+      → IfSome (remaining opening.from) (λ text. HasWritten before after
       (written never (bounded Form section_step) line_itself start (lines_of text)) (Err stop))
       → Copied {T = Option Token} (λ (s : SectionView). s.last) (section_of place last view)
       (flat_map (λ line. line) view.lines) before after (Err (fault_by place stop))
   section_fault (StopLine number why) view is stops wrote =
-      let (rest, here, same) = view_of remaining open view is in
+      let (rest, here, same) = view_of remaining opening view is in
       let said = said_by_run view rest same
-      ∙ ap (section_ended place) (if_some _ (remaining open.from) rest here stops) in
+      ∙ ap (section_ended place) (if_some _ (remaining opening.from) rest here stops) in
       (said, λ s is_ok. absurd (let e = sym said ∙ is_ok in cc))
   section_fault StopUnread view is stops wrote =
-      let (rest, here, same) = view_of remaining open view is in
-      (tt, prefix_of StopUnread view rest same (if_some _ (remaining open.from) rest here wrote))
+      let (rest, here, same) = view_of remaining opening view is in
+      (tt, prefix_of StopUnread view rest same (if_some _ (remaining opening.from) rest here wrote))
   section_fault StopLong view is stops wrote =
-      let (rest, here, same) = view_of remaining open view is in
-      (tt, prefix_of StopLong view rest same (if_some _ (remaining open.from) rest here wrote))
+      let (rest, here, same) = view_of remaining opening view is in
+      (tt, prefix_of StopLong view rest same (if_some _ (remaining opening.from) rest here wrote))
   section_fault Unwritten view is stops wrote =
-      let (rest, here, same) = view_of remaining open view is in
-      (tt, prefix_of Unwritten view rest same (if_some _ (remaining open.from) rest here wrote))
+      let (rest, here, same) = view_of remaining opening view is in
+      (tt, prefix_of Unwritten view rest same (if_some _ (remaining opening.from) rest here wrote))
   section_fault StopMemory view is stops wrote =
-      let (rest, here, same) = view_of remaining open view is in
-      (tt, prefix_of StopMemory view rest same (if_some _ (remaining open.from) rest here wrote))
+      let (rest, here, same) = view_of remaining opening view is in
+      (tt, prefix_of StopMemory view rest same (if_some _ (remaining opening.from) rest here wrote))
 
 -- ---- all parts
-open_more : {R : Type 0} (remaining : R → Option (List ℕ)) (open : Open R) (opens : List (Open R))
-    (views : List OpenView) → AreOpen remaining (open ∷ opens) views
+open_more : {R : Type 0} (remaining : R → Option (List ℕ)) (opening : Open R) (opens : List (Open R))
+    (views : List OpenView) → AreOpen remaining (opening ∷ opens) views
     → (view : OpenView) × (more : List OpenView) × (views ≡ view ∷ more)
-    × (open_view remaining open ≡ Some view) × AreOpen remaining opens more
-open_more remaining open opens [] are = absurd (cc)
-open_more remaining open opens (view ∷ more) are = (view, more, refl, (cc), (cc))
+    × (open_view remaining opening ≡ Some view) × AreOpen remaining opens more
+open_more remaining opening opens [] are = absurd (cc)
+open_more remaining opening opens (view ∷ more) are = (view, more, refl, (cc), (cc))
 
 pub open_none : {R : Type 0} (remaining : R → Option (List ℕ)) (views : List OpenView)
     → AreOpen remaining [] views → views ≡ []
@@ -236,17 +243,17 @@ copies_none remaining all left before is = λ views are. (
 )
 
 pub copies_more : {R : Type 0} (remaining : R → Option (List ℕ)) (all : List (Open R)) (place : ℕ)
-    (last next : Option Token) (left more : List (Open R)) (open : Open R)
-    (before now after : Option (List ℕ)) → left ≡ open ∷ more
+    (last next : Option Token) (left more : List (Open R)) (opening : Open R)
+    (before now after : Option (List ℕ)) → left ≡ opening ∷ more
     → CopiesAt remaining all place last left before now
-    → ((view : OpenView) → open_view remaining open ≡ Some view
+    → ((view : OpenView) → open_view remaining opening ≡ Some view
     → Copied (λ (s : SectionView). s.last) (section_of place last view)
     (flat_map (λ line. line) view.lines) now after (Ok next))
     → CopiesAt remaining all (place + 1) next more before after
-copies_more remaining all place last next left more open before now after split at_all copied =
+copies_more remaining all place last next left more opening before now after split at_all copied =
     λ views are.
     let (rest, lefts, same, front, lines, wrote) = at_all views are in
-    let (view, others, shown, here, behind) = open_more remaining open more rest
+    let (view, others, shown, here, behind) = open_more remaining opening more rest
     (sym (ap (map (open_view remaining)) split) ∙ lefts) in
     let (s, said, last_is, added) = copied view here in
     (
@@ -267,19 +274,19 @@ ok_through (Ok s) next t is = (s, refl)
 ok_through (Err wrong) next t is = absurd (cc)
 
 pub copies_fault : {R : Type 0} (remaining : R → Option (List ℕ)) (all : List (Open R)) (place : ℕ)
-    (last : Option Token) (left more : List (Open R)) (open : Open R)
-    (before now after : Option (List ℕ)) (fault : MergeFault) → left ≡ open ∷ more
+    (last : Option Token) (left more : List (Open R)) (opening : Open R)
+    (before now after : Option (List ℕ)) (fault : MergeFault) → left ≡ opening ∷ more
     → CopiesAt remaining all place last left before now
-    → ((view : OpenView) → open_view remaining open ≡ Some view
+    → ((view : OpenView) → open_view remaining opening ≡ Some view
     → Copied {T = Option Token} (λ (s : SectionView). s.last) (section_of place last view)
     (flat_map (λ line. line) view.lines) now after (Err fault))
     → (views : List OpenView) → AreOpen remaining all views
     → Copied {T = Unit {0}} (λ (s : Option Token). tt) (sections_of 0 None views) (lines_left views)
     before after (Err fault)
-copies_fault remaining all place last left more open before now after fault split at_all copied views
+copies_fault remaining all place last left more opening before now after fault split at_all copied views
     are =
     let (rest, lefts, same, front, lines, wrote) = at_all views are in
-    let (view, others, shown, here, behind) = open_more remaining open more rest
+    let (view, others, shown, here, behind) = open_more remaining opening more rest
     (sym (ap (map (open_view remaining)) split) ∙ lefts) in
     let (is, some) = copied view here in
     let next = λ (s : SectionView). sections_of (place + 1) s.last others in

@@ -22,23 +22,18 @@ span_lines-push file (first ∷ spans) span =
     ∙ sym (append_assoc (span_line file first) (span_lines (file + 1) spans)
     (span_line (file + length (first ∷ spans)) span))
 
--- the span of a whole file
-abbrev whole_span : FileSpan
-whole_span = record { from = record { offset = 0; skip = 0 }; to = None }
-
 -- what was written of the files before one, and the line of that one
-pub spans_more : (start : List ℕ) (spans : List FileSpan) (span : FileSpan) (i : ℕ)
-    → i < length spans → span ≡ get_or spans i span
-    → (start ++ span_lines 0 (take i spans)) ++ span_line i span
+pub spans_more : (start : List ℕ) (spans : List FileSpan) (d : FileSpan) (i : ℕ)
+    → i < length spans
+    → (start ++ span_lines 0 (take i spans)) ++ span_line i (get_or spans i d)
     ≡ start ++ span_lines 0 (take (i + 1) spans)
-spans_more start spans span i within is =
+spans_more start spans d i within =
     let count : 0 + length (take i spans) ≡ i = omega (arith, length-take {A = FileSpan}) in
-    append_assoc start (span_lines 0 (take i spans)) (span_line i span)
+    append_assoc start (span_lines 0 (take i spans)) (span_line i (get_or spans i d))
     ∙ ap (λ text. start ++ text)
-    (ap (λ n. span_lines 0 (take i spans) ++ span_line n span) (sym count)
-    ∙ ap (λ s. span_lines 0 (take i spans) ++ span_line (0 + length (take i spans)) s) is
-    ∙ sym (span_lines-push 0 (take i spans) (get_or spans i span))
-    ∙ ap (λ taken. span_lines 0 taken) (sym (take_more spans i span within)))
+    (ap (λ n. span_lines 0 (take i spans) ++ span_line n (get_or spans i d)) (sym count)
+    ∙ sym (span_lines-push 0 (take i spans) (get_or spans i d))
+    ∙ ap (λ taken. span_lines 0 taken) (sym (take_more spans i d within)))
 
 -- the pieces of a line
 pub in_line : (start a b c d done : List ℕ) (file : ℕ) (span : FileSpan)

@@ -2,12 +2,4 @@ pub mod HeadTexts
 pub mod WholeTexts
 pub mod Opening
 pub mod Copying
-pub mod HeadLines
-pub mod Leads
-pub mod ShownSections
-pub mod ShownFronts
-pub mod ShownReports
-pub mod KeySums
-pub mod Tables
-pub mod HistoryParts
-pub mod ShownLedgers
+pub mod Kept

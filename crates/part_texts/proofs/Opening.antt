@@ -26,6 +26,11 @@ use Rattle.part_texts.specs.declared.merging.Open.{Open}
 pub if_some : {A : Type 0} (P : A → Type 0) (r : Option A) (a : A) → r ≡ Some a → IfSome r P → P a
 if_some P r a is holds = subst (λ x. IfSome x P) is holds
 
+pub if_weaker : {A : Type 0} (P Q : A → Type 0) (r : Option A) → ((a : A) → P a → Q a)
+    → IfSome r P → IfSome r Q
+if_weaker P Q None weaker holds = tt
+if_weaker P Q (Some a) weaker holds = weaker a holds
+
 -- ---- one front
 pub front_ok : (place number : ℕ) (s new : FrontsView) (text : List ℕ) (left : Option (List ℕ))
     → StopsAs (run front_done (bounded Form front_step) 1 s (lines_of text)) new left (Ok number)
@@ -82,8 +87,8 @@ open_length : {R : Type 0} (remaining : R → Option (List ℕ)) (opens : List (
     (views : List OpenView) → AreOpen remaining opens views → length views ≡ length opens
 open_length remaining [] [] are = refl
 open_length remaining [] (view ∷ views) are = absurd (cc)
-open_length remaining (open ∷ opens) [] are = absurd (cc)
-open_length remaining (open ∷ opens) (view ∷ views) are =
+open_length remaining (opening ∷ opens) [] are = absurd (cc)
+open_length remaining (opening ∷ opens) (view ∷ views) are =
     let rest = open_length remaining opens views (cc) in omega (arith, rest)
 
 -- where the part stands among all parts
@@ -133,37 +138,37 @@ next_front remaining now mid opens views more others place count text at all is 
     ∙ at_begun (length views) count others now whole)
     ∙ ap (λ n. front_of n (at_part (length views) others now) text) same
 
-view_of : {R : Type 0} (remaining : R → Option (List ℕ)) (open : Open R) (next : FrontsView)
-    (rest : List ℕ) → remaining open.from ≡ Some rest → open.is_ledger ≡ next.is_ledger
-    → open.left ≡ left_at next.stage → sums_of open.part ≡ next.part
-    → open_view remaining open ≡ Some (opened (open.number, next, lines_of rest))
-view_of remaining open next rest is ledger left part =
+view_of : {R : Type 0} (remaining : R → Option (List ℕ)) (opening : Open R) (next : FrontsView)
+    (rest : List ℕ) → remaining opening.from ≡ Some rest → opening.is_ledger ≡ next.is_ledger
+    → opening.left ≡ left_at next.stage → sums_of opening.part ≡ next.part
+    → open_view remaining opening ≡ Some (opened (opening.number, next, lines_of rest))
+view_of remaining opening next rest is ledger left part =
     ap (option_map (λ (text : List ℕ). record {
-      is_ledger = open.is_ledger;
-      left = open.left;
-      part = sums_of open.part;
-      number = open.number;
+      is_ledger = opening.is_ledger;
+      left = opening.left;
+      part = sums_of opening.part;
+      number = opening.number;
       lines = lines_of text;
     })) is
     ∙ (λ i. Some (record {
       is_ledger = ledger i;
       left = left i;
       part = part i;
-      number = open.number;
+      number = opening.number;
       lines = lines_of rest;
     }))
 
 pub opens_more : {R : Type 0} (remaining : R → Option (List ℕ)) (all : List R)
-    (first now mid next : FrontsView) (opens more_opens : List (Open R)) (open : Open R)
+    (first now mid next : FrontsView) (opens more_opens : List (Open R)) (opening : Open R)
     (left more : List R) (r : R) (place count : ℕ) → left ≡ r ∷ more
     → OpensAt remaining all first now opens left → place ≡ length opens
     → count ≡ length opens + length left → mid ≡ begun place count now
     → IfSome (remaining r) (λ text.
-    FrontRead (front_of place mid text) next (remaining open.from) (Ok open.number))
-    → open.is_ledger ≡ next.is_ledger → open.left ≡ left_at next.stage
-    → sums_of open.part ≡ next.part → more_opens ≡ opens ++ open ∷ []
+    FrontRead (front_of place mid text) next (remaining opening.from) (Ok opening.number))
+    → opening.is_ledger ≡ next.is_ledger → opening.left ≡ left_at next.stage
+    → sums_of opening.part ≡ next.part → more_opens ≡ opens ++ opening ∷ []
     → OpensAt remaining all first next more_opens more
-opens_more remaining all first now mid next opens more_opens open left more r place count split at_all
+opens_more remaining all first now mid next opens more_opens opening left more r place count split at_all
     at_place number begin read ledger tokens part pushed = λ texts are.
     let (rest, lefts, views, opened_views, same) = at_all texts are in
     let (text, others, shown, here, behind) = left_more remaining r more rest
@@ -171,15 +176,15 @@ opens_more remaining all first now mid next opens more_opens open left more r pl
     let whole : count ≡ length opens + (1 + length more) =
     (let l = ap length split in omega (arith, number, l)) in
     let (unread, is, said) = if_some _ (remaining r) text here read in
-    let view = opened (open.number, next, lines_of unread) in
+    let view = opened (opening.number, next, lines_of unread) in
     (
       others,
       behind,
       views ++ view ∷ [],
-      ap (map (open_view remaining)) pushed ∙ map-append (open_view remaining) opens (open ∷ [])
-          ∙ ap (λ vs. vs ++ open_view remaining open ∷ []) opened_views
+      ap (map (open_view remaining)) pushed ∙ map-append (open_view remaining) opens (opening ∷ [])
+          ∙ ap (λ vs. vs ++ open_view remaining opening ∷ []) opened_views
           ∙ ap (λ v. map (λ view. Some view) views ++ v ∷ [])
-          (view_of remaining open next unread is ledger tokens part)
+          (view_of remaining opening next unread is ledger tokens part)
           ∙ sym (map-append (λ (view : OpenView). Some view) views (view ∷ [])),
       same ∙ ap (fronts_of now views) shown
           ∙ ap (λ said. and_then said (λ read. fronts_of read.0 (views ++ read.1 ∷ []) others))

@@ -23,11 +23,11 @@ map_length f [] = refl
 map_length f (x ∷ xs) = let rest = map_length f xs in omega (arith, rest)
 
 -- what was written of the uploads before one, and the line of that one
-pub uploads_more : (start : List ℕ) (taps : List ℕ) (one i : ℕ) → i < length taps
-    → one ≡ get_or taps i one
-    → (start ++ upload_lines 0 (map Posted (take i taps))) ++ upload_line i (Posted one)
+pub uploads_more : (start : List ℕ) (taps : List ℕ) (d i : ℕ) → i < length taps
+    → (start ++ upload_lines 0 (map Posted (take i taps))) ++ upload_line i (Posted (get_or taps i d))
     ≡ start ++ upload_lines 0 (map Posted (take (i + 1) taps))
-uploads_more start taps one i within is =
+uploads_more start taps d i within =
+    let one = get_or taps i d in
     let count : 0 + length (map Posted (take i taps)) ≡ i =
     (let l = map_length Posted (take i taps) in omega (arith, l, length-take {A = ℕ})) in
     append_assoc start (upload_lines 0 (map Posted (take i taps))) (upload_line i (Posted one))
@@ -35,8 +35,7 @@ uploads_more start taps one i within is =
     (ap (λ n. upload_lines 0 (map Posted (take i taps)) ++ upload_line n (Posted one)) (sym count)
     ∙ sym (upload_lines-push 0 (map Posted (take i taps)) (Posted one))
     ∙ ap (λ ends. upload_lines 0 ends) (sym (map-append Posted (take i taps) (one ∷ [])))
-    ∙ ap (λ x. upload_lines 0 (map Posted (take i taps ++ x ∷ []))) is
-    ∙ ap (λ taken. upload_lines 0 (map Posted taken)) (sym (take_more taps i one within)))
+    ∙ ap (λ taken. upload_lines 0 (map Posted taken)) (sym (take_more taps i d within)))
 
 -- one more
 shown_more : (items : List (Bor ℕ × Bor Totals)) (validator : Bor ℕ) (totals : Bor Totals)

@@ -1,8 +1,10 @@
 -- The laws of the forms in the lines of a part's head.
-use Rattle.std.proofs.Common.{◌≡◌, ◌∙◌, ℕ, ◌^◌, List, [], ◌∷◌, ◌++◌, Option, Some, None, codes, refl, sym, ap, subst}
-use Rattle.line_forms.specs.Forms.{IsForm, IsThen, after}
-use Rattle.line_forms.specs.FormLaws.{after_complete, after_sound, then_law}
-use Rattle.line_forms.specs.Numbers.{BeginsWithNoDigit, number_in}
+use Rattle.std.proofs.Common.{◌≡◌, ◌∙◌, ◌<◌, ℕ, ◌^◌, List, [], ◌∷◌, ◌++◌, Option, Some, None, codes, length, refl, sym, ap, subst, arith}
+use Rattle.std.proofs.lemmas.Fmt.{decimal_nonempty}
+use Rattle.line_forms.specs.Forms.{IsForm, IsThen, after, go_on}
+use Rattle.line_forms.specs.FormLaws.{after_complete, after_sound, is_none, number_sound, then_law}
+use Rattle.line_forms.specs.Numbers.{BeginsWithNoDigit, number_in, with_rest}
+use Rattle.report_texts.specs.Forms.{chosen, count_at}
 use Rattle.report_texts.specs.FormLaws.{IsChosen, IsCount, begins, chosen_law, count_form, some_one}
 use Rattle.part_texts.specs.HeadForms.{end_if, place_by, place_read, to_or, to_read}
 use Rattle.part_texts.specs.declared.spans.Place.{Place}
@@ -37,9 +39,17 @@ to_sound whole None (Some behind) to rest is ends e =
 to_sound whole None None to rest is ends e = absurd (cc)
 
 -- no place is read where the end stands
+no_number : number_in (2 ^ 64) [] ≡ None
+no_number =
+    is_none (number_in (2 ^ 64) []) (λ n e.
+    let (small, is) = number_sound (2 ^ 64) [] n e in
+    let some = decimal_nonempty n small in
+    omega (arith, some, ap length is))
+
 no_place : (rest : List ℕ) → place_read (codes " to ") (codes " to end" ++ rest) ≡ None
-unfolding number_in
-no_place rest = refl
+no_place rest =
+    ap (λ r. chosen place_by (go_on (count_at (codes " skip ")) (with_rest r (codes "end" ++ rest))))
+    no_number
 
 pub to_law : IsForm IsToText BeginsWithNoDigit to_read
 to_law = record {

@@ -93,26 +93,26 @@ section_ended place (Err wrong) = Err (place, wrong)
 
 -- behind the front of a part, and the last token of the parts before it
 abbrev pub section_at : OpenView → Option Token → SectionView
-section_at open last = record {
-  is_ledger = open.is_ledger;
+section_at opening last = record {
+  is_ledger = opening.is_ledger;
   is_first = true;
-  left = open.left;
+  left = opening.left;
   last = last;
-  part = open.part;
+  part = opening.part;
   so_far = no_sums;
 }
 
 -- the lines of the part at this place
 abbrev pub section_of : ℕ → Option Token → OpenView → Result SectionView WrongLine
-section_of place last open =
+section_of place last opening =
     section_ended place
-    (run (λ s. false) (bounded Form section_step) open.number (section_at open last) open.lines)
+    (run (λ s. false) (bounded Form section_step) opening.number (section_at opening last) opening.lines)
 
 -- the lines of all parts, from the part at this place on, behind the last token
 abbrev pub sections_of : ℕ → Option Token → List OpenView → Result (Option Token) WrongLine
 sections_of place last [] = Ok last
-sections_of place last (open ∷ opens) =
-    and_then (section_of place last open) (λ s. sections_of (place + 1) s.last opens)
+sections_of place last (opening ∷ opens) =
+    and_then (section_of place last opening) (λ s. sections_of (place + 1) s.last opens)
 
 -- the whole's report up to its lines of tokens
 abbrev pub report_front : FrontsView → List ℕ
@@ -126,7 +126,7 @@ abbrev pub whole_front : FrontsView → List ℕ
 whole_front s = cond s.is_ledger head_text (report_front s)
 
 abbrev pub lines_left : List OpenView → List ℕ
-lines_left opens = flat_map (λ open. flat_map (λ line. line) open.lines) opens
+lines_left opens = flat_map (λ opening. flat_map (λ line. line) opening.lines) opens
 
 abbrev pub merged : FrontsView × List OpenView → Result (List ℕ) WrongLine
 merged read =

@@ -1,5 +1,5 @@
 -- Parts whose fronts are read, as the program has them. Private functions alone cite this.
-use Rattle.std.specs.Prelude.{◌≡◌, ℕ, List, Option, Some, None, Result, Ok, Err, map, option_map}
+use Rattle.std.specs.Prelude.{◌≡◌, ℕ, List, Option, Some, None, Result, Ok, Err, Vec, map, option_map}
 use Rattle.std.specs.Io.KnownBytes.{Appends}
 use Rattle.histories.specs.Sums.{sums_of}
 use Rattle.tap_views.specs.declared.token.Token.{Token}
@@ -19,13 +19,13 @@ use Rattle.part_texts.specs.declared.merging.Open.{Open}
 
 -- the part's text is left
 abbrev pub open_view : {R : Type 0} → (R → Option (List ℕ)) → Open R → Option OpenView
-open_view remaining open = option_map (λ rest. record {
-    is_ledger = open.is_ledger;
-    left = open.left;
-    part = sums_of open.part;
-    number = open.number;
+open_view remaining opening = option_map (λ rest. record {
+    is_ledger = opening.is_ledger;
+    left = opening.left;
+    part = sums_of opening.part;
+    number = opening.number;
     lines = lines_of rest;
-  }) (remaining open.from)
+  }) (remaining opening.from)
 
 abbrev pub AreOpen : {R : Type 0} → (R → Option (List ℕ)) → List (Open R) → List OpenView → Type 0
 AreOpen remaining opens views = map (open_view remaining) opens ≡ map (λ view. Some view) views
@@ -48,10 +48,10 @@ FrontRead said new left (Err fault) = IsFaultOf said fault
 
 -- the fronts are read as they are defined
 abbrev pub FrontsRead : {R : Type 0} → (R → Option (List ℕ))
-    → Result (FrontsView × List OpenView) WrongLine → FrontsView → Result (List (Open R)) MergeFault
+    → Result (FrontsView × List OpenView) WrongLine → FrontsView → Result (Vec (Open R)) MergeFault
     → Type 0
 FrontsRead remaining said new (Ok opens) =
-    (views : List OpenView) × AreOpen remaining opens views × (said ≡ Ok (new, views))
+    (views : List OpenView) × AreOpen remaining opens.items views × (said ≡ Ok (new, views))
 FrontsRead remaining said new (Err fault) = IsFaultOf said fault
 
 -- all of the text was written, or a prefix of it if a read, a write or an allocation failed

@@ -126,18 +126,18 @@ nothing_so_far = record {
 }
 
 -- the part follows those so far, which are none if it is the first one, and its sums are added
-pub record IsNextPart (first last : Bool) (before : SoFar) (p : PartReport) (after : SoFar) : Type 0
+pub record IsNextPart (first final : Bool) (before : SoFar) (p : PartReport) (after : SoFar) : Type 0
   where
     pub right : IsRight p
     pub files : (first || nat_eq (length p.spans) (length before.ends)) ≡ true
-    pub joined : are_joined first last before.ends p.spans after.ends
+    pub joined : are_joined first final before.ends p.spans after.ends
     pub posted : are_posted_to first before.taps 0 p.taps after.taps p.totals.taps
     pub totals : sums_within before.totals p.totals ≡ Some after.totals
     pub validators : are_added before.validators p.validators after.validators
     pub number : before.tokens + length p.tokens < 2 ^ 64
     pub tokens : after.tokens ≡ before.tokens + length p.tokens
     pub rise : do_tokens_rise before.last p.tokens
-    pub last : after.last ≡ last_of before.last p.tokens
+    pub last_is : after.last ≡ last_of before.last p.tokens
 
 -- the parts follow, one after the other
 abbrev pub are_next_parts : Bool → SoFar → List PartReport → SoFar → Type 0

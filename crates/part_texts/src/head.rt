@@ -36,6 +36,13 @@ fn write_to(text: &mut String, to: Option<Place>) -> Result<(), AllocError>
     }
 }
 
+/// Appends these words.
+fn write_words(text: &mut String, words: &str) -> Result<(), AllocError>
+    ensures { OnOk result (string_bytes text.new ≡ string_bytes text.old ++ words.now) }
+{
+    text.push_str(words)
+}
+
 /// Appends `file 0 from `.
 fn write_file(text: &mut String, file: u64) -> Result<(), AllocError>
     ensures { OnOk result (string_bytes text.new
@@ -51,13 +58,12 @@ fn write_span(text: &mut String, file: u64, span: &FileSpan) -> Result<(), Alloc
 {
     write_file(text, file)?;
     write_place(text, span.from)?;
-    text.push_str(" to ")?;
+    write_words(text, " to ")?;
     write_to(text, span.to)?;
-    text.push_str("\n")
+    write_words(text, "\n")
 }
 
 /// Appends a line for each file.
-#[tactic(auto, using(crate::proofs::HeadTexts::spans_more))]
 fn write_spans(text: &mut String, spans: &[FileSpan]) -> Result<(), AllocError>
     ensures { OnOk result (string_bytes text.new
         ≡ string_bytes text.old ++ span_lines 0 spans.now) }

@@ -4,7 +4,6 @@
 mod fault;
 mod fronts;
 mod head;
-pub mod laws;
 mod merging;
 mod sections;
 mod spans;

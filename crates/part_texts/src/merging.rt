@@ -125,24 +125,24 @@ fn read_fronts<R: BufRead + Drop>(
 /// Copies the lines of the part at this place. Gives the last token.
 fn copy_section<R: BufRead, W: Write>(
     alloc: Global,
-    open: &mut Open<R>,
+    part: &mut Open<R>,
     place: usize,
     last: Option<Token>,
     out: &mut W,
 ) -> Result<Option<Token>, MergeFault>
-    ensures { (view : OpenView) → open_view R.remaining open.old ≡ Some view
+    ensures { (view : OpenView) → open_view R.remaining part.old ≡ Some view
         → Copied (λ s. s.last) (section_of place last view) (flat_map (λ line. line) view.lines)
         (W.contents out.old) (W.contents out.new) result }
 {
     let mut section = Section {
-        is_ledger: open.is_ledger,
+        is_ledger: part.is_ledger,
         is_first: true,
-        left: open.left,
+        left: part.left,
         last,
-        part: open.part,
+        part: part.part,
         so_far: no_totals(),
     };
-    match copy_lines(alloc, &mut open.from, open.number, &mut section, out) {
+    match copy_lines(alloc, &mut part.from, part.number, &mut section, out) {
         Ok(number) => match section.end() {
             None => Ok(section.last),
             Some(why) => Err(MergeFault::Line {
@@ -167,15 +167,14 @@ fn copy_sections<R: BufRead + Drop, W: Write>(
 {
     let mut last = None;
     let mut place: usize = 0;
-    for mut open in opens {
-        last = copy_section(alloc, &mut open, place, last, out)?;
+    for mut part in opens {
+        last = copy_section(alloc, &mut part, place, last, out)?;
         place = place.saturating_add(1);
     }
     Ok(())
 }
 
 /// Appends the line of each upload, which was posted with these taps.
-#[tactic(auto, using(crate::proofs::WholeTexts::uploads_more))]
 fn write_uploads(text: &mut String, taps: &[u64]) -> Result<(), AllocError>
     ensures { OnOk result (string_bytes text.new
         ≡ string_bytes text.old ++ upload_lines 0 (map Posted taps.now)) }

@@ -1,6 +1,6 @@
 -- Parts of files that join, and what the files have in all of them.
 use Rattle.std.proofs.Common.{◌≡◌, ℕ, suc, zero, ◌+◌, ◌<◌, List, [], ◌∷◌, ◌++◌, length, map, All}
-use Rattle.std.proofs.Common.{get_or, refl, sym, ap, subst, ◌∙◌, arith, None, Some, append_assoc}
+use Rattle.std.proofs.Common.{get_or, refl, sym, ap, subst, ◌∙◌, arith, None, Some}
 use Rattle.std.proofs.Common.{append-nil, length-append}
 use Rattle.std.specs.Prelude.{Option, flat_map}
 use Rattle.std.specs.List.Sorted.{IsPermutation, IsSorted}
@@ -10,25 +10,21 @@ use Rattle.std.specs.declared.cmp.Ordering.TheVariants.{Less, Greater}
 use Rattle.std.proofs.Math.Seq.{drop-length}
 use Rattle.std.proofs.lemmas.Cmp.{nat_list_cmp_total}
 use Rattle.std.proofs.lemmas.List.Elements.{All-append, All-cons, All-head, All-nil, All-tail}
-use Rattle.std.proofs.lemmas.List.Elements.{All-weaker}
 use Rattle.std.proofs.lemmas.List.Sorted.{IsPermutation-append, IsPermutation-append_right}
 use Rattle.std.proofs.lemmas.List.Sorted.{IsPermutation-refl, IsPermutation-trans}
 use Rattle.tariffs.specs.Fares.{Fares}
-use Rattle.tap_views.specs.Files.{IsFileOf}
 use Rattle.tap_views.specs.Token.{token_cmp}
 use Rattle.tap_views.specs.TokenOrder.{AreBelow}
 use Rattle.tap_views.specs.UploadEnds.{ArePlainEnds}
 use Rattle.tap_views.specs.declared.encoder.TapFields.{TapFields}
-use Rattle.tap_views.specs.declared.token.Token.{Token}
-use Rattle.tap_views.specs.declared.upload_end.UploadEnd.{UploadEnd}
 use Rattle.tap_views.specs.declared.upload_end.UploadEnd.TheVariants.{Posted}
 use Rattle.tap_views.proofs.TokenBytes.{token-order}
 use Rattle.tap_parts.specs.Canonical.{IsCanonical, tap_cmp}
 use Rattle.histories.specs.SumsByKey.{token_of}
 use Rattle.histories.specs.declared.entry.Entry.{Entry}
-use Rattle.settlement.specs.Posted.{HasName, posted, posted_after, token_of_tap}
+use Rattle.settlement.specs.Posted.{HasName, posted, token_of_tap}
 use Rattle.settlement.specs.SettledTaps.{AreSettledTaps}
-use Rattle.settlement.proofs.Ranges.{posted_below, to_taps}
+use Rattle.settlement.proofs.Ranges.{posted_below, posted_each, to_taps}
 use Rattle.settlement.proofs.TokenRuns.{tokens_posted}
 use Rattle.sorted_taps.specs.Merged.{IsNotBefore}
 use Rattle.sorted_taps.specs.Merges.{AreSortedFiles}
@@ -303,10 +299,6 @@ all_histories : (parts : List PartView)
 all_histories [] = refl
 all_histories (part ∷ parts) = ap (λ es. part.history ++ es) (all_histories parts)
 
-no_taps : (fares : Fares) → posted fares [] ≡ []
-unfolding posted_after
-no_taps fares = refl
-
 all_taps : (fares : Fares) (files : List (List ℕ)) (parts : List PartView)
     → ArePartsOf fares files parts → DoRise (map (λ (part : PartView). part.history) parts)
     → AreAllTaps fares files parts
@@ -317,7 +309,7 @@ all_taps fares files [] are rise = record {
     sorted = λ k d low high. absurd (omega (arith, high));
   };
   named = All-nil HasName;
-  are = sym (no_taps fares);
+  are = sym (posted_each fares [] tt);
 }
 all_taps fares files (part ∷ parts) are (below, rise) =
     let first = All-head (IsPart fares files) part parts are in

@@ -178,6 +178,21 @@ impl Taker {
         })
     }
 
+    /// Goes on from where the readers stand. The window has `WINDOW_BYTES` at least.
+    pub(crate) fn over(
+        alloc: Global,
+        readers: Vec<TapReader>,
+        window: Vec<u8>,
+    ) -> Result<Self, AllocError>
+        requires { window_bytes ≤ length window.items }
+        ensures ready { IfOk result (IsReady (length readers.items)) }
+        ensures readers { IfOk result (λ taker. taker.merge.readers ≡ readers) }
+    {
+        let merge = Merge::of(alloc, readers)?;
+        let taker = Taker::of(alloc, merge, window)?;
+        Ok(taker)
+    }
+
     pub(crate) fn into_readers(self) -> Vec<TapReader>
         ensures { result ≡ self.merge.readers }
     {

@@ -24,7 +24,7 @@ use placed_files::Placed;
 use settled_texts::least_token;
 use settlement::Billed;
 use sorted_taps::{
-    FileSpan, Merge, Place, PlacedReaders, SortedFault, TapReader, WINDOW_BYTES, have_stamps,
+    FileSpan, Place, PlacedReaders, SortedFault, TapReader, WINDOW_BYTES, have_stamps,
     readers_from, spans_to, stamps_of,
 };
 use std::alloc::Global;
@@ -62,8 +62,7 @@ pub(crate) fn begin_part<F: Placed>(
     let placed = readers_from(alloc, files, from, window)?;
     let PlacedReaders { places, readers } = placed;
     let room = vec![in alloc; 0u8; WINDOW_BYTES]?;
-    let merge = Merge::of(alloc, readers)?;
-    let taker = Taker::of(alloc, merge, room)?;
+    let taker = Taker::over(alloc, readers, room)?;
     Ok(BegunPart { places, taker })
 }
 

@@ -1,6 +1,6 @@
 -- Taps between places: what readers pass that begin at one place and come to another.
-use Rattle.std.proofs.Common.{◌≡◌, ℕ, suc, zero, ◌+◌, ◌<◌, ◌≤◌, List, [], ◌∷◌, ◌++◌, length, map}
-use Rattle.std.proofs.Common.{take, drop, get_or, refl, sym, ap, subst, ◌∙◌, arith, All, None, Some}
+use Rattle.std.proofs.Common.{◌≡◌, ℕ, suc, zero, ◌+◌, ◌<◌, List, [], ◌∷◌, ◌++◌, length, map}
+use Rattle.std.proofs.Common.{take, drop, get_or, refl, sym, ap, subst, ◌∙◌, arith, None, Some}
 use Rattle.std.proofs.Common.{append_assoc, append-nil, length-append, false}
 use Rattle.std.specs.Prelude.{Option, flat_map}
 use Rattle.std.specs.List.Sorted.{IsSorted}

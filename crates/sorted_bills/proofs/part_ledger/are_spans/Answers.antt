@@ -1,7 +1,5 @@
-use Rattle.std.proofs.Common.{◌≡◌, ◌⊎◌, ℕ, ◌<◌, ◌≤◌, ◌+◌, ◌∙◌, arith, inl, inr, sym, subst}
-use Rattle.std.proofs.Common.{get_or, length}
+use Rattle.std.proofs.Common.{arith}
 use Rattle.std.proofs.lemmas.List.{same_lists}
-use Rattle.sorted_taps.specs.declared.places.FileSpan.{FileSpan}
 use Rattle.sorted_bills.proofs.part_ledger.are_spans.Goals as goal
 
 pub returns : goal.returns

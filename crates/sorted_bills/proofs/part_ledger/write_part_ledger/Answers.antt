@@ -1,6 +1,6 @@
 -- The lines of the taps between the places of the spans are the ledger of the part.
 use Rattle.std.proofs.Common.{ℕ, List, [], ◌++◌, map, length, string_bytes, sym, ap, subst, ◌∙◌}
-use Rattle.std.proofs.Common.{arith, refl, ◌^◌, ◌<◌}
+use Rattle.std.proofs.Common.{arith, refl}
 use Rattle.std.proofs.lemmas.Result.{err_from_is_err_and}
 use Rattle.std.specs.Io.KnownBytes.{Appends}
 use Rattle.fare_texts.specs.LedgerLines.{head_text}
@@ -16,7 +16,6 @@ use Rattle.sorted_taps.specs.declared.places.Place.{Place}
 use Rattle.sorted_taps.specs.declared.reader.TapReader.{TapReader}
 use Rattle.sorted_taps.proofs.Files.{known_number}
 use Rattle.sorted_taps.proofs.Placing.{span_alike, taken_between}
-use Rattle.sorted_bills.specs.inside.Explained.{AreExplainedSoFar, IsBegunSoFar}
 use Rattle.sorted_bills.proofs.Counted.{late_no_write, late_says_nothing}
 use Rattle.sorted_bills.proofs.Explained.{begun_waiting, explained_begun}
 use Rattle.sorted_bills.proofs.part_ledger.write_part_ledger.Goals as goal
@@ -52,7 +51,7 @@ returns-clause-ok g c =
     let bytes = g.W.Write.contents c.args.out.now in
     let waits = string_bytes c.in_ok-text.text in
     let spans = c.args.spans.now in
-    let same = sym c.deref-3.ensures.value ∙ c.are_spans.ensures refl in
+    let same = sym c.deref-2.ensures.value ∙ c.if-not-are_spans.ensures refl in
     let explained = c.in_ok-explain_below.ensures.explained [] begin explainer.token bytes waits
     (explained_begun fares known [] begin explainer bytes waits
     (come_first fares explainer (c.of-explainer.ensures.explained fares))) in
@@ -67,8 +66,8 @@ returns-clause-ok g c =
           let many = c.in_ok-made.ensures.number in
           let made = c.in_ok-made.made.items in
           let ends : DoSpan all places end made =
-          subst (λ (rs : List TapReader). DoSpan all places rs made) c.readers.ensures
-          (subst (λ (ps : List Place). DoSpan all ps c.readers.result.now made)
+          subst (λ (rs : List TapReader). DoSpan all places rs made) c.readers-readers.ensures
+          (subst (λ (ps : List Place). DoSpan all ps c.readers-readers.result.now made)
           c.deref.ensures.value (c.in_ok-made.ensures.spanned all are)) in
           let between = taken_between all places begin way.to spans explained.taps
           (omega (arith, number, readers))

@@ -1,5 +1,5 @@
 -- Each round takes some taps more.
-use Rattle.std.proofs.Common.{◌≡◌, ◌∙◌, ◌+◌, ◌-◌, ◌≤◌, List, ◌++◌, drop, length, map, arith, ap, subst}
+use Rattle.std.proofs.Common.{◌≡◌, ◌∙◌, ◌-◌, List, ◌++◌, drop, length, map, arith, ap, subst}
 use Rattle.std.proofs.Common.{sym, take, length-append}
 use Rattle.std.proofs.lemmas.List.{length-drop, take_all}
 use Rattle.std.proofs.Math.Seq.{drop-append_seam}

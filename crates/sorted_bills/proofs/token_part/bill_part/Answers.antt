@@ -1,5 +1,5 @@
 -- The taps that were taken lie between the places of the spans.
-use Rattle.std.proofs.Common.{ℕ, List, [], map, length, sym, ap, subst, ◌∙◌, arith, ◌^◌, refl, ◌≡◌}
+use Rattle.std.proofs.Common.{List, [], map, ap, subst, ◌∙◌, arith, refl}
 use Rattle.std.proofs.lemmas.Result.{err_from_is_err_and}
 use Rattle.tap_views.specs.declared.upload_end.UploadEnd.TheVariants.{Posted}
 use Rattle.settlement.specs.Posted.{posted}
@@ -41,8 +41,8 @@ returns-clause-billed g c =
           (omega (arith, number, readers)) (omega (arith, number, many))
           (c.in_ok-begun.ensures.placed all are) (made.taken.taken all are)
           (subst (λ (rs : List TapReader). DoSpan all c.in_ok-begun.begun.places.items rs spans)
-          c.readers.ensures
-          (subst (λ (ps : List Place). DoSpan all ps c.readers.result.now spans)
+          c.readers-readers.ensures
+          (subst (λ (ps : List Place). DoSpan all ps c.readers-readers.result.now spans)
           c.deref-2.ensures.value (c.in_ok-spans.ensures.spanned all are))) in (
             between.lists,
             record {
@@ -56,3 +56,34 @@ returns-clause-billed g c =
                 ∙ c.in_ok-numbers.ensures ∙ between.counted),
           ),
     )
+
+-- ---- faults
+pub returns-in_err-begun-clause-fault : goal.returns-in_err-begun-clause-fault
+returns-in_err-begun-clause-fault g c =
+    let p = err_from_is_err_and c.from_residual-in_err-begun.result
+    c.from_residual-in_err-begun.ensures.1 in
+    rw (p.1, p.2) (λ all. late_says_nothing all c.in_err-begun.field-0.0)
+
+pub returns-in_err-begun-clause-unwritten : goal.returns-in_err-begun-clause-unwritten
+returns-in_err-begun-clause-unwritten g c =
+    let p = err_from_is_err_and c.from_residual-in_err-begun.result
+    c.from_residual-in_err-begun.ensures.1 in
+    rw (p.1, p.2) (late_no_write c.in_err-begun.field-0.0)
+
+pub returns-in_err-numbers-clause-fault : goal.returns-in_err-numbers-clause-fault
+returns-in_err-numbers-clause-fault g c =
+    let p = err_from_is_err_and c.from_residual-in_err-numbers.result
+    c.from_residual-in_err-numbers.ensures.1 in
+    rw (p.1, p.2) (λ all. tt)
+
+pub returns-in_err-ends-clause-fault : goal.returns-in_err-ends-clause-fault
+returns-in_err-ends-clause-fault g c =
+    let p = err_from_is_err_and c.from_residual-in_err-ends.result
+    c.from_residual-in_err-ends.ensures.1 in
+    rw (p.1, p.2) (λ all. tt)
+
+pub returns-in_err-bill-clause-fault : goal.returns-in_err-bill-clause-fault
+returns-in_err-bill-clause-fault g c =
+    let p = err_from_is_err_and c.from_residual-in_err-bill.result
+    c.from_residual-in_err-bill.ensures.1 in
+    rw (p.1, p.2) (λ all. tt)

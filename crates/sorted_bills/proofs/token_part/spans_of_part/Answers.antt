@@ -1,9 +1,11 @@
-use Rattle.std.proofs.Common.{List, map, length, subst, arith}
+use Rattle.std.proofs.Common.{List, subst, arith}
 use Rattle.sorted_taps.specs.Places.{DoSpan}
 use Rattle.sorted_taps.specs.declared.places.Place.{Place}
 use Rattle.sorted_taps.specs.declared.reader.TapReader.{TapReader}
 use Rattle.sorted_taps.proofs.Files.{known_number}
 use Rattle.sorted_taps.proofs.Placing.{taken_between}
+use Rattle.std.proofs.lemmas.Result.{err_from_is_err_and}
+use Rattle.sorted_bills.proofs.Counted.{late_no_write, late_says_nothing}
 use Rattle.sorted_bills.proofs.token_part.spans_of_part.Goals as goal
 
 pub returns-clause-spanned : goal.returns-clause-spanned
@@ -17,7 +19,19 @@ returns-clause-spanned g c = λ all are.
     c.in_ok-spans.spans.items taps (omega (arith, number, readers)) (omega (arith, number, many))
     (c.in_ok-begun.ensures.placed all are) (taken.taken all are)
     (subst (λ (rs : List TapReader).
-    DoSpan all c.in_ok-begun.begun.places.items rs c.in_ok-spans.spans.items) c.readers.ensures
+    DoSpan all c.in_ok-begun.begun.places.items rs c.in_ok-spans.spans.items) c.readers-readers.ensures
     (subst (λ (ps : List Place).
-    DoSpan all ps c.readers.result.now c.in_ok-spans.spans.items) c.deref.ensures.value
+    DoSpan all ps c.readers-readers.result.now c.in_ok-spans.spans.items) c.deref.ensures.value
     (c.in_ok-spans.ensures.spanned all are))) in (between.lists, between.spanned)
+
+pub returns-in_err-begun-clause-fault : goal.returns-in_err-begun-clause-fault
+returns-in_err-begun-clause-fault g c =
+    let p = err_from_is_err_and c.from_residual-in_err-begun.result
+    c.from_residual-in_err-begun.ensures.1 in
+    rw (p.1, p.2) (λ all. late_says_nothing all c.in_err-begun.field-0.0)
+
+pub returns-in_err-begun-clause-unwritten : goal.returns-in_err-begun-clause-unwritten
+returns-in_err-begun-clause-unwritten g c =
+    let p = err_from_is_err_and c.from_residual-in_err-begun.result
+    c.from_residual-in_err-begun.ensures.1 in
+    rw (p.1, p.2) (late_no_write c.in_err-begun.field-0.0)

@@ -1,8 +1,6 @@
-use Rattle.std.proofs.Common.{◌≡◌, ℕ, List, [], ◌∷◌, ◌++◌, length, get_or, arith, sym, subst, ap}
-use Rattle.std.proofs.Common.{◌∙◌, length-append, refl}
+use Rattle.std.proofs.Common.{◌≡◌, [], ◌∷◌, ◌++◌, length, get_or, arith, sym, subst, ap}
+use Rattle.std.proofs.Common.{◌∙◌, length-append}
 use Rattle.sorted_taps.specs.Places.{ArePlaced, IsPlacedAnew}
-use Rattle.sorted_taps.specs.declared.places.Place.{Place}
-use Rattle.sorted_taps.specs.declared.reader.TapReader.{TapReader}
 use Rattle.sorted_taps.proofs.Files.{if_known, known_at}
 use Rattle.sorted_taps.proofs.Placing.{placed_more}
 use Rattle.sorted_taps.proofs.places.readers_from.Goals as goal

@@ -1,11 +1,9 @@
-use Rattle.std.proofs.Common.{◌≡◌, ℕ, List, [], ◌∷◌, ◌++◌, length, get_or, arith, sym, subst, ap}
+use Rattle.std.proofs.Common.{◌≡◌, [], ◌∷◌, ◌++◌, length, get_or, arith, sym, subst, ap}
 use Rattle.std.proofs.Common.{◌∙◌, length-append, IfSome}
 use Rattle.std.proofs.lemmas.List.{get_or_default}
 use Rattle.std.specs.Prelude.{Option}
 use Rattle.sorted_taps.specs.Places.{DoSpan, IsAt}
 use Rattle.sorted_taps.specs.declared.places.FileSpan.{FileSpan}
-use Rattle.sorted_taps.specs.declared.places.Place.{Place}
-use Rattle.sorted_taps.specs.declared.reader.TapReader.{TapReader}
 use Rattle.sorted_taps.proofs.Files.{if_known, known_at}
 use Rattle.sorted_taps.proofs.Placing.{span_more}
 use Rattle.sorted_taps.proofs.places.spans_to.Goals as goal

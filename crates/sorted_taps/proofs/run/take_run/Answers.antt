@@ -1,4 +1,4 @@
-use Rattle.std.proofs.Common.{List, ◌++◌, ◌∷◌, [], length, length-append, arith, ap, sym, subst}
+use Rattle.std.proofs.Common.{List, ◌∷◌, [], length, length-append, arith, ap, sym, subst}
 use Rattle.tap_views.specs.declared.encoder.TapFields.{TapFields}
 use Rattle.sorted_taps.specs.inside.Runs.{TakesRun}
 use Rattle.sorted_taps.proofs.Running.{takes_more}

@@ -1,5 +1,5 @@
 use Rattle.std.proofs.Common.{◌≡◌, ◌⊎◌, ◌∙◌, ℕ, ◌+◌, ◌-◌, ◌<◌, ◌≤◌, List, [], ◌∷◌, ◌++◌, length}
-use Rattle.std.proofs.Common.{get_or, sym, ap, subst, arith, inl, inr, refl, length-append}
+use Rattle.std.proofs.Common.{get_or, sym, ap, subst, arith, inl, inr, length-append}
 use Rattle.std.specs.declared.cmp.Ordering.TheVariants.{Less}
 use Rattle.std.proofs.Math.ListN.{get_or-append}
 use Rattle.std.proofs.Math.Seq.{get_or-append_seam}
@@ -7,7 +7,6 @@ use Rattle.std.proofs.lemmas.Bool.{cases_lt}
 use Rattle.tap_views.specs.Token.{token_cmp}
 use Rattle.tap_views.specs.declared.token.Token.{Token}
 use Rattle.sorted_taps.specs.Ranges.{DoTokensRise}
-use Rattle.sorted_taps.proofs.samples.push_above.Goals as goal
 
 -- tokens that rise, and one above the last of them
 rise_more : (xs : List Token) (x : Token) → DoTokensRise xs

@@ -1,4 +1,4 @@
-use Rattle.std.proofs.Common.{◌≡◌, ◌<◌, ◌∙◌, [], length, get_or, set, arith, sym, subst, drop}
+use Rattle.std.proofs.Common.{◌∙◌, [], length, get_or, set, arith, sym, subst, drop}
 use Rattle.std.proofs.Math.Seq.{drop-length}
 use Rattle.std.proofs.lemmas.List.{get_or_default, get_or-set_other, length-set, set-set, take_at}
 use Rattle.sorted_taps.specs.Heads.{IsNotAfter, IsRanked}

@@ -1,4 +1,4 @@
-use Rattle.std.proofs.Common.{◌≡◌, ◌∙◌, List, [], ◌∷◌, ◌++◌, length, get_or, set, arith, refl, ap}
+use Rattle.std.proofs.Common.{◌∙◌, List, [], ◌∷◌, ◌++◌, length, get_or, set, arith, refl, ap}
 use Rattle.std.proofs.Common.{subst, sym, append_assoc}
 use Rattle.std.specs.Prelude.{MatchOption}
 use Rattle.tap_views.specs.declared.encoder.TapFields.{TapFields}

@@ -1,0 +1,16 @@
+use Rattle.std.proofs.Common.{ℕ, sym, subst, Vec, Global}
+use Rattle.sorted_taps.specs.Places.{ArePlaced}
+use Rattle.sorted_taps.specs.declared.reader.TapReader.{TapReader}
+use Rattle.sorted_bills.specs.inside.Taken.{IsReady}
+use Rattle.sorted_bills.proofs.token_part.begin_part.Goals as goal
+
+pub returns-clause-ready : goal.returns-clause-ready
+returns-clause-ready g c =
+    subst (λ (n : ℕ). IsReady n c.in_ok-taker.taker) c.in_ok-placed.ensures.number
+    c.in_ok-taker.ensures.ready
+
+pub returns-clause-placed : goal.returns-clause-placed
+returns-clause-placed g c = λ all are.
+    subst
+    (λ (v : Vec TapReader Global). ArePlaced all c.in_ok-placed.placed.places.items v.items)
+    (sym c.in_ok-taker.ensures.readers) (c.in_ok-placed.ensures.placed all are)
