@@ -59,7 +59,7 @@ fn cut_in(text: &[u8]) -> Option<UploadEnd>
 fn is_undrawn(text: &[u8]) -> bool
     ensures { result ≡ bytes_eq text.now (codes " undrawn\n") }
 {
-    text == b" undrawn\n"
+    text == b" undrawn\n".as_slice()
 }
 
 /// The upload's number and its end in `upload 0 cut 4` or `upload 0 undrawn`.
