@@ -376,8 +376,10 @@ moved by_token before after removed last O N o n old_row new_row b a old_number 
     both O N _ _ (λ old0 new0 w.
     let old_said = SaidBy old_row old_number old_left in
     let new_said = SaidBy new_row new_number new_left in
-    let (old', is_old, old_is) = subst (λ x. IfSome x (Moves (row_in b) o)) w.is_old old_moves in
-    let (new', is_new, new_is) = subst (λ x. IfSome x (Moves (row_in a) n)) w.is_new new_moves in
+    let was : Moves (row_in b) o w.old = subst (λ x. IfSome x (Moves (row_in b) o)) w.is_old old_moves in
+    let (old', is_old, old_is) = was in
+    let now : Moves (row_in a) n w.new = subst (λ x. IfSome x (Moves (row_in a) n)) w.is_new new_moves in
+    let (new', is_new, new_is) = now in
     let row_o = row_of_said (row_in old_row) old_number old_left w.old w.is_old in
     let row_n = row_of_said (row_in new_row) new_number new_left w.new w.is_new in
     let b_is : row_in b ≡ taken_if sides.0 (row_in old_row) = ap row_in is_b ∙ taken_row sides.0 old_row in
