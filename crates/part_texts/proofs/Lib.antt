@@ -8,6 +8,7 @@ pub mod Leads
 pub mod ShownSections
 pub mod ShownFronts
 pub mod ShownReports
+pub mod ShownLedgers
 pub mod KeySums
 pub mod Tables
 pub mod HistoryParts
