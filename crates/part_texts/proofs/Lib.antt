@@ -3,3 +3,12 @@ pub mod WholeTexts
 pub mod Opening
 pub mod Copying
 pub mod Kept
+pub mod HeadLines
+pub mod Leads
+pub mod ShownSections
+pub mod ShownFronts
+pub mod ShownReports
+pub mod ShownLedgers
+pub mod KeySums
+pub mod Tables
+pub mod HistoryParts
