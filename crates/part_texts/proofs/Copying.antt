@@ -23,12 +23,13 @@ use Rattle.part_texts.specs.Merged.{IsFaultOf, MergedAs, OpenView, WrongLine, an
 use Rattle.part_texts.specs.Merged.{fronts_of, merge_of}
 use Rattle.part_texts.specs.Merged.{lines_left, merged, section_at, section_ended, section_of}
 use Rattle.part_texts.specs.Merged.{sections_of, whole_front}
-use Rattle.part_texts.specs.Opened.{AreOpen, Copied, fault_by, open_view}
+use Rattle.part_texts.specs.inside.Opened.{AreOpen, Copied, fault_by, open_view}
 use Rattle.part_texts.specs.declared.fault.MergeFault.{MergeFault}
 use Rattle.part_texts.specs.declared.fault.MergeFault.TheVariants.{Line, Unread, Write, NoMemory}
 use Rattle.part_texts.specs.declared.fault.MergeFault.TheVariants.{TooLong}
 use Rattle.part_texts.specs.declared.merging.Open.{Open}
-use Rattle.part_texts.proofs.Opening.{fault_goes, fault_same, if_some, left_none}
+use Rattle.sorted_taps.proofs.Files.{if_known}
+use Rattle.part_texts.proofs.Opening.{fault_goes, fault_same, left_none}
 
 abbrev never : SectionView → Bool
 never s = false
@@ -133,8 +134,8 @@ module _ {R : Type 0} (remaining : R → Option (List ℕ)) (place : ℕ) (last 
       (flat_map (λ line. line) view.lines) before after (Ok end.last)
   section_ok number view is stops wrote ends =
       let (rest, here, same) = view_of remaining opening view is in
-      let (behind, lefts, ran) = if_some _ (remaining opening.from) rest here stops in
-      let all = if_some _ (remaining opening.from) rest here wrote in
+      let (behind, lefts, ran) = if_known _ (remaining opening.from) rest here stops in
+      let all = if_known _ (remaining opening.from) rest here wrote in
       (
         end,
         said_by_run view rest same ∙ ap (section_ended place) ran
@@ -154,7 +155,7 @@ module _ {R : Type 0} (remaining : R → Option (List ℕ)) (place : ℕ) (last 
       (flat_map (λ line. line) view.lines) before after (Err (Line place number why))
   section_wrong number why view is stops ends =
       let (rest, here, same) = view_of remaining opening view is in
-      let (behind, lefts, ran) = if_some _ (remaining opening.from) rest here stops in
+      let (behind, lefts, ran) = if_known _ (remaining opening.from) rest here stops in
       let said = said_by_run view rest same ∙ ap (section_ended place) ran
       ∙ ap (end_or (place, (number, Form)) end) ends in
       (said, λ s is_ok. absurd (let e = sym said ∙ is_ok in cc))
@@ -195,20 +196,20 @@ module _ {R : Type 0} (remaining : R → Option (List ℕ)) (place : ℕ) (last 
   section_fault (StopLine number why) view is stops wrote =
       let (rest, here, same) = view_of remaining opening view is in
       let said = said_by_run view rest same
-      ∙ ap (section_ended place) (if_some _ (remaining opening.from) rest here stops) in
+      ∙ ap (section_ended place) (if_known _ (remaining opening.from) rest here stops) in
       (said, λ s is_ok. absurd (let e = sym said ∙ is_ok in cc))
   section_fault StopUnread view is stops wrote =
       let (rest, here, same) = view_of remaining opening view is in
-      (tt, prefix_of StopUnread view rest same (if_some _ (remaining opening.from) rest here wrote))
+      (tt, prefix_of StopUnread view rest same (if_known _ (remaining opening.from) rest here wrote))
   section_fault StopLong view is stops wrote =
       let (rest, here, same) = view_of remaining opening view is in
-      (tt, prefix_of StopLong view rest same (if_some _ (remaining opening.from) rest here wrote))
+      (tt, prefix_of StopLong view rest same (if_known _ (remaining opening.from) rest here wrote))
   section_fault Unwritten view is stops wrote =
       let (rest, here, same) = view_of remaining opening view is in
-      (tt, prefix_of Unwritten view rest same (if_some _ (remaining opening.from) rest here wrote))
+      (tt, prefix_of Unwritten view rest same (if_known _ (remaining opening.from) rest here wrote))
   section_fault StopMemory view is stops wrote =
       let (rest, here, same) = view_of remaining opening view is in
-      (tt, prefix_of StopMemory view rest same (if_some _ (remaining opening.from) rest here wrote))
+      (tt, prefix_of StopMemory view rest same (if_known _ (remaining opening.from) rest here wrote))
 
 -- ---- all parts
 open_more : {R : Type 0} (remaining : R → Option (List ℕ)) (opening : Open R) (opens : List (Open R))

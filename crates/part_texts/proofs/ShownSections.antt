@@ -17,7 +17,7 @@ use Rattle.report_texts.specs.declared.wrong.Wrong.TheVariants.{Totals as OtherT
 use Rattle.part_texts.specs.Fronts.{no_sums, sums_eq, sums_within}
 use Rattle.part_texts.specs.FrontSteps.{found_or, said, where_holds}
 use Rattle.part_texts.specs.Sections.{SectionView, is_token_above, section_end, section_step, token_step}
-use Rattle.part_texts.specs.Shown.{adds_to, do_tokens_rise, last_of}
+use Rattle.part_texts.specs.inside.Shown.{adds_to, do_tokens_rise, last_of}
 use Rattle.part_texts.proofs.Leads.{Leads, by_both, by_line, by_nothing}
 
 abbrev pub never : SectionView → Bool

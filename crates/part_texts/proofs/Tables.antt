@@ -27,7 +27,7 @@ use Rattle.tap_views.proofs.Choices.{or_swap}
 use Rattle.std.proofs.Math.Bool.{or_self_left}
 use Rattle.histories.proofs.SumsLemmas.{sums-append}
 use Rattle.part_texts.specs.Fronts.{no_sums, sums_within, with_validator}
-use Rattle.part_texts.specs.Shown.{are_added}
+use Rattle.part_texts.specs.inside.Shown.{are_added}
 
 number_ties : (a b : ℕ) → nat_cmp a b ≡ Equal → a ≡ b
 number_ties a b tied = grind (arith, nat_tests)
