@@ -1,7 +1,7 @@
 -- The fronts of parts, read one after the other.
-use Rattle.std.proofs.Common.{◌≡◌, ◌∙◌, ◌+◌, ◌≤◌, ℕ, Bool, true, false, cond, List, [], ◌∷◌, ◌++◌, length, map}
-use Rattle.std.proofs.Common.{Option, Some, None, Result, Ok, Err, IfSome, option_map, refl, sym, ap, subst, arith}
-use Rattle.std.specs.Prelude.{nat_eq, nat_le}
+use Rattle.std.proofs.Common.{◌≡◌, ◌∙◌, ◌+◌, ℕ, Bool, true, false, cond, List, [], ◌∷◌, ◌++◌, length, map}
+use Rattle.std.proofs.Common.{Option, Some, Result, Ok, Err, IfSome, option_map, refl, sym, ap, subst, arith}
+use Rattle.std.specs.Prelude.{nat_le}
 use Rattle.std.proofs.lemmas.Bool.Decides.{nat_tests}
 use Rattle.std.proofs.lemmas.List.{map-append}
 use Rattle.histories.specs.Sums.{sums_of}
@@ -19,7 +19,7 @@ use Rattle.part_texts.specs.inside.Fronts.{begun}
 use Rattle.part_texts.specs.FrontSteps.{front_done, front_step}
 use Rattle.part_texts.specs.Merged.{IsFaultOf, OpenView, WrongLine, and_then, at_part, front_end}
 use Rattle.part_texts.specs.Merged.{front_of, fronts_of, is_none_left, left_at, opened}
-use Rattle.part_texts.specs.inside.Opened.{AreOpen, FrontRead, FrontsRead, fault_by, open_view}
+use Rattle.part_texts.specs.inside.Opened.{AreOpen, FrontRead, fault_by, open_view}
 use Rattle.part_texts.specs.declared.fault.MergeFault.{MergeFault}
 use Rattle.part_texts.specs.declared.fault.MergeFault.TheVariants.{Line, Unread, Write, NoMemory}
 use Rattle.part_texts.specs.declared.fault.MergeFault.TheVariants.{TooLong}
@@ -170,8 +170,7 @@ opens_more remaining all first now mid next opens more_opens opening left more r
     let whole : count ≡ length opens + (1 + length more) =
     (let l = ap length split in omega (arith, number, l)) in
     let (unread, is, said) = if_known _ (remaining r) text here read in
-    let view = opened (opening.number, next, lines_of unread) in
-    (
+    let view = opened (opening.number, next, lines_of unread) in (
       others,
       behind,
       views ++ view ∷ [],

@@ -1,5 +1,5 @@
 -- What private functions say of the fronts of parts.
-use Rattle.std.specs.Prelude.{◌≡◌, ◌+◌, ◌-◌, ℕ, Bool, true, false, List}
+use Rattle.std.specs.Prelude.{◌≡◌, ◌+◌, ℕ, Bool, true, false, List}
 use Rattle.std.specs.Prelude.{Some, None, nat_eq, nat_le}
 use Rattle.histories.specs.Sums.{Sums}
 use Rattle.part_texts.specs.declared.fronts.Stage.TheVariants.{Head}

@@ -1,5 +1,5 @@
 -- What private functions say of the lines behind a front.
-use Rattle.std.specs.Prelude.{◌≡◌, ◌-◌}
+use Rattle.std.specs.Prelude.{◌≡◌}
 use Rattle.std.specs.Prelude.{Result, Ok, Err}
 use Rattle.histories.specs.Sums.{sums_of}
 use Rattle.report_texts.specs.declared.wrong.Wrong.{Wrong}

@@ -1,7 +1,7 @@
-use Rattle.std.proofs.Common.{◌∙◌, ◌≡◌, List, ℕ, Option, Some, None, Err, true, ap, flat_map, subst, sym}
+use Rattle.std.proofs.Common.{◌∙◌, Option, Err, true, ap, flat_map, subst, sym}
 use Rattle.histories.specs.Sums.{Sums, sums_of}
 use Rattle.tap_views.specs.declared.token.Token.{Token}
-use Rattle.part_texts.specs.Merged.{OpenView, section_of}
+use Rattle.part_texts.specs.Merged.{section_of}
 use Rattle.part_texts.specs.inside.Opened.{Copied}
 use Rattle.part_texts.specs.Sections.{SectionView}
 use Rattle.part_texts.specs.inside.Sections.{section_view}

@@ -1,4 +1,4 @@
-use Rattle.std.proofs.Common.{◌≡◌, ◌∙◌, IfSome, None, Option, Some, subst, sym}
+use Rattle.std.proofs.Common.{◌∙◌, subst, sym}
 use Rattle.part_texts.specs.Fronts.{fronts_view}
 use Rattle.part_texts.specs.Merged.{IsFaultOf, front_of}
 use Rattle.sorted_taps.proofs.Known.{known_map}

@@ -1,10 +1,10 @@
-use Rattle.std.proofs.Common.{◌∙◌, ◌≡◌, Bool, List, ℕ, Option, Some, None, Ok, Err, IfSome, false, refl, subst, sym}
+use Rattle.std.proofs.Common.{◌≡◌, Bool, List, ℕ, Ok, Err, false, refl, subst, sym}
 use Rattle.std.specs.Io.KnownBytes.{Appends}
 use Rattle.std.proofs.KnownBytes.{Appends-nil}
 use Rattle.line_folds.specs.Folds.{AppendsPrefix, line_text}
 use Rattle.line_folds.proofs.Runs.{at_broken, at_more, at_wrong, stops_in, written_in}
 use Rattle.part_texts.specs.Sections.{SectionView, section_step}
-use Rattle.part_texts.specs.inside.Sections.{IsNext, section_view}
+use Rattle.part_texts.specs.inside.Sections.{section_view}
 use Rattle.report_texts.specs.declared.wrong.Wrong.TheVariants.{Form}
 use Rattle.sorted_taps.proofs.Known.{known_all}
 use Rattle.part_texts.proofs.Copying.{begins_prefix}
