@@ -3,7 +3,6 @@ use Rattle.std.proofs.Common.{◌≡◌, ℕ, List, [], ◌++◌, Bool, true, fa
 use Rattle.std.proofs.Common.{sym, ap, inl, inr, subst, ◌∙◌, append_assoc, append-nil}
 use Rattle.std.specs.Prelude.{◌≢◌, MatchBool}
 use Rattle.std.specs.Io.KnownBytes.{Appends, Keeps, append_known}
-use Rattle.std.proofs.KnownBytes.{Appends-trans}
 use Rattle.fare_texts.specs.WrittenOut.{Begins}
 use Rattle.fare_texts.specs.declared.print_fault.PrintFault.{PrintFault}
 use Rattle.fare_texts.specs.declared.print_fault.PrintFault.TheVariants as print
