@@ -3,3 +3,12 @@ pub mod WholeTexts
 pub mod Opening
 pub mod Copying
 pub mod Kept
+pub mod Leads
+pub mod HeadLines
+pub mod ShownFronts
+pub mod ShownSections
+pub mod KeySums
+pub mod Tables
+pub mod ShownReports
+pub mod HistoryParts
+pub mod ShownLedgers

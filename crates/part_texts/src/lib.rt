@@ -5,6 +5,7 @@ mod fault;
 mod fronts;
 mod head;
 mod merging;
+pub mod laws;
 mod sections;
 
 pub use fault::MergeFault;

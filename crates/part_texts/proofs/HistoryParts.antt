@@ -1,0 +1,630 @@
+-- Reports of parts of a history follow each other, and are merged into the report of the whole.
+use Rattle.std.proofs.Common.{◌≡◌, ◌∙◌, ◌+◌, ◌<◌, ◌≤◌, ◌^◌, ◌||◌, ℕ, Bool, true, false, cond, List, [], ◌∷◌, ◌++◌, length, map}
+use Rattle.std.proofs.Common.{Option, Some, None, Ok, Result, refl, sym, ap, subst, arith, append_assoc, append-nil, length-append, All}
+use Rattle.std.specs.Prelude.{flat_map, nat_eq, nat_lt}
+use Rattle.std.specs.BTreeSet.{insert_key}
+use Rattle.std.specs.List.{AllByRecursion}
+use Rattle.std.specs.List.Sorted.{IsStrictlySortedBy}
+use Rattle.std.specs.Ordering.{is_lt, nat_cmp}
+use Rattle.std.specs.declared.cmp.Ordering.{Ordering}
+use Rattle.std.specs.declared.cmp.Ordering.TheVariants.{Less, Equal, Greater}
+use Rattle.std.proofs.lemmas.Bool.Decides.{nat_tests}
+use Rattle.std.proofs.lemmas.Cmp.{nat_cmp_total}
+use Rattle.std.proofs.lemmas.List.{length-map, map-append}
+use Rattle.std.proofs.lemmas.List.Elements.{All-head, All-tail, All-nil, All-cons, recursion_from_All}
+use Rattle.std.proofs.lemmas.Map.Views.{All-insert_key}
+use Rattle.tap_views.specs.Token.{token_cmp}
+use Rattle.tap_views.specs.TokenOrder.{AreBelow}
+use Rattle.tap_views.specs.declared.token.Token.{Token}
+use Rattle.tap_views.specs.declared.upload_end.UploadEnd.TheVariants.{Posted}
+use Rattle.tap_views.proofs.TokenLemmas.{token_cmp-total, token_cmp-ties}
+use Rattle.histories.specs.Rising.{rising}
+use Rattle.histories.specs.Sums.{Sums, add_all, add_sums, sums, sums_of_replies}
+use Rattle.histories.specs.Entry.{own}
+use Rattle.histories.specs.SumsByKey.{entries_of_validator, sums_by_token, sums_by_validator, token_of, tokens, validator_of, validators}
+use Rattle.histories.specs.declared.entry.Entry.{Entry}
+use Rattle.histories.proofs.RisingLemmas.{rising-is}
+use Rattle.histories.proofs.SumsByToken.{by_token_joined}
+use Rattle.histories.proofs.SumsLemmas.{add_assoc, add_none, none_add, sums-append}
+use Rattle.report_texts.specs.Report.{report}
+use Rattle.part_texts.specs.Fronts.{is_above, may_end, no_sums, starts, sums_within, taps_before}
+use Rattle.part_texts.specs.HistoryParts.{AreRight, DoRise, Fits, HistoryPart, added, histories_of, numbers_of, report_of, whole_history}
+use Rattle.part_texts.specs.Merged.{merge_of}
+use Rattle.part_texts.specs.Places.{AreWhole, DoJoin, first_place}
+use Rattle.part_texts.specs.Sections.{is_token_above}
+use Rattle.part_texts.specs.Shown.{IsNextPart, IsRight, PartReport, SoFar, adds_to, are_joined, are_next_parts, are_posted_to, do_rise, do_tokens_rise, is_none_behind, last_of, nothing_so_far, part_text, sum_up, tokens_of}
+use Rattle.sorted_taps.specs.declared.places.Place.{Place}
+use Rattle.sorted_taps.specs.declared.places.FileSpan.{FileSpan}
+use Rattle.part_texts.proofs.KeySums.{all_added, tokens_add, validators_add}
+use Rattle.part_texts.proofs.ShownReports.{reports_merge}
+use Rattle.part_texts.proofs.Tables.{taps_are, validators_added, within}
+
+-- ---- sums that are added up
+nothing_is : sums [] ≡ no_sums
+unfolding sums_of_replies
+nothing_is = refl
+
+no_sums_add : (s : Sums) → add_sums no_sums s ≡ s
+no_sums_add s = ap (λ n. add_sums n s) (sym nothing_is) ∙ none_add s
+
+all_add : {K : Type 0} (s all : Sums) (list : List (K × Sums)) → all ≡ add_sums s (all_added list)
+    → all.taps ≤ 2 ^ 95 → adds_to s list all
+all_add s all [] is few = sym (is ∙ add_none s)
+all_add s all (one ∷ more) is few =
+    let next = add_sums s one.1 in
+    let rest : all ≡ add_sums next (all_added more) = is ∙ sym (add_assoc s one.1 (all_added more)) in
+    let taps : all.taps ≡ next.taps + (all_added more).taps = ap (λ (x : Sums). x.taps) rest in
+    (next, within s one.1 next refl (omega (arith, taps, few)), all_add next all more rest few)
+
+-- ---- keys that rise
+rise_above : (f : ℕ → Sums) (last : Option ℕ) (keys : List ℕ)
+    → AllByRecursion (λ k. is_above last k ≡ true) keys → IsStrictlySortedBy nat_cmp keys
+    → do_rise last (map (λ k. (k, f k)) keys)
+unfolding IsStrictlySortedBy
+rise_above f last [] above rises = tt
+rise_above f last (k ∷ keys) above rises =
+    (above.0, rise_above f (Some k) keys (all_above k keys rises.0) rises.1)
+  where
+    all_above : (k : ℕ) (keys : List ℕ) → AllByRecursion (λ z. nat_cmp k z ≡ Less) keys
+        → AllByRecursion (λ z. nat_lt k z ≡ true) keys
+    all_above k [] less = tt
+    all_above k (z ∷ keys) less =
+        (let l = less.0 in grind (arith, nat_tests, l), all_above k keys less.1)
+
+none_above : (keys : List ℕ) → AllByRecursion (λ k. is_above None k ≡ true) keys
+none_above [] = tt
+none_above (k ∷ keys) = (refl, none_above keys)
+
+pub validators_rise : (history : List Entry) → do_rise None (sums_by_validator history)
+unfolding sums_by_validator validators
+validators_rise history =
+    rise_above _ None (rising nat_cmp (map validator_of history))
+    (none_above (rising nat_cmp (map validator_of history)))
+    (rising-is nat_cmp_total (λ a b tied. grind (arith, nat_tests, tied)) (map validator_of history)).rises
+
+-- the last token is below these
+abbrev LastIsBelow : Option Token → List Token → Type 0
+LastIsBelow None tokens = Unit {0}
+LastIsBelow (Some last) tokens = AllByRecursion (λ t. token_cmp last t ≡ Less) tokens
+
+tokens_above : (f : Token → Sums) (last : Option Token) (keys : List Token) → LastIsBelow last keys
+    → IsStrictlySortedBy token_cmp keys → do_tokens_rise last (map (λ t. (t, f t)) keys)
+unfolding IsStrictlySortedBy
+tokens_above f last [] below rises = tt
+tokens_above f last (k ∷ keys) below rises =
+    (first_above last below, tokens_above f (Some k) keys rises.0 rises.1)
+  where
+    first_above : (last : Option Token) → LastIsBelow last (k ∷ keys) → is_token_above last k ≡ true
+    first_above None below = refl
+    first_above (Some token) below = ap is_lt below.0
+
+all_keys : (P : Token → Type 0) (keys : List Token) → All P keys → All P (rising token_cmp keys)
+unfolding rising
+all_keys P [] all = All-nil P
+all_keys P (key ∷ keys) all =
+    All-insert_key token_cmp key P (rising token_cmp keys)
+    (all_keys P keys (All-tail P key keys all)) (All-head P key keys all)
+
+below_front : (last : Option Token) (xs ys : List Token) → LastIsBelow last (xs ++ ys)
+    → LastIsBelow last xs × LastIsBelow last ys
+below_front None xs ys below = (tt, tt)
+below_front (Some last) [] ys below = (tt, below)
+below_front (Some last) (x ∷ xs) ys below =
+    let (front, back) = below_front (Some last) xs ys below.1 in ((below.0, front), back)
+
+-- what is below all tokens is below them in their order
+below_rising : (last : Option Token) (keys : List Token) → LastIsBelow last keys
+    → LastIsBelow last (rising token_cmp keys)
+below_rising None keys below = tt
+below_rising (Some last) keys below =
+    recursion_from_All (λ t. token_cmp last t ≡ Less) (rising token_cmp keys)
+    (all_keys (λ t. token_cmp last t ≡ Less) keys (from_recursion keys below))
+  where
+    from_recursion : (ks : List Token) → AllByRecursion (λ t. token_cmp last t ≡ Less) ks
+        → All (λ t. token_cmp last t ≡ Less) ks
+    from_recursion [] all = All-nil (λ t. token_cmp last t ≡ Less)
+    from_recursion (k ∷ ks) all =
+        All-cons (λ t. token_cmp last t ≡ Less) k ks all.0 (from_recursion ks all.1)
+
+pub tokens_rise : (last : Option Token) (history : List Entry)
+    → LastIsBelow last (map token_of history) → do_tokens_rise last (sums_by_token history)
+unfolding sums_by_token tokens
+tokens_rise last history below =
+    tokens_above _ last (rising token_cmp (map token_of history))
+    (below_rising last (map token_of history) below)
+    (rising-is token_cmp-total token_cmp-ties (map token_of history)).rises
+
+last_below : (f : Token → Sums) (last : Option Token) (keys later : List Token)
+    → LastIsBelow last later → All (λ t. All (λ u. token_cmp t u ≡ Less) later) keys
+    → LastIsBelow (last_of last (map (λ t. (t, f t)) keys)) later
+last_below f last [] later below all = below
+last_below f last (k ∷ keys) later below all =
+    last_below f (Some k) keys later
+    (recursion_from_All (λ u. token_cmp k u ≡ Less) later
+    (All-head (λ t. All (λ u. token_cmp t u ≡ Less) later) k keys all))
+    (All-tail (λ t. All (λ u. token_cmp t u ≡ Less) later) k keys all)
+
+pub next_last : (last : Option Token) (history : List Entry) (later : List Token)
+    → LastIsBelow last later → AreBelow (map token_of history) later
+    → LastIsBelow (last_of last (sums_by_token history)) later
+unfolding sums_by_token tokens
+next_last last history later below rise =
+    last_below _ last (rising token_cmp (map token_of history)) later below
+    (all_keys (λ t. All (λ u. token_cmp t u ≡ Less) later) (map token_of history) rise)
+
+-- ---- how many keys there are
+insert_few : {K : Type 0} (cmp : K → K → Ordering) (keys : List K) (key : K)
+    → length (insert_key cmp keys key) ≤ length keys + 1
+insert_few cmp [] key = omega arith
+insert_few cmp (x ∷ keys) key = by_order (cmp key x) refl (insert_few cmp keys key)
+  where
+    by_order : (order : Ordering) → cmp key x ≡ order
+        → length (insert_key cmp keys key) ≤ length keys + 1
+        → length (insert_key cmp (x ∷ keys) key) ≤ length (x ∷ keys) + 1
+    by_order Less is rest = rw is (omega arith)
+    by_order Equal is rest = rw is (omega arith)
+    by_order Greater is rest = rw is (omega (arith, rest))
+
+rising_few : {K : Type 0} (cmp : K → K → Ordering) (keys : List K)
+    → length (rising cmp keys) ≤ length keys
+unfolding rising
+rising_few cmp [] = omega arith
+rising_few cmp (key ∷ keys) =
+    omega (arith, rising_few cmp keys, insert_few cmp (rising cmp keys) key)
+
+pub tokens_few : (history : List Entry) → length (sums_by_token history) ≤ length history
+unfolding sums_by_token tokens
+tokens_few history =
+    omega (
+      arith,
+      length-map (rising token_cmp (map token_of history)) (λ t. (t, sums (own t history))),
+      rising_few token_cmp (map token_of history),
+      length-map history token_of,
+    )
+
+validators_few : (history : List Entry) → length (sums_by_validator history) ≤ length history
+unfolding sums_by_validator validators
+validators_few history =
+    omega (
+      arith,
+      length-map (rising nat_cmp (map validator_of history))
+          (λ v. (v, sums (entries_of_validator v history))),
+      rising_few nat_cmp (map validator_of history),
+      length-map history validator_of,
+    )
+
+-- ---- spans
+abbrev from_ends : List FileSpan → List (Option Place)
+from_ends spans = map (λ (span : FileSpan). Some span.from) spans
+
+abbrev to_ends : List FileSpan → List (Option Place)
+to_ends spans = map (λ (span : FileSpan). span.to) spans
+
+abbrev MayAllEnd : Bool → List FileSpan → Type 0
+MayAllEnd last spans = AllByRecursion (λ span. may_end last span.to ≡ true) spans
+
+joined_next : (last : Bool) (news : List (Option Place)) (spans : List FileSpan)
+    → MayAllEnd last spans
+    → are_joined false last (from_ends spans ++ news) spans (news ++ to_ends spans)
+joined_next last news [] ends = sym (append-nil news)
+joined_next last news (span ∷ spans) ends = (
+  from_ends spans ++ news,
+  refl,
+  ends.0,
+  subst (λ all. are_joined false last ((from_ends spans ++ news) ++ span.to ∷ []) spans all)
+      (append_assoc news (span.to ∷ []) (to_ends spans))
+      (subst (λ e. are_joined false last e spans ((news ++ span.to ∷ []) ++ to_ends spans))
+      (sym (append_assoc (from_ends spans) news (span.to ∷ [])))
+      (joined_next last (news ++ span.to ∷ []) spans ends.1)),
+)
+
+joined_first : (last : Bool) (news : List (Option Place)) (spans : List FileSpan)
+    → map (λ (span : FileSpan). Some first_place) spans ≡ from_ends spans → MayAllEnd last spans
+    → are_joined true last news spans (news ++ to_ends spans)
+joined_first last news [] from ends = sym (append-nil news)
+joined_first last news (span ∷ spans) from ends =
+    let here : first_place ≡ span.from = cc in
+    let more : map (λ (span : FileSpan). Some first_place) spans ≡ from_ends spans = cc in
+    (
+      news,
+      ap (λ (p : Place). Some (p, news)) here,
+      ends.0,
+      subst (λ all. are_joined true last (news ++ span.to ∷ []) spans all)
+          (append_assoc news (span.to ∷ []) (to_ends spans))
+          (joined_first last (news ++ span.to ∷ []) spans more ends.1),
+    )
+
+may_all : (spans : List FileSpan) → MayAllEnd false spans
+may_all [] = tt
+may_all (span ∷ spans) = (refl, may_all spans)
+
+may_last : (spans : List FileSpan) → All (λ end. end ≡ None) (to_ends spans) → MayAllEnd true spans
+may_last [] all = tt
+may_last (span ∷ spans) all = (
+  ap (may_end true) (All-head (λ end. end ≡ None) span.to (to_ends spans) all),
+  may_last spans (All-tail (λ end. end ≡ None) span.to (to_ends spans) all),
+)
+
+may_end_all : (spans : List FileSpan) (later : List (List FileSpan)) → DoJoin (to_ends spans) later
+    → MayAllEnd (is_none_behind later) spans
+may_end_all spans [] all = may_last spans all
+may_end_all spans (next ∷ later) join = may_all spans
+
+-- ---- taps
+zero_first : (n : ℕ) → 0 + n ≡ n
+zero_first n = omega arith
+
+posted_first : (news ns : List ℕ) (posted : ℕ) → posted + sum_up ns < 2 ^ 64
+    → are_posted_to true news posted ns (news ++ ns) (posted + sum_up ns)
+posted_first news [] posted few =
+    (sym (append-nil news), (let e : posted ≡ posted + 0 = omega arith in e))
+posted_first news (n ∷ ns) posted few =
+    let sum : (posted + n) + sum_up ns ≡ posted + (n + sum_up ns) = omega arith in
+    (
+      0,
+      news,
+      refl,
+      omega (arith, few),
+      omega (arith, few),
+      omega (arith, few),
+      subst (λ all. are_posted_to true (news ++ (0 + n) ∷ []) (posted + n) ns all (posted + (n + sum_up ns)))
+          (ap (λ k. (news ++ k ∷ []) ++ ns) (zero_first n) ∙ append_assoc news (n ∷ []) ns)
+          (subst (λ s. are_posted_to true (news ++ (0 + n) ∷ []) (posted + n) ns
+          ((news ++ (0 + n) ∷ []) ++ ns) s) sum
+          (posted_first (news ++ (0 + n) ∷ []) ns (posted + n) (omega (arith, few)))),
+    )
+
+posted_next : (olds news ns : List ℕ) (posted : ℕ) → length olds ≡ length ns
+    → posted + sum_up ns < 2 ^ 64 → sum_up olds + sum_up ns < 2 ^ 64
+    → are_posted_to false (olds ++ news) posted ns (news ++ added olds ns) (posted + sum_up ns)
+posted_next [] news [] posted same few all =
+    (sym (append-nil news), (let e : posted ≡ posted + 0 = omega arith in e))
+posted_next [] news (n ∷ ns) posted same few all = absurd (omega (arith, same))
+posted_next (o ∷ olds) news [] posted same few all = absurd (omega (arith, same))
+posted_next (o ∷ olds) news (n ∷ ns) posted same few all =
+    let sum : (posted + n) + sum_up ns ≡ posted + (n + sum_up ns) = omega arith in
+    (
+      o,
+      olds ++ news,
+      refl,
+      omega (arith, few),
+      omega (arith, all),
+      omega (arith, few),
+      subst (λ to. are_posted_to false ((olds ++ news) ++ (o + n) ∷ []) (posted + n) ns to
+          (posted + (n + sum_up ns))) (append_assoc news ((o + n) ∷ []) (added olds ns))
+          (subst (λ s. are_posted_to false ((olds ++ news) ++ (o + n) ∷ []) (posted + n) ns
+          ((news ++ (o + n) ∷ []) ++ added olds ns) s) sum
+          (subst (λ from. are_posted_to false from (posted + n) ns
+          ((news ++ (o + n) ∷ []) ++ added olds ns) ((posted + n) + sum_up ns))
+          (sym (append_assoc olds news ((o + n) ∷ [])))
+          (posted_next olds (news ++ (o + n) ∷ []) ns (posted + n) (omega (arith, same))
+          (omega (arith, few)) (omega (arith, all))))),
+    )
+
+added_sum : (xs ys : List ℕ) → sum_up (added xs ys) ≡ sum_up xs + sum_up ys
+added_sum [] ys = refl
+added_sum (x ∷ xs) [] = omega arith
+added_sum (x ∷ xs) (y ∷ ys) = let rest = added_sum xs ys in omega (arith, rest)
+
+added_length : (xs ys : List ℕ) → length xs ≡ length ys → length (added xs ys) ≡ length ys
+added_length [] ys same = refl
+added_length (x ∷ xs) [] same = absurd (omega (arith, same))
+added_length (x ∷ xs) (y ∷ ys) same =
+    let rest = added_length xs ys (omega (arith, same)) in omega (arith, rest)
+
+added_none : (xs : List ℕ) → added xs [] ≡ xs
+added_none [] = refl
+added_none (x ∷ xs) = refl
+
+three : (a b c : ℕ) → (a + b) + c ≡ a + (b + c)
+three a b c = omega arith
+
+added_assoc : (xs ys zs : List ℕ) → added (added xs ys) zs ≡ added xs (added ys zs)
+added_assoc [] ys zs = refl
+added_assoc (x ∷ xs) [] zs = refl
+added_assoc (x ∷ xs) (y ∷ ys) [] = refl
+added_assoc (x ∷ xs) (y ∷ ys) (z ∷ zs) =
+    ap (λ (n : ℕ). n ∷ added (added xs ys) zs) (three x y z)
+    ∙ ap (λ (ns : List ℕ). (x + (y + z)) ∷ ns) (added_assoc xs ys zs)
+
+-- ---- the parts so far
+-- these are the parts of this history so far, which has these taps of each file
+abbrev so_far : List (Option Place) → List ℕ → List Entry → Option Token → SoFar
+so_far ends taps history last = record {
+  ends = ends;
+  taps = taps;
+  totals = sums history;
+  validators = sums_by_validator history;
+  tokens = length (sums_by_token history);
+  last = last;
+}
+
+part_right : (p : HistoryPart) → Fits p → length p.history < 2 ^ 64 → IsRight (report_of p)
+part_right p fits few =
+    let taps : (sums p.history).taps ≡ length p.history = taps_are p.history in
+    let small : (sums p.history).taps ≤ 2 ^ 95 = omega (arith, taps, few) in
+    let number = tokens_few p.history in
+    record {
+      files = fits.files;
+      spans = fits.spans;
+      uploads = fits.uploads;
+      posted = fits.posted ∙ sym taps;
+      totals = fits.totals;
+      validators_number = (let v = validators_few p.history in omega (arith, v, few));
+      validators = fits.validators;
+      validators_rise = validators_rise p.history;
+      validators_add = all_add no_sums (sums p.history) (sums_by_validator p.history)
+          (validators_add p.history ∙ sym (no_sums_add (all_added (sums_by_validator p.history)))) small;
+      tokens_number = omega (arith, number, few);
+      tokens = fits.tokens;
+      tokens_add = all_add no_sums (sums p.history) (sums_by_token p.history)
+          (tokens_add p.history ∙ sym (no_sums_add (all_added (sums_by_token p.history)))) small;
+    }
+
+one_part : (first last : Bool) (ends : List (Option Place)) (taps : List ℕ) (history : List Entry)
+    (last_one : Option Token) (p : HistoryPart) → Fits p
+    → (first || nat_eq (length p.spans) (length ends)) ≡ true
+    → are_joined first last ends p.spans (to_ends p.spans)
+    → are_posted_to first taps 0 p.taps (added taps p.taps) (0 + sum_up p.taps)
+    → length (history ++ p.history) < 2 ^ 64
+    → AreBelow (map token_of history) (map token_of p.history)
+    → LastIsBelow last_one (map token_of p.history)
+    → IsNextPart first last (so_far ends taps history last_one) (report_of p)
+    (so_far (to_ends p.spans) (added taps p.taps) (history ++ p.history)
+    (last_of last_one (sums_by_token p.history)))
+one_part first last ends taps history last_one p fits files joined posted few rise below =
+    let all = length-append history p.history in
+    let summed : (sums (history ++ p.history)).taps ≡ length (history ++ p.history) =
+    taps_are (history ++ p.history) in
+    let before = tokens_few history in
+    let here = tokens_few p.history in
+    let tokens : length (sums_by_token (history ++ p.history))
+        ≡ length (sums_by_token history) + length (sums_by_token p.history) =
+    ap length (by_token_joined history p.history rise)
+    ∙ length-append (sums_by_token history) (sums_by_token p.history) in
+    let sum : 0 + sum_up p.taps ≡ (sums p.history).taps =
+    zero_first (sum_up p.taps) ∙ fits.posted ∙ sym (taps_are p.history) in
+    record {
+      right = part_right p fits (omega (arith, all, few));
+      files = files;
+      joined = joined;
+      posted = subst (λ n. are_posted_to first taps 0 p.taps (added taps p.taps) n) sum posted;
+      totals = within (sums history) (sums p.history) (sums (history ++ p.history))
+          (sums-append history p.history) (omega (arith, summed, few));
+      validators = validators_added history p.history (omega (arith, few));
+      number = omega (arith, all, few, before, here);
+      tokens = tokens;
+      rise = tokens_rise last_one p.history below;
+      last_is = refl;
+    }
+
+-- ---- all parts
+below_append : (xs ys zs : List Token) → AreBelow xs zs → AreBelow ys zs → AreBelow (xs ++ ys) zs
+below_append [] ys zs front back = back
+below_append (x ∷ xs) ys zs front back =
+    All-cons (λ t. All (λ u. token_cmp t u ≡ Less) zs) x (xs ++ ys)
+    (All-head (λ t. All (λ u. token_cmp t u ≡ Less) zs) x xs front)
+    (below_append xs ys zs (All-tail (λ t. All (λ u. token_cmp t u ≡ Less) zs) x xs front) back)
+
+all_front : (P : Token → Type 0) (xs ys : List Token) → All P (xs ++ ys) → All P xs × All P ys
+all_front P [] ys all = (All-nil P, all)
+all_front P (x ∷ xs) ys all =
+    let (front, back) = all_front P xs ys (All-tail P x (xs ++ ys) all) in
+    (All-cons P x xs (All-head P x (xs ++ ys) all) front, back)
+
+below_both : (xs ys zs : List Token) → AreBelow xs (ys ++ zs) → AreBelow xs ys × AreBelow xs zs
+below_both [] ys zs below = (All-nil _, All-nil _)
+below_both (x ∷ xs) ys zs below =
+    let (front, back) = all_front (λ u. token_cmp x u ≡ Less) ys zs
+    (All-head (λ t. All (λ u. token_cmp t u ≡ Less) (ys ++ zs)) x xs below) in
+    let (fronts, backs) = below_both xs ys zs
+    (All-tail (λ t. All (λ u. token_cmp t u ≡ Less) (ys ++ zs)) x xs below) in (
+      All-cons (λ t. All (λ u. token_cmp t u ≡ Less) ys) x xs front fronts,
+      All-cons (λ t. All (λ u. token_cmp t u ≡ Less) zs) x xs back backs,
+    )
+
+abbrev spans_of : List HistoryPart → List (List FileSpan)
+spans_of parts = map (λ (p : HistoryPart). p.spans) parts
+
+none_behind : (ps : List HistoryPart) → is_none_behind (spans_of ps) ≡ is_none_behind (map report_of ps)
+none_behind [] = refl
+none_behind (p ∷ ps) = refl
+
+same_number : (a b : ℕ) → a ≡ b → nat_eq a b ≡ true
+same_number a b same = grind (arith, nat_tests, same)
+
+-- what the parts so far are, and that the others follow
+record GoesOn (files : ℕ) (taps : List ℕ) (history : List Entry) (last : Option Token)
+    (parts : List HistoryPart) : Type 0 where
+  number : AllByRecursion (λ p. length p.spans ≡ files) parts
+  uploads : length taps ≡ files
+  posted : sum_up taps ≡ length history
+  rise : DoRise (histories_of parts)
+  above : AreBelow (map token_of history) (map token_of (whole_history parts))
+  below : LastIsBelow last (map token_of (whole_history parts))
+  fit : AllByRecursion Fits parts
+  few : length (history ++ whole_history parts) < 2 ^ 64
+
+tokens_both : (xs ys : List Entry) → map token_of (xs ++ ys) ≡ map token_of xs ++ map token_of ys
+tokens_both xs ys = map-append token_of xs ys
+
+-- behind one part more
+goes_further : (files : ℕ) (taps : List ℕ) (history : List Entry) (last : Option Token)
+    (p : HistoryPart) (ps : List HistoryPart) → GoesOn files taps history last (p ∷ ps)
+    → length (added taps p.taps) ≡ files
+    → GoesOn files (added taps p.taps) (history ++ p.history)
+    (last_of last (sums_by_token p.history)) ps
+goes_further files taps history last p ps goes uploads =
+    let rest = whole_history ps in
+    let split = tokens_both p.history rest in
+    let (below_p, below_rest) = below_front last (map token_of p.history) (map token_of rest)
+    (subst (LastIsBelow last) split goes.below) in
+    let (above_p, above_rest) = below_both (map token_of history) (map token_of p.history)
+    (map token_of rest) (subst (AreBelow (map token_of history)) split goes.above) in
+    record {
+      number = goes.number.1;
+      uploads = uploads;
+      posted = added_sum taps p.taps ∙ ap (λ n. n + sum_up p.taps) goes.posted
+          ∙ ap (λ n. length history + n) goes.fit.0.posted ∙ sym (length-append history p.history);
+      rise = goes.rise.1;
+      above = subst (λ (ts : List Token). AreBelow ts (map token_of rest))
+          (sym (tokens_both history p.history))
+          (below_append (map token_of history) (map token_of p.history) (map token_of rest) above_rest
+          goes.rise.0);
+      below = next_last last p.history (map token_of rest) below_rest goes.rise.0;
+      fit = goes.fit.1;
+      few = subst (λ n. n < 2 ^ 64) (sym (ap length (append_assoc history p.history rest))) goes.few;
+    }
+
+-- what one part needs of what goes on
+record IsNext (taps : List ℕ) (history : List Entry) (last : Option Token) (p : HistoryPart) : Type 0
+  where
+    few : length (history ++ p.history) < 2 ^ 64
+    above : AreBelow (map token_of history) (map token_of p.history)
+    below : LastIsBelow last (map token_of p.history)
+    sums : sum_up taps + sum_up p.taps < 2 ^ 64
+
+is_next : (files : ℕ) (taps : List ℕ) (history : List Entry) (last : Option Token) (p : HistoryPart)
+    (ps : List HistoryPart) → GoesOn files taps history last (p ∷ ps) → IsNext taps history last p
+is_next files taps history last p ps goes =
+    let rest = whole_history ps in
+    let split = tokens_both p.history rest in
+    let one = length-append history p.history in
+    let two = length-append history (p.history ++ rest) in
+    let three = length-append p.history rest in
+    let few = goes.few in
+    let was = goes.posted in
+    let now = goes.fit.0.posted in
+    record {
+      few = omega (arith, one, two, three, few);
+      above = (below_both (map token_of history) (map token_of p.history) (map token_of rest)
+          (subst (AreBelow (map token_of history)) split goes.above)).0;
+      below = (below_front last (map token_of p.history) (map token_of rest)
+          (subst (LastIsBelow last) split goes.below)).0;
+      sums = omega (arith, was, now, two, three, few);
+    }
+
+ends_length : (spans : List FileSpan) → length (to_ends spans) ≡ length spans
+ends_length spans = length-map spans (λ (span : FileSpan). span.to)
+
+pub follow : (files : ℕ) (ends : List (Option Place)) (taps : List ℕ) (history : List Entry)
+    (last : Option Token) (parts : List HistoryPart) → length ends ≡ files
+    → DoJoin ends (spans_of parts) → GoesOn files taps history last parts
+    → (all_ends : List (Option Place)) × (all_last : Option Token)
+    × are_next_parts false (so_far ends taps history last) (map report_of parts)
+    (so_far all_ends (added taps (numbers_of parts)) (history ++ whole_history parts) all_last)
+follow files ends taps history last [] number join goes = (
+  ends,
+  last,
+  ap (λ ts. so_far ends ts history last) (sym (added_none taps))
+      ∙ ap (λ h. so_far ends (added taps []) h last) (sym (append-nil history)),
+)
+follow files ends taps history last (p ∷ ps) number join goes =
+    let is = is_next files taps history last p ps goes in
+    let same : length taps ≡ length p.taps =
+    goes.uploads ∙ sym (goes.fit.0.uploads ∙ goes.number.0) in
+    let uploads : length (added taps p.taps) ≡ files =
+    added_length taps p.taps same ∙ goes.fit.0.uploads ∙ goes.number.0 in
+    let small : 0 + sum_up p.taps < 2 ^ 64 = (let s = is.sums in omega (arith, s)) in
+    let ends_well = may_end_all p.spans (spans_of ps) join.1 in
+    let joined : are_joined false (is_none_behind (map report_of ps)) ends p.spans (to_ends p.spans) =
+    subst (λ b. are_joined false b ends p.spans (to_ends p.spans)) (none_behind ps)
+    (subst (λ e. are_joined false (is_none_behind (spans_of ps)) e p.spans (to_ends p.spans))
+    (append-nil (from_ends p.spans) ∙ sym join.0)
+    (joined_next (is_none_behind (spans_of ps)) [] p.spans ends_well)) in
+    let posted : are_posted_to false taps 0 p.taps (added taps p.taps) (0 + sum_up p.taps) =
+    subst (λ t. are_posted_to false t 0 p.taps (added taps p.taps) (0 + sum_up p.taps))
+    (append-nil taps) (posted_next taps [] p.taps 0 same small is.sums) in
+    let part = one_part false (is_none_behind (map report_of ps)) ends taps history last p goes.fit.0
+    (same_number (length p.spans) (length ends) (goes.number.0 ∙ sym number)) joined posted is.few
+    is.above is.below in
+    let (all_ends, all_last, more) = follow files (to_ends p.spans) (added taps p.taps)
+    (history ++ p.history) (last_of last (sums_by_token p.history)) ps
+    (ends_length p.spans ∙ goes.number.0) join.1 (goes_further files taps history last p ps goes uploads)
+    in
+    (
+      all_ends,
+      all_last,
+      so_far (to_ends p.spans) (added taps p.taps) (history ++ p.history)
+          (last_of last (sums_by_token p.history)),
+      part,
+      subst (λ ts. are_next_parts false (so_far (to_ends p.spans) (added taps p.taps)
+          (history ++ p.history) (last_of last (sums_by_token p.history))) (map report_of ps)
+          (so_far all_ends ts (history ++ (p.history ++ whole_history ps)) all_last))
+          (added_assoc taps p.taps (numbers_of ps))
+          (subst (λ h. are_next_parts false (so_far (to_ends p.spans) (added taps p.taps)
+          (history ++ p.history) (last_of last (sums_by_token p.history))) (map report_of ps)
+          (so_far all_ends (added (added taps p.taps) (numbers_of ps)) h all_last))
+          (append_assoc history p.history (whole_history ps)) more),
+    )
+
+starts_as : nothing_so_far ≡ so_far [] [] [] None
+unfolding sums_of_replies sums_by_validator validators sums_by_token tokens rising
+starts_as = refl
+
+begins : (files : ℕ) (p : HistoryPart) (ps : List HistoryPart) → AreRight files (p ∷ ps)
+    → (all_ends : List (Option Place)) × (all_last : Option Token)
+    × are_next_parts true nothing_so_far (map report_of (p ∷ ps))
+    (so_far all_ends (numbers_of (p ∷ ps)) (whole_history (p ∷ ps)) all_last)
+begins files p ps right =
+    let rest = whole_history ps in
+    let all = length-append p.history rest in
+    let few = right.few in
+    let now = right.fit.0.posted in
+    let whole = right.whole in
+    let ends_well = may_end_all p.spans (spans_of ps) whole.1 in
+    let small : 0 + sum_up p.taps < 2 ^ 64 = omega (arith, now, all, few) in
+    let joined : are_joined true (is_none_behind (map report_of ps)) [] p.spans (to_ends p.spans) =
+    subst (λ b. are_joined true b [] p.spans (to_ends p.spans)) (none_behind ps)
+    (joined_first (is_none_behind (spans_of ps)) [] p.spans whole.0 ends_well) in
+    let posted : are_posted_to true [] 0 p.taps (added [] p.taps) (0 + sum_up p.taps) =
+    posted_first [] p.taps 0 small in
+    let part = one_part true (is_none_behind (map report_of ps)) [] [] [] None p right.fit.0 refl joined
+    posted (omega (arith, all, few)) (All-nil _) tt in
+    let goes : GoesOn files (added [] p.taps) ([] ++ p.history) (last_of None (sums_by_token p.history)) ps =
+    record {
+      number = right.number.1;
+      uploads = right.fit.0.uploads ∙ right.number.0;
+      posted = now;
+      rise = right.rise.1;
+      above = right.rise.0;
+      below = next_last None p.history (map token_of rest) tt right.rise.0;
+      fit = right.fit.1;
+      few = few;
+    } in
+    let (all_ends, all_last, more) = follow files (to_ends p.spans) (added [] p.taps) ([] ++ p.history)
+    (last_of None (sums_by_token p.history)) ps (ends_length p.spans ∙ right.number.0) whole.1 goes in
+    (
+      all_ends,
+      all_last,
+      so_far (to_ends p.spans) (added [] p.taps) ([] ++ p.history) (last_of None (sums_by_token p.history)),
+      subst (λ s. IsNextPart true (is_none_behind (map report_of ps)) s (report_of p)
+          (so_far (to_ends p.spans) (added [] p.taps) ([] ++ p.history)
+          (last_of None (sums_by_token p.history)))) (sym starts_as) part,
+      more,
+    )
+
+none_of_none : [] ≡ sums_by_token []
+unfolding sums_by_token tokens rising
+none_of_none = refl
+
+whole_tokens : (parts : List HistoryPart) → DoRise (histories_of parts)
+    → tokens_of (map report_of parts) ≡ sums_by_token (whole_history parts)
+whole_tokens [] rise = none_of_none
+whole_tokens (p ∷ ps) rise =
+    ap (λ (ts : List (Token × Sums)). sums_by_token p.history ++ ts) (whole_tokens ps rise.1)
+    ∙ sym (by_token_joined p.history (whole_history ps) rise.0)
+
+-- THE law: reports of parts of a history are merged into the report of the whole history
+pub histories_merge : (files : ℕ) (p : HistoryPart) (ps : List HistoryPart)
+    → AreRight files (p ∷ ps)
+    → merge_of (map part_text (map report_of (p ∷ ps)))
+    ≡ Ok (report (map Posted (numbers_of (p ∷ ps))) (sums (whole_history (p ∷ ps)))
+    (sums_by_validator (whole_history (p ∷ ps))) (sums_by_token (whole_history (p ∷ ps))))
+histories_merge files p ps right =
+    let (all_ends, all_last, are) = begins files p ps right in
+    reports_merge (report_of p) (map report_of ps)
+    (so_far all_ends (numbers_of (p ∷ ps)) (whole_history (p ∷ ps)) all_last) are
+    ∙ ap (λ (ts : List (Token × Sums)). Ok (report (map Posted (numbers_of (p ∷ ps)))
+    (sums (whole_history (p ∷ ps))) (sums_by_validator (whole_history (p ∷ ps))) ts))
+    (whole_tokens (p ∷ ps) right.rise)

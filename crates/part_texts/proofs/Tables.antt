@@ -1,0 +1,415 @@
+-- The sums by validator of a history, added to those of the history before it.
+use Rattle.std.proofs.Common.{◌≡◌, ◌∙◌, ◌+◌, ◌<◌, ◌≤◌, ◌^◌, ◌||◌, ◌==◌, ℕ, Bool, true, false, cond, List, [], ◌∷◌, ◌++◌, length, map, filter}
+use Rattle.std.proofs.Common.{Option, Some, None, option_map, refl, sym, ap, subst, arith, All}
+use Rattle.std.specs.Prelude.{nat_le, unwrap_or}
+use Rattle.std.specs.BTreeMap.{insert_entry}
+use Rattle.std.specs.BTreeMap.{is_at as is_key}
+use Rattle.std.specs.BTreeSet.{insert_key}
+use Rattle.std.specs.List.{AllByRecursion}
+use Rattle.std.specs.List.Sorted.{IsStrictlySortedBy}
+use Rattle.std.specs.Map.{lookup}
+use Rattle.std.specs.Ordering.{eq_by_cmp, is_eq, match_ordering, nat_cmp}
+use Rattle.std.specs.Set.{is_member}
+use Rattle.std.specs.declared.cmp.Ordering.{Ordering}
+use Rattle.std.specs.declared.cmp.Ordering.TheVariants.{Less, Equal, Greater}
+use Rattle.std.proofs.lemmas.Bool.{false≢true}
+use Rattle.std.proofs.lemmas.Bool.Decides.{nat_tests}
+use Rattle.std.proofs.lemmas.Cmp.{nat_cmp_total}
+use Rattle.std.proofs.lemmas.List.{length-map, map-append}
+use Rattle.std.proofs.lemmas.List.Elements.{filter-append}
+use Rattle.histories.specs.Entry.{is_at, reply_of}
+use Rattle.histories.specs.Rising.{rising}
+use Rattle.histories.specs.Sums.{Sums, add_sums, sums, sums_of_replies}
+use Rattle.histories.specs.SumsByKey.{entries_of_validator, sums_by_validator, validator_of, validators}
+use Rattle.histories.specs.declared.entry.Entry.{Entry}
+use Rattle.histories.proofs.RisingLemmas.{rising-is, rising-unique}
+use Rattle.tap_views.proofs.Choices.{or_swap}
+use Rattle.std.proofs.Math.Bool.{or_self_left}
+use Rattle.histories.proofs.SumsLemmas.{sums-append}
+use Rattle.part_texts.specs.Fronts.{no_sums, sums_within, with_validator}
+use Rattle.part_texts.specs.Shown.{are_added}
+
+number_ties : (a b : ℕ) → nat_cmp a b ≡ Equal → a ≡ b
+number_ties a b tied = grind (arith, nat_tests)
+
+abbrev has : List ℕ → ℕ → Bool
+has keys key = is_member (eq_by_cmp nat_cmp) keys key
+
+-- each of the keys, with what it has
+abbrev pub table : (ℕ → Sums) → List ℕ → List (ℕ × Sums)
+table f keys = map (λ k. (k, f k)) keys
+
+table_same : (f g : ℕ → Sums) (keys : List ℕ) → AllByRecursion (λ k. f k ≡ g k) keys
+    → table f keys ≡ table g keys
+table_same f g [] all = refl
+table_same f g (k ∷ keys) all =
+    ap (λ (s : Sums). (k, s) ∷ table f keys) all.0
+    ∙ ap (λ (t : List (ℕ × Sums)). (k, g k) ∷ t) (table_same f g keys all.1)
+
+above_same : (f g : ℕ → Sums) (v : ℕ) (keys : List ℕ) → ((k : ℕ) → ¬ (k ≡ v) → f k ≡ g k)
+    → AllByRecursion (λ k. nat_cmp v k ≡ Less) keys → AllByRecursion (λ k. f k ≡ g k) keys
+above_same f g v [] other above = tt
+above_same f g v (k ∷ keys) other above =
+    let less = above.0 in
+    (other k (λ same. grind (arith, nat_tests, less, same)), above_same f g v keys other above.1)
+
+less_above : (v k : ℕ) (keys : List ℕ) → nat_cmp v k ≡ Less
+    → AllByRecursion (λ z. nat_cmp k z ≡ Less) keys → AllByRecursion (λ z. nat_cmp v z ≡ Less) keys
+less_above v k [] less above = tt
+less_above v k (z ∷ keys) less above =
+    let next = above.0 in
+    (grind (arith, nat_tests, less, next), less_above v k keys less above.1)
+
+-- one key's sums are set
+set_one : (f g : ℕ → Sums) (v : ℕ) (x : Sums) (keys : List ℕ) → g v ≡ x
+    → ((k : ℕ) → ¬ (k ≡ v) → f k ≡ g k) → IsStrictlySortedBy nat_cmp keys
+    → insert_entry nat_cmp (table f keys) v x ≡ table g (insert_key nat_cmp keys v)
+unfolding IsStrictlySortedBy
+set_one f g v x [] here other rises = ap (λ (s : Sums). (v, s) ∷ []) (sym here)
+set_one f g v x (k ∷ keys) here other rises =
+    set_at (nat_cmp v k) refl (set_one f g v x keys here other rises.1)
+  where
+    set_at : (order : Ordering) → nat_cmp v k ≡ order
+        → insert_entry nat_cmp (table f keys) v x ≡ table g (insert_key nat_cmp keys v)
+        → match_ordering order ((v, x) ∷ (k, f k) ∷ table f keys) ((k, x) ∷ table f keys)
+        ((k, f k) ∷ insert_entry nat_cmp (table f keys) v x)
+        ≡ table g (match_ordering order (v ∷ k ∷ keys) (k ∷ keys) (k ∷ insert_key nat_cmp keys v))
+    set_at Less less more =
+        ap (λ (s : Sums). (v, s) ∷ (k, f k) ∷ table f keys) (sym here)
+        ∙ ap (λ (t : List (ℕ × Sums)). (v, g v) ∷ t) (table_same f g (k ∷ keys)
+        (other k (λ same. grind (arith, nat_tests, less, same)),
+        above_same f g v keys other (less_above v k keys less rises.0)))
+    set_at Equal tied more =
+        let same = number_ties v k tied in
+        ap (λ (s : Sums). (k, s) ∷ table f keys) (sym here ∙ ap g same)
+        ∙ ap (λ (t : List (ℕ × Sums)). (k, g k) ∷ t) (table_same f g keys
+        (above_same f g v keys other
+        (subst (λ (n : ℕ). AllByRecursion (λ z. nat_cmp n z ≡ Less) keys) (sym same) rises.0)))
+    set_at Greater greater more =
+        ap (λ (s : Sums). (k, s) ∷ insert_entry nat_cmp (table f keys) v x)
+        (other k (λ same. grind (arith, nat_tests, greater, same)))
+        ∙ ap (λ (t : List (ℕ × Sums)). (k, g k) ∷ t) more
+
+-- what a key has; nothing if it is not among the keys
+found : (f : ℕ → Sums) (v : ℕ) (keys : List ℕ) → (has keys v ≡ false → f v ≡ no_sums)
+    → unwrap_or (lookup (is_key (nat_cmp v)) (table f keys)) no_sums ≡ f v
+found f v [] none = sym (none refl)
+found f v (k ∷ keys) none = found_at (nat_cmp v k) refl (found f v keys)
+  where
+    found_at : (order : Ordering) → nat_cmp v k ≡ order
+        → ((has keys v ≡ false → f v ≡ no_sums)
+        → unwrap_or (lookup (is_key (nat_cmp v)) (table f keys)) no_sums ≡ f v)
+        → unwrap_or (cond (is_eq (nat_cmp v k)) (Some (f k)) (lookup (is_key (nat_cmp v)) (table f keys)))
+        no_sums ≡ f v
+    found_at Equal tied more =
+        ap (λ o. unwrap_or (cond (is_eq o) (Some (f k)) (lookup (is_key (nat_cmp v)) (table f keys))) no_sums)
+        tied
+        ∙ ap f (sym (number_ties v k tied))
+    found_at Less order more =
+        ap (λ o. unwrap_or (cond (is_eq o) (Some (f k)) (lookup (is_key (nat_cmp v)) (table f keys))) no_sums)
+        order
+        ∙ more (λ out. none (ap (λ o. is_eq o || has keys v) order ∙ out))
+    found_at Greater order more =
+        ap (λ o. unwrap_or (cond (is_eq o) (Some (f k)) (lookup (is_key (nat_cmp v)) (table f keys))) no_sums)
+        order
+        ∙ more (λ out. none (ap (λ o. is_eq o || has keys v) order ∙ out))
+
+-- ---- one key more in a rising list
+insert-member : (keys : List ℕ) (key q : ℕ)
+    → has (insert_key nat_cmp keys key) q ≡ (eq_by_cmp nat_cmp q key || has keys q)
+insert-member [] key q = refl
+insert-member (k ∷ keys) key q = member_at (nat_cmp key k) refl (insert-member keys key q)
+  where
+    member_at : (o : Ordering) → nat_cmp key k ≡ o
+        → has (insert_key nat_cmp keys key) q ≡ (eq_by_cmp nat_cmp q key || has keys q)
+        → has (match_ordering o (key ∷ k ∷ keys) (k ∷ keys) (k ∷ insert_key nat_cmp keys key)) q
+        ≡ (eq_by_cmp nat_cmp q key || (eq_by_cmp nat_cmp q k || has keys q))
+    member_at Less is more = refl
+    member_at Equal tied more =
+        sym (or_self_left (eq_by_cmp nat_cmp q k) (has keys q))
+        ∙ ap (λ (z : ℕ). eq_by_cmp nat_cmp q z || (eq_by_cmp nat_cmp q k || has keys q))
+        (sym (number_ties key k tied))
+    member_at Greater is more =
+        ap (λ (b : Bool). eq_by_cmp nat_cmp q k || b) more
+        ∙ or_swap (eq_by_cmp nat_cmp q k) (eq_by_cmp nat_cmp q key) (has keys q)
+
+insert-above : (low : ℕ) (keys : List ℕ) (key : ℕ) → AllByRecursion (λ z. nat_cmp low z ≡ Less) keys
+    → nat_cmp low key ≡ Less → AllByRecursion (λ z. nat_cmp low z ≡ Less) (insert_key nat_cmp keys key)
+insert-above low [] key above less = (less, tt)
+insert-above low (k ∷ keys) key above less =
+    above_at (nat_cmp key k) (insert-above low keys key above.1 less)
+  where
+    above_at : (o : Ordering) → AllByRecursion (λ z. nat_cmp low z ≡ Less) (insert_key nat_cmp keys key)
+        → AllByRecursion (λ z. nat_cmp low z ≡ Less)
+        (match_ordering o (key ∷ k ∷ keys) (k ∷ keys) (k ∷ insert_key nat_cmp keys key))
+    above_at Less more = (less, above)
+    above_at Equal more = above
+    above_at Greater more = (above.0, more)
+
+insert-rises : (keys : List ℕ) (key : ℕ) → IsStrictlySortedBy nat_cmp keys
+    → IsStrictlySortedBy nat_cmp (insert_key nat_cmp keys key)
+unfolding IsStrictlySortedBy
+insert-rises [] key rises = (tt, tt)
+insert-rises (k ∷ keys) key rises = rises_at (nat_cmp key k) refl (insert-rises keys key rises.1)
+  where
+    rises_at : (o : Ordering) → nat_cmp key k ≡ o
+        → IsStrictlySortedBy nat_cmp (insert_key nat_cmp keys key)
+        → IsStrictlySortedBy nat_cmp
+        (match_ordering o (key ∷ k ∷ keys) (k ∷ keys) (k ∷ insert_key nat_cmp keys key))
+    rises_at Less less more = ((less, less_above key k keys less rises.0), rises)
+    rises_at Equal is more = rises
+    rises_at Greater greater more =
+        (insert-above k keys key rises.0 (grind (arith, nat_tests, greater)), more)
+
+-- ---- two histories, one behind the other
+abbrev pub at_validator : ℕ → List Entry → Sums
+at_validator v entries = sums (entries_of_validator v entries)
+
+abbrev pub inserted : List ℕ → List ℕ → List ℕ
+inserted keys [] = keys
+inserted keys (v ∷ vs) = inserted (insert_key nat_cmp keys v) vs
+
+inserted_rise : (keys vs : List ℕ) → IsStrictlySortedBy nat_cmp keys
+    → IsStrictlySortedBy nat_cmp (inserted keys vs)
+inserted_rise keys [] rise = rise
+inserted_rise keys (v ∷ vs) rise =
+    inserted_rise (insert_key nat_cmp keys v) vs (insert-rises keys v rise)
+
+or_moved : (a b c : Bool) → ((a || b) || c) ≡ (b || (a || c))
+or_moved true true c = refl
+or_moved true false c = refl
+or_moved false true c = refl
+or_moved false false c = refl
+
+or_none : (a : Bool) → (a || false) ≡ a
+or_none true = refl
+or_none false = refl
+
+inserted_has : (keys vs : List ℕ) (q : ℕ) → has (inserted keys vs) q ≡ (has keys q || has vs q)
+inserted_has keys [] q = sym (or_none (has keys q))
+inserted_has keys (v ∷ vs) q =
+    inserted_has (insert_key nat_cmp keys v) vs q
+    ∙ ap (λ b. b || has vs q) (insert-member keys v q)
+    ∙ or_moved (eq_by_cmp nat_cmp q v) (has keys q) (has vs q)
+
+has_append : (xs ys : List ℕ) (q : ℕ) → has (xs ++ ys) q ≡ (has xs q || has ys q)
+has_append [] ys q = refl
+has_append (x ∷ xs) ys q =
+    ap (λ b. eq_by_cmp nat_cmp q x || b) (has_append xs ys q)
+    ∙ or_joined (eq_by_cmp nat_cmp q x) (has xs q) (has ys q)
+  where
+    or_joined : (a b c : Bool) → (a || (b || c)) ≡ ((a || b) || c)
+    or_joined true b c = refl
+    or_joined false b c = refl
+
+pub keys_inserted : (xs ys : List Entry)
+    → inserted (validators xs) (validators ys) ≡ validators (xs ++ ys)
+unfolding validators
+keys_inserted xs ys =
+    let front = rising-is nat_cmp_total number_ties (map validator_of xs) in
+    let back = rising-is nat_cmp_total number_ties (map validator_of ys) in
+    let whole = rising-is nat_cmp_total number_ties (map validator_of (xs ++ ys)) in
+    rising-unique nat_cmp_total number_ties _ _
+    (inserted_rise (rising nat_cmp (map validator_of xs)) (rising nat_cmp (map validator_of ys)) front.rises)
+    whole.rises
+    (λ q. inserted_has (rising nat_cmp (map validator_of xs)) (rising nat_cmp (map validator_of ys)) q
+    ∙ ap (λ b. b || has (rising nat_cmp (map validator_of ys)) q) (front.same q)
+    ∙ ap (λ b. has (map validator_of xs) q || b) (back.same q)
+    ∙ sym (has_append (map validator_of xs) (map validator_of ys) q)
+    ∙ ap (λ keys. has keys q) (sym (map-append validator_of xs ys))
+    ∙ sym (whole.same q))
+
+-- a validator that is none of the history's has no entries
+other_at : (v : ℕ) (e : Entry) → is_eq (nat_cmp v (validator_of e)) ≡ false → is_at v e ≡ false
+other_at v e other = grind (arith, nat_tests, other)
+
+no_entries : (v : ℕ) (entries : List Entry) → has (map validator_of entries) v ≡ false
+    → entries_of_validator v entries ≡ []
+unfolding entries_of_validator
+no_entries v [] none = refl
+no_entries v (e ∷ entries) none =
+    none_so (is_eq (nat_cmp v (validator_of e))) refl none (no_entries v entries)
+  where
+    none_so : (b : Bool) → is_eq (nat_cmp v (validator_of e)) ≡ b
+        → (b || has (map validator_of entries) v) ≡ false
+        → (has (map validator_of entries) v ≡ false → entries_of_validator v entries ≡ [])
+        → filter (is_at v) (e ∷ entries) ≡ []
+    none_so true is none more = absurd (false≢true (sym none))
+    none_so false is none more =
+        ap (λ b. cond b (e ∷ filter (is_at v) entries) (filter (is_at v) entries)) (other_at v e is)
+        ∙ more none
+
+nothing_summed : (entries : List Entry) → entries ≡ [] → sums entries ≡ no_sums
+unfolding sums_of_replies
+nothing_summed entries none = ap sums none
+
+pub none_at : (v : ℕ) (entries : List Entry) → has (validators entries) v ≡ false
+    → at_validator v entries ≡ no_sums
+unfolding validators
+none_at v entries none =
+    nothing_summed (entries_of_validator v entries)
+    (no_entries v entries (sym ((rising-is nat_cmp_total number_ties (map validator_of entries)).same v) ∙ none))
+
+both_at : (v : ℕ) (xs ys : List Entry)
+    → at_validator v (xs ++ ys) ≡ add_sums (at_validator v xs) (at_validator v ys)
+unfolding entries_of_validator
+both_at v xs ys =
+    ap sums (filter-append (is_at v) xs ys) ∙ sums-append (filter (is_at v) xs) (filter (is_at v) ys)
+
+-- sums of no more taps than any run has
+fewer : (v : ℕ) (entries : List Entry) → length (entries_of_validator v entries) ≤ length entries
+unfolding entries_of_validator
+fewer v [] = omega arith
+fewer v (e ∷ entries) = by (is_at v e) refl (fewer v entries)
+  where
+    by : (b : Bool) → is_at v e ≡ b → length (filter (is_at v) entries) ≤ length entries
+        → length (filter (is_at v) (e ∷ entries)) ≤ length (e ∷ entries)
+    by true is short = rw is (omega (arith, short))
+    by false is short = rw is (omega (arith, short))
+
+pub taps_are : (entries : List Entry) → (sums entries).taps ≡ length entries
+unfolding sums_of_replies
+taps_are entries = length-map entries reply_of
+
+pub within : (a b c : Sums) → c ≡ add_sums a b → c.taps ≤ 2 ^ 95 → sums_within a b ≡ Some c
+within a b c is few =
+    let taps : c.taps ≡ a.taps + b.taps = ap (λ (s : Sums). s.taps) is in
+    let t : nat_le (a.taps + b.taps) (2 ^ 95) ≡ true = grind (arith, nat_tests, taps, few) in
+    ap (λ t. cond t (Some (add_sums a b)) None) t ∙ ap Some (sym is)
+
+module _ (xs ys : List Entry) (few : length (xs ++ ys) ≤ 2 ^ 95) where
+  -- the validators that are done have their sums in both histories
+  abbrev mixed : List ℕ → ℕ → Sums
+  mixed done v = cond (has done v) (at_validator v (xs ++ ys)) (at_validator v xs)
+
+  abbrev done_after : List ℕ → List ℕ → List ℕ
+  done_after done [] = done
+  done_after done (v ∷ vs) = done_after (v ∷ done) vs
+
+  mixed_out : (done : List ℕ) (v : ℕ) → has done v ≡ false → mixed done v ≡ at_validator v xs
+  mixed_out done v out = ap (λ b. cond b (at_validator v (xs ++ ys)) (at_validator v xs)) out
+
+  mixed_here : (done : List ℕ) (v : ℕ) → mixed (v ∷ done) v ≡ at_validator v (xs ++ ys)
+  mixed_here done v =
+      let t : is_eq (nat_cmp v v) ≡ true = grind (arith, nat_tests) in
+      ap (λ b. cond (b || has done v) (at_validator v (xs ++ ys)) (at_validator v xs)) t
+
+  mixed_other : (done : List ℕ) (v k : ℕ) → ¬ (k ≡ v) → mixed done k ≡ mixed (v ∷ done) k
+  mixed_other done v k other =
+      let t : is_eq (nat_cmp k v) ≡ false = grind (arith, nat_tests, other) in
+      ap (λ b. cond (b || has done k) (at_validator k (xs ++ ys)) (at_validator k xs)) (sym t)
+
+  one_more : (done keys : List ℕ) (v : ℕ) → IsStrictlySortedBy nat_cmp keys → has done v ≡ false
+      → ((k : ℕ) → has keys k ≡ false → has (validators xs) k ≡ false)
+      → with_validator (table (mixed done) keys) (v, at_validator v ys)
+      ≡ Some (table (mixed (v ∷ done)) (insert_key nat_cmp keys v))
+  one_more done keys v rises out of_xs =
+      let here : unwrap_or (lookup (is_key (nat_cmp v)) (table (mixed done) keys)) no_sums
+          ≡ at_validator v xs =
+      found (mixed done) v keys
+      (λ absent. mixed_out done v out ∙ none_at v xs (of_xs v absent))
+      ∙ mixed_out done v out in
+      let small : (at_validator v (xs ++ ys)).taps ≤ 2 ^ 95 =
+      (let n = taps_are (entries_of_validator v (xs ++ ys)) in
+      let f = fewer v (xs ++ ys) in omega (arith, n, f, few)) in
+      ap (λ s. option_map (λ sums. insert_entry nat_cmp (table (mixed done) keys) v sums)
+      (sums_within s (at_validator v ys))) here
+      ∙ ap (option_map (λ sums. insert_entry nat_cmp (table (mixed done) keys) v sums))
+      (within (at_validator v xs) (at_validator v ys) (at_validator v (xs ++ ys)) (both_at v xs ys) small)
+      ∙ ap Some (set_one (mixed done) (mixed (v ∷ done)) v (at_validator v (xs ++ ys)) keys
+      (mixed_here done v) (mixed_other done v) rises)
+
+  still_out : (v : ℕ) (done vs : List ℕ) → AllByRecursion (λ u. nat_cmp v u ≡ Less) vs
+      → AllByRecursion (λ u. has done u ≡ false) vs
+      → AllByRecursion (λ u. has (v ∷ done) u ≡ false) vs
+  still_out v done [] above out = tt
+  still_out v done (u ∷ vs) above out =
+      let less = above.0 in
+      let t : is_eq (nat_cmp u v) ≡ false = grind (arith, nat_tests, less) in
+      (ap (λ b. b || has done u) t ∙ out.0, still_out v done vs above.1 out.1)
+
+  more_keys : (keys : List ℕ) (v : ℕ)
+      → ((k : ℕ) → has keys k ≡ false → has (validators xs) k ≡ false)
+      → (k : ℕ) → has (insert_key nat_cmp keys v) k ≡ false → has (validators xs) k ≡ false
+  more_keys keys v of_xs k absent =
+      of_xs k (second (eq_by_cmp nat_cmp k v) (has keys k)
+      (sym (insert-member keys v k) ∙ absent))
+    where
+      second : (a b : Bool) → (a || b) ≡ false → b ≡ false
+      second true b none = absurd (false≢true (sym none))
+      second false b none = none
+
+  all_more : (done keys vs : List ℕ) → IsStrictlySortedBy nat_cmp keys
+      → IsStrictlySortedBy nat_cmp vs → AllByRecursion (λ u. has done u ≡ false) vs
+      → ((k : ℕ) → has keys k ≡ false → has (validators xs) k ≡ false)
+      → are_added (table (mixed done) keys) (table (λ v. at_validator v ys) vs)
+      (table (mixed (done_after done vs)) (inserted keys vs))
+  unfolding IsStrictlySortedBy
+  all_more done keys [] rises rise out of_xs = refl
+  all_more done keys (v ∷ vs) rises rise out of_xs = (
+    table (mixed (v ∷ done)) (insert_key nat_cmp keys v),
+    one_more done keys v rises out.0 of_xs,
+    all_more (v ∷ done) (insert_key nat_cmp keys v) vs
+        (insert-rises keys v rises) rise.1
+        (still_out v done vs rise.0 out.1) (more_keys keys v of_xs),
+  )
+
+  done_has : (done vs : List ℕ) (k : ℕ) → has (done_after done vs) k ≡ (has done k || has vs k)
+  done_has done [] k = sym (or_none (has done k))
+  done_has done (v ∷ vs) k =
+      done_has (v ∷ done) vs k ∙ or_moved (eq_by_cmp nat_cmp k v) (has done k) (has vs k)
+
+  all_out : (vs : List ℕ) → AllByRecursion (λ u. has [] u ≡ false) vs
+  all_out [] = tt
+  all_out (v ∷ vs) = (refl, all_out vs)
+
+  -- at last each validator has its sums in both
+  ends_as : (k : ℕ) → mixed (done_after [] (validators ys)) k ≡ at_validator k (xs ++ ys)
+  ends_as k = by (has (validators ys) k) refl
+    where
+      add_nothing : (s : Sums) → add_sums s no_sums ≡ s
+      add_nothing s = λ i. record {
+        taps = (let e : s.taps + 0 ≡ s.taps = omega arith in e) i;
+        paid = (let e : s.paid + 0 ≡ s.paid = omega arith in e) i;
+        transfers = (let e : s.transfers + 0 ≡ s.transfers = omega arith in e) i;
+        capped = (let e : s.capped + 0 ≡ s.capped = omega arith in e) i;
+        stale = (let e : s.stale + 0 ≡ s.stale = omega arith in e) i;
+        unknown = (let e : s.unknown + 0 ≡ s.unknown = omega arith in e) i;
+        cents = (let e : s.cents + 0 ≡ s.cents = omega arith in e) i;
+      }
+
+      by : (b : Bool) → has (validators ys) k ≡ b
+          → mixed (done_after [] (validators ys)) k ≡ at_validator k (xs ++ ys)
+      by true is =
+          ap (λ b. cond b (at_validator k (xs ++ ys)) (at_validator k xs))
+          (done_has [] (validators ys) k ∙ is)
+      by false is =
+          ap (λ b. cond b (at_validator k (xs ++ ys)) (at_validator k xs))
+          (done_has [] (validators ys) k ∙ is)
+          ∙ sym (add_nothing (at_validator k xs))
+          ∙ ap (add_sums (at_validator k xs)) (sym (none_at k ys is))
+          ∙ sym (both_at k xs ys)
+
+  all_same : (f g : ℕ → Sums) (keys : List ℕ) → ((k : ℕ) → f k ≡ g k)
+      → AllByRecursion (λ k. f k ≡ g k) keys
+  all_same f g [] same = tt
+  all_same f g (k ∷ keys) same = (same k, all_same f g keys same)
+
+  begins_as : (k : ℕ) → at_validator k xs ≡ mixed [] k
+  begins_as k = refl
+
+  -- the sums by validator of the second, added to those of the first, are those of both
+  pub validators_added : are_added (sums_by_validator xs) (sums_by_validator ys)
+      (sums_by_validator (xs ++ ys))
+  unfolding sums_by_validator validators
+  validators_added =
+      let front = rising-is nat_cmp_total number_ties (map validator_of xs) in
+      let back = rising-is nat_cmp_total number_ties (map validator_of ys) in
+      subst (λ (all : List (ℕ × Sums)). are_added (sums_by_validator xs) (sums_by_validator ys) all)
+      (table_same (mixed (done_after [] (validators ys))) (λ k. at_validator k (xs ++ ys))
+      (inserted (validators xs) (validators ys))
+      (all_same (mixed (done_after [] (validators ys))) (λ k. at_validator k (xs ++ ys))
+      (inserted (validators xs) (validators ys)) ends_as)
+      ∙ ap (table (λ k. at_validator k (xs ++ ys))) (keys_inserted xs ys))
+      (all_more [] (validators xs) (validators ys) front.rises back.rises (all_out (validators ys))
+      (λ k absent. absent))

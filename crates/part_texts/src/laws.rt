@@ -1,0 +1,22 @@
+//! Laws of texts of parts: what right parts are merged into.
+
+ghost use Rattle.std.specs.Prelude.{◌≡◌, ◌∷◌, ℕ, List, Ok, map};
+ghost use Rattle.histories.specs.Sums.{sums};
+ghost use Rattle.histories.specs.SumsByKey.{sums_by_token, sums_by_validator};
+ghost use Rattle.tap_views.specs.declared.upload_end.UploadEnd.TheVariants.{Posted};
+ghost use Rattle.report_texts.specs.Report.{report};
+ghost use Rattle.part_texts.specs.HistoryParts.{AreRight, HistoryPart, numbers_of, report_of};
+ghost use Rattle.part_texts.specs.HistoryParts.{whole_history};
+ghost use Rattle.part_texts.specs.Merged.{merge_of};
+ghost use Rattle.part_texts.specs.Shown.{part_text};
+
+/// Parts join from the files' begins to their ends, and rise by token. The texts of their reports
+/// are merged into the report of all parts' history.
+pub fn reports_are_merged()
+    ensures { (files : ℕ) (part : HistoryPart) (parts : List HistoryPart)
+        → AreRight files (part ∷ parts)
+        → merge_of (map part_text (map report_of (part ∷ parts)))
+        ≡ Ok (report (map Posted (numbers_of (part ∷ parts))) (sums (whole_history (part ∷ parts)))
+        (sums_by_validator (whole_history (part ∷ parts)))
+        (sums_by_token (whole_history (part ∷ parts)))) }
+{}
