@@ -30,7 +30,7 @@ use Rattle.report_texts.specs.Report.{report}
 use Rattle.part_texts.specs.Fronts.{is_above, may_end, no_sums, starts, sums_within, taps_before}
 use Rattle.part_texts.specs.HistoryParts.{AreRight, DoRise, Fits, HistoryPart, added, histories_of, numbers_of, report_of, whole_history}
 use Rattle.part_texts.specs.Merged.{merge_of}
-use Rattle.part_texts.specs.Places.{AreWhole, DoJoin, first_place}
+use Rattle.sorted_taps.specs.Places.{AreWhole, DoJoin, first_place}
 use Rattle.part_texts.specs.Sections.{is_token_above}
 use Rattle.part_texts.specs.Shown.{IsNextPart, IsRight, PartReport, SoFar, adds_to, are_joined, are_next_parts, are_posted_to, do_rise, do_tokens_rise, is_none_behind, last_of, nothing_so_far, part_text, sum_up, tokens_of}
 use Rattle.sorted_taps.specs.declared.places.Place.{Place}
@@ -177,7 +177,7 @@ unfolding sums_by_token tokens
 tokens_few history =
     omega (
       arith,
-      length-map (rising token_cmp (map token_of history)) (λ t. (t, sums (own t history))),
+      length-map {B = Token × Sums} (rising token_cmp (map token_of history)) (λ t. (t, sums (own t history))),
       rising_few token_cmp (map token_of history),
       length-map history token_of,
     )
@@ -187,7 +187,7 @@ unfolding sums_by_validator validators
 validators_few history =
     omega (
       arith,
-      length-map (rising nat_cmp (map validator_of history))
+      length-map {B = ℕ × Sums} (rising nat_cmp (map validator_of history))
           (λ v. (v, sums (entries_of_validator v history))),
       rising_few nat_cmp (map validator_of history),
       length-map history validator_of,
@@ -302,7 +302,7 @@ posted_next (o ∷ olds) news (n ∷ ns) posted same few all =
     )
 
 added_sum : (xs ys : List ℕ) → sum_up (added xs ys) ≡ sum_up xs + sum_up ys
-added_sum [] ys = refl
+added_sum [] ys = omega arith
 added_sum (x ∷ xs) [] = omega arith
 added_sum (x ∷ xs) (y ∷ ys) = let rest = added_sum xs ys in omega (arith, rest)
 
@@ -507,7 +507,7 @@ is_next files taps history last p ps goes =
 ends_length : (spans : List FileSpan) → length (to_ends spans) ≡ length spans
 ends_length spans = length-map spans (λ (span : FileSpan). span.to)
 
-pub follow : (files : ℕ) (ends : List (Option Place)) (taps : List ℕ) (history : List Entry)
+follow : (files : ℕ) (ends : List (Option Place)) (taps : List ℕ) (history : List Entry)
     (last : Option Token) (parts : List HistoryPart) → length ends ≡ files
     → DoJoin ends (spans_of parts) → GoesOn files taps history last parts
     → (all_ends : List (Option Place)) × (all_last : Option Token)
@@ -545,7 +545,7 @@ follow files ends taps history last (p ∷ ps) number join goes =
     (
       all_ends,
       all_last,
-      so_far (to_ends p.spans) (added taps p.taps) (history ++ p.history)
+      (so_far (to_ends p.spans) (added taps p.taps) (history ++ p.history)
           (last_of last (sums_by_token p.history)),
       part,
       subst (λ ts. are_next_parts false (so_far (to_ends p.spans) (added taps p.taps)
@@ -555,7 +555,7 @@ follow files ends taps history last (p ∷ ps) number join goes =
           (subst (λ h. are_next_parts false (so_far (to_ends p.spans) (added taps p.taps)
           (history ++ p.history) (last_of last (sums_by_token p.history))) (map report_of ps)
           (so_far all_ends (added (added taps p.taps) (numbers_of ps)) h all_last))
-          (append_assoc history p.history (whole_history ps)) more),
+          (append_assoc history p.history (whole_history ps)) more)),
     )
 
 starts_as : nothing_so_far ≡ so_far [] [] [] None
@@ -597,11 +597,11 @@ begins files p ps right =
     (
       all_ends,
       all_last,
-      so_far (to_ends p.spans) (added [] p.taps) ([] ++ p.history) (last_of None (sums_by_token p.history)),
+      (so_far (to_ends p.spans) (added [] p.taps) ([] ++ p.history) (last_of None (sums_by_token p.history)),
       subst (λ s. IsNextPart true (is_none_behind (map report_of ps)) s (report_of p)
           (so_far (to_ends p.spans) (added [] p.taps) ([] ++ p.history)
           (last_of None (sums_by_token p.history)))) (sym starts_as) part,
-      more,
+      more),
     )
 
 none_of_none : [] ≡ sums_by_token []
