@@ -12,3 +12,4 @@ pub mod Tables
 pub mod ShownReports
 pub mod HistoryParts
 pub mod ShownLedgers
+pub mod LedgerParts

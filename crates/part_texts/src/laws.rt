@@ -1,12 +1,16 @@
 //! Laws of texts of parts: what right parts are merged into.
 
-ghost use Rattle.std.specs.Prelude.{◌≡◌, ◌∷◌, ℕ, List, Ok, map};
+ghost use Rattle.std.specs.Prelude.{◌≡◌, ◌∷◌, ℕ, List, None, Ok, map};
+ghost use Rattle.std.specs.List.{AllZip};
+ghost use Rattle.tariffs.specs.Fares.{Fares};
+ghost use Rattle.fare_texts.specs.Ledger.{IsLedgerOver};
 ghost use Rattle.histories.specs.Sums.{sums};
 ghost use Rattle.histories.specs.SumsByKey.{sums_by_token, sums_by_validator};
 ghost use Rattle.tap_views.specs.declared.upload_end.UploadEnd.TheVariants.{Posted};
 ghost use Rattle.report_texts.specs.Report.{report};
 ghost use Rattle.part_texts.specs.HistoryParts.{AreRight, HistoryPart, numbers_of, report_of};
 ghost use Rattle.part_texts.specs.HistoryParts.{whole_history};
+ghost use Rattle.part_texts.specs.LedgerParts.{DoJoinUp, IsPartLedger};
 ghost use Rattle.part_texts.specs.Merged.{merge_of};
 ghost use Rattle.part_texts.specs.Shown.{part_text};
 
@@ -19,4 +23,15 @@ pub fn reports_are_merged()
         ≡ Ok (report (map Posted (numbers_of (part ∷ parts))) (sums (whole_history (part ∷ parts)))
         (sums_by_validator (whole_history (part ∷ parts)))
         (sums_by_token (whole_history (part ∷ parts)))) }
+{}
+
+/// Parts join from the files' begins to their ends, and rise by token. Each text is that of a part
+/// with the ledger of its history. Whatever is merged of these texts is the ledger of all parts'
+/// history.
+pub fn ledgers_are_merged()
+    ensures { (fares : Fares) (files : ℕ) (part : HistoryPart) (parts : List HistoryPart)
+        (texts : List (List ℕ)) → DoJoinUp files (part ∷ parts)
+        → AllZip (IsPartLedger fares) (part ∷ parts) texts
+        → (text : List ℕ) → merge_of texts ≡ Ok text
+        → IsLedgerOver fares (whole_history (part ∷ parts)) None text }
 {}

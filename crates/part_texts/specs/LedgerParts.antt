@@ -1,0 +1,23 @@
+-- Parts of a history, and the texts of their ledgers.
+use Rattle.std.specs.Prelude.{◌≡◌, ◌<◌, ◌^◌, ℕ, List, ◌++◌, None, length, map}
+use Rattle.std.specs.List.{AllByRecursion}
+use Rattle.tariffs.specs.Fares.{Fares}
+use Rattle.fare_texts.specs.Ledger.{IsLedgerOver}
+use Rattle.part_texts.specs.Heads.{part_head}
+use Rattle.part_texts.specs.HistoryParts.{DoRise, HistoryPart, histories_of}
+use Rattle.part_texts.specs.Shown.{SpanFits}
+use Rattle.sorted_taps.specs.Places.{AreWhole}
+
+-- the text of the part: where it lies in each file, and the ledger of its history
+pub record IsPartLedger (fares : Fares) (part : HistoryPart) (text : List ℕ) : Type 0 where
+  pub ledger : List ℕ
+  pub over : IsLedgerOver fares part.history None ledger
+  pub shown : text ≡ part_head part.spans ++ ledger
+
+-- The parts have as many files each, join from the files' begins to their ends, and rise by token.
+pub record DoJoinUp (files : ℕ) (parts : List HistoryPart) : Type 0 where
+  pub few : files < 2 ^ 64
+  pub number : AllByRecursion (λ p. length p.spans ≡ files) parts
+  pub places : AllByRecursion (λ p. AllByRecursion SpanFits p.spans) parts
+  pub whole : AreWhole (map (λ p. p.spans) parts)
+  pub rise : DoRise (histories_of parts)
