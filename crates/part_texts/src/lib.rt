@@ -4,6 +4,7 @@
 mod fault;
 mod fronts;
 mod head;
+pub mod laws;
 mod merging;
 pub mod laws;
 mod sections;

@@ -38,10 +38,10 @@ loop-part-preserved g c =
           ∙ ap (λ left. c.loop-part.yielded ++ left) (sym split) ∙ c.loop-part.invariant.all;
       place = next ∙ omega (arith, c.loop-part.invariant.place, length-append c.loop-part.yielded (c.in-Some.part ∷ []));
       copies = subst (λ place. CopiesAt g.R.Read.remaining c.args.opens.items place
-          c.in_ok-last.field-0 c.next.new.self.rest.items (g.W.Write.contents c.args.out.now)
+          c.in_ok-last.last c.next.new.self.rest.items (g.W.Write.contents c.args.out.now)
           (g.W.Write.contents c.copy_section.new.out)) (sym next)
           (copies_more g.R.Read.remaining c.args.opens.items c.loop-part.place c.loop-part.last
-          c.in_ok-last.field-0 c.loop-part.part-iterator.rest.items c.next.new.self.rest.items
+          c.in_ok-last.last c.loop-part.part-iterator.rest.items c.next.new.self.rest.items
           c.in-Some.part (g.W.Write.contents c.args.out.now) (g.W.Write.contents c.loop-part.out)
           (g.W.Write.contents c.copy_section.new.out) split c.loop-part.invariant.copies
           c.in_ok-last.ensures);

@@ -10,9 +10,9 @@ loop-from-init g c = record {
   may = tt;
   ends = tt;
   all = c.into_iter-from-iterator.ensures.into_iter_gives.0;
-  number = ap length c.new-opens.ensures;
+  number = ap length c.new-opens.ensures.items;
   opens = opens_none g.R.Read.remaining c.args.parts.items _ (fronts_view c.args.fronts.now) _
-      c.into_iter-from-iterator.ensures.into_iter_gives.0 c.new-opens.ensures;
+      c.into_iter-from-iterator.ensures.into_iter_gives.0 c.new-opens.ensures.items;
 }
 
 pub returns-in_err-number : goal.returns-in_err-number
@@ -45,15 +45,15 @@ loop-from-preserved g c =
       ends = tt;
       all = append_assoc c.loop-from.yielded (c.in-Some.from ∷ []) c.next.new.self.rest.items
           ∙ ap (λ left. c.loop-from.yielded ++ left) (sym split) ∙ c.loop-from.invariant.all;
-      number = ap length c.in_ok-push.ensures ∙ length-append c.loop-from.opens.items _
+      number = ap length c.in_ok-push.ensures.items ∙ length-append c.loop-from.opens.items _
           ∙ ap (λ n. n + 1) c.loop-from.invariant.number
           ∙ sym (length-append c.loop-from.yielded (c.in-Some.from ∷ []));
       opens = opens_more g.R.Read.remaining c.args.parts.items (fronts_view c.args.fronts.now)
           (fronts_view c.loop-from.fronts) (fronts_view c.begin.new.self)
-          (fronts_view c.read_front.new.fronts) c.loop-from.opens.items c.push.new.opens.items _
+          (fronts_view c.read_front.new.fronts) c.loop-from.opens.items c.push.new.self.items _
           c.loop-from.from-iterator.rest.items c.next.new.self.rest.items c.in-Some.from
           c.len-place.result c.len-count.result split c.loop-from.invariant.opens at number
-          c.begin.ensures c.in_ok-number.ensures refl c.left_at.ensures refl c.in_ok-push.ensures;
+          c.begin.ensures c.in_ok-number.ensures refl c.left_at.ensures refl c.in_ok-push.ensures.items;
     }
 
 pub returns : goal.returns

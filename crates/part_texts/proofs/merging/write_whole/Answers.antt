@@ -19,7 +19,7 @@ returns-in-Ok g c = λ views are.
     (g.W.Write.contents c.write_out.new.out) (g.W.Write.contents c.copy_sections.new.out)
     c.copy_sections.result
     (subst (Appends (g.W.Write.contents c.args.out.now) (g.W.Write.contents c.write_out.new.out))
-    (c.deref.ensures.value ∙ front) c.write_out.ensures.ok)
+    (c.deref.ensures.value ∙ front) c.in-Ok.ensures.ok)
     (c.copy_sections.ensures views are)
 
 pub returns-in-Err : goal.returns-in-Err
