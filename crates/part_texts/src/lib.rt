@@ -6,7 +6,6 @@ mod fronts;
 mod head;
 pub mod laws;
 mod merging;
-pub mod laws;
 mod sections;
 
 pub use fault::MergeFault;
