@@ -105,7 +105,7 @@ all_keys P (key ∷ keys) all =
     All-insert_key token_cmp key P (rising token_cmp keys)
     (all_keys P keys (All-tail P key keys all)) (All-head P key keys all)
 
-below_front : (last : Option Token) (xs ys : List Token) → LastIsBelow last (xs ++ ys)
+pub below_front : (last : Option Token) (xs ys : List Token) → LastIsBelow last (xs ++ ys)
     → LastIsBelow last xs × LastIsBelow last ys
 below_front None xs ys below = (tt, tt)
 below_front (Some last) [] ys below = (tt, below)
@@ -113,7 +113,7 @@ below_front (Some last) (x ∷ xs) ys below =
     let (front, back) = below_front (Some last) xs ys below.1 in ((below.0, front), back)
 
 -- what is below all tokens is below them in their order
-below_rising : (last : Option Token) (keys : List Token) → LastIsBelow last keys
+pub below_rising : (last : Option Token) (keys : List Token) → LastIsBelow last keys
     → LastIsBelow last (rising token_cmp keys)
 below_rising None keys below = tt
 below_rising (Some last) keys below =
@@ -445,7 +445,7 @@ record GoesOn (files : ℕ) (taps : List ℕ) (history : List Entry) (last : Opt
   fit : AllByRecursion Fits parts
   few : length (history ++ whole_history parts) < 2 ^ 64
 
-tokens_both : (xs ys : List Entry) → map token_of (xs ++ ys) ≡ map token_of xs ++ map token_of ys
+pub tokens_both : (xs ys : List Entry) → map token_of (xs ++ ys) ≡ map token_of xs ++ map token_of ys
 tokens_both xs ys = map-append token_of xs ys
 
 -- behind one part more

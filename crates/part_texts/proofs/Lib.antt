@@ -13,3 +13,4 @@ pub mod ShownReports
 pub mod HistoryParts
 pub mod ShownLedgers
 pub mod LedgerParts
+pub mod ReadLedgers

@@ -1,7 +1,8 @@
 //! Laws of texts of parts: what right parts are merged into.
 
 ghost use Rattle.std.specs.Prelude.{◌≡◌, ◌∷◌, ℕ, List, None, Ok, map};
-ghost use Rattle.std.specs.List.{AllZip};
+ghost use Rattle.std.specs.List.{AllByRecursion, AllZip};
+ghost use Rattle.histories.specs.Entry.{TokensFit};
 ghost use Rattle.tariffs.specs.Fares.{Fares};
 ghost use Rattle.fare_texts.specs.Ledger.{IsLedgerOver};
 ghost use Rattle.histories.specs.Sums.{sums};
@@ -10,7 +11,7 @@ ghost use Rattle.tap_views.specs.declared.upload_end.UploadEnd.TheVariants.{Post
 ghost use Rattle.report_texts.specs.Report.{report};
 ghost use Rattle.part_texts.specs.HistoryParts.{AreRight, HistoryPart, numbers_of, report_of};
 ghost use Rattle.part_texts.specs.HistoryParts.{whole_history};
-ghost use Rattle.part_texts.specs.LedgerParts.{DoJoinUp, IsPartLedger};
+ghost use Rattle.part_texts.specs.LedgerParts.{AreReadable, DoJoinUp, IsPartLedger};
 ghost use Rattle.part_texts.specs.Merged.{merge_of};
 ghost use Rattle.part_texts.specs.Shown.{part_text};
 
@@ -27,11 +28,16 @@ pub fn reports_are_merged()
 
 /// Parts join from the files' begins to their ends, and rise by token. Each text is that of a part
 /// with the ledger of its history. Whatever is merged of these texts is the ledger of all parts'
-/// history.
+/// history. They are merged, if each line of the ledgers has the form of a ledger's line.
 pub fn ledgers_are_merged()
-    ensures { (fares : Fares) (files : ℕ) (part : HistoryPart) (parts : List HistoryPart)
+    ensures whole { (fares : Fares) (files : ℕ) (part : HistoryPart) (parts : List HistoryPart)
         (texts : List (List ℕ)) → DoJoinUp files (part ∷ parts)
         → AllZip (IsPartLedger fares) (part ∷ parts) texts
         → (text : List ℕ) → merge_of texts ≡ Ok text
         → IsLedgerOver fares (whole_history (part ∷ parts)) None text }
+    ensures merged { (fares : Fares) (files : ℕ) (part : HistoryPart) (parts : List HistoryPart)
+        (texts : List (List ℕ)) → DoJoinUp files (part ∷ parts)
+        → AllZip (IsPartLedger fares) (part ∷ parts) texts
+        → AllByRecursion (λ p. TokensFit p.history × AreReadable fares p.history) (part ∷ parts)
+        → (text : List ℕ) × (merge_of texts ≡ Ok text) }
 {}
