@@ -10,6 +10,7 @@ use Rattle.tap_views.specs.Token.{Fits as TokenFits}
 use Rattle.tap_views.specs.declared.encoder.TapFields.{TapFields}
 use Rattle.tap_views.specs.declared.upload_end.UploadEnd.TheVariants.{Posted}
 use Rattle.tariffs.specs.Fares.{Fares}
+use Rattle.histories.specs.Entry.{TokensFit}
 use Rattle.histories.specs.Sums.{sums}
 use Rattle.histories.specs.SumsByKey.{sums_by_token, sums_by_validator}
 use Rattle.histories.specs.declared.entry.Entry.{Entry}
@@ -24,11 +25,11 @@ use Rattle.tap_views.specs.UploadEnds.{ArePlainEnds}
 use Rattle.part_texts.specs.HistoryParts.{AreRight, Fits, HistoryPart, histories_of, numbers_of, report_of, whole_history}
 use Rattle.part_texts.specs.HistoryParts.{DoRise as HistoriesRise, added as added_up}
 use Rattle.fare_texts.specs.Ledger.{IsLedgerOver}
-use Rattle.part_texts.specs.LedgerParts.{DoJoinUp, IsPartLedger}
+use Rattle.part_texts.specs.LedgerParts.{AreReadable, DoJoinUp, IsPartLedger}
 use Rattle.part_texts.specs.Merged.{merge_of}
 use Rattle.part_texts.specs.Shown.{SpanFits, part_text, sum_up}
 use Rattle.laws.specs.PartTexts.{IsLedgerText, history_part, part_report}
-use Rattle.laws.specs.Sizes.{CanBeWritten, HaveBoundedTerms, HaveNumbers}
+use Rattle.laws.specs.Sizes.{CanBeWritten, HaveBoundedTerms, HaveNumbers, HavePlaces}
 use Rattle.laws.proofs.CentsFit.{posted_few, tokens_fit}
 use Rattle.laws.proofs.SumsFit.{CanBeSummed, EntryFits, summed}
 
@@ -200,60 +201,93 @@ reports_of_parts merge fares files part parts are whole rise bounds can ends =
     )
 
 -- ---- ledgers
-join_up : (fares : Fares) (files : List (List ℕ)) (parts : List PartView)
-    → ArePartsOf fares files parts → AreWhole (map (λ p. p.spans) parts)
-    → DoRise (map (λ p. p.history) parts) → length files < 2 ^ 64
-    → AllByRecursion (λ part. AllByRecursion SpanFits part.spans) parts
-    → DoJoinUp (length files) (map history_part parts)
-join_up fares files parts are whole rise few places = record {
-  few = few;
-  number = all_spans parts are;
-  places = all_places parts places;
-  whole = subst AreWhole (sym (spans_same parts)) whole;
-  rise = rise_same (histories_of (map history_part parts)) (subst DoRise (sym (histories_same parts)) rise);
-}
-  where
-    all_spans : (parts : List PartView) → ArePartsOf fares files parts
-        → AllByRecursion (λ (p : HistoryPart). length p.spans ≡ length files) (map history_part parts)
-    all_spans [] are = tt
-    all_spans (part ∷ parts) are = (
-      (spans_length files part.spans part.lists
-          (All-head (λ (p : PartView). IsPartOf fares files p.spans p.lists p.history) part parts are).spanned).0,
-      all_spans parts
-          (All-tail (λ (p : PartView). IsPartOf fares files p.spans p.lists p.history) part parts are),
-    )
+module _ (fares : Fares) (files : List (List ℕ)) where
+  numbers_are : (parts : List PartView) → ArePartsOf fares files parts
+      → AllByRecursion (λ (p : HistoryPart). length p.spans ≡ length files) (map history_part parts)
+  numbers_are [] are = tt
+  numbers_are (part ∷ parts) are = (
+    (spans_length files part.spans part.lists
+        (All-head (λ (p : PartView). IsPartOf fares files p.spans p.lists p.history) part parts are).spanned).0,
+    numbers_are parts
+        (All-tail (λ (p : PartView). IsPartOf fares files p.spans p.lists p.history) part parts are),
+  )
 
-    all_places : (parts : List PartView)
-        → AllByRecursion (λ (part : PartView). AllByRecursion SpanFits part.spans) parts
-        → AllByRecursion (λ (p : HistoryPart). AllByRecursion SpanFits p.spans) (map history_part parts)
-    all_places [] places = tt
-    all_places (part ∷ parts) places = (places.0, all_places parts places.1)
+  places_are : (parts : List PartView)
+      → AllByRecursion (λ (part : PartView). AllByRecursion SpanFits part.spans) parts
+      → AllByRecursion (λ (p : HistoryPart). AllByRecursion SpanFits p.spans) (map history_part parts)
+  places_are [] places = tt
+  places_are (part ∷ parts) places = (places.0, places_are parts places.1)
 
-texts_of : (fares : Fares) (parts : List PartView) (texts : List (List ℕ))
-    → AllZip (IsLedgerText fares) parts texts → AllZip (IsPartLedger fares) (map history_part parts) texts
-texts_of fares [] [] are = tt
-texts_of fares [] (t ∷ ts) are = absurd are
-texts_of fares (p ∷ ps) [] are = absurd are
-texts_of fares (p ∷ ps) (t ∷ ts) are = (are.0, texts_of fares ps ts are.1)
+  join_up : (parts : List PartView) → ArePartsOf fares files parts
+      → AreWhole (map (λ p. p.spans) parts) → DoRise (map (λ p. p.history) parts)
+      → HavePlaces files parts → DoJoinUp (length files) (map history_part parts)
+  join_up parts are whole rise have = record {
+    few = have.number;
+    number = numbers_are parts are;
+    places = places_are parts have.places;
+    whole = subst AreWhole (sym (spans_same parts)) whole;
+    rise = rise_same (histories_of (map history_part parts)) (subst DoRise (sym (histories_same parts)) rise);
+  }
+
+  texts_of : (parts : List PartView) (texts : List (List ℕ))
+      → AllZip (IsLedgerText fares) parts texts → AllZip (IsPartLedger fares) (map history_part parts) texts
+  texts_of [] [] are = tt
+  texts_of [] (t ∷ ts) are = absurd are
+  texts_of (p ∷ ps) [] are = absurd are
+  texts_of (p ∷ ps) (t ∷ ts) are = (are.0, texts_of ps ts are.1)
+
+  all_readable : (parts : List PartView) → ArePartsOf fares files parts
+      → AllByRecursion (λ (p : PartView). AreReadable fares p.history) parts
+      → AllByRecursion (λ (p : HistoryPart). TokensFit p.history × AreReadable fares p.history)
+      (map history_part parts)
+  all_readable [] are readable = tt
+  all_readable (part ∷ parts) are readable =
+      let here = All-head (λ (p : PartView). IsPartOf fares files p.spans p.lists p.history) part parts are in
+      (
+        (subst TokensFit (sym here.posted_are) (tokens_fit fares [] here.taps here.named), readable.0),
+        all_readable parts
+            (All-tail (λ (p : PartView). IsPartOf fares files p.spans p.lists p.history) part parts are)
+            readable.1,
+      )
 
 -- what is merged of ledgers of right parts
-abbrev pub LedgersMerge : Type 0
-LedgersMerge = (fares : Fares) (files : ℕ) (part : HistoryPart) (parts : List HistoryPart)
+abbrev pub LedgersAreWhole : Type 0
+LedgersAreWhole = (fares : Fares) (files : ℕ) (part : HistoryPart) (parts : List HistoryPart)
     (texts : List (List ℕ)) → DoJoinUp files (part ∷ parts)
     → AllZip (IsPartLedger fares) (part ∷ parts) texts
     → (text : List ℕ) → merge_of texts ≡ Ok text
     → IsLedgerOver fares (whole_history (part ∷ parts)) None text
 
-pub ledgers_of_parts : (merge : LedgersMerge) (fares : Fares) (files : List (List ℕ))
+pub ledgers_of_parts : (law : LedgersAreWhole) (fares : Fares) (files : List (List ℕ))
     (part : PartView) (parts : List PartView) → ArePartsOf fares files (part ∷ parts)
     → AreWhole (map (λ p. p.spans) (part ∷ parts)) → DoRise (map (λ p. p.history) (part ∷ parts))
-    → length files < 2 ^ 64
-    → AllByRecursion (λ p. AllByRecursion SpanFits p.spans) (part ∷ parts)
+    → HavePlaces files (part ∷ parts)
     → (texts : List (List ℕ)) → AllZip (IsLedgerText fares) (part ∷ parts) texts
     → (text : List ℕ) → merge_of texts ≡ Ok text
     → IsLedgerOver fares (flat_map (λ p. p.history) (part ∷ parts)) None text
-ledgers_of_parts merge fares files part parts are whole rise few places texts each text is =
+ledgers_of_parts law fares files part parts are whole rise have texts each text is =
     subst (λ (h : List Entry). IsLedgerOver fares h None text) (whole_same (part ∷ parts))
-    (merge fares (length files) (history_part part) (map history_part parts) texts
-    (join_up fares files (part ∷ parts) are whole rise few places)
-    (texts_of fares (part ∷ parts) texts each) text is)
+    (law fares (length files) (history_part part) (map history_part parts) texts
+    (join_up fares files (part ∷ parts) are whole rise have)
+    (texts_of fares files (part ∷ parts) texts each) text is)
+
+-- readable ledgers of right parts are merged
+abbrev pub LedgersAreMerged : Type 0
+LedgersAreMerged = (fares : Fares) (files : ℕ) (part : HistoryPart) (parts : List HistoryPart)
+    (texts : List (List ℕ)) → DoJoinUp files (part ∷ parts)
+    → AllZip (IsPartLedger fares) (part ∷ parts) texts
+    → AllByRecursion (λ p. TokensFit p.history × AreReadable fares p.history) (part ∷ parts)
+    → (text : List ℕ) × (merge_of texts ≡ Ok text)
+
+pub ledgers_merged : (law : LedgersAreMerged) (fares : Fares) (files : List (List ℕ))
+    (part : PartView) (parts : List PartView) → ArePartsOf fares files (part ∷ parts)
+    → AreWhole (map (λ p. p.spans) (part ∷ parts)) → DoRise (map (λ p. p.history) (part ∷ parts))
+    → HavePlaces files (part ∷ parts)
+    → (texts : List (List ℕ)) → AllZip (IsLedgerText fares) (part ∷ parts) texts
+    → AllByRecursion (λ p. AreReadable fares p.history) (part ∷ parts)
+    → (text : List ℕ) × (merge_of texts ≡ Ok text)
+ledgers_merged law fares files part parts are whole rise have texts each readable =
+    law fares (length files) (history_part part) (map history_part parts) texts
+    (join_up fares files (part ∷ parts) are whole rise have)
+    (texts_of fares files (part ∷ parts) texts each)
+    (all_readable fares files (part ∷ parts) are readable)
