@@ -1,6 +1,6 @@
 -- Parts of files are parts of a history, and their numbers fit.
-use Rattle.std.specs.Prelude.{◌≡◌, ℕ, ◌+◌, ◌<◌, ◌≤◌, ◌^◌, List, [], ◌∷◌, ◌++◌, All, Ok, flat_map, length, map, sum_by}
-use Rattle.std.specs.List.{AllByRecursion}
+use Rattle.std.specs.Prelude.{◌≡◌, ℕ, ◌+◌, ◌<◌, ◌≤◌, ◌^◌, List, [], ◌∷◌, ◌++◌, All, None, Ok, flat_map, length, map, sum_by}
+use Rattle.std.specs.List.{AllByRecursion, AllZip}
 use Rattle.std.specs.List.Sorted.{IsPermutation}
 use Rattle.std.proofs.Common.{refl, sym, ap, subst, ◌∙◌, arith, length-append}
 use Rattle.std.proofs.lemmas.List.{length-map}
@@ -10,6 +10,7 @@ use Rattle.tap_views.specs.Token.{Fits as TokenFits}
 use Rattle.tap_views.specs.declared.encoder.TapFields.{TapFields}
 use Rattle.tap_views.specs.declared.upload_end.UploadEnd.TheVariants.{Posted}
 use Rattle.tariffs.specs.Fares.{Fares}
+use Rattle.histories.specs.Entry.{TokensFit}
 use Rattle.histories.specs.Sums.{sums}
 use Rattle.histories.specs.SumsByKey.{sums_by_token, sums_by_validator}
 use Rattle.histories.specs.declared.entry.Entry.{Entry}
@@ -23,19 +24,14 @@ use Rattle.sorted_taps.specs.declared.places.FileSpan.{FileSpan}
 use Rattle.tap_views.specs.UploadEnds.{ArePlainEnds}
 use Rattle.part_texts.specs.HistoryParts.{AreRight, Fits, HistoryPart, histories_of, numbers_of, report_of, whole_history}
 use Rattle.part_texts.specs.HistoryParts.{DoRise as HistoriesRise, added as added_up}
+use Rattle.fare_texts.specs.Ledger.{IsLedgerOver}
+use Rattle.part_texts.specs.LedgerParts.{AreReadable, DoJoinUp, IsPartLedger}
 use Rattle.part_texts.specs.Merged.{merge_of}
 use Rattle.part_texts.specs.Shown.{SpanFits, part_text, sum_up}
-use Rattle.laws.specs.PartTexts.{part_report}
-use Rattle.laws.specs.Sizes.{CanBeWritten, HaveBoundedTerms, HaveNumbers}
+use Rattle.laws.specs.PartTexts.{IsLedgerText, history_part, part_report}
+use Rattle.laws.specs.Sizes.{CanBeWritten, HaveBoundedTerms, HaveNumbers, HavePlaces}
 use Rattle.laws.proofs.CentsFit.{posted_few, tokens_fit}
 use Rattle.laws.proofs.SumsFit.{CanBeSummed, EntryFits, summed}
-
-abbrev pub shown : PartView → HistoryPart
-shown part = record {
-  spans = part.spans;
-  taps = map length part.lists;
-  history = part.history;
-}
 
 -- ---- lengths
 spans_length : (files : List (List ℕ)) (spans : List FileSpan) (lists : List (List TapFields))
@@ -71,7 +67,7 @@ entries_fit (e ∷ history) tokens numbers =
 module _ (fares : Fares) (bounds : HaveBoundedTerms fares) (files : List (List ℕ)) where
   part_fits : (part : PartView) → IsPartOf fares files part.spans part.lists part.history
       → length files < 2 ^ 64 → AllByRecursion SpanFits part.spans → HaveNumbers part.history
-      → length part.history < 2 ^ 47 → Fits (shown part)
+      → length part.history < 2 ^ 47 → Fits (history_part part)
   part_fits part is few places numbers taps =
       let (spans, lists) = spans_length files part.spans part.lists is.spanned in
       let E : List Entry → Type 0 = All EntryFits in
@@ -97,7 +93,7 @@ module _ (fares : Fares) (bounds : HaveBoundedTerms fares) (files : List (List �
 
   -- ---- all parts
   all_spans : (parts : List PartView) → ArePartsOf fares files parts
-      → AllByRecursion (λ (p : HistoryPart). length p.spans ≡ length files) (map shown parts)
+      → AllByRecursion (λ (p : HistoryPart). length p.spans ≡ length files) (map history_part parts)
   all_spans [] are = tt
   all_spans (part ∷ parts) are =
       let here = All-head (λ (p : PartView). IsPartOf fares files p.spans p.lists p.history) part parts are in
@@ -108,7 +104,7 @@ module _ (fares : Fares) (bounds : HaveBoundedTerms fares) (files : List (List �
       → AllByRecursion (λ part. AllByRecursion SpanFits part.spans) parts
       → AllByRecursion (λ part. HaveNumbers part.history) parts
       → length (flat_map (λ part. part.history) parts) < 2 ^ 47
-      → AllByRecursion Fits (map shown parts)
+      → AllByRecursion Fits (map history_part parts)
   all_fits [] are few places numbers taps = tt
   all_fits (part ∷ parts) are few places numbers taps =
       let both = length-append part.history (flat_map (λ part. part.history) parts) in (
@@ -122,17 +118,17 @@ module _ (fares : Fares) (bounds : HaveBoundedTerms fares) (files : List (List �
 
 -- ---- the same in the words of both crates
 spans_same : (parts : List PartView)
-    → map (λ (p : HistoryPart). p.spans) (map shown parts) ≡ map (λ (p : PartView). p.spans) parts
+    → map (λ (p : HistoryPart). p.spans) (map history_part parts) ≡ map (λ (p : PartView). p.spans) parts
 spans_same [] = refl
 spans_same (part ∷ parts) = ap (λ (l : List (List FileSpan)). part.spans ∷ l) (spans_same parts)
 
 histories_same : (parts : List PartView)
-    → histories_of (map shown parts) ≡ map (λ (p : PartView). p.history) parts
+    → histories_of (map history_part parts) ≡ map (λ (p : PartView). p.history) parts
 histories_same [] = refl
 histories_same (part ∷ parts) = ap (λ (l : List (List Entry)). part.history ∷ l) (histories_same parts)
 
 whole_same : (parts : List PartView)
-    → whole_history (map shown parts) ≡ flat_map (λ (p : PartView). p.history) parts
+    → whole_history (map history_part parts) ≡ flat_map (λ (p : PartView). p.history) parts
 whole_same [] = refl
 whole_same (part ∷ parts) = ap (λ (l : List Entry). part.history ++ l) (whole_same parts)
 
@@ -145,25 +141,25 @@ added_same [] ys = refl
 added_same (x ∷ xs) [] = refl
 added_same (x ∷ xs) (y ∷ ys) = ap (λ (l : List ℕ). (x + y) ∷ l) (added_same xs ys)
 
-numbers_same : (parts : List PartView) → numbers_of (map shown parts) ≡ numbers_of_parts parts
+numbers_same : (parts : List PartView) → numbers_of (map history_part parts) ≡ numbers_of_parts parts
 numbers_same [] = refl
 numbers_same (part ∷ parts) =
     ap (added_up (map length part.lists)) (numbers_same parts)
     ∙ sym (added_same (map length part.lists) (numbers_of_parts parts))
 
 texts_same : (parts : List PartView)
-    → map part_text (map report_of (map shown parts)) ≡ map part_report parts
+    → map part_text (map report_of (map history_part parts)) ≡ map part_report parts
 texts_same [] = refl
 texts_same (part ∷ parts) = ap (λ (l : List (List ℕ)). part_report part ∷ l) (texts_same parts)
 
 pub are_right : (fares : Fares) (files : List (List ℕ)) (parts : List PartView)
     → ArePartsOf fares files parts → AreWhole (map (λ p. p.spans) parts)
     → DoRise (map (λ p. p.history) parts) → HaveBoundedTerms fares → CanBeWritten files parts
-    → AreRight (length files) (map shown parts)
+    → AreRight (length files) (map history_part parts)
 are_right fares files parts are whole rise bounds can = record {
   number = all_spans fares bounds files parts are;
   whole = subst AreWhole (sym (spans_same parts)) whole;
-  rise = rise_same (histories_of (map shown parts)) (subst DoRise (sym (histories_same parts)) rise);
+  rise = rise_same (histories_of (map history_part parts)) (subst DoRise (sym (histories_same parts)) rise);
   fit = all_fits fares bounds files parts are can.number can.places can.numbers can.taps;
   few = (let t = can.taps in let s = ap length (whole_same parts) in omega (arith, t, s));
 }
@@ -191,9 +187,9 @@ reports_of_parts merge fares files part parts are whole rise bounds can ends =
     (
       text,
       ap merge_of (sym (texts_same (part ∷ parts)))
-          ∙ merge (length files) (shown part) (map shown parts)
+          ∙ merge (length files) (history_part part) (map history_part parts)
           (are_right fares files (part ∷ parts) are whole rise bounds can)
-          ∙ ap (λ h. Ok (report (map Posted (numbers_of (map shown (part ∷ parts)))) (sums h)
+          ∙ ap (λ h. Ok (report (map Posted (numbers_of (map history_part (part ∷ parts)))) (sums h)
           (sums_by_validator h) (sums_by_token h))) (whole_same (part ∷ parts))
           ∙ ap (λ ns. Ok (report (map Posted ns) (sums history) (sums_by_validator history)
           (sums_by_token history))) (numbers_same (part ∷ parts)),
@@ -203,3 +199,95 @@ reports_of_parts merge fares files part parts are whole rise bounds can ends =
         shown = refl;
       },
     )
+
+-- ---- ledgers
+module _ (fares : Fares) (files : List (List ℕ)) where
+  numbers_are : (parts : List PartView) → ArePartsOf fares files parts
+      → AllByRecursion (λ (p : HistoryPart). length p.spans ≡ length files) (map history_part parts)
+  numbers_are [] are = tt
+  numbers_are (part ∷ parts) are = (
+    (spans_length files part.spans part.lists
+        (All-head (λ (p : PartView). IsPartOf fares files p.spans p.lists p.history) part parts are).spanned).0,
+    numbers_are parts
+        (All-tail (λ (p : PartView). IsPartOf fares files p.spans p.lists p.history) part parts are),
+  )
+
+  places_are : (parts : List PartView)
+      → AllByRecursion (λ (part : PartView). AllByRecursion SpanFits part.spans) parts
+      → AllByRecursion (λ (p : HistoryPart). AllByRecursion SpanFits p.spans) (map history_part parts)
+  places_are [] places = tt
+  places_are (part ∷ parts) places = (places.0, places_are parts places.1)
+
+  join_up : (parts : List PartView) → ArePartsOf fares files parts
+      → AreWhole (map (λ p. p.spans) parts) → DoRise (map (λ p. p.history) parts)
+      → HavePlaces files parts → DoJoinUp (length files) (map history_part parts)
+  join_up parts are whole rise have = record {
+    few = have.number;
+    number = numbers_are parts are;
+    places = places_are parts have.places;
+    whole = subst AreWhole (sym (spans_same parts)) whole;
+    rise = rise_same (histories_of (map history_part parts)) (subst DoRise (sym (histories_same parts)) rise);
+  }
+
+  texts_of : (parts : List PartView) (texts : List (List ℕ))
+      → AllZip (IsLedgerText fares) parts texts → AllZip (IsPartLedger fares) (map history_part parts) texts
+  texts_of [] [] are = tt
+  texts_of [] (t ∷ ts) are = absurd are
+  texts_of (p ∷ ps) [] are = absurd are
+  texts_of (p ∷ ps) (t ∷ ts) are = (are.0, texts_of ps ts are.1)
+
+  all_readable : (parts : List PartView) → ArePartsOf fares files parts
+      → AllByRecursion (λ (p : PartView). AreReadable fares p.history) parts
+      → AllByRecursion (λ (p : HistoryPart). TokensFit p.history × AreReadable fares p.history)
+      (map history_part parts)
+  all_readable [] are readable = tt
+  all_readable (part ∷ parts) are readable =
+      let here = All-head (λ (p : PartView). IsPartOf fares files p.spans p.lists p.history) part parts are in
+      (
+        (subst TokensFit (sym here.posted_are) (tokens_fit fares [] here.taps here.named), readable.0),
+        all_readable parts
+            (All-tail (λ (p : PartView). IsPartOf fares files p.spans p.lists p.history) part parts are)
+            readable.1,
+      )
+
+-- what is merged of ledgers of right parts
+abbrev pub LedgersAreWhole : Type 0
+LedgersAreWhole = (fares : Fares) (files : ℕ) (part : HistoryPart) (parts : List HistoryPart)
+    (texts : List (List ℕ)) → DoJoinUp files (part ∷ parts)
+    → AllZip (IsPartLedger fares) (part ∷ parts) texts
+    → (text : List ℕ) → merge_of texts ≡ Ok text
+    → IsLedgerOver fares (whole_history (part ∷ parts)) None text
+
+pub ledgers_of_parts : (law : LedgersAreWhole) (fares : Fares) (files : List (List ℕ))
+    (part : PartView) (parts : List PartView) → ArePartsOf fares files (part ∷ parts)
+    → AreWhole (map (λ p. p.spans) (part ∷ parts)) → DoRise (map (λ p. p.history) (part ∷ parts))
+    → HavePlaces files (part ∷ parts)
+    → (texts : List (List ℕ)) → AllZip (IsLedgerText fares) (part ∷ parts) texts
+    → (text : List ℕ) → merge_of texts ≡ Ok text
+    → IsLedgerOver fares (flat_map (λ p. p.history) (part ∷ parts)) None text
+ledgers_of_parts law fares files part parts are whole rise have texts each text is =
+    subst (λ (h : List Entry). IsLedgerOver fares h None text) (whole_same (part ∷ parts))
+    (law fares (length files) (history_part part) (map history_part parts) texts
+    (join_up fares files (part ∷ parts) are whole rise have)
+    (texts_of fares files (part ∷ parts) texts each) text is)
+
+-- readable ledgers of right parts are merged
+abbrev pub LedgersAreMerged : Type 0
+LedgersAreMerged = (fares : Fares) (files : ℕ) (part : HistoryPart) (parts : List HistoryPart)
+    (texts : List (List ℕ)) → DoJoinUp files (part ∷ parts)
+    → AllZip (IsPartLedger fares) (part ∷ parts) texts
+    → AllByRecursion (λ p. TokensFit p.history × AreReadable fares p.history) (part ∷ parts)
+    → (text : List ℕ) × (merge_of texts ≡ Ok text)
+
+pub ledgers_merged : (law : LedgersAreMerged) (fares : Fares) (files : List (List ℕ))
+    (part : PartView) (parts : List PartView) → ArePartsOf fares files (part ∷ parts)
+    → AreWhole (map (λ p. p.spans) (part ∷ parts)) → DoRise (map (λ p. p.history) (part ∷ parts))
+    → HavePlaces files (part ∷ parts)
+    → (texts : List (List ℕ)) → AllZip (IsLedgerText fares) (part ∷ parts) texts
+    → AllByRecursion (λ p. AreReadable fares p.history) (part ∷ parts)
+    → (text : List ℕ) × (merge_of texts ≡ Ok text)
+ledgers_merged law fares files part parts are whole rise have texts each readable =
+    law fares (length files) (history_part part) (map history_part parts) texts
+    (join_up fares files (part ∷ parts) are whole rise have)
+    (texts_of fares files (part ∷ parts) texts each)
+    (all_readable fares files (part ∷ parts) are readable)

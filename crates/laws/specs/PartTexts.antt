@@ -4,7 +4,10 @@ use Rattle.tap_views.specs.declared.upload_end.UploadEnd.TheVariants.{Posted}
 use Rattle.histories.specs.Sums.{sums}
 use Rattle.histories.specs.SumsByKey.{sums_by_token, sums_by_validator}
 use Rattle.report_texts.specs.Report.{report}
+use Rattle.tariffs.specs.Fares.{Fares}
 use Rattle.part_texts.specs.Heads.{part_head}
+use Rattle.part_texts.specs.HistoryParts.{HistoryPart}
+use Rattle.part_texts.specs.LedgerParts.{IsPartLedger}
 use Rattle.sorted_bills.specs.Parts.{PartView}
 
 -- the text of a part: where it lies in each file, and the report of its taps
@@ -13,3 +16,15 @@ part_report part =
     part_head part.spans
     ++ report (map Posted (map length part.lists)) (sums part.history)
     (sums_by_validator part.history) (sums_by_token part.history)
+
+-- the part as texts of parts see it
+abbrev pub history_part : PartView → HistoryPart
+history_part part = record {
+  spans = part.spans;
+  taps = map length part.lists;
+  history = part.history;
+}
+
+-- the text of a part: where it lies in each file, and the ledger of its history
+abbrev pub IsLedgerText : Fares → PartView → List ℕ → Type 0
+IsLedgerText fares part text = IsPartLedger fares (history_part part) text

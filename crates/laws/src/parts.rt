@@ -1,18 +1,20 @@
 //! Laws of runs in parts: files are cut by tokens, each part is charged by a run of its own, and what
 //! these runs print is merged into what one settled run prints.
 
-ghost use Rattle.std.specs.Prelude.{◌≡◌, ◌++◌, ◌∷◌, ℕ, List, None, Ok, flat_map, map};
-ghost use Rattle.std.specs.List.{AllZip};
+ghost use Rattle.std.specs.Prelude.{◌≡◌, ◌∷◌, ℕ, List, None, Ok, flat_map, map};
+ghost use Rattle.std.specs.List.{AllByRecursion, AllZip};
 ghost use Rattle.tariffs.specs.Fares.{Fares};
+ghost use Rattle.fare_texts.specs.Ledger.{IsLedgerOver};
+ghost use Rattle.part_texts.specs.LedgerParts.{AreReadable};
 ghost use Rattle.part_texts.specs.Merged.{merge_of};
 ghost use Rattle.report_texts.specs.OverHistory.{IsReportOver};
 ghost use Rattle.settlement.specs.Settled.{IsSettledHistory};
 ghost use Rattle.sorted_bills.specs.Parts.{ArePartsOf, DoRise, PartView};
 ghost use Rattle.sorted_taps.specs.Places.{AreWhole};
-ghost use Rattle.laws.specs.PartTexts.{part_report};
-ghost use Rattle.laws.specs.Sizes.{CanBeWritten, HaveBoundedTerms};
+ghost use Rattle.laws.specs.PartTexts.{IsLedgerText, part_report};
+ghost use Rattle.laws.specs.Sizes.{CanBeWritten, HaveBoundedTerms, HavePlaces};
 
-use part_texts::laws::reports_are_merged;
+use part_texts::laws::{ledgers_are_merged, reports_are_merged};
 use sorted_bills::laws::joined_parts_are_settled;
 
 /// Parts of the same files join from the files' begins to their ends, and rise by token. The texts
@@ -28,4 +30,27 @@ pub fn merged_reports()
 {
     joined_parts_are_settled();
     reports_are_merged();
+}
+
+/// Parts of the same files join from the files' begins to their ends, and rise by token. Each text
+/// is that of a part with the ledger of its history. Whatever is merged of these texts is the ledger
+/// of one settled run over the files. They are merged, if each line of the ledgers has the form of a
+/// ledger's line.
+pub fn merged_ledgers()
+    ensures whole { (fares : Fares) (files : List (List ℕ)) (part : PartView) (parts : List PartView)
+        → ArePartsOf fares files (part ∷ parts) → AreWhole (map (λ p. p.spans) (part ∷ parts))
+        → DoRise (map (λ p. p.history) (part ∷ parts)) → HavePlaces files (part ∷ parts)
+        → (texts : List (List ℕ)) → AllZip (IsLedgerText fares) (part ∷ parts) texts
+        → (text : List ℕ) → merge_of texts ≡ Ok text
+        → IsSettledHistory fares files (flat_map (λ p. p.history) (part ∷ parts))
+        × IsLedgerOver fares (flat_map (λ p. p.history) (part ∷ parts)) None text }
+    ensures merged { (fares : Fares) (files : List (List ℕ)) (part : PartView) (parts : List PartView)
+        → ArePartsOf fares files (part ∷ parts) → AreWhole (map (λ p. p.spans) (part ∷ parts))
+        → DoRise (map (λ p. p.history) (part ∷ parts)) → HavePlaces files (part ∷ parts)
+        → (texts : List (List ℕ)) → AllZip (IsLedgerText fares) (part ∷ parts) texts
+        → AllByRecursion (λ p. AreReadable fares p.history) (part ∷ parts)
+        → (text : List ℕ) × (merge_of texts ≡ Ok text) }
+{
+    joined_parts_are_settled();
+    ledgers_are_merged();
 }

@@ -84,7 +84,7 @@ validators_rise history =
     (rising-is nat_cmp_total (λ a b tied. grind (arith, nat_tests, tied)) (map validator_of history)).rises
 
 -- the last token is below these
-abbrev LastIsBelow : Option Token → List Token → Type 0
+abbrev pub LastIsBelow : Option Token → List Token → Type 0
 LastIsBelow None tokens = Unit {0}
 LastIsBelow (Some last) tokens = AllByRecursion (λ t. token_cmp last t ≡ Less) tokens
 
@@ -99,14 +99,14 @@ tokens_above f last (k ∷ keys) below rises =
     first_above None below = refl
     first_above (Some token) below = ap is_lt below.0
 
-all_keys : (P : Token → Type 0) (keys : List Token) → All P keys → All P (rising token_cmp keys)
+pub all_keys : (P : Token → Type 0) (keys : List Token) → All P keys → All P (rising token_cmp keys)
 unfolding rising
 all_keys P [] all = All-nil P
 all_keys P (key ∷ keys) all =
     All-insert_key token_cmp key P (rising token_cmp keys)
     (all_keys P keys (All-tail P key keys all)) (All-head P key keys all)
 
-below_front : (last : Option Token) (xs ys : List Token) → LastIsBelow last (xs ++ ys)
+pub below_front : (last : Option Token) (xs ys : List Token) → LastIsBelow last (xs ++ ys)
     → LastIsBelow last xs × LastIsBelow last ys
 below_front None xs ys below = (tt, tt)
 below_front (Some last) [] ys below = (tt, below)
@@ -114,7 +114,7 @@ below_front (Some last) (x ∷ xs) ys below =
     let (front, back) = below_front (Some last) xs ys below.1 in ((below.0, front), back)
 
 -- what is below all tokens is below them in their order
-below_rising : (last : Option Token) (keys : List Token) → LastIsBelow last keys
+pub below_rising : (last : Option Token) (keys : List Token) → LastIsBelow last keys
     → LastIsBelow last (rising token_cmp keys)
 below_rising None keys below = tt
 below_rising (Some last) keys below =
@@ -195,16 +195,16 @@ validators_few history =
     )
 
 -- ---- spans
-abbrev from_ends : List FileSpan → List (Option Place)
+abbrev pub from_ends : List FileSpan → List (Option Place)
 from_ends spans = map (λ (span : FileSpan). Some span.from) spans
 
-abbrev to_ends : List FileSpan → List (Option Place)
+abbrev pub to_ends : List FileSpan → List (Option Place)
 to_ends spans = map (λ (span : FileSpan). span.to) spans
 
-abbrev MayAllEnd : Bool → List FileSpan → Type 0
+abbrev pub MayAllEnd : Bool → List FileSpan → Type 0
 MayAllEnd last spans = AllByRecursion (λ span. may_end last span.to ≡ true) spans
 
-joined_next : (last : Bool) (news : List (Option Place)) (spans : List FileSpan)
+pub joined_next : (last : Bool) (news : List (Option Place)) (spans : List FileSpan)
     → MayAllEnd last spans
     → are_joined false last (from_ends spans ++ news) spans (news ++ to_ends spans)
 joined_next last news [] ends = sym (append-nil news)
@@ -219,7 +219,7 @@ joined_next last news (span ∷ spans) ends = (
       (joined_next last (news ++ span.to ∷ []) spans ends.1)),
 )
 
-joined_first : (last : Bool) (news : List (Option Place)) (spans : List FileSpan)
+pub joined_first : (last : Bool) (news : List (Option Place)) (spans : List FileSpan)
     → map (λ (span : FileSpan). Some first_place) spans ≡ from_ends spans → MayAllEnd last spans
     → are_joined true last news spans (news ++ to_ends spans)
 joined_first last news [] from ends = sym (append-nil news)
@@ -246,7 +246,7 @@ may_last (span ∷ spans) all = (
   may_last spans (All-tail (λ end. end ≡ None) span.to (to_ends spans) all),
 )
 
-may_end_all : (spans : List FileSpan) (later : List (List FileSpan)) → DoJoin (to_ends spans) later
+pub may_end_all : (spans : List FileSpan) (later : List (List FileSpan)) → DoJoin (to_ends spans) later
     → MayAllEnd (is_none_behind later) spans
 may_end_all spans [] all = may_last spans all
 may_end_all spans (next ∷ later) join = may_all spans
@@ -424,14 +424,14 @@ below_both (x ∷ xs) ys zs below =
       All-cons (λ t. All (λ u. token_cmp t u ≡ Less) zs) x xs back backs,
     )
 
-abbrev spans_of : List HistoryPart → List (List FileSpan)
+abbrev pub spans_of : List HistoryPart → List (List FileSpan)
 spans_of parts = map (λ (p : HistoryPart). p.spans) parts
 
 none_behind : (ps : List HistoryPart) → is_none_behind (spans_of ps) ≡ is_none_behind (map report_of ps)
 none_behind [] = refl
 none_behind (p ∷ ps) = refl
 
-same_number : (a b : ℕ) → a ≡ b → nat_eq a b ≡ true
+pub same_number : (a b : ℕ) → a ≡ b → nat_eq a b ≡ true
 same_number a b same = grind (arith, nat_tests, same)
 
 -- what the parts so far are, and that the others follow
@@ -446,7 +446,7 @@ record GoesOn (files : ℕ) (taps : List ℕ) (history : List Entry) (last : Opt
   fit : AllByRecursion Fits parts
   few : length (history ++ whole_history parts) < 2 ^ 64
 
-tokens_both : (xs ys : List Entry) → map token_of (xs ++ ys) ≡ map token_of xs ++ map token_of ys
+pub tokens_both : (xs ys : List Entry) → map token_of (xs ++ ys) ≡ map token_of xs ++ map token_of ys
 tokens_both xs ys = map-append token_of xs ys
 
 -- behind one part more
@@ -505,7 +505,7 @@ is_next files taps history last p ps goes =
       sums = omega (arith, was, now, two, three, few);
     }
 
-ends_length : (spans : List FileSpan) → length (to_ends spans) ≡ length spans
+pub ends_length : (spans : List FileSpan) → length (to_ends spans) ≡ length spans
 ends_length spans = length-map spans (λ (span : FileSpan). span.to)
 
 follow : (files : ℕ) (ends : List (Option Place)) (taps : List ℕ) (history : List Entry)

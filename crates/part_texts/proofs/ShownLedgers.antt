@@ -22,7 +22,7 @@ use Rattle.part_texts.specs.Sections.{SectionView, may_follow, section_step}
 use Rattle.part_texts.specs.Merged.{OpenView, WrongLine, and_then, end_or, front_end, front_of, fronts_of, is_none_left, lines_left, merge_of, merged, section_ended, section_of, sections_of, whole_front}
 use Rattle.part_texts.specs.Heads.{span_lines}
 use Rattle.part_texts.specs.Shown.{SpanFits, are_joined, is_none_behind}
-use Rattle.part_texts.specs.ShownLedgers.{EntryLine, IsEntryLine, PartLedger, are_next_ledgers, do_follow, last_entry, ledger_text, lines_of_entries}
+use Rattle.part_texts.specs.ShownLedgers.{EntryLine, IsEntryLine, PartLedger, all_lines, are_next_ledgers, are_read, do_follow, last_entry, ledger_text, lines_of_entries}
 use Rattle.sorted_taps.specs.declared.places.Place.{Place}
 use Rattle.part_texts.specs.declared.fronts.Stage.{Stage}
 use Rattle.part_texts.specs.declared.fronts.Stage.TheVariants.{Head, Files, Entries}
@@ -73,10 +73,11 @@ front_leads first last ledger ends next p may few fit files joined =
     let n = length p.spans in
     by_both front_done Form front_step (ledger_at first last ledger Head ends)
     (ledger_at first last ledger (Files n 0) next) (ledger_at first last true Entries next)
-    (number_line (codes "part files ") (length p.spans) ++ span_lines 0 p.spans) head_text (1 + n) 1
+    (number_line (codes "part files ") n ++ span_lines 0 p.spans) head_text
+    (1 + n) 1
     (by_both front_done Form front_step (ledger_at first last ledger Head ends)
     (ledger_at first last ledger (Files n n) ends) (ledger_at first last ledger (Files n 0) next)
-    (number_line (codes "part files ") (length p.spans)) (span_lines 0 p.spans) 1 n
+    (number_line (codes "part files ") n) (span_lines 0 p.spans) 1 n
     (head_taken first last ledger [] no_sums no_sums no_sums [] 0 ends n few files)
     (spans_taken first last ledger [] no_sums no_sums no_sums [] 0 n 0 ends next p.spans (let e : 0 + n ≡ n = omega arith in e) few fit
     joined))
@@ -97,7 +98,7 @@ ledger_opened number p = record {
   left = 0;
   part = no_sums;
   number = number;
-  lines = lines_of (lines_of_entries p.entries);
+  lines = lines_of p.lines;
 }
 
 front_shown : (place : ℕ) (first last ledger : Bool) (ends next : List (Option Place)) (p : PartLedger)
@@ -109,7 +110,7 @@ front_shown : (place : ℕ) (first last ledger : Bool) (ends next : List (Option
 front_shown place first last ledger ends next p may few fit files joined =
     let s = ledger_at first last ledger Head ends in
     let t = ledger_at first last true Entries next in
-    let rest = lines_of_entries p.entries in
+    let rest = p.lines in
     ap (λ text. front_end place (run front_done (bounded Form front_step) 1 s (lines_of text)))
     (sym (append_assoc (number_line (codes "part files ") (length p.spans) ++ span_lines 0 p.spans)
     head_text rest))
@@ -139,24 +140,22 @@ either_true false = refl
 
 -- behind the first ledger
 fronts_shown : (was_first was_last : Bool) (stage : Stage) (ends : List (Option Place))
-    (last : Option Token) (opens : List OpenView) (parts : List PartLedger)
-    → are_next_ledgers (nat_eq (length opens) 0) ends last parts
+    (opens : List OpenView) (parts : List PartLedger)
+    → are_next_ledgers (nat_eq (length opens) 0) ends parts
     → (first final : Bool) × (end : Stage) × (all_ends : List (Option Place)) × (more : List OpenView)
     × are_opened parts more
     × (fronts_of (ledger_at was_first was_last true stage ends) opens (map ledger_text parts)
     ≡ Ok (ledger_at first final true end all_ends, opens ++ more))
-fronts_shown was_first was_last stage ends last opens [] are =
+fronts_shown was_first was_last stage ends opens [] are =
     (was_first, was_last, stage, ends, [], tt,
     ap (λ os. Ok (ledger_at was_first was_last true stage ends, os)) (sym (append-nil opens)))
-fronts_shown was_first was_last stage ends last opens (p ∷ ps)
-    (next, few, fit, files, lines, follow, joined, others) =
+fronts_shown was_first was_last stage ends opens (p ∷ ps) (next, few, fit, files, joined, others) =
     let first = nat_eq (length opens) 0 in
     let final = is_none_behind ps in
     let opening = ledger_opened (1 + front_count p) p in
     let (f, l, end, all_ends, more, opened_rest, same) =
-    fronts_shown first final Entries next (last_entry last p.entries) (opens ++ opening ∷ []) ps
-    (subst (λ b. are_next_ledgers b next (last_entry last p.entries) ps) (sym (one_more opens opening)) others)
-    in
+    fronts_shown first final Entries next (opens ++ opening ∷ []) ps
+    (subst (λ b. are_next_ledgers b next ps) (sym (one_more opens opening)) others) in
     (f, l, end, all_ends, opening ∷ more, (1 + front_count p, refl, opened_rest),
     ap (λ b. and_then (front_of (length opens) (ledger_at first b true Head ends) (ledger_text p))
     (λ read. fronts_of read.0 (opens ++ read.1 ∷ []) (map ledger_text ps))) (none_left ps)
@@ -165,6 +164,55 @@ fronts_shown was_first was_last stage ends last opens (p ∷ ps)
     (front_shown (length opens) first final true ends next p (either_true first) few fit files joined)
     ∙ same
     ∙ ap (λ os. Ok (ledger_at f l true end all_ends, os)) (append_assoc opens (opening ∷ []) more))
+
+left_shown : (parts : List PartLedger) (opens : List OpenView) → are_opened parts opens
+    → lines_left opens ≡ all_lines parts
+left_shown [] [] are = refl
+left_shown [] (opening ∷ opens) are = absurd are
+left_shown (p ∷ ps) [] are = absurd are
+left_shown (p ∷ ps) (opening ∷ opens) (number, shown, others) =
+    ap (λ (o : OpenView). flat_map (λ line. line) o.lines ++ lines_left opens) shown
+    ∙ ap (λ (t : List ℕ). t ++ lines_left opens) (lines_joined p.lines)
+    ∙ ap (λ (t : List ℕ). p.lines ++ t) (left_shown ps opens others)
+
+-- the fronts are read, and the head line and all lines are written, if the lines may follow
+fronts_merge : (p : PartLedger) (ps : List PartLedger) → are_next_ledgers true [] (p ∷ ps)
+    → (opens : List OpenView) × are_opened (p ∷ ps) opens
+    × (merge_of (map ledger_text (p ∷ ps))
+    ≡ and_then (sections_of 0 None opens) (λ last. Ok (head_text ++ all_lines (p ∷ ps))))
+fronts_merge p ps (next, few, fit, files, joined, others) =
+    let opening = ledger_opened (1 + front_count p) p in
+    let final = is_none_behind ps in
+    let (f, l, end, all_ends, more, opened_rest, same) =
+    fronts_shown true final Entries next (opening ∷ []) ps others in
+    let opened_all : are_opened (p ∷ ps) (opening ∷ more) = (1 + front_count p, refl, opened_rest) in
+    let s = ledger_at f l true end all_ends in
+    (
+      opening ∷ more,
+      opened_all,
+      ap (λ r. and_then r merged)
+          (ap (λ b. and_then (front_of 0 (ledger_at true b false Head []) (ledger_text p))
+          (λ read. fronts_of read.0 ([] ++ read.1 ∷ []) (map ledger_text ps))) (none_left ps)
+          ∙ ap (λ r. and_then r (λ (read : FrontsView × OpenView).
+          fronts_of read.0 ([] ++ read.1 ∷ []) (map ledger_text ps)))
+          (front_shown 0 true final false [] next p refl few fit files joined)
+          ∙ same)
+          ∙ ap (λ (t : List ℕ). and_then (sections_of 0 None (opening ∷ more))
+          (λ (last : Option Token). Ok (head_text ++ t))) (left_shown (p ∷ ps) (opening ∷ more) opened_all),
+    )
+
+is_ok : {S E : Type 0} (r : Result S E) (t text : List ℕ)
+    → and_then r (λ (s : S). Ok t) ≡ Ok text → text ≡ t
+is_ok (Ok s) t text is = cc
+is_ok (Err why) t text is = absurd (cc)
+
+-- THE law: what is merged of the parts' ledgers is the header line and the lines of all
+pub ledgers_merge : (p : PartLedger) (ps : List PartLedger) → are_next_ledgers true [] (p ∷ ps)
+    → (text : List ℕ) → merge_of (map ledger_text (p ∷ ps)) ≡ Ok text
+    → text ≡ head_text ++ all_lines (p ∷ ps)
+ledgers_merge p ps are text is =
+    let (opens, opened_all, same) = fronts_merge p ps are in
+    is_ok (sections_of 0 None opens) (head_text ++ all_lines (p ∷ ps)) text (sym same ∙ is)
 
 -- ---- all sections
 abbrev entries_at : Bool → Option Token → SectionView
@@ -209,66 +257,39 @@ entries_taken first last (entry ∷ more) fit follow =
     ∙ ap (λ b. where_holds b Order (Ok (entries_at false (Some entry.token)))) follow.0))
     (entries_taken false (Some entry.token) more fit.1 follow.1))
 
-one_section : (place number : ℕ) (last : Option Token) (p : PartLedger)
-    → AllByRecursion IsEntryLine p.entries → do_follow true last p.entries
+one_section : (place number : ℕ) (last : Option Token) (p : PartLedger) (entries : List EntryLine)
+    → p.lines ≡ lines_of_entries entries
+    → AllByRecursion IsEntryLine entries → do_follow true last entries
     → section_of place last (ledger_opened number p)
-    ≡ Ok (entries_at (behind_entries true p.entries) (last_entry last p.entries))
-one_section place number last p fit follow =
-    let text = lines_of_entries p.entries in
+    ≡ Ok (entries_at (behind_entries true entries) (last_entry last entries))
+one_section place number last p entries shown fit follow =
     ap (λ (l : List ℕ). section_ended place (run never (bounded Form section_step) number
-    (entries_at true last) (lines_of l))) (sym (append-nil text))
-    ∙ ap (section_ended place) (entries_taken true last p.entries fit follow number [])
+    (entries_at true last) (lines_of l))) (shown ∙ sym (append-nil (lines_of_entries entries)))
+    ∙ ap (section_ended place) (entries_taken true last entries fit follow number [])
 
-sections_shown : (place : ℕ) (first : Bool) (ends : List (Option Place)) (last : Option Token)
-    (parts : List PartLedger) (opens : List OpenView) → are_next_ledgers first ends last parts
-    → are_opened parts opens
+sections_shown : (place : ℕ) (last : Option Token) (parts : List PartLedger) (opens : List OpenView)
+    → are_read last parts → are_opened parts opens
     → (end : Option Token) × (sections_of place last opens ≡ Ok end)
-sections_shown place first ends last [] [] are opened_all = (last, refl)
-sections_shown place first ends last [] (opening ∷ opens) are opened_all = absurd opened_all
-sections_shown place first ends last (p ∷ ps) [] are opened_all = absurd opened_all
-sections_shown place first ends last (p ∷ ps) (opening ∷ opens)
-    (next, few, fit, files, lines, follow, joined, more) (number, shown, others) =
-    let (end, rest) = sections_shown (place + 1) false next (last_entry last p.entries) ps opens more others
-    in
+sections_shown place last [] [] are opened_all = (last, refl)
+sections_shown place last [] (opening ∷ opens) are opened_all = absurd opened_all
+sections_shown place last (p ∷ ps) [] are opened_all = absurd opened_all
+sections_shown place last (p ∷ ps) (opening ∷ opens) (entries, lines, fit, follow, more)
+    (number, shown, others) =
+    let (end, rest) = sections_shown (place + 1) (last_entry last entries) ps opens more others in
     (
       end,
       ap (λ (o : OpenView). and_then (section_of place last o)
           (λ (s : SectionView). sections_of (place + 1) s.last opens)) shown
           ∙ ap (λ r. and_then r (λ (s : SectionView). sections_of (place + 1) s.last opens))
-          (one_section place number last p lines follow)
+          (one_section place number last p entries lines fit follow)
           ∙ rest,
     )
 
-left_shown : (parts : List PartLedger) (opens : List OpenView) → are_opened parts opens
-    → lines_left opens ≡ flat_map (λ part. lines_of_entries part.entries) parts
-left_shown [] [] are = refl
-left_shown [] (opening ∷ opens) are = absurd are
-left_shown (p ∷ ps) [] are = absurd are
-left_shown (p ∷ ps) (opening ∷ opens) (number, shown, others) =
-    ap (λ (o : OpenView). flat_map (λ line. line) o.lines ++ lines_left opens) shown
-    ∙ ap (λ (t : List ℕ). t ++ lines_left opens) (lines_joined (lines_of_entries p.entries))
-    ∙ ap (λ (t : List ℕ). lines_of_entries p.entries ++ t) (left_shown ps opens others)
-
--- THE law: the parts' ledgers are merged into the header line and the lines of all
-pub ledgers_merge : (p : PartLedger) (ps : List PartLedger)
-    → are_next_ledgers true [] None (p ∷ ps)
-    → merge_of (map ledger_text (p ∷ ps))
-    ≡ Ok (head_text ++ flat_map (λ part. lines_of_entries part.entries) (p ∷ ps))
-ledgers_merge p ps (next, few, fit, files, lines, follow, joined, others) =
-    let opening = ledger_opened (1 + front_count p) p in
-    let final = is_none_behind ps in
-    let (f, l, end, all_ends, more, opened_rest, same) =
-    fronts_shown true final Entries next (last_entry None p.entries) (opening ∷ []) ps others in
-    let opened_all : are_opened (p ∷ ps) (opening ∷ more) = (1 + front_count p, refl, opened_rest) in
-    let s = ledger_at f l true end all_ends in
-    let (last, sections) = sections_shown 0 true [] None (p ∷ ps) (opening ∷ more)
-    (next, few, fit, files, lines, follow, joined, others) opened_all in
-    ap (λ r. and_then r merged)
-    (ap (λ b. and_then (front_of 0 (ledger_at true b false Head []) (ledger_text p))
-    (λ read. fronts_of read.0 ([] ++ read.1 ∷ []) (map ledger_text ps))) (none_left ps)
-    ∙ ap (λ r. and_then r (λ (read : FrontsView × OpenView).
-    fronts_of read.0 ([] ++ read.1 ∷ []) (map ledger_text ps)))
-    (front_shown 0 true final false [] next p refl few fit files joined)
-    ∙ same)
-    ∙ ap (λ r. and_then r (λ (last : Option Token). Ok (whole_front s ++ lines_left (opening ∷ more)))) sections
-    ∙ ap (λ (t : List ℕ). Ok (head_text ++ t)) (left_shown (p ∷ ps) (opening ∷ more) opened_all)
+-- THE law: the parts' ledgers are merged, if their lines are read
+pub ledgers_read : (p : PartLedger) (ps : List PartLedger) → are_next_ledgers true [] (p ∷ ps)
+    → are_read None (p ∷ ps)
+    → merge_of (map ledger_text (p ∷ ps)) ≡ Ok (head_text ++ all_lines (p ∷ ps))
+ledgers_read p ps are read =
+    let (opens, opened_all, same) = fronts_merge p ps are in
+    let (end, sections) = sections_shown 0 None (p ∷ ps) opens read opened_all in
+    same ∙ ap (λ r. and_then r (λ (last : Option Token). Ok (head_text ++ all_lines (p ∷ ps)))) sections

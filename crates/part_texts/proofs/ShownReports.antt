@@ -10,7 +10,7 @@ use Rattle.tap_views.specs.declared.upload_end.UploadEnd.TheVariants.{Posted}
 use Rattle.fare_texts.specs.Counts.{totals_line}
 use Rattle.fare_texts.specs.ReportLines.{number_line, token_line, validator_line}
 use Rattle.line_folds.specs.Folds.{bounded, carry, lines_of, run, to_first}
-use Rattle.report_texts.specs.Report.{report, upload_lines}
+use Rattle.report_texts.specs.Report.{report, upload_lines, uploads_section, validators_section}
 use Rattle.report_texts.specs.declared.wrong.Wrong.{Wrong}
 use Rattle.report_texts.specs.declared.wrong.Wrong.TheVariants.{Form}
 use Rattle.part_texts.specs.Fronts.{FrontsView, no_fronts, no_sums}
@@ -26,7 +26,6 @@ use Rattle.part_texts.specs.declared.fronts.Stage.TheVariants.{Head, Files, Uplo
 use Rattle.part_texts.proofs.Leads.{Leads, by_both}
 use Rattle.part_texts.proofs.ShownFronts.{FrontLeads, at, head_taken, last_key, posted_taken, spans_taken, tokens_head_taken, totals_taken, uploads_taken, validators_head_taken, validators_taken}
 use Rattle.part_texts.proofs.ShownSections.{never, tokens_at, tokens_end, tokens_taken}
-use Rattle.report_texts.specs.Report.{uploads_section, validators_section}
 use Rattle.part_texts.proofs.WholeTexts.{map_length}
 
 -- ---- the lines of a text make the text
@@ -124,27 +123,25 @@ front_leads first last old so_far before after p is =
     p.validators r.validators r.validators_rise r.validators_add is.validators in
     let l8 = tokens_head_taken first last e1 t1 k p.totals after.totals v1 (length p.tokens)
     (last_key first last e1 t1 k None p.validators) r.tokens_number is.number in
-    let x1 : List ℕ = number_line (codes "part files ") files in
-    let x2 : List ℕ = x1 ++ span_lines 0 p.spans in
-    let x3 : List ℕ = x2 ++ number_line (codes "uploads ") files in
-    let x4 : List ℕ = x3 ++ upload_lines 0 (map Posted p.taps) in
-    let x5 : List ℕ = x4 ++ totals_line p.totals in
-    let x6 : List ℕ = x5 ++ number_line (codes "validators ") (length p.validators) in
-    let x7 : List ℕ = x6 ++ flat_map validator_line p.validators in
-    let two = by_both front_done Form front_step s0 s1 s2 x1 (span_lines 0 p.spans) 1 files l1 l2 in
-    let three = by_both front_done Form front_step s0 s2 s3 x2 (number_line (codes "uploads ") files)
+    let a1 : List ℕ = number_line (codes "part files ") files in
+    let a2 : List ℕ = a1 ++ span_lines 0 p.spans in
+    let a3 : List ℕ = a2 ++ number_line (codes "uploads ") files in
+    let a4 : List ℕ = a3 ++ upload_lines 0 (map Posted p.taps) in
+    let a5 : List ℕ = a4 ++ totals_line p.totals in
+    let a6 : List ℕ = a5 ++ number_line (codes "validators ") (length p.validators) in
+    let a7 : List ℕ = a6 ++ flat_map validator_line p.validators in
+    let two = by_both front_done Form front_step s0 s1 s2 a1 (span_lines 0 p.spans) 1 files l1 l2 in
+    let three = by_both front_done Form front_step s0 s2 s3 a2 (number_line (codes "uploads ") files)
     (1 + files) 1 two l3 in
-    let four = by_both front_done Form front_step s0 s3 s4 x3 (upload_lines 0 (map Posted p.taps))
-    ((1 + files) + 1) (length p.taps) three l4 in
-    let five = by_both front_done Form front_step s0 s4 s5 x4 (totals_line p.totals)
-    (((1 + files) + 1) + length p.taps) 1 four l5 in
-    let six = by_both front_done Form front_step s0 s5 s6 x5
-    (number_line (codes "validators ") (length p.validators)) ((((1 + files) + 1) + length p.taps) + 1) 1
+    let four = by_both front_done Form front_step s0 s3 s4 a3 (upload_lines 0 (map Posted p.taps)) ((1 + files) + 1) (length p.taps) three l4
+    in
+    let five = by_both front_done Form front_step s0 s4 s5 a4 (totals_line p.totals) (((1 + files) + 1) + length p.taps) 1 four
+    l5 in
+    let six = by_both front_done Form front_step s0 s5 s6 a5 (number_line (codes "validators ") (length p.validators)) ((((1 + files) + 1) + length p.taps) + 1) 1
     five l6 in
-    let seven = by_both front_done Form front_step s0 s6 s7 x6 (flat_map validator_line p.validators)
+    let seven = by_both front_done Form front_step s0 s6 s7 a6 (flat_map validator_line p.validators)
     (((((1 + files) + 1) + length p.taps) + 1) + 1) (length p.validators) six l7 in
-    let eight = by_both front_done Form front_step s0 s7 s8 x7
-    (number_line (codes "tokens ") (length p.tokens))
+    let eight = by_both front_done Form front_step s0 s7 s8 a7 (number_line (codes "tokens ") (length p.tokens))
     ((((((1 + files) + 1) + length p.taps) + 1) + 1) + length p.validators) 1 seven l8 in
     subst (λ n. FrontLeads s0 (front_lines p) (front_count p)
     (at first last false (Tokens (length p.tokens)) e1 t1 p.totals p.totals after.totals v1 n))
@@ -291,9 +288,8 @@ reports_merge p ps all are =
     let (first, last, end, part, so, opens, opened_all, read) =
     fronts_shown true false Head no_sums no_sums nothing_so_far all [] (p ∷ ps) are in
     let s = behind first last end part so all in
-    let counted : all.tokens ≡ 0 + length (tokens_of (p ∷ ps)) =
-    tokens_counted true nothing_so_far all (p ∷ ps) are in
-    let number : all.tokens ≡ length (tokens_of (p ∷ ps)) = omega (arith, counted) in
+    let number : all.tokens ≡ length (tokens_of (p ∷ ps)) =
+    tokens_counted true nothing_so_far all (p ∷ ps) are ∙ from_none (length (tokens_of (p ∷ ps))) in
     ap (λ r. and_then r merged) read
     ∙ ap (λ r. and_then r (λ last. Ok (whole_front s ++ lines_left opens)))
     (sections_shown 0 true nothing_so_far all (p ∷ ps) opens are opened_all)
@@ -304,5 +300,8 @@ reports_merge p ps all are =
     (validators_section all.validators) (number_line (codes "tokens ") (length (tokens_of (p ∷ ps))))
     (flat_map token_line (tokens_of (p ∷ ps))))
   where
+    from_none : (n : ℕ) → 0 + n ≡ n
+    from_none n = omega arith
+
     joined : (u t v n l : List ℕ) → (u ++ (t ++ (v ++ n))) ++ l ≡ u ++ (t ++ (v ++ (n ++ l)))
     joined u t v n l = simp append_assoc

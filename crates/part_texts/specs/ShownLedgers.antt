@@ -11,6 +11,27 @@ use Rattle.part_texts.specs.Shown.{SpanFits, are_joined, is_none_behind}
 use Rattle.sorted_taps.specs.declared.places.Place.{Place}
 use Rattle.sorted_taps.specs.declared.places.FileSpan.{FileSpan}
 
+-- where a part lies in each file, and the lines of its ledger behind the head line
+pub record PartLedger : Type 0 where
+  pub spans : List FileSpan
+  pub lines : List ℕ
+
+-- the text of the part
+abbrev pub ledger_text : PartLedger → List ℕ
+ledger_text p = part_head p.spans ++ (head_text ++ p.lines)
+
+-- the lines of all parts
+abbrev pub all_lines : List PartLedger → List ℕ
+all_lines parts = flat_map (λ part. part.lines) parts
+
+-- the parts' fronts follow, one after the other, behind these ends of files
+abbrev pub are_next_ledgers : Bool → List (Option Place) → List PartLedger → Type 0
+are_next_ledgers first ends [] = Unit {0}
+are_next_ledgers first ends (p ∷ ps) =
+    (next : List (Option Place)) × (length p.spans < 2 ^ 64) × AllByRecursion SpanFits p.spans
+    × ((first || nat_eq (length p.spans) (length ends)) ≡ true)
+    × are_joined first (is_none_behind ps) ends p.spans next × are_next_ledgers false next ps
+
 -- a line of a ledger, and its token
 pub record EntryLine : Type 0 where
   pub token : Token
@@ -25,17 +46,8 @@ pub record IsEntryLine (entry : EntryLine) : Type 0 where
   pub shown : entry.line ≡ front ++ 10 ∷ []
   pub form : entry_token_in entry.line ≡ Some entry.token
 
--- what the ledger of a part has
-pub record PartLedger : Type 0 where
-  pub spans : List FileSpan
-  pub entries : List EntryLine
-
 abbrev pub lines_of_entries : List EntryLine → List ℕ
 lines_of_entries entries = flat_map (λ entry. entry.line) entries
-
--- the text of the part
-abbrev pub ledger_text : PartLedger → List ℕ
-ledger_text p = part_head p.spans ++ (head_text ++ lines_of_entries p.entries)
 
 -- the token of each entry may follow that of the one before
 abbrev pub do_follow : Bool → Option Token → List EntryLine → Type 0
@@ -48,12 +60,10 @@ abbrev pub last_entry : Option Token → List EntryLine → Option Token
 last_entry last [] = last
 last_entry last (entry ∷ more) = last_entry (Some entry.token) more
 
--- the ledgers follow, one after the other, behind these ends of files and this token
-abbrev pub are_next_ledgers : Bool → List (Option Place) → Option Token → List PartLedger → Type 0
-are_next_ledgers first ends last [] = Unit {0}
-are_next_ledgers first ends last (p ∷ ps) =
-    (next : List (Option Place)) × (length p.spans < 2 ^ 64) × AllByRecursion SpanFits p.spans
-    × ((first || nat_eq (length p.spans) (length ends)) ≡ true)
-    × AllByRecursion IsEntryLine p.entries × do_follow true last p.entries
-    × are_joined first (is_none_behind ps) ends p.spans next
-    × are_next_ledgers false next (last_entry last p.entries) ps
+-- the parts' lines are those of entries, which follow one after the other behind this token
+abbrev pub are_read : Option Token → List PartLedger → Type 0
+are_read last [] = Unit {0}
+are_read last (p ∷ ps) =
+    (entries : List EntryLine) × (p.lines ≡ lines_of_entries entries)
+    × AllByRecursion IsEntryLine entries × do_follow true last entries
+    × are_read (last_entry last entries) ps

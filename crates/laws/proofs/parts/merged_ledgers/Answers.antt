@@ -1,0 +1,12 @@
+use Rattle.laws.proofs.PartReports.{ledgers_merged, ledgers_of_parts}
+use Rattle.laws.proofs.parts.merged_ledgers.Goals as goal
+
+pub returns-clause-whole : goal.returns-clause-whole
+returns-clause-whole c = λ fares files part parts are whole rise have texts each text is. (
+  c.joined_parts_are_settled.ensures.settled fares files (part ∷ parts) are whole rise,
+  ledgers_of_parts c.ledgers_are_merged.ensures.whole fares files part parts are whole rise have texts
+      each text is,
+)
+
+pub returns-clause-merged : goal.returns-clause-merged
+returns-clause-merged c = ledgers_merged c.ledgers_are_merged.ensures.merged

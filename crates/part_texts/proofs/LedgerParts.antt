@@ -1,0 +1,220 @@
+-- What is merged of ledgers of parts of a history is the ledger of the whole history.
+use Rattle.std.proofs.Common.{◌≡◌, ◌∙◌, ◌+◌, ◌<◌, ◌^◌, ◌||◌, ℕ, Bool, true, false, List, [], ◌∷◌, ◌++◌, length, map}
+use Rattle.std.proofs.Common.{Option, Some, None, Ok, refl, sym, ap, subst, arith, append_assoc, append-nil, All}
+use Rattle.std.specs.Prelude.{flat_map}
+use Rattle.std.specs.List.{AllByRecursion, AllZip}
+use Rattle.std.specs.declared.cmp.Ordering.TheVariants.{Less}
+use Rattle.std.proofs.lemmas.List.{map-append}
+use Rattle.std.proofs.lemmas.List.Elements.{All-head, All-tail, All-weaker}
+use Rattle.tap_views.specs.Token.{token_cmp, token_eq}
+use Rattle.tap_views.specs.TokenOrder.{AreBelow}
+use Rattle.tap_views.specs.declared.token.Token.{Token}
+use Rattle.tap_views.proofs.TokenLemmas.{less_apart, token_eq-sym}
+use Rattle.tariffs.specs.Fares.{Fares}
+use Rattle.histories.specs.Entry.{own}
+use Rattle.histories.specs.Rising.{rising}
+use Rattle.histories.specs.Sums.{Sums, sums}
+use Rattle.histories.specs.SumsByKey.{sums_by_token, token_of, tokens}
+use Rattle.histories.specs.declared.entry.Entry.{Entry}
+use Rattle.histories.proofs.OwnEntries.{own-append}
+use Rattle.histories.proofs.SumsByToken.{by_token_joined, none_of}
+use Rattle.fare_texts.specs.Ledger.{AreLinesOfEach, IsLedgerOver}
+use Rattle.fare_texts.specs.LedgerLines.{AreLedgerLines, head_text}
+use Rattle.sorted_taps.specs.Places.{DoJoin}
+use Rattle.sorted_taps.specs.declared.places.Place.{Place}
+use Rattle.sorted_taps.specs.declared.places.FileSpan.{FileSpan}
+use Rattle.part_texts.specs.Heads.{part_head}
+use Rattle.part_texts.specs.HistoryParts.{DoRise, HistoryPart, histories_of, whole_history}
+use Rattle.part_texts.specs.LedgerParts.{DoJoinUp, IsPartLedger}
+use Rattle.part_texts.specs.Merged.{merge_of}
+use Rattle.part_texts.specs.Shown.{SpanFits, are_joined, is_none_behind}
+use Rattle.part_texts.specs.ShownLedgers.{PartLedger, all_lines, are_next_ledgers, ledger_text}
+use Rattle.part_texts.proofs.HistoryParts.{all_keys, ends_length, from_ends, joined_first, joined_next, may_end_all, same_number, spans_of, to_ends}
+use Rattle.part_texts.proofs.ShownLedgers.{ledgers_merge}
+
+-- ---- ledgers of histories, one behind the other
+keys_back : (f : Token → Sums) (keys : List Token)
+    → map (λ (s : Token × Sums). s.0) (map (λ t. (t, f t)) keys) ≡ keys
+keys_back f [] = refl
+keys_back f (k ∷ keys) = ap (λ (ks : List Token). k ∷ ks) (keys_back f keys)
+
+tokens_back : (history : List Entry)
+    → map (λ (s : Token × Sums). s.0) (sums_by_token history) ≡ tokens history
+unfolding sums_by_token
+tokens_back history = keys_back (λ t. sums (own t history)) (tokens history)
+
+tokens_joined : (xs ys : List Entry) → AreBelow (map token_of xs) (map token_of ys)
+    → tokens (xs ++ ys) ≡ tokens xs ++ tokens ys
+tokens_joined xs ys below =
+    let first : Token × Sums → Token = λ s. s.0 in
+    sym (tokens_back (xs ++ ys)) ∙ ap (map first) (by_token_joined xs ys below)
+    ∙ map-append first (sums_by_token xs) (sums_by_token ys)
+    ∙ ap (λ (ks : List Token). ks ++ map first (sums_by_token ys)) (tokens_back xs)
+    ∙ ap (λ (ks : List Token). tokens xs ++ ks) (tokens_back ys)
+
+own_front : (xs ys : List Entry) → AreBelow (map token_of xs) (map token_of ys)
+    → All (λ t. own t (xs ++ ys) ≡ own t xs) (tokens xs)
+unfolding tokens
+own_front xs ys below =
+    let later = map token_of ys in
+    All-weaker (λ t. All (λ o. token_cmp t o ≡ Less) later) (λ t. own t (xs ++ ys) ≡ own t xs)
+    (λ t all. own-append t xs ys
+    ∙ ap (λ (es : List Entry). own t xs ++ es)
+    (none_of t ys
+    (All-weaker (λ o. token_cmp t o ≡ Less) (λ o. token_eq o t ≡ false)
+    (λ o less. less_apart t o less) later all))
+    ∙ append-nil (own t xs)) (rising token_cmp (map token_of xs))
+    (all_keys (λ t. All (λ o. token_cmp t o ≡ Less) later) (map token_of xs) below)
+
+-- the later tokens are above all earlier ones
+turned : (xs ys : List Token) → AreBelow xs ys → All (λ y. All (λ x. token_cmp x y ≡ Less) xs) ys
+turned xs ys below = λ j e g i d h. below i d h j e g
+
+own_behind : (xs ys : List Entry) → AreBelow (map token_of xs) (map token_of ys)
+    → All (λ t. own t (xs ++ ys) ≡ own t ys) (tokens ys)
+unfolding tokens
+own_behind xs ys below =
+    let earlier = map token_of xs in
+    All-weaker (λ t. All (λ x. token_cmp x t ≡ Less) earlier) (λ t. own t (xs ++ ys) ≡ own t ys)
+    (λ t all. own-append t xs ys
+    ∙ ap (λ (es : List Entry). es ++ own t ys)
+    (none_of t xs
+    (All-weaker (λ x. token_cmp x t ≡ Less) (λ x. token_eq x t ≡ false)
+    (λ x less. token_eq-sym x t ∙ less_apart x t less) earlier all)))
+    (rising token_cmp (map token_of ys))
+    (all_keys (λ t. All (λ x. token_cmp x t ≡ Less) earlier) (map token_of ys)
+    (turned earlier (map token_of ys) below))
+
+module _ (fares : Fares) where
+  lines_moved : (history other : List Entry) (keys : List Token) (text : List ℕ)
+      → All (λ t. own t other ≡ own t history) keys
+      → AreLinesOfEach fares history keys text → AreLinesOfEach fares other keys text
+  lines_moved history other [] text same none = none
+  lines_moved history other (k ∷ keys) text same (lines, rest, are, each, shown) = (
+    lines,
+    rest,
+    subst (λ (es : List Entry). AreLedgerLines fares k es lines)
+        (sym (All-head (λ t. own t other ≡ own t history) k keys same)) are,
+    lines_moved history other keys rest (All-tail (λ t. own t other ≡ own t history) k keys same) each,
+    shown,
+  )
+
+  lines_append : (history : List Entry) (keys others : List Token) (a b : List ℕ)
+      → AreLinesOfEach fares history keys a → AreLinesOfEach fares history others b
+      → AreLinesOfEach fares history (keys ++ others) (a ++ b)
+  lines_append history [] others a b none also =
+      subst (λ (x : List ℕ). AreLinesOfEach fares history others (x ++ b)) (sym none) also
+  lines_append history (k ∷ keys) others a b (lines, rest, are, each, shown) also = (
+    lines,
+    rest ++ b,
+    are,
+    lines_append history keys others rest b each also,
+    ap (λ (x : List ℕ). x ++ b) shown ∙ append_assoc lines rest b,
+  )
+
+  joined_lines : (xs ys : List Entry) (a b : List ℕ) → AreBelow (map token_of xs) (map token_of ys)
+      → AreLinesOfEach fares xs (tokens xs) a → AreLinesOfEach fares ys (tokens ys) b
+      → AreLinesOfEach fares (xs ++ ys) (tokens (xs ++ ys)) (a ++ b)
+  joined_lines xs ys a b below one two =
+      subst (λ (ks : List Token). AreLinesOfEach fares (xs ++ ys) ks (a ++ b))
+      (sym (tokens_joined xs ys below))
+      (lines_append (xs ++ ys) (tokens xs) (tokens ys) a b
+      (lines_moved xs (xs ++ ys) (tokens xs) a (own_front xs ys below) one)
+      (lines_moved ys (xs ++ ys) (tokens ys) b (own_behind xs ys below) two))
+
+  no_lines : AreLinesOfEach fares [] (tokens []) []
+  unfolding tokens rising
+  no_lines = refl
+
+  -- ---- the parts' ledgers
+  abbrev pub ledgers_of : (parts : List HistoryPart) (texts : List (List ℕ))
+      → AllZip (IsPartLedger fares) parts texts → List PartLedger
+  ledgers_of [] texts are = []
+  ledgers_of (p ∷ ps) [] are = []
+  ledgers_of (p ∷ ps) (t ∷ ts) are =
+      record { spans = p.spans; lines = are.0.over.lines } ∷ ledgers_of ps ts are.1
+
+  pub texts_are : (parts : List HistoryPart) (texts : List (List ℕ))
+      (are : AllZip (IsPartLedger fares) parts texts) → map ledger_text (ledgers_of parts texts are) ≡ texts
+  texts_are [] [] are = refl
+  texts_are [] (t ∷ ts) are = absurd are
+  texts_are (p ∷ ps) [] are = absurd are
+  texts_are (p ∷ ps) (t ∷ ts) are =
+      ap (λ (x : List ℕ). (part_head p.spans ++ x) ∷ map ledger_text (ledgers_of ps ts are.1))
+      (sym are.0.over.whole)
+      ∙ ap (λ (x : List ℕ). x ∷ map ledger_text (ledgers_of ps ts are.1)) (sym are.0.shown)
+      ∙ ap (λ (l : List (List ℕ)). t ∷ l) (texts_are ps ts are.1)
+
+  none_behind_too : (parts : List HistoryPart) (texts : List (List ℕ))
+      (are : AllZip (IsPartLedger fares) parts texts)
+      → is_none_behind (spans_of parts) ≡ is_none_behind (ledgers_of parts texts are)
+  none_behind_too [] [] are = refl
+  none_behind_too [] (t ∷ ts) are = absurd are
+  none_behind_too (p ∷ ps) [] are = absurd are
+  none_behind_too (p ∷ ps) (t ∷ ts) are = refl
+
+  next_ledgers : (files : ℕ) (ends : List (Option Place)) (parts : List HistoryPart)
+      (texts : List (List ℕ)) (are : AllZip (IsPartLedger fares) parts texts) → length ends ≡ files
+      → files < 2 ^ 64 → AllByRecursion (λ (p : HistoryPart). length p.spans ≡ files) parts
+      → AllByRecursion (λ (p : HistoryPart). AllByRecursion SpanFits p.spans) parts
+      → DoJoin ends (spans_of parts) → are_next_ledgers false ends (ledgers_of parts texts are)
+  next_ledgers files ends [] [] are number few lengths places join = tt
+  next_ledgers files ends [] (t ∷ ts) are number few lengths places join = absurd are
+  next_ledgers files ends (p ∷ ps) [] are number few lengths places join = absurd are
+  next_ledgers files ends (p ∷ ps) (t ∷ ts) are number few lengths places join =
+      let ends_well = may_end_all p.spans (spans_of ps) join.1 in
+      let size : length p.spans ≡ files = lengths.0 in (
+        to_ends p.spans,
+        omega (arith, size, few),
+        places.0,
+        same_number (length p.spans) (length ends) (size ∙ sym number),
+        subst (λ b. are_joined false b ends p.spans (to_ends p.spans)) (none_behind_too ps ts are.1)
+            (subst (λ e. are_joined false (is_none_behind (spans_of ps)) e p.spans (to_ends p.spans))
+            (append-nil (from_ends p.spans) ∙ sym join.0)
+            (joined_next (is_none_behind (spans_of ps)) [] p.spans ends_well)),
+        next_ledgers files (to_ends p.spans) ps ts are.1 (ends_length p.spans ∙ size) few lengths.1
+            places.1 join.1,
+      )
+
+  pub first_ledgers : (files : ℕ) (p : HistoryPart) (ps : List HistoryPart) (t : List ℕ)
+      (ts : List (List ℕ)) (are : AllZip (IsPartLedger fares) (p ∷ ps) (t ∷ ts))
+      → DoJoinUp files (p ∷ ps) → are_next_ledgers true [] (ledgers_of (p ∷ ps) (t ∷ ts) are)
+  first_ledgers files p ps t ts are join =
+      let whole = join.whole in
+      let few = join.few in
+      let ends_well = may_end_all p.spans (spans_of ps) whole.1 in
+      let size : length p.spans ≡ files = join.number.0 in (
+        to_ends p.spans,
+        omega (arith, size, few),
+        join.places.0,
+        refl,
+        subst (λ b. are_joined true b [] p.spans (to_ends p.spans)) (none_behind_too ps ts are.1)
+            (joined_first (is_none_behind (spans_of ps)) [] p.spans whole.0 ends_well),
+        next_ledgers files (to_ends p.spans) ps ts are.1 (ends_length p.spans ∙ size) join.few
+            join.number.1 join.places.1 whole.1,
+      )
+
+  pub whole_lines : (parts : List HistoryPart) (texts : List (List ℕ))
+      (are : AllZip (IsPartLedger fares) parts texts) → DoRise (histories_of parts)
+      → AreLinesOfEach fares (whole_history parts) (tokens (whole_history parts))
+      (all_lines (ledgers_of parts texts are))
+  whole_lines [] [] are rise = no_lines
+  whole_lines [] (t ∷ ts) are rise = absurd are
+  whole_lines (p ∷ ps) [] are rise = absurd are
+  whole_lines (p ∷ ps) (t ∷ ts) are rise =
+      joined_lines p.history (whole_history ps) are.0.over.lines (all_lines (ledgers_of ps ts are.1))
+      rise.0 are.0.over.of_each (whole_lines ps ts are.1 rise.1)
+
+  -- THE law: what is merged is the ledger of the whole history
+  pub merged_is_whole : (files : ℕ) (p : HistoryPart) (ps : List HistoryPart)
+      (texts : List (List ℕ)) → DoJoinUp files (p ∷ ps) → AllZip (IsPartLedger fares) (p ∷ ps) texts
+      → (text : List ℕ) → merge_of texts ≡ Ok text
+      → IsLedgerOver fares (whole_history (p ∷ ps)) None text
+  merged_is_whole files p ps [] join are text is = absurd are
+  merged_is_whole files p ps (t ∷ ts) join are text is = record {
+    lines = all_lines (ledgers_of (p ∷ ps) (t ∷ ts) are);
+    of_each = whole_lines (p ∷ ps) (t ∷ ts) are join.rise;
+    whole = ledgers_merge (record { spans = p.spans; lines = are.0.over.lines }) (ledgers_of ps ts are.1)
+        (first_ledgers files p ps t ts are join) text
+        (ap merge_of (texts_are (p ∷ ps) (t ∷ ts) are) ∙ is);
+  }

@@ -1,0 +1,275 @@
+-- Ledgers of parts of a history are merged, if each of their lines has the form of a ledger's line.
+use Rattle.std.proofs.Common.{◌≡◌, ◌∙◌, ◌+◌, ◌≤◌, ℕ, Bool, true, false, not, codes, List, [], ◌∷◌, ◌++◌, length, map}
+use Rattle.std.proofs.Common.{Option, Some, None, Ok, option_map, refl, sym, ap, subst, arith, append_assoc, All}
+use Rattle.std.specs.Prelude.{flat_map}
+use Rattle.std.specs.List.{AllByRecursion, AllZip}
+use Rattle.std.specs.List.Sorted.{IsStrictlySortedBy}
+use Rattle.std.specs.Ordering.{is_lt, ordering_reverse}
+use Rattle.std.specs.declared.cmp.Ordering.{Ordering}
+use Rattle.std.specs.declared.cmp.Ordering.TheVariants.{Less, Equal, Greater}
+use Rattle.std.proofs.lemmas.Bool.Decides.{nat_tests}
+use Rattle.std.proofs.lemmas.List.{map-append}
+use Rattle.std.specs.Fmt.{decimal}
+use Rattle.std.proofs.lemmas.List.Elements.{All-cons, All-head, All-nil, All-tail, All-weaker, recursion_from_All}
+use Rattle.tap_views.specs.Token.{Fits as TokenFits, token_cmp}
+use Rattle.tap_views.specs.TokenOrder.{AreBelow}
+use Rattle.tap_views.specs.declared.token.Token.{Token}
+use Rattle.tap_views.proofs.TokenLemmas.{token_cmp-total, token_cmp-ties}
+use Rattle.tariffs.specs.Fares.{Fares}
+use Rattle.histories.specs.Entry.{TokensFit, own}
+use Rattle.histories.specs.Rising.{rising}
+use Rattle.histories.specs.SumsByKey.{token_of, tokens}
+use Rattle.histories.specs.declared.entry.Entry.{Entry}
+use Rattle.histories.proofs.RisingLemmas.{rising-is}
+use Rattle.fare_texts.specs.Ledger.{AreLinesOfEach, IsLedgerOver}
+use Rattle.fare_texts.specs.LedgerLines.{AreLedgerLinesAfter, IsLedgerLineAfter, entry_fields, head_text, line_head}
+use Rattle.ledger_fields.specs.Lines.{row_in}
+use Rattle.ledger_fields.specs.Rows.{Row}
+use Rattle.report_texts.specs.Forms.{token_read}
+use Rattle.report_texts.specs.FormLaws.{IsTokenDigits, token_law}
+use Rattle.part_texts.specs.EntryLines.{entry_token_in, first_of, token_with}
+use Rattle.part_texts.specs.HistoryParts.{DoRise, HistoryPart, histories_of, whole_history}
+use Rattle.part_texts.specs.LedgerParts.{AreReadable, DoJoinUp, IsPartLedger, IsReadableLine}
+use Rattle.part_texts.specs.Merged.{merge_of}
+use Rattle.part_texts.specs.Sections.{may_follow}
+use Rattle.part_texts.specs.ShownLedgers.{EntryLine, IsEntryLine, PartLedger, all_lines, are_read, do_follow, last_entry, lines_of_entries}
+use Rattle.part_texts.proofs.HistoryParts.{LastIsBelow, all_keys, below_front, below_rising, tokens_both}
+use Rattle.part_texts.proofs.LedgerParts.{first_ledgers, ledgers_of, texts_are, whole_lines}
+use Rattle.part_texts.proofs.ShownLedgers.{ledgers_read}
+
+-- ---- one line
+row_read : (row : Option Row) (value : Row) (line : List ℕ) → row ≡ Some value
+    → token_with row line ≡ option_map first_of (token_read line)
+row_read row value line is = ap (λ (r : Option Row). token_with r line) is
+
+-- the token stands in front of the line
+in_front : (token : Token) (digits behind rest : List ℕ) → IsTokenDigits token digits
+    → token_read ((digits ++ behind) ++ rest) ≡ Some (token, behind ++ rest)
+in_front token digits behind rest is =
+    ap token_read (append_assoc digits behind rest)
+    ∙ token_law.complete token digits (behind ++ rest) is tt
+
+token_first : (token : Token) (number : ℕ) (rest : List ℕ) → TokenFits token
+    → option_map first_of (token_read (line_head token number ++ rest)) ≡ Some token
+unfolding line_head
+token_first token number rest fits =
+    ap (option_map first_of)
+    (in_front token _ (codes "," ++ (decimal number ++ codes ",")) rest (fits, refl))
+
+entry_line : (fares : Fares) (token : Token) (earlier : List Entry) (entry : Entry) (line : List ℕ)
+    → TokenFits token → IsLedgerLineAfter fares token earlier entry line → IsReadableLine line
+    → IsEntryLine (record { token = token; line = line })
+entry_line fares token earlier entry line fits is read = record {
+  front = read.front;
+  no_feed = read.no_feed;
+  short = read.short;
+  shown = read.shown;
+  form = row_read (row_in line) read.row line read.form
+      ∙ ap (λ l. option_map first_of (token_read l)) is.shown
+      ∙ token_first token (length earlier + 1)
+      (is.moment ++ (entry_fields fares entry ++ (is.reason_fields ++ codes "\n"))) fits;
+}
+
+-- ---- the lines of one token
+record ReadLines (token : Token) (text : List ℕ) : Type 0 where
+  entries : List EntryLine
+  shown : text ≡ lines_of_entries entries
+  fit : AllByRecursion IsEntryLine entries
+  same : AllByRecursion (λ e. e.token ≡ token) entries
+
+module _ (fares : Fares) (history : List Entry) (readable : AreReadable fares history) where
+  token_lines : (token : Token) (earlier rest : List Entry) (text : List ℕ) → TokenFits token
+      → own token history ≡ earlier ++ rest → AreLedgerLinesAfter fares token earlier rest text
+      → ReadLines token text
+  token_lines token earlier [] text fits whole none =
+      record { entries = []; shown = none; fit = tt; same = tt }
+  token_lines token earlier (entry ∷ rest) text fits whole (line, more, is, others, shown) =
+      let behind = token_lines token (earlier ++ entry ∷ []) rest more fits
+      (whole ∙ sym (append_assoc earlier (entry ∷ []) rest)) others in
+      record {
+        entries = record { token = token; line = line } ∷ behind.entries;
+        shown = shown ∙ ap (λ (t : List ℕ). line ++ t) behind.shown;
+        fit = (
+          entry_line fares token earlier entry line fits is
+              (readable token earlier entry rest line whole is),
+          behind.fit,
+        );
+        same = (refl, behind.same);
+      }
+
+-- ---- entries that follow
+itself : (token : Token) → not (is_lt (token_cmp token token)) ≡ true
+itself token = grind (arith, nat_tests)
+
+not_after : (last token : Token) → token_cmp last token ≡ Less → not (is_lt (token_cmp token last)) ≡ true
+not_after last token less =
+    ap (λ o. not (is_lt o)) (token_cmp-total.antisymm token last ∙ ap ordering_reverse less)
+
+may : (first : Bool) (last : Option Token) (token : Token) → LastIsBelow last (token ∷ [])
+    → may_follow first last token ≡ true
+may first None token below = refl
+may true (Some last) token below = ap is_lt below.0
+may false (Some last) token below = not_after last token below.0
+
+follow_same : (token : Token) (entries : List EntryLine)
+    → AllByRecursion (λ e. e.token ≡ token) entries → do_follow false (Some token) entries
+follow_same token [] same = tt
+follow_same token (e ∷ entries) same = (
+  ap (λ (t : Token). not (is_lt (token_cmp t token))) same.0 ∙ itself token,
+  subst (λ (t : Token). do_follow false (Some t) entries) (sym same.0) (follow_same token entries same.1),
+)
+
+follow_one : (first : Bool) (last : Option Token) (token : Token) (entries : List EntryLine)
+    → AllByRecursion (λ e. e.token ≡ token) entries → LastIsBelow last (token ∷ [])
+    → do_follow first last entries
+follow_one first last token [] same below = tt
+follow_one first last token (e ∷ entries) same below = (
+  ap (may_follow first last) same.0 ∙ may first last token below,
+  subst (λ (t : Token). do_follow false (Some t) entries) (sym same.0) (follow_same token entries same.1),
+)
+
+abbrev behind : Bool → List EntryLine → Bool
+behind first [] = first
+behind first (e ∷ entries) = false
+
+behind_false : (entries : List EntryLine) → behind false entries ≡ false
+behind_false [] = refl
+behind_false (e ∷ entries) = refl
+
+follow_both : (first : Bool) (last : Option Token) (a b : List EntryLine) → do_follow first last a
+    → do_follow (behind first a) (last_entry last a) b → do_follow first last (a ++ b)
+follow_both first last [] b one two = two
+follow_both first last (e ∷ a) b one two =
+    (one.0, follow_both false (Some e.token) a b one.1
+    (subst (λ f. do_follow f (last_entry (Some e.token) a) b) (sym (behind_false a)) two))
+
+last_both : (last : Option Token) (a b : List EntryLine)
+    → last_entry last (a ++ b) ≡ last_entry (last_entry last a) b
+last_both last [] b = refl
+last_both last (e ∷ a) b = last_both (Some e.token) a b
+
+last_below : (token : Token) (last : Option Token) (entries : List EntryLine) (later : List Token)
+    → AllByRecursion (λ e. e.token ≡ token) entries → LastIsBelow last later
+    → AllByRecursion (λ z. token_cmp token z ≡ Less) later → LastIsBelow (last_entry last entries) later
+last_below token last [] later same below less = below
+last_below token last (e ∷ entries) later same below less =
+    last_below token (Some e.token) entries later same.1
+    (subst (λ (t : Token). LastIsBelow (Some t) later) (sym same.0) less) less
+
+lines_both : (a b : List EntryLine) → lines_of_entries (a ++ b) ≡ lines_of_entries a ++ lines_of_entries b
+lines_both [] b = refl
+lines_both (e ∷ a) b =
+    ap (λ (t : List ℕ). e.line ++ t) (lines_both a b)
+    ∙ sym (append_assoc e.line (lines_of_entries a) (lines_of_entries b))
+
+fit_both : (a b : List EntryLine) → AllByRecursion IsEntryLine a → AllByRecursion IsEntryLine b
+    → AllByRecursion IsEntryLine (a ++ b)
+fit_both [] b one two = two
+fit_both (e ∷ a) b one two = (one.0, fit_both a b one.1 two)
+
+below_one : (last : Option Token) (token : Token) (others : List Token)
+    → LastIsBelow last (token ∷ others) → LastIsBelow last (token ∷ [])
+below_one None token others below = tt
+below_one (Some last) token others below = (below.0, tt)
+
+below_rest : (last : Option Token) (token : Token) (others : List Token)
+    → LastIsBelow last (token ∷ others) → LastIsBelow last others
+below_rest None token others below = tt
+below_rest (Some last) token others below = below.1
+
+-- ---- the lines of all tokens of a history, behind a token, and before later ones
+record ReadAll (first : Bool) (last : Option Token) (later : List Token) (text : List ℕ) : Type 0
+  where
+    entries : List EntryLine
+    shown : text ≡ lines_of_entries entries
+    fit : AllByRecursion IsEntryLine entries
+    follow : do_follow first last entries
+    below : LastIsBelow (last_entry last entries) later
+
+module _ (fares : Fares) (history : List Entry) (readable : AreReadable fares history)
+    (later : List Token) where
+  each_line : (first : Bool) (last : Option Token) (keys : List Token) (text : List ℕ)
+      → AllByRecursion TokenFits keys → IsStrictlySortedBy token_cmp keys → LastIsBelow last keys
+      → LastIsBelow last later
+      → AllByRecursion (λ k. AllByRecursion (λ z. token_cmp k z ≡ Less) later) keys
+      → AreLinesOfEach fares history keys text → ReadAll first last later text
+  unfolding IsStrictlySortedBy
+  each_line first last [] text fits rises below end ends none =
+      record { entries = []; shown = none; fit = tt; follow = tt; below = end }
+  each_line first last (k ∷ keys) text fits rises below end ends (lines, rest, are, each, shown) =
+      let here = token_lines fares history readable k [] (own k history) lines fits.0 refl are in
+      let more = each_line (behind first here.entries) (last_entry last here.entries) keys rest fits.1
+      rises.1 (last_below k last here.entries keys here.same (below_rest last k keys below) rises.0)
+      (last_below k last here.entries later here.same end ends.0) ends.1 each in
+      record {
+        entries = here.entries ++ more.entries;
+        shown = shown ∙ ap (λ (t : List ℕ). t ++ rest) here.shown
+            ∙ ap (λ (t : List ℕ). lines_of_entries here.entries ++ t) more.shown
+            ∙ sym (lines_both here.entries more.entries);
+        fit = fit_both here.entries more.entries here.fit more.fit;
+        follow = follow_both first last here.entries more.entries
+            (follow_one first last k here.entries here.same (below_one last k keys below)) more.follow;
+        below = subst (λ l. LastIsBelow l later) (sym (last_both last here.entries more.entries)) more.below;
+      }
+
+  part_read : (last : Option Token) (text : List ℕ) → TokensFit history
+      → LastIsBelow last (map token_of history) → LastIsBelow last later
+      → AreBelow (map token_of history) later
+      → AreLinesOfEach fares history (tokens history) text → ReadAll true last later text
+  unfolding tokens
+  part_read last text fits below end rise lines =
+      let keys = map token_of history in
+      each_line true last (rising token_cmp keys) text
+      (recursion_from_All TokenFits (rising token_cmp keys) (all_keys TokenFits keys (mapped history fits)))
+      (rising-is token_cmp-total token_cmp-ties keys).rises (below_rising last keys below) end
+      (recursion_from_All (λ k. AllByRecursion (λ z. token_cmp k z ≡ Less) later) (rising token_cmp keys)
+      (all_keys (λ k. AllByRecursion (λ z. token_cmp k z ≡ Less) later) keys
+      (All-weaker (λ k. All (λ z. token_cmp k z ≡ Less) later)
+      (λ k. AllByRecursion (λ z. token_cmp k z ≡ Less) later)
+      (λ k all. recursion_from_All (λ z. token_cmp k z ≡ Less) later all) keys rise))) lines
+    where
+      mapped : (es : List Entry) → TokensFit es → All TokenFits (map token_of es)
+      mapped [] fits = All-nil TokenFits
+      mapped (e ∷ es) fits =
+          All-cons TokenFits e.token (map token_of es)
+          (All-head (λ (entry : Entry). TokenFits entry.token) e es fits)
+          (mapped es (All-tail (λ (entry : Entry). TokenFits entry.token) e es fits))
+
+-- ---- all parts
+module _ (fares : Fares) where
+  all_read : (last : Option Token) (parts : List HistoryPart) (texts : List (List ℕ))
+      (are : AllZip (IsPartLedger fares) parts texts) → DoRise (histories_of parts)
+      → LastIsBelow last (map token_of (whole_history parts))
+      → AllByRecursion (λ p. TokensFit p.history × AreReadable fares p.history) parts
+      → are_read last (ledgers_of fares parts texts are)
+  all_read last [] [] are rise below read = tt
+  all_read last [] (t ∷ ts) are rise below read = absurd are
+  all_read last (p ∷ ps) [] are rise below read = absurd are
+  all_read last (p ∷ ps) (t ∷ ts) are rise below read =
+      let rest = whole_history ps in
+      let (front, back) = below_front last (map token_of p.history) (map token_of rest)
+      (subst (LastIsBelow last) (tokens_both p.history rest) below) in
+      let here = part_read fares p.history read.0.1 (map token_of rest) last are.0.over.lines read.0.0 front
+      back rise.0 are.0.over.of_each in
+      (
+        here.entries,
+        here.shown,
+        here.fit,
+        here.follow,
+        all_read (last_entry last here.entries) ps ts are.1 rise.1 here.below read.1,
+      )
+
+  -- THE law: the ledgers are merged into the ledger of the whole history
+  pub readable_are_merged : (files : ℕ) (p : HistoryPart) (ps : List HistoryPart)
+      (texts : List (List ℕ)) → DoJoinUp files (p ∷ ps) → AllZip (IsPartLedger fares) (p ∷ ps) texts
+      → AllByRecursion (λ p. TokensFit p.history × AreReadable fares p.history) (p ∷ ps)
+      → (text : List ℕ) × (merge_of texts ≡ Ok text)
+  readable_are_merged files p ps [] join are read = absurd are
+  readable_are_merged files p ps (t ∷ ts) join are read = (
+    head_text ++ all_lines (ledgers_of fares (p ∷ ps) (t ∷ ts) are),
+    ap merge_of (sym (texts_are fares (p ∷ ps) (t ∷ ts) are))
+        ∙ ledgers_read (record { spans = p.spans; lines = are.0.over.lines })
+        (ledgers_of fares ps ts are.1)
+        (first_ledgers fares files p ps t ts are join)
+        (all_read None (p ∷ ps) (t ∷ ts) are join.rise tt read),
+  )
