@@ -46,26 +46,6 @@ begun_by a mid b text Whole kept begun make = record {
   whole = make (append_known b begun.rest) (whole_of mid b text begun);
 }
 
--- a beginning of the first of two pieces is one of both
-pub begins_first : (a b : Option (List ℕ)) (first second : List ℕ) → Begins a b first
-    → Begins a b (first ++ second)
-begins_first a b first second begun = record {
-  front = begun.front;
-  rest = begun.rest ++ second;
-  whole = ap (λ t. t ++ second) begun.whole ∙ append_assoc begun.front begun.rest second;
-  written = begun.written;
-}
-
--- so is the first piece with a beginning of the second
-pub begins_second : (a b c : Option (List ℕ)) (first second : List ℕ) → Appends a b first
-    → Begins b c second → Begins a c (first ++ second)
-begins_second a b c first second written begun = record {
-  front = first ++ begun.front;
-  rest = begun.rest;
-  whole = ap (λ t. first ++ t) begun.whole ∙ sym (append_assoc first begun.front begun.rest);
-  written = Appends-trans a b c first begun.front written begun.written;
-}
-
 -- what is begun is another thing that is begun
 pub begun_so : (a b : Option (List ℕ)) (One Other : Option (List ℕ) → Type 0) → IsBegun a b One
     → ((all : Option (List ℕ)) → One all → Other all) → IsBegun a b Other

@@ -216,9 +216,6 @@ ups : (key : Key) (rows : List Row) → AllByRecursion (λ later. Lt key later.k
     → AllByRecursion (λ later. Le key later.key) rows
 ups key rows all = all_map (λ later past. past.0) rows all
 
-some_is_none : {A : Type 0} (x : A) → Some x ≡ None → ⊥
-some_is_none x e = cc
-
 first_old : (old : Row) (olds news : List Row) → Rise (old ∷ olds)
     → AllByRecursion (λ later. Lt old.key later.key) news → IsFirst (Some old) None (only_old old) olds news
 first_old old olds news up past = record {
@@ -227,7 +224,7 @@ first_old old olds news up past = record {
   some = tt;
   olds_up = rise_all old olds up;
   news_up = ups old.key news past;
-  olds_past = λ none. absurd (some_is_none old.charge none);
+  olds_past = λ none. absurd (cc);
   news_past = λ none. past;
 }
 
@@ -240,7 +237,7 @@ first_new new olds news up past = record {
   olds_up = ups new.key olds past;
   news_up = rise_all new news up;
   olds_past = λ none. past;
-  news_past = λ none. absurd (some_is_none new.charge none);
+  news_past = λ none. absurd (cc);
 }
 
 first_both : (old new : Row) (olds news : List Row) → old.key ≡ new.key → Rise (old ∷ olds)
@@ -252,8 +249,8 @@ first_both old new olds news same up also = record {
   olds_up = rise_all old olds up;
   news_up = subst (λ (key : Key). AllByRecursion (λ later. Le key later.key) news) (sym same)
       (rise_all new news also);
-  olds_past = λ none. absurd (some_is_none old.charge none);
-  news_past = λ none. absurd (some_is_none new.charge none);
+  olds_past = λ none. absurd (cc);
+  news_past = λ none. absurd (cc);
 }
 
 greater_less : (a b : Key) → key_cmp a b ≡ Greater → key_cmp b a ≡ Less

@@ -9,9 +9,10 @@ use Rattle.std.proofs.lemmas.List.Elements.{filter-append}
 use Rattle.fare_texts.specs.WrittenOut.{Begins}
 use Rattle.fare_texts.proofs.Beginnings.{begins_behind, begins_front, begins_nothing}
 use Rattle.ledger_fields.specs.Rows.{Row}
-use Rattle.ledger_changes.specs.Changes.{Pair, beside, changes_between, is_changed, next_sides, pairs_by, pairs_of, pairs_with, sides_by}
+use Rattle.ledger_changes.specs.Changes.{Pair, beside, changes_between, is_changed, pairs_by, pairs_with}
+use Rattle.ledger_changes.specs.inside.Pairs.{next_sides, pairs_of, sides_by}
 use Rattle.line_folds.specs.Folds.{lines_of}
-use Rattle.ledger_changes.specs.Faults.{IsNoLine}
+use Rattle.ledger_changes.specs.inside.Faults.{IsNoLine}
 use Rattle.ledger_changes.specs.Ledgers.{NamesFirstWrong, cons_row, rows_from, rows_of}
 use Rattle.ledger_changes.specs.Rows.{key_cmp}
 use Rattle.ledger_changes.specs.Texts.{correction_line, corrections_lines, is_removed, removed_in}
@@ -337,10 +338,6 @@ end_begun by_token before after new removed last old0 new0 old new_said done lef
     (begins_behind before after new (lines_of_changes by_token None done) (sums_line last) wrote.written begun))
 
 -- ---- behind both rows
-pub if_some_at : {A : Type 0} (o : Option A) (a : A) (P : A → Type 0) → o ≡ Some a → IfSome o P → P a
-if_some_at None a P is h = absurd (cc)
-if_some_at (Some b) a P is h = let t : b ≡ a = cc in subst P t h
-
 taken_row : (is_taken : Bool) (row : Option LedgerRow) → row_in (if is_taken then row else None) ≡ taken_if is_taken (row_in row)
 taken_row true row = refl
 taken_row false row = refl
@@ -379,8 +376,10 @@ moved by_token before after removed last O N o n old_row new_row b a old_number 
     both O N _ _ (λ old0 new0 w.
     let old_said = SaidBy old_row old_number old_left in
     let new_said = SaidBy new_row new_number new_left in
-    let (old', is_old, old_is) = if_some_at old_said w.old (Moves (row_in b) o) w.is_old old_moves in
-    let (new', is_new, new_is) = if_some_at new_said w.new (Moves (row_in a) n) w.is_new new_moves in
+    let was : Moves (row_in b) o w.old = subst (λ x. IfSome x (Moves (row_in b) o)) w.is_old old_moves in
+    let (old', is_old, old_is) = was in
+    let now : Moves (row_in a) n w.new = subst (λ x. IfSome x (Moves (row_in a) n)) w.is_new new_moves in
+    let (new', is_new, new_is) = now in
     let row_o = row_of_said (row_in old_row) old_number old_left w.old w.is_old in
     let row_n = row_of_said (row_in new_row) new_number new_left w.new w.is_new in
     let b_is : row_in b ≡ taken_if sides.0 (row_in old_row) = ap row_in is_b ∙ taken_row sides.0 old_row in
@@ -465,7 +464,7 @@ walked_begun by_token before after removed last O N o n at =
 -- ---- the whole text
 of_both_at : (O N : Option Said) (old new : Said) (P : Said → Said → Type 0) → O ≡ Some old → N ≡ Some new → OfBoth O N P → P old new
 of_both_at O N old new P is_old is_new h =
-    if_some_at N new (P old) is_new (if_some_at O old (λ a. IfSome N (λ b. P a b)) is_old h)
+    subst (λ x. IfSome x (P old)) is_new (subst (λ x. IfSome x (λ a. IfSome N (λ b. P a b))) is_old h)
 
 pub whole_text : (by_token : Bool) (out mid end : Option (List ℕ)) (removed : ℕ) (old_text new_text : List ℕ) (O N : Option Said)
     → O ≡ Some (rows_of old_text) → N ≡ Some (rows_of new_text) → Appends out mid (head_of by_token)

@@ -51,18 +51,6 @@ pub record AreSideBySide (old new : List Row) (pairs : List Pair) : Type 0 where
   pub sorted : IsSorted (λ a b. key_cmp a.key b.key) pairs
   pub tight : UseUp pairs
 
--- which of two bills have the next pair's line, at these rows: both do if the keys are the same
-abbrev pub sides_by : Ordering → Bool × Bool
-sides_by Less = (true, false)
-sides_by Equal = (true, true)
-sides_by Greater = (false, true)
-
-abbrev pub next_sides : Option Row → Option Row → Bool × Bool
-next_sides None None = (false, false)
-next_sides (Some old) None = (true, false)
-next_sides None (Some new) = (false, true)
-next_sides (Some old) (Some new) = sides_by (key_cmp old.key new.key)
-
 -- the pair of a row of the one and a row of the other
 abbrev pub only_old : Row → Pair
 only_old row = record { key = row.key; before = Some row.charge; after = None }
@@ -72,12 +60,6 @@ only_new row = record { key = row.key; before = None; after = Some row.charge }
 
 abbrev pub both_rows : Row → Row → Pair
 both_rows old new = record { key = old.key; before = Some old.charge; after = Some new.charge }
-
-abbrev pub pairs_of : Option Row → Option Row → List Pair
-pairs_of None None = []
-pairs_of (Some old) None = only_old old ∷ []
-pairs_of None (Some new) = only_new new ∷ []
-pairs_of (Some old) (Some new) = both_rows old new ∷ []
 
 abbrev pub pairs_by : Ordering → Row → Row → List Pair → List Pair → List Pair → List Pair
 pairs_by Less old new behind_old behind_both behind_new = only_old old ∷ behind_old

@@ -1,5 +1,4 @@
 pub mod Changes
-pub mod Faults
 pub mod Ledgers
 pub mod Rows
 pub mod Texts

@@ -5,7 +5,7 @@ ghost use Rattle.std.specs.Prelude.{OnOk, filter};
 ghost use Rattle.std.specs.Io.KnownBytes.{Appends};
 ghost use Rattle.fare_texts.specs.WrittenOut.{Begins};
 ghost use Rattle.ledger_changes.specs.Changes.{is_changed};
-ghost use Rattle.ledger_changes.specs.Faults.{IsNoLine};
+ghost use Rattle.ledger_changes.specs.inside.Faults.{IsNoLine};
 ghost use Rattle.ledger_changes.specs.Ledgers.{NamesFirstWrong};
 ghost use Rattle.ledger_changes.specs.Texts.{removed_in};
 ghost use Rattle.ledger_changes.specs.Tokens.{corrections_of, last_sums, lines_of_changes};

@@ -4,7 +4,7 @@ ghost use Rattle.std.specs.Prelude.{◌≡◌, ◌++◌, IfErr, IfOk, OnErr, OnO
 ghost use Rattle.std.specs.Fmt.{decimal};
 ghost use Rattle.std.specs.Io.KnownBytes.{Appends};
 ghost use Rattle.fare_texts.specs.WrittenOut.{Begins};
-ghost use Rattle.ledger_changes.specs.Faults.{IsNoLine};
+ghost use Rattle.ledger_changes.specs.inside.Faults.{IsNoLine};
 ghost use Rattle.ledger_changes.specs.Texts.{cents_of, change_word, charge_fields};
 ghost use Rattle.ledger_changes.specs.Texts.{correction_line, difference};
 ghost use Rattle.ledger_changes.specs.inside.Views.{charge_of, pair_of};

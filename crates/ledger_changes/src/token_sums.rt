@@ -3,7 +3,7 @@
 ghost use Rattle.std.specs.Prelude.{◌≡◌, ◌∷◌, [], IfErr, IfOk, IfSome, OnErr, OnOk, option_map};
 ghost use Rattle.std.specs.Io.KnownBytes.{Appends};
 ghost use Rattle.fare_texts.specs.WrittenOut.{Begins};
-ghost use Rattle.ledger_changes.specs.Faults.{IsNoLine};
+ghost use Rattle.ledger_changes.specs.inside.Faults.{IsNoLine};
 ghost use Rattle.ledger_changes.specs.Rows.{is_same_text};
 ghost use Rattle.ledger_changes.specs.Texts.{is_only_before};
 ghost use Rattle.ledger_changes.specs.Tokens.{add_changes, ended_line, is_in_both, no_sums};

@@ -17,8 +17,6 @@ mod draws;
 #[cfg(test)]
 mod filling;
 #[cfg(test)]
-mod parts;
-#[cfg(test)]
 mod reference;
 #[cfg(test)]
 mod rows;

@@ -1,4 +1,4 @@
-//! Reads a text line by line, and holds no line of more than 1,024 bytes.
+//! Reads a text line by line, and refuses a line of more than 1,024 bytes.
 
 ghost use Rattle.std.specs.Prelude.{IfSome, List, ℕ};
 ghost use Rattle.line_folds.specs.Folds.{IsNextLine};
@@ -13,7 +13,7 @@ const MAX_LINE_BYTES: usize = 1_024;
 pub enum NextLine {
     /// A line. The last one of a text may have no line feed.
     Whole,
-    /// A line of more than 1,024 bytes, of which a prefix was read.
+    /// A line of more than 1,024 bytes.
     Long,
     /// There is none.
     End,
@@ -28,7 +28,8 @@ pub enum ReadFault {
     NoMemory,
 }
 
-/// Reads the next line, with its line feed, in place of what the room has.
+/// Reads the next line, with its line feed, in place of what the room has. It holds a line of any
+/// length in memory: a reader of texts of others bounds its lines.
 pub fn next_line<R: BufRead>(from: &mut R, line: &mut Vec<u8>) -> Result<NextLine, ReadFault>
     ensures { IfSome (R.remaining from.old) (λ text.
         IsNextLine text line.new.items (R.remaining from.new) result) }

@@ -12,7 +12,8 @@ use Rattle.std.proofs.lemmas.List.{take-append-drop}
 use Rattle.std.proofs.lemmas.Slice.Eq.{bytes_eq-Decides}
 use Rattle.std.proofs.lemmas.Str.Parse.{IsNumeralModel, numerals_by_value, tells_all_ascii_digits}
 use Rattle.line_forms.specs.Forms.{IsBehind, IsFirst, IsForm, IsThen, Reader, after, after_if, behind_read, ended, go_on, is_end, read_if, said_by, then_read, value_if, with_second}
-use Rattle.line_forms.specs.Numbers.{BeginsWithNoDigit, IsNumber, below, digits_in, number_at, number_if, number_in, with_rest}
+use Rattle.line_forms.specs.Numbers.{BeginsWithNoDigit, IsNumber, digits_in, number_at, number_if, number_in, with_rest}
+use Rattle.line_forms.specs.inside.Narrow.{below}
 
 -- ---- options
 -- what is to be said of nothing, if nothing is returned

@@ -25,11 +25,6 @@ unfoldable pub number_in : ℕ → List ℕ → Option ℕ
 number_in bound digits =
     number_if (nat_lt (digits_value 10 digits) bound && bytes_eq (decimal (digits_value 10 digits)) digits) (digits_value 10 digits)
 
--- the number, if it is below the bound
-abbrev pub below : ℕ → Option ℕ → Option ℕ
-below bound None = None
-below bound (Some number) = number_if (nat_lt number bound) number
-
 abbrev pub with_rest : {A : Type 0} → Option A → List ℕ → Option (A × List ℕ)
 with_rest None rest = None
 with_rest (Some value) rest = Some (value, rest)

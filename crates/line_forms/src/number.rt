@@ -4,7 +4,8 @@ ghost use Rattle.std.specs.Prelude.{◌≡◌, ◌<◌, ◌≤◌, ◌^◌, ℕ,
 ghost use Rattle.std.specs.Fmt.{decimal};
 ghost use Rattle.line_forms.specs.FormLaws.{number_law, wide_32, wide_64};
 ghost use Rattle.line_forms.specs.Numbers.{BeginsWithNoDigit, IsNumber, digits_in, number_at};
-ghost use Rattle.line_forms.specs.Numbers.{below, number_in};
+ghost use Rattle.line_forms.specs.Numbers.{number_in};
+ghost use Rattle.line_forms.specs.inside.Narrow.{below};
 
 use crate::form::FormOf;
 use itoa::Buffer;

@@ -1,5 +1,5 @@
 -- The lines of parts, copied one after the other.
-use Rattle.std.proofs.Common.{◌≡◌, ◌∙◌, ◌+◌, ℕ, Bool, true, false, cond, List, [], ◌∷◌, ◌++◌, map}
+use Rattle.std.proofs.Common.{◌≡◌, ◌∙◌, ◌+◌, ℕ, Bool, true, false, List, [], ◌∷◌, ◌++◌, map}
 use Rattle.std.proofs.Common.{Option, Some, None, Result, Ok, Err, IfSome, option_map, refl, sym, ap, subst}
 use Rattle.std.proofs.Common.{append_assoc, append-nil, arith, length, ◌<◌}
 use Rattle.std.specs.Prelude.{flat_map}
@@ -21,14 +21,14 @@ use Rattle.part_texts.specs.Fronts.{FrontsView, no_fronts, no_sums}
 use Rattle.part_texts.specs.Sections.{SectionView, section_end, section_step}
 use Rattle.part_texts.specs.Merged.{IsFaultOf, MergedAs, OpenView, WrongLine, and_then, end_or}
 use Rattle.part_texts.specs.Merged.{fronts_of, merge_of}
-use Rattle.part_texts.specs.Merged.{lines_left, merged, section_at, section_ended, section_of}
+use Rattle.part_texts.specs.Merged.{lines_left, merged, section_ended, section_of}
 use Rattle.part_texts.specs.Merged.{sections_of, whole_front}
-use Rattle.part_texts.specs.Opened.{AreOpen, Copied, fault_by, open_view}
+use Rattle.part_texts.specs.inside.Opened.{AreOpen, Copied, fault_by, open_view}
 use Rattle.part_texts.specs.declared.fault.MergeFault.{MergeFault}
-use Rattle.part_texts.specs.declared.fault.MergeFault.TheVariants.{Line, Unread, Write, NoMemory}
-use Rattle.part_texts.specs.declared.fault.MergeFault.TheVariants.{TooLong}
+use Rattle.part_texts.specs.declared.fault.MergeFault.TheVariants.{Line, Write}
 use Rattle.part_texts.specs.declared.merging.Open.{Open}
-use Rattle.part_texts.proofs.Opening.{fault_goes, fault_same, if_some, left_none}
+use Rattle.sorted_taps.proofs.Files.{if_known}
+use Rattle.part_texts.proofs.Opening.{fault_goes, fault_same, left_none}
 
 abbrev never : SectionView → Bool
 never s = false
@@ -110,12 +110,12 @@ module _ {R : Type 0} (remaining : R → Option (List ℕ)) (place : ℕ) (last 
     (begins : start ≡ begins_at opening last) where
   -- what is said of the part, by the run from where the program begins
   said_by_run : (view : OpenView) (rest : List ℕ) → record {
-        is_ledger = opening.is_ledger;
-        left = opening.left;
-        part = sums_of opening.part;
-        number = opening.number;
-        lines = lines_of rest;
-      } ≡ view
+    is_ledger = opening.is_ledger;
+    left = opening.left;
+    part = sums_of opening.part;
+    number = opening.number;
+    lines = lines_of rest;
+  } ≡ view
       → section_of place last view
       ≡ section_ended place (run never (bounded Form section_step) opening.number start (lines_of rest))
   said_by_run view rest is =
@@ -133,9 +133,8 @@ module _ {R : Type 0} (remaining : R → Option (List ℕ)) (place : ℕ) (last 
       (flat_map (λ line. line) view.lines) before after (Ok end.last)
   section_ok number view is stops wrote ends =
       let (rest, here, same) = view_of remaining opening view is in
-      let (behind, lefts, ran) = if_some _ (remaining opening.from) rest here stops in
-      let all = if_some _ (remaining opening.from) rest here wrote in
-      (
+      let (behind, lefts, ran) = if_known _ (remaining opening.from) rest here stops in
+      let all = if_known _ (remaining opening.from) rest here wrote in (
         end,
         said_by_run view rest same ∙ ap (section_ended place) ran
             ∙ ap (end_or (place, (number, Form)) end) ends,
@@ -154,19 +153,19 @@ module _ {R : Type 0} (remaining : R → Option (List ℕ)) (place : ℕ) (last 
       (flat_map (λ line. line) view.lines) before after (Err (Line place number why))
   section_wrong number why view is stops ends =
       let (rest, here, same) = view_of remaining opening view is in
-      let (behind, lefts, ran) = if_some _ (remaining opening.from) rest here stops in
+      let (behind, lefts, ran) = if_known _ (remaining opening.from) rest here stops in
       let said = said_by_run view rest same ∙ ap (section_ended place) ran
       ∙ ap (end_or (place, (number, Form)) end) ends in
       (said, λ s is_ok. absurd (let e = sym said ∙ is_ok in cc))
 
   -- a prefix of all lines is written, if the lines are those of a part
   prefix_of : (stop : Stop Wrong) (view : OpenView) (rest : List ℕ) → record {
-        is_ledger = opening.is_ledger;
-        left = opening.left;
-        part = sums_of opening.part;
-        number = opening.number;
-        lines = lines_of rest;
-      } ≡ view
+    is_ledger = opening.is_ledger;
+    left = opening.left;
+    part = sums_of opening.part;
+    number = opening.number;
+    lines = lines_of rest;
+  } ≡ view
       → AppendsPrefix before after
       (written never (bounded Form section_step) line_itself start (lines_of rest))
       → (s : SectionView) → section_of place last view ≡ Ok s
@@ -195,20 +194,20 @@ module _ {R : Type 0} (remaining : R → Option (List ℕ)) (place : ℕ) (last 
   section_fault (StopLine number why) view is stops wrote =
       let (rest, here, same) = view_of remaining opening view is in
       let said = said_by_run view rest same
-      ∙ ap (section_ended place) (if_some _ (remaining opening.from) rest here stops) in
+      ∙ ap (section_ended place) (if_known _ (remaining opening.from) rest here stops) in
       (said, λ s is_ok. absurd (let e = sym said ∙ is_ok in cc))
   section_fault StopUnread view is stops wrote =
       let (rest, here, same) = view_of remaining opening view is in
-      (tt, prefix_of StopUnread view rest same (if_some _ (remaining opening.from) rest here wrote))
+      (tt, prefix_of StopUnread view rest same (if_known _ (remaining opening.from) rest here wrote))
   section_fault StopLong view is stops wrote =
       let (rest, here, same) = view_of remaining opening view is in
-      (tt, prefix_of StopLong view rest same (if_some _ (remaining opening.from) rest here wrote))
+      (tt, prefix_of StopLong view rest same (if_known _ (remaining opening.from) rest here wrote))
   section_fault Unwritten view is stops wrote =
       let (rest, here, same) = view_of remaining opening view is in
-      (tt, prefix_of Unwritten view rest same (if_some _ (remaining opening.from) rest here wrote))
+      (tt, prefix_of Unwritten view rest same (if_known _ (remaining opening.from) rest here wrote))
   section_fault StopMemory view is stops wrote =
       let (rest, here, same) = view_of remaining opening view is in
-      (tt, prefix_of StopMemory view rest same (if_some _ (remaining opening.from) rest here wrote))
+      (tt, prefix_of StopMemory view rest same (if_known _ (remaining opening.from) rest here wrote))
 
 -- ---- all parts
 open_more : {R : Type 0} (remaining : R → Option (List ℕ)) (opening : Open R) (opens : List (Open R))
@@ -257,8 +256,7 @@ copies_more remaining all place last next left more opening before now after spl
     let (rest, lefts, same, front, lines, wrote) = at_all views are in
     let (view, others, shown, here, behind) = open_more remaining opening more rest
     (sym (ap (map (open_view remaining)) split) ∙ lefts) in
-    let (s, said, last_is, added) = copied view here in
-    (
+    let (s, said, last_is, added) = copied view here in (
       others,
       behind,
       same ∙ ap (sections_of place last) shown
@@ -293,8 +291,7 @@ copies_fault remaining all place last left more opening before now after fault s
     let (is, some) = copied view here in
     let next = λ (s : SectionView). sections_of (place + 1) s.last others in
     let whole : sections_of 0 None views ≡ and_then (section_of place last view) next =
-    same ∙ ap (sections_of place last) shown in
-    (
+    same ∙ ap (sections_of place last) shown in (
       fault_same (sections_of 0 None views) _ fault whole (fault_goes _ next fault is),
       λ end ok.
           let (s, said) = ok_through (section_of place last view) next end (sym whole ∙ ok) in
@@ -313,8 +310,7 @@ pub copies_all : {R : Type 0} (remaining : R → Option (List ℕ)) (all : List 
 copies_all remaining all place last left before after none at_all views are =
     let (rest, lefts, same, front, lines, wrote) = at_all views are in
     let no_rest : rest ≡ [] =
-    open_none remaining rest (sym (ap (map (open_view remaining)) none) ∙ lefts) in
-    (
+    open_none remaining rest (sym (ap (map (open_view remaining)) none) ∙ lefts) in (
       last,
       same ∙ ap (sections_of place last) no_rest,
       refl,

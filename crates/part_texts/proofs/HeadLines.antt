@@ -1,14 +1,14 @@
 -- The lines of a part's head are read back, and each is one line.
-use Rattle.std.proofs.Common.{◌≡◌, ◌∙◌, ◌+◌, ◌<◌, ◌≤◌, ◌^◌, ℕ, List, [], ◌∷◌, ◌++◌, length, codes}
+use Rattle.std.proofs.Common.{◌≡◌, ◌∙◌, ◌+◌, ◌<◌, ◌^◌, ℕ, List, [], ◌∷◌, ◌++◌, codes}
 use Rattle.std.proofs.Common.{Option, Some, None, refl, sym, ap, subst, arith, append_assoc, option_map}
 use Rattle.std.specs.Fmt.{decimal}
 use Rattle.line_forms.specs.Forms.{IsFirst, IsForm, IsThen, then_read}
 use Rattle.line_forms.specs.FormLaws.{line_complete, then_law}
-use Rattle.line_forms.specs.Numbers.{BeginsWithNoDigit, IsNumber}
+use Rattle.line_forms.specs.Numbers.{BeginsWithNoDigit}
 use Rattle.report_texts.specs.Forms.{count_at}
 use Rattle.report_texts.specs.FormLaws.{IsCount, begins, begins_then, count_form}
 use Rattle.report_texts.proofs.OneLine.{IsOneLine, counted, over, weaker, word}
-use Rattle.part_texts.specs.HeadForms.{place_by, place_read, span_in, span_with, to_read}
+use Rattle.part_texts.specs.HeadForms.{place_read, span_in, span_with, to_read}
 use Rattle.part_texts.specs.HeadLaws.{IsPlaceText, IsToText, place_law, to_law}
 use Rattle.part_texts.specs.Heads.{place_text, span_line, to_text}
 use Rattle.part_texts.specs.Shown.{EndFits, PlaceFits, SpanFits}
@@ -88,9 +88,13 @@ pub span_complete : (file : ℕ) (span : FileSpan) → file < 2 ^ 64 → SpanFit
 span_complete file span small fits =
     ap span_in (span_spelt file span)
     ∙ ap (option_map span_with) (line_complete span_form refl (file, (span.from, span.to))
-    ((codes "file " ++ decimal file) ++ (place_words (codes " from ") span.from ++ to_words span.to))
-    (_, _, (decimal file, (small, refl), refl),
-    (_, _, place_says (codes " from ") span.from fits.0, to_says span.to fits.1, refl), refl))
+    ((codes "file " ++ decimal file) ++ (place_words (codes " from ") span.from ++ to_words span.to)) (
+      _,
+      _,
+      (decimal file, (small, refl), refl),
+      (_, _, place_says (codes " from ") span.from fits.0, to_says span.to fits.1, refl),
+      refl,
+    ))
 
 place_is_one : (place : Place) (most : ℕ) (line : List ℕ) → PlaceFits place → IsOneLine most line
     → IsOneLine (20 + (6 + (20 + most))) (place_text place ++ line)

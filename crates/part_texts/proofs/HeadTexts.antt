@@ -1,7 +1,7 @@
 -- The head of a part, written line by line.
 use Rattle.std.proofs.Common.{◌≡◌, ◌∙◌, ◌+◌, ◌<◌, ℕ, List, [], ◌∷◌, ◌++◌, length, take, get_or, length-take}
 use Rattle.std.proofs.Common.{sym, ap, append_assoc, append-nil, add-zero, arith}
-use Rattle.std.specs.Prelude.{codes, Option, Some, None}
+use Rattle.std.specs.Prelude.{codes, None}
 use Rattle.std.specs.Fmt.{decimal}
 use Rattle.std.proofs.lemmas.List.{take_more}
 use Rattle.part_texts.specs.Heads.{place_text, span_line, span_lines, to_text}

@@ -1,7 +1,7 @@
 -- The fronts of parts, read one after the other.
-use Rattle.std.proofs.Common.{◌≡◌, ◌∙◌, ◌+◌, ◌≤◌, ℕ, Bool, true, false, cond, List, [], ◌∷◌, ◌++◌, length, map}
-use Rattle.std.proofs.Common.{Option, Some, None, Result, Ok, Err, IfSome, option_map, refl, sym, ap, subst, arith}
-use Rattle.std.specs.Prelude.{nat_eq, nat_le}
+use Rattle.std.proofs.Common.{◌≡◌, ◌∙◌, ◌+◌, ℕ, Bool, true, false, cond, List, [], ◌∷◌, ◌++◌, length, map}
+use Rattle.std.proofs.Common.{Option, Some, Result, Ok, Err, IfSome, option_map, refl, sym, ap, subst, arith}
+use Rattle.std.specs.Prelude.{nat_le}
 use Rattle.std.proofs.lemmas.Bool.Decides.{nat_tests}
 use Rattle.std.proofs.lemmas.List.{map-append}
 use Rattle.histories.specs.Sums.{sums_of}
@@ -13,23 +13,17 @@ use Rattle.line_folds.specs.declared.lines.Stop.TheVariants.{TooLong as StopLong
 use Rattle.report_texts.specs.Texts.{AreLeft}
 use Rattle.report_texts.specs.declared.wrong.Wrong.{Wrong}
 use Rattle.report_texts.specs.declared.wrong.Wrong.TheVariants.{Form}
-use Rattle.part_texts.specs.Fronts.{FrontsView, begun}
+use Rattle.sorted_taps.proofs.Files.{if_known}
+use Rattle.part_texts.specs.Fronts.{FrontsView}
+use Rattle.part_texts.specs.inside.Fronts.{begun}
 use Rattle.part_texts.specs.FrontSteps.{front_done, front_step}
 use Rattle.part_texts.specs.Merged.{IsFaultOf, OpenView, WrongLine, and_then, at_part, front_end}
 use Rattle.part_texts.specs.Merged.{front_of, fronts_of, is_none_left, left_at, opened}
-use Rattle.part_texts.specs.Opened.{AreOpen, FrontRead, FrontsRead, fault_by, open_view}
+use Rattle.part_texts.specs.inside.Opened.{AreOpen, FrontRead, fault_by, open_view}
 use Rattle.part_texts.specs.declared.fault.MergeFault.{MergeFault}
 use Rattle.part_texts.specs.declared.fault.MergeFault.TheVariants.{Line, Unread, Write, NoMemory}
 use Rattle.part_texts.specs.declared.fault.MergeFault.TheVariants.{TooLong}
 use Rattle.part_texts.specs.declared.merging.Open.{Open}
-
-pub if_some : {A : Type 0} (P : A → Type 0) (r : Option A) (a : A) → r ≡ Some a → IfSome r P → P a
-if_some P r a is holds = subst (λ x. IfSome x P) is holds
-
-pub if_weaker : {A : Type 0} (P Q : A → Type 0) (r : Option A) → ((a : A) → P a → Q a)
-    → IfSome r P → IfSome r Q
-if_weaker P Q None weaker holds = tt
-if_weaker P Q (Some a) weaker holds = weaker a holds
 
 -- ---- one front
 pub front_ok : (place number : ℕ) (s new : FrontsView) (text : List ℕ) (left : Option (List ℕ))
@@ -175,9 +169,8 @@ opens_more remaining all first now mid next opens more_opens opening left more r
     (sym (ap (map remaining) split) ∙ lefts) in
     let whole : count ≡ length opens + (1 + length more) =
     (let l = ap length split in omega (arith, number, l)) in
-    let (unread, is, said) = if_some _ (remaining r) text here read in
-    let view = opened (opening.number, next, lines_of unread) in
-    (
+    let (unread, is, said) = if_known _ (remaining r) text here read in
+    let view = opened (opening.number, next, lines_of unread) in (
       others,
       behind,
       views ++ view ∷ [],
@@ -224,7 +217,7 @@ opens_fault remaining all first now mid opens left more r place count fault spli
     (fault_goes _ (λ read. fronts_of read.0 (views ++ read.1 ∷ []) others) fault
     (subst (λ r. IsFaultOf r fault)
     (next_front remaining now mid opens views more others place count text at_place whole begin
-    opened_views behind) (if_some _ (remaining r) text here read)))
+    opened_views behind) (if_known _ (remaining r) text here read)))
 
 pub opens_all : {R : Type 0} (remaining : R → Option (List ℕ)) (all : List R)
     (first now : FrontsView) (opens : List (Open R)) (left : List R) → left ≡ []

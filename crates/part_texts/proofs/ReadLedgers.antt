@@ -32,7 +32,7 @@ use Rattle.part_texts.specs.HistoryParts.{DoRise, HistoryPart, histories_of, who
 use Rattle.part_texts.specs.LedgerParts.{AreReadable, DoJoinUp, IsPartLedger, IsReadableLine}
 use Rattle.part_texts.specs.Merged.{merge_of}
 use Rattle.part_texts.specs.Sections.{may_follow}
-use Rattle.part_texts.specs.ShownLedgers.{EntryLine, IsEntryLine, PartLedger, all_lines, are_read, do_follow, last_entry, lines_of_entries}
+use Rattle.part_texts.specs.inside.ShownLedgers.{EntryLine, IsEntryLine, PartLedger, all_lines, are_read, do_follow, last_entry, lines_of_entries}
 use Rattle.part_texts.proofs.HistoryParts.{LastIsBelow, all_rising, below_front, below_rising, tokens_both}
 use Rattle.part_texts.proofs.LedgerParts.{first_ledgers, ledgers_of, texts_are, whole_lines}
 use Rattle.part_texts.proofs.ShownLedgers.{ledgers_read}

@@ -1,7 +1,7 @@
 -- The front of a part's report, as it is printed, is taken.
-use Rattle.std.proofs.Common.{◌≡◌, ◌∙◌, ◌+◌, ◌-◌, ◌<◌, ◌≤◌, ◌^◌, ◌&&◌, ◌||◌, ℕ, suc, zero, Bool, true, false, cond, not, List, [], ◌∷◌, ◌++◌, length, map}
-use Rattle.std.proofs.Common.{Option, Some, None, Result, Ok, Err, refl, sym, ap, subst, arith, append_assoc, append-nil, codes}
-use Rattle.std.specs.Prelude.{flat_map, nat_eq, nat_lt, nat_le}
+use Rattle.std.proofs.Common.{◌≡◌, ◌∙◌, ◌+◌, ◌-◌, ◌<◌, ◌^◌, ◌&&◌, ◌||◌, ℕ, suc, Bool, true, false, cond, List, [], ◌∷◌, ◌++◌, length, map}
+use Rattle.std.proofs.Common.{Option, Some, None, Ok, refl, ap, subst, arith, codes}
+use Rattle.std.specs.Prelude.{flat_map, nat_eq, nat_lt}
 use Rattle.std.proofs.Math.Bool.{or-true}
 use Rattle.std.proofs.lemmas.Bool.{and_from}
 use Rattle.std.proofs.lemmas.Bool.Decides.{nat_tests}
@@ -12,15 +12,15 @@ use Rattle.fare_texts.specs.Counts.{totals_line}
 use Rattle.fare_texts.specs.ReportLines.{number_line, validator_line}
 use Rattle.report_texts.specs.Numbers.{AreCounts, IsValidatorSum}
 use Rattle.report_texts.specs.Report.{upload_line, upload_lines}
-use Rattle.report_texts.specs.declared.wrong.Wrong.{Wrong}
 use Rattle.report_texts.specs.declared.wrong.Wrong.TheVariants.{Form, NotPosted, Order}
 use Rattle.report_texts.specs.declared.wrong.Wrong.TheVariants.{Totals as OtherTotals}
 use Rattle.report_texts.proofs.Lines.{head_complete, totals_complete, upload_complete, validator_complete}
 use Rattle.report_texts.proofs.OneLine.{head_is_one, totals_line_is_one, upload_is_one, validator_line_is_one}
 use Rattle.part_texts.specs.Fronts.{FrontsView, is_above, may_end, no_sums, place_eq, plus, posted_in, starts, sums_eq, sums_within, taps_before, with_validator}
 use Rattle.part_texts.specs.FrontSteps.{found_or, front_done, front_step, said, where_holds}
-use Rattle.part_texts.specs.Heads.{part_head, span_line, span_lines}
-use Rattle.part_texts.specs.Shown.{SpanFits, adds_to, are_added, are_joined, are_posted_to, do_rise}
+use Rattle.part_texts.specs.Heads.{span_line, span_lines}
+use Rattle.part_texts.specs.Shown.{SpanFits, are_joined}
+use Rattle.part_texts.specs.inside.Shown.{adds_to, are_added, are_posted_to, do_rise}
 use Rattle.sorted_taps.specs.declared.places.Place.{Place}
 use Rattle.sorted_taps.specs.declared.places.FileSpan.{FileSpan}
 use Rattle.part_texts.specs.declared.fronts.Stage.{Stage}
@@ -158,73 +158,73 @@ module _ (first last : Bool) where
           (and_from _ _ (true_itself files) (or-true first)))
 
   module _ (ends : List (Option Place)) (part so_far totals : Sums) (validators : List (ℕ × Sums))
-    (tokens : ℕ) where
-      upload_taken : (uploads left upload posted n before : ℕ) (taps rest : List ℕ)
-          → upload + suc left ≡ uploads → uploads < 2 ^ 64 → n < 2 ^ 64
-          → taps_before first taps ≡ Some (before, rest) → before + n < 2 ^ 64 → posted + n < 2 ^ 64
-          → FrontLeads
-          (at first last false (Uploads uploads (suc left) posted) ends taps part so_far totals validators tokens)
-          (upload_line upload (Posted n)) 1
-          (at first last false (Uploads uploads left (posted + n)) ends (rest ++ (before + n) ∷ []) part so_far totals
-          validators tokens)
-      upload_taken uploads left upload posted n before taps rest where_is small fits found AllByRecursions
-          sum_fits =
-          let few : upload < 2 ^ 64 = omega (arith, where_is, small) in
-          let next = λ (sum all : ℕ) (rest : List ℕ).
-          at first last false (Uploads uploads (suc left - 1) sum) ends (rest ++ all ∷ []) part so_far totals
-          validators tokens in
-          let behind = λ (taps_in : ℕ).
-          found_or Form (taps_before first taps) (λ (before : ℕ × List ℕ).
-          found_or OtherTotals (plus before.0 taps_in) (λ all.
-          found_or OtherTotals (plus posted taps_in) (λ sum. Ok (next sum all before.1)))) in
-          by_line front_done Form front_step _ _ (upload_line upload (Posted n))
-          (upload_is_one upload n few fits) refl
-          (ap (λ read. said read (λ (upload : ℕ × _).
-          where_holds (nat_eq upload.0 (uploads - suc left)) Form
-          (found_or NotPosted (posted_in upload.1) behind)))
-          (upload_complete upload (Posted n) few fits)
-          ∙ ap (λ b. where_holds b Form (behind n)) (place_is uploads upload left where_is)
-          ∙ ap (λ r. found_or Form r (λ (before : ℕ × List ℕ).
-          found_or OtherTotals (plus before.0 n) (λ all.
-          found_or OtherTotals (plus posted n) (λ sum. Ok (next sum all before.1))))) found
-          ∙ ap (λ r. found_or OtherTotals r (λ all.
-          found_or OtherTotals (plus posted n) (λ sum. Ok (next sum all rest)))) (plus_fits before n AllByRecursions)
-          ∙ ap (λ r. found_or OtherTotals r (λ sum. Ok (next sum (before + n) rest)))
-          (plus_fits posted n sum_fits)
-          ∙ ap (λ k. Ok (at first last false (Uploads uploads k (posted + n)) ends (rest ++ (before + n) ∷ [])
-          part so_far totals validators tokens)) (one_less left))
+      (tokens : ℕ) where
+    upload_taken : (uploads left upload posted n before : ℕ) (taps rest : List ℕ)
+        → upload + suc left ≡ uploads → uploads < 2 ^ 64 → n < 2 ^ 64
+        → taps_before first taps ≡ Some (before, rest) → before + n < 2 ^ 64 → posted + n < 2 ^ 64
+        → FrontLeads
+        (at first last false (Uploads uploads (suc left) posted) ends taps part so_far totals validators tokens)
+        (upload_line upload (Posted n)) 1
+        (at first last false (Uploads uploads left (posted + n)) ends (rest ++ (before + n) ∷ []) part so_far totals
+        validators tokens)
+    upload_taken uploads left upload posted n before taps rest where_is small fits found AllByRecursions
+        sum_fits =
+        let few : upload < 2 ^ 64 = omega (arith, where_is, small) in
+        let next = λ (sum all : ℕ) (rest : List ℕ).
+        at first last false (Uploads uploads (suc left - 1) sum) ends (rest ++ all ∷ []) part so_far totals
+        validators tokens in
+        let behind = λ (taps_in : ℕ).
+        found_or Form (taps_before first taps) (λ (before : ℕ × List ℕ).
+        found_or OtherTotals (plus before.0 taps_in) (λ all.
+        found_or OtherTotals (plus posted taps_in) (λ sum. Ok (next sum all before.1)))) in
+        by_line front_done Form front_step _ _ (upload_line upload (Posted n))
+        (upload_is_one upload n few fits) refl
+        (ap (λ read. said read (λ (upload : ℕ × _).
+        where_holds (nat_eq upload.0 (uploads - suc left)) Form
+        (found_or NotPosted (posted_in upload.1) behind)))
+        (upload_complete upload (Posted n) few fits)
+        ∙ ap (λ b. where_holds b Form (behind n)) (place_is uploads upload left where_is)
+        ∙ ap (λ r. found_or Form r (λ (before : ℕ × List ℕ).
+        found_or OtherTotals (plus before.0 n) (λ all.
+        found_or OtherTotals (plus posted n) (λ sum. Ok (next sum all before.1))))) found
+        ∙ ap (λ r. found_or OtherTotals r (λ all.
+        found_or OtherTotals (plus posted n) (λ sum. Ok (next sum all rest)))) (plus_fits before n AllByRecursions)
+        ∙ ap (λ r. found_or OtherTotals r (λ sum. Ok (next sum (before + n) rest)))
+        (plus_fits posted n sum_fits)
+        ∙ ap (λ k. Ok (at first last false (Uploads uploads k (posted + n)) ends (rest ++ (before + n) ∷ [])
+        part so_far totals validators tokens)) (one_less left))
 
-      pub posted_taken : (uploads upload posted sum : ℕ) (taps all ns : List ℕ)
-          → upload + length ns ≡ uploads → uploads < 2 ^ 64
-          → are_posted_to first taps posted ns all sum
-          → FrontLeads
-          (at first last false (Uploads uploads (length ns) posted) ends taps part so_far totals validators tokens)
-          (upload_lines upload (map Posted ns)) (length ns)
-          (at first last false (Uploads uploads 0 sum) ends all part so_far totals validators tokens)
-      posted_taken uploads upload posted sum taps all [] where_is small (same, added) =
-          subst (λ t. FrontLeads
-          (at first last false (Uploads uploads 0 posted) ends taps part so_far totals validators tokens) [] 0
-          (at first last false (Uploads uploads 0 sum) ends t part so_far totals validators tokens)) same
-          (subst (λ p. FrontLeads
-          (at first last false (Uploads uploads 0 posted) ends taps part so_far totals validators tokens) [] 0
-          (at first last false (Uploads uploads 0 p) ends taps part so_far totals validators tokens)) added
-          (by_nothing front_done Form front_step
-          (at first last false (Uploads uploads 0 posted) ends taps part so_far totals validators tokens)))
-      posted_taken uploads upload posted sum taps all (n ∷ ns) where_is small
-          (before, rest, found, fits, AllByRecursions, sum_fits, more) =
-          subst (λ k. FrontLeads
-          (at first last false (Uploads uploads (length (n ∷ ns)) posted) ends taps part so_far totals validators tokens)
-          (upload_lines upload (map Posted (n ∷ ns))) k
-          (at first last false (Uploads uploads 0 sum) ends all part so_far totals validators tokens))
-          (let e : 1 + length ns ≡ length (n ∷ ns) = omega arith in e)
-          (by_both front_done Form front_step _
-          (at first last false (Uploads uploads (length ns) (posted + n)) ends (rest ++ (before + n) ∷ []) part so_far
-          totals validators tokens)
-          _ (upload_line upload (Posted n)) (upload_lines (upload + 1) (map Posted ns)) 1 (length ns)
-          (upload_taken uploads (length ns) upload posted n before taps rest where_is small fits found
-          AllByRecursions sum_fits)
-          (posted_taken uploads (upload + 1) (posted + n) sum (rest ++ (before + n) ∷ []) all ns
-          (omega (arith, where_is)) small more))
+    pub posted_taken : (uploads upload posted sum : ℕ) (taps all ns : List ℕ)
+        → upload + length ns ≡ uploads → uploads < 2 ^ 64
+        → are_posted_to first taps posted ns all sum
+        → FrontLeads
+        (at first last false (Uploads uploads (length ns) posted) ends taps part so_far totals validators tokens)
+        (upload_lines upload (map Posted ns)) (length ns)
+        (at first last false (Uploads uploads 0 sum) ends all part so_far totals validators tokens)
+    posted_taken uploads upload posted sum taps all [] where_is small (same, added) =
+        subst (λ t. FrontLeads
+        (at first last false (Uploads uploads 0 posted) ends taps part so_far totals validators tokens) [] 0
+        (at first last false (Uploads uploads 0 sum) ends t part so_far totals validators tokens)) same
+        (subst (λ p. FrontLeads
+        (at first last false (Uploads uploads 0 posted) ends taps part so_far totals validators tokens) [] 0
+        (at first last false (Uploads uploads 0 p) ends taps part so_far totals validators tokens)) added
+        (by_nothing front_done Form front_step
+        (at first last false (Uploads uploads 0 posted) ends taps part so_far totals validators tokens)))
+    posted_taken uploads upload posted sum taps all (n ∷ ns) where_is small
+        (before, rest, found, fits, AllByRecursions, sum_fits, more) =
+        subst (λ k. FrontLeads
+        (at first last false (Uploads uploads (length (n ∷ ns)) posted) ends taps part so_far totals validators tokens)
+        (upload_lines upload (map Posted (n ∷ ns))) k
+        (at first last false (Uploads uploads 0 sum) ends all part so_far totals validators tokens))
+        (let e : 1 + length ns ≡ length (n ∷ ns) = omega arith in e)
+        (by_both front_done Form front_step _
+        (at first last false (Uploads uploads (length ns) (posted + n)) ends (rest ++ (before + n) ∷ []) part so_far
+        totals validators tokens)
+        _ (upload_line upload (Posted n)) (upload_lines (upload + 1) (map Posted ns)) 1 (length ns)
+        (upload_taken uploads (length ns) upload posted n before taps rest where_is small fits found
+        AllByRecursions sum_fits)
+        (posted_taken uploads (upload + 1) (posted + n) sum (rest ++ (before + n) ∷ []) all ns
+        (omega (arith, where_is)) small more))
 
   module _ (ends : List (Option Place)) (taps : List ℕ) (tokens : ℕ) where
     pub totals_taken : (uploads posted : ℕ) (old so_far part totals all : Sums)

@@ -1,7 +1,7 @@
 -- The lines of a part's tokens, as they are printed, are taken.
-use Rattle.std.proofs.Common.{◌≡◌, ◌∙◌, ◌+◌, ◌-◌, ◌<◌, ◌≤◌, ◌^◌, ℕ, suc, Bool, true, false, cond, List, [], ◌∷◌, ◌++◌, length}
-use Rattle.std.proofs.Common.{Option, Some, None, Result, Ok, Err, refl, sym, ap, subst, arith}
-use Rattle.std.specs.Prelude.{flat_map, nat_eq, nat_lt}
+use Rattle.std.proofs.Common.{◌≡◌, ◌∙◌, ◌+◌, ◌-◌, ℕ, suc, Bool, true, false, cond, List, [], ◌∷◌, length}
+use Rattle.std.proofs.Common.{Option, Some, None, Ok, refl, ap, subst, arith}
+use Rattle.std.specs.Prelude.{flat_map, nat_lt}
 use Rattle.std.proofs.lemmas.Bool.Decides.{nat_tests}
 use Rattle.std.specs.List.{AllByRecursion}
 use Rattle.histories.specs.Sums.{Sums}
@@ -11,13 +11,12 @@ use Rattle.report_texts.specs.Forms.{token_line_in}
 use Rattle.report_texts.specs.Numbers.{IsTokenSum}
 use Rattle.report_texts.proofs.Lines.{token_complete}
 use Rattle.report_texts.proofs.OneLine.{token_line_is_one}
-use Rattle.report_texts.specs.declared.wrong.Wrong.{Wrong}
 use Rattle.report_texts.specs.declared.wrong.Wrong.TheVariants.{Form, Order}
 use Rattle.report_texts.specs.declared.wrong.Wrong.TheVariants.{Totals as OtherTotals}
-use Rattle.part_texts.specs.Fronts.{no_sums, sums_eq, sums_within}
+use Rattle.part_texts.specs.Fronts.{sums_eq, sums_within}
 use Rattle.part_texts.specs.FrontSteps.{found_or, said, where_holds}
-use Rattle.part_texts.specs.Sections.{SectionView, is_token_above, section_end, section_step, token_step}
-use Rattle.part_texts.specs.Shown.{adds_to, do_tokens_rise, last_of}
+use Rattle.part_texts.specs.Sections.{SectionView, is_token_above, section_end, section_step}
+use Rattle.part_texts.specs.inside.Shown.{adds_to, do_tokens_rise, last_of}
 use Rattle.part_texts.proofs.Leads.{Leads, by_both, by_line, by_nothing}
 use Rattle.part_texts.proofs.ShownFronts.{same_sums}
 

@@ -1,6 +1,6 @@
 -- The sums by validator of a history, added to those of the history before it.
-use Rattle.std.proofs.Common.{◌≡◌, ◌∙◌, ◌+◌, ◌<◌, ◌≤◌, ◌^◌, ◌||◌, ◌==◌, ℕ, Bool, true, false, cond, List, [], ◌∷◌, ◌++◌, length, map, filter}
-use Rattle.std.proofs.Common.{Option, Some, None, option_map, refl, sym, ap, subst, arith, All}
+use Rattle.std.proofs.Common.{◌≡◌, ◌∙◌, ◌+◌, ◌≤◌, ◌^◌, ◌||◌, ℕ, Bool, true, false, cond, List, [], ◌∷◌, ◌++◌, length, map, filter}
+use Rattle.std.proofs.Common.{Some, None, option_map, refl, sym, ap, subst, arith}
 use Rattle.std.specs.Prelude.{nat_le, unwrap_or}
 use Rattle.std.specs.BTreeMap.{insert_entry}
 use Rattle.std.specs.BTreeMap.{is_at as is_key}
@@ -28,7 +28,7 @@ use Rattle.tap_views.proofs.Choices.{or_swap}
 use Rattle.std.proofs.Math.Bool.{or_self_left}
 use Rattle.histories.proofs.SumsLemmas.{sums-append, sums-taps}
 use Rattle.part_texts.specs.Fronts.{no_sums, sums_within, with_validator}
-use Rattle.part_texts.specs.Shown.{are_added}
+use Rattle.part_texts.specs.inside.Shown.{are_added}
 use Rattle.part_texts.proofs.KeySums.{number_ties}
 
 abbrev has : List ℕ → ℕ → Bool
@@ -75,9 +75,10 @@ set_one f g v x (k ∷ keys) here other rises =
         ≡ table g (match_ordering order (v ∷ k ∷ keys) (k ∷ keys) (k ∷ insert_key nat_cmp keys v))
     set_at Less less more =
         ap (λ (s : Sums). (v, s) ∷ (k, f k) ∷ table f keys) (sym here)
-        ∙ ap (λ (t : List (ℕ × Sums)). (v, g v) ∷ t) (table_same f g (k ∷ keys)
-        (other k (λ same. grind (arith, nat_tests, less, same)),
-        above_same f g v keys other (less_above v k keys less rises.0)))
+        ∙ ap (λ (t : List (ℕ × Sums)). (v, g v) ∷ t) (table_same f g (k ∷ keys) (
+          other k (λ same. grind (arith, nat_tests, less, same)),
+          above_same f g v keys other (less_above v k keys less rises.0),
+        ))
     set_at Equal tied more =
         let same = number_ties v k tied in
         ap (λ (s : Sums). (k, s) ∷ table f keys) (sym here ∙ ap g same)
@@ -296,7 +297,7 @@ module _ (xs ys : List Entry) (few : length (xs ++ ys) ≤ 2 ^ 95) where
       ≡ Some (table (mixed (v ∷ done)) (insert_key nat_cmp keys v))
   one_more done keys v rises out of_xs =
       let here : unwrap_or (lookup (is_key (nat_cmp v)) (table (mixed done) keys)) no_sums
-          ≡ at_validator v xs =
+      ≡ at_validator v xs =
       found (mixed done) v keys
       (λ absent. mixed_out done v out ∙ none_at v xs (of_xs v absent))
       ∙ mixed_out done v out in

@@ -8,11 +8,10 @@ use Rattle.std.specs.Map.Iter.{deref_pair}
 use Rattle.std.proofs.lemmas.List.Concat.{flat_map-append}
 use Rattle.fare_texts.specs.Counts.{counts_text, totals_line}
 use Rattle.fare_texts.specs.ReportLines.{number_line, validator_line}
-use Rattle.histories.specs.Sums.{Sums, sums_of}
+use Rattle.histories.specs.Sums.{sums_of}
 use Rattle.histories.specs.declared.sums.totals.Totals.{Totals}
-use Rattle.report_texts.specs.Report.{upload_line, upload_lines, uploads_section, validators_section}
+use Rattle.report_texts.specs.Report.{upload_line, upload_lines}
 use Rattle.report_texts.proofs.Parts.{upload_lines-push}
-use Rattle.tap_views.specs.declared.upload_end.UploadEnd.{UploadEnd}
 use Rattle.tap_views.specs.declared.upload_end.UploadEnd.TheVariants.{Posted}
 use Rattle.part_texts.specs.Fronts.{FrontsView, shown_sums}
 use Rattle.part_texts.specs.Merged.{report_front}

@@ -1,5 +1,5 @@
 -- What the fronts of parts say with one more line, or why that line is wrong.
-use Rattle.std.specs.Prelude.{◌+◌, ◌-◌, ◌||◌, ◌&&◌, ℕ, zero, suc, Bool, true, false, not, cond, List}
+use Rattle.std.specs.Prelude.{◌-◌, ◌||◌, ◌&&◌, ℕ, zero, suc, Bool, true, false, not, cond, List}
 use Rattle.std.specs.Prelude.{[], ◌∷◌, ◌++◌, Option, Some, None, Result, Ok, Err, codes, length, nat_eq}
 use Rattle.std.specs.Str.{bytes_eq}
 use Rattle.fare_texts.specs.LedgerLines.{head_text}

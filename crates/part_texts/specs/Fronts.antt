@@ -1,6 +1,7 @@
 -- What the fronts of parts say: each part's text up to its lines of tokens or of entries.
-use Rattle.std.specs.Prelude.{◌≡◌, ◌+◌, ◌-◌, ◌^◌, ◌&&◌, ℕ, Bool, true, false, cond, List, [], ◌∷◌}
-use Rattle.std.specs.Prelude.{Option, Some, None, option_map, unwrap_or, nat_eq, nat_le, nat_lt, map}
+use Rattle.std.specs.Prelude.{◌+◌, ◌^◌, ◌&&◌, ℕ, Bool, true, false, cond, List, [], ◌∷◌}
+use Rattle.std.specs.Prelude.{Option, Some, None, option_map, unwrap_or, nat_eq, nat_le, nat_lt}
+use Rattle.std.specs.Prelude.{map}
 use Rattle.std.specs.BTreeMap.{insert_entry, is_at}
 use Rattle.std.specs.Map.{lookup}
 use Rattle.std.specs.Ordering.{nat_cmp}
@@ -8,7 +9,6 @@ use Rattle.histories.specs.Sums.{Sums, add_sums, sums_of}
 use Rattle.tap_views.specs.declared.upload_end.UploadEnd.{UploadEnd}
 use Rattle.tap_views.specs.declared.upload_end.UploadEnd.TheVariants.{Posted}
 use Rattle.sorted_taps.specs.declared.places.Place.{Place}
-use Rattle.sorted_taps.specs.declared.places.FileSpan.{FileSpan}
 use Rattle.part_texts.specs.declared.fronts.Stage.{Stage}
 use Rattle.part_texts.specs.declared.fronts.Stage.TheVariants.{Head}
 use Rattle.part_texts.specs.declared.fronts.Fronts.{Fronts}
@@ -138,13 +138,3 @@ no_fronts = record {
   validators = [];
   tokens = 0;
 }
-
--- the validator's sums are added, if they fit
-abbrev pub IsWith : List (ℕ × Sums) → List (ℕ × Sums) → ℕ × Sums → Bool → Type 0
-IsWith old new sum true = with_validator old sum ≡ Some new
-IsWith old new sum false = with_validator old sum ≡ None
-
--- at the begin of the part at this place, of so many parts
-abbrev pub begun : ℕ → ℕ → FrontsView → FrontsView
-begun place count s =
-    record s { stage = Head; is_first = nat_eq place 0; is_last = nat_le count (place + 1) }

@@ -1,5 +1,5 @@
 -- The laws of the forms in the lines of a part's head.
-use Rattle.std.proofs.Common.{◌≡◌, ◌∙◌, ◌<◌, ℕ, ◌^◌, List, [], ◌∷◌, ◌++◌, Option, Some, None, codes, length, refl, sym, ap, subst, arith}
+use Rattle.std.proofs.Common.{◌≡◌, ◌∙◌, ℕ, ◌^◌, List, [], ◌++◌, Option, Some, None, codes, length, refl, ap, subst, arith}
 use Rattle.std.proofs.lemmas.Fmt.{decimal_nonempty}
 use Rattle.line_forms.specs.Forms.{IsForm, IsThen, after, go_on}
 use Rattle.line_forms.specs.FormLaws.{after_complete, after_sound, is_none, number_sound, then_law}

@@ -7,7 +7,7 @@ use Rattle.tap_views.specs.declared.token.Token.{Token}
 use Rattle.tap_views.specs.declared.upload_end.UploadEnd.TheVariants.{Posted}
 use Rattle.fare_texts.specs.Counts.{totals_line}
 use Rattle.fare_texts.specs.LedgerLines.{head_text}
-use Rattle.fare_texts.specs.ReportLines.{number_line, validator_line}
+use Rattle.fare_texts.specs.ReportLines.{number_line}
 use Rattle.line_folds.specs.Folds.{AppendsPrefix, bounded, lines_of, run}
 use Rattle.report_texts.specs.Report.{uploads_section, validators_section}
 use Rattle.report_texts.specs.declared.wrong.Wrong.{Wrong}

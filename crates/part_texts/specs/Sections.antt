@@ -1,8 +1,8 @@
 -- The lines of a part behind its front: those of tokens, or those of a ledger's entries.
-use Rattle.std.specs.Prelude.{◌≡◌, ◌-◌, ℕ, Bool, true, false, cond, List, Option, Some, None, not}
-use Rattle.std.specs.Prelude.{Result, Ok, Err, nat_eq, nat_lt}
+use Rattle.std.specs.Prelude.{◌-◌, ℕ, Bool, true, false, cond, List, Option, Some, None, not}
+use Rattle.std.specs.Prelude.{Result, Ok, nat_eq, nat_lt}
 use Rattle.std.specs.Ordering.{is_lt}
-use Rattle.histories.specs.Sums.{Sums, sums_of}
+use Rattle.histories.specs.Sums.{Sums}
 use Rattle.tap_views.specs.Token.{token_cmp}
 use Rattle.tap_views.specs.declared.token.Token.{Token}
 use Rattle.report_texts.specs.Forms.{token_line_in}
@@ -12,7 +12,6 @@ use Rattle.report_texts.specs.declared.wrong.Wrong.TheVariants.{Totals as OtherT
 use Rattle.part_texts.specs.EntryLines.{entry_token_in}
 use Rattle.part_texts.specs.Fronts.{sums_eq, sums_within}
 use Rattle.part_texts.specs.FrontSteps.{found_or, said, where_holds}
-use Rattle.part_texts.specs.declared.sections.Section.{Section}
 
 -- what the lines of a part so far leave
 pub record SectionView : Type 0 where
@@ -26,16 +25,6 @@ pub record SectionView : Type 0 where
   -- the part's totals, and what its tokens so far add up to
   pub part : Sums
   pub so_far : Sums
-
-abbrev pub section_view : Section → SectionView
-section_view section = record {
-  is_ledger = section.is_ledger;
-  is_first = section.is_first;
-  left = section.left;
-  last = section.last;
-  part = sums_of section.part;
-  so_far = sums_of section.so_far;
-}
 
 abbrev pub is_token_above : Option Token → Token → Bool
 is_token_above None token = true
@@ -72,8 +61,3 @@ abbrev pub section_end : SectionView → Option Wrong
 section_end s =
     cond s.is_ledger None
     (cond (nat_eq s.left 0) (cond (sums_eq s.part s.so_far) None (Some OtherTotals)) (Some Form))
-
--- what is behind the line is what the step says
-abbrev pub IsNext : Result SectionView Wrong → Result Section Wrong → Type 0
-IsNext said (Ok section) = said ≡ Ok (section_view section)
-IsNext said (Err why) = said ≡ Err why

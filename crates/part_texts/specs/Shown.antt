@@ -1,16 +1,12 @@
 -- Texts of parts as they are printed, and what they are merged into.
-use Rattle.std.specs.Prelude.{◌≡◌, ◌+◌, ◌<◌, ◌^◌, ◌||◌, ℕ, Bool, true, false, List, [], ◌∷◌, ◌++◌}
-use Rattle.std.specs.Prelude.{Option, Some, None, flat_map, length, map, nat_eq}
-use Rattle.std.specs.List.{AllByRecursion}
+use Rattle.std.specs.Prelude.{◌≡◌, ◌+◌, ◌<◌, ◌^◌, ℕ, Bool, true, false, List, [], ◌∷◌, ◌++◌}
+use Rattle.std.specs.Prelude.{Option, Some, None, map}
 use Rattle.histories.specs.Sums.{Sums}
 use Rattle.tap_views.specs.declared.token.Token.{Token}
 use Rattle.tap_views.specs.declared.upload_end.UploadEnd.TheVariants.{Posted}
-use Rattle.report_texts.specs.Numbers.{AreCounts, IsTokenSum, IsValidatorSum}
 use Rattle.report_texts.specs.Report.{report}
-use Rattle.part_texts.specs.Fronts.{is_above, may_end, no_sums, starts, sums_within, taps_before}
-use Rattle.part_texts.specs.Fronts.{with_validator}
+use Rattle.part_texts.specs.Fronts.{may_end, starts}
 use Rattle.part_texts.specs.Heads.{part_head}
-use Rattle.part_texts.specs.Sections.{is_token_above}
 use Rattle.sorted_taps.specs.declared.places.Place.{Place}
 use Rattle.sorted_taps.specs.declared.places.FileSpan.{FileSpan}
 
@@ -27,33 +23,6 @@ pub record PartReport : Type 0 where
 abbrev pub part_text : PartReport → List ℕ
 part_text p = part_head p.spans ++ report (map Posted p.taps) p.totals p.validators p.tokens
 
--- the sums of keys, one after the other, behind some: no more taps than any run has
-abbrev pub adds_to : {K : Type 0} → Sums → List (K × Sums) → Sums → Type 0
-adds_to sum [] all = sum ≡ all
-adds_to sum (one ∷ more) all =
-    (next : Sums) × (sums_within sum one.1 ≡ Some next) × adds_to next more all
-
--- the validators, one after the other, added to those that are there
-abbrev pub are_added : List (ℕ × Sums) → List (ℕ × Sums) → List (ℕ × Sums) → Type 0
-are_added list [] all = list ≡ all
-are_added list (one ∷ more) all =
-    (next : List (ℕ × Sums)) × (with_validator list one ≡ Some next) × are_added next more all
-
--- each validator is above the one before
-abbrev pub do_rise : Option ℕ → List (ℕ × Sums) → Type 0
-do_rise last [] = Unit {0}
-do_rise last (one ∷ more) = (is_above last one.0 ≡ true) × do_rise (Some one.0) more
-
--- each token is above the one before
-abbrev pub do_tokens_rise : Option Token → List (Token × Sums) → Type 0
-do_tokens_rise last [] = Unit {0}
-do_tokens_rise last (one ∷ more) = (is_token_above last one.0 ≡ true) × do_tokens_rise (Some one.0) more
-
--- the token that no later part may have, nor one below it
-abbrev pub last_of : Option Token → List (Token × Sums) → Option Token
-last_of last [] = last
-last_of last (one ∷ more) = last_of (Some one.0) more
-
 abbrev pub PlaceFits : Place → Type 0
 PlaceFits place = (place.offset < 2 ^ 64) × (place.skip < 2 ^ 64)
 
@@ -68,21 +37,6 @@ abbrev pub sum_up : List ℕ → ℕ
 sum_up [] = 0
 sum_up (n ∷ ns) = n + sum_up ns
 
--- the numbers of the report fit, and it adds up
-pub record IsRight (p : PartReport) : Type 0 where
-  pub files : length p.spans < 2 ^ 64
-  pub spans : AllByRecursion SpanFits p.spans
-  pub uploads : length p.taps ≡ length p.spans
-  pub posted : sum_up p.taps ≡ p.totals.taps
-  pub totals : AreCounts p.totals
-  pub validators_number : length p.validators < 2 ^ 64
-  pub validators : AllByRecursion IsValidatorSum p.validators
-  pub validators_rise : do_rise None p.validators
-  pub validators_add : adds_to no_sums p.validators p.totals
-  pub tokens_number : length p.tokens < 2 ^ 64
-  pub tokens : AllByRecursion IsTokenSum p.tokens
-  pub tokens_add : adds_to no_sums p.tokens p.totals
-
 -- the spans, one after the other, join the ends of the parts before: these are the ends behind them
 abbrev pub are_joined : Bool → Bool → List (Option Place) → List FileSpan → List (Option Place)
     → Type 0
@@ -91,66 +45,6 @@ are_joined first last ends (span ∷ spans) all =
     (rest : List (Option Place)) × (starts first ends ≡ Some (span.from, rest))
     × (may_end last span.to ≡ true) × are_joined first last (rest ++ span.to ∷ []) spans all
 
--- the taps of uploads, one after the other, added to those of the parts before
-abbrev pub are_posted_to : Bool → List ℕ → ℕ → List ℕ → List ℕ → ℕ → Type 0
-are_posted_to first taps posted [] all sum = (taps ≡ all) × (posted ≡ sum)
-are_posted_to first taps posted (n ∷ ns) all sum =
-    (before : ℕ) × (rest : List ℕ) × (taps_before first taps ≡ Some (before, rest))
-    × (n < 2 ^ 64) × (before + n < 2 ^ 64) × (posted + n < 2 ^ 64)
-    × are_posted_to first (rest ++ (before + n) ∷ []) (posted + n) ns all sum
-
 abbrev pub is_none_behind : {A : Type 0} → List A → Bool
 is_none_behind [] = true
 is_none_behind (x ∷ xs) = false
-
--- what the parts so far add up to
-pub record SoFar : Type 0 where
-  -- where their taps end in each file
-  pub ends : List (Option Place)
-  -- how many taps they have of each upload
-  pub taps : List ℕ
-  pub totals : Sums
-  pub validators : List (ℕ × Sums)
-  pub tokens : ℕ
-  -- the token that no later part may have, nor one below it
-  pub last : Option Token
-
-abbrev pub nothing_so_far : SoFar
-nothing_so_far = record {
-  ends = [];
-  taps = [];
-  totals = no_sums;
-  validators = [];
-  tokens = 0;
-  last = None;
-}
-
--- the part follows those so far, which are none if it is the first one, and its sums are added
-pub record IsNextPart (first final : Bool) (before : SoFar) (p : PartReport) (after : SoFar) : Type 0
-  where
-    pub right : IsRight p
-    pub files : (first || nat_eq (length p.spans) (length before.ends)) ≡ true
-    pub joined : are_joined first final before.ends p.spans after.ends
-    pub posted : are_posted_to first before.taps 0 p.taps after.taps p.totals.taps
-    pub totals : sums_within before.totals p.totals ≡ Some after.totals
-    pub validators : are_added before.validators p.validators after.validators
-    pub number : before.tokens + length p.tokens < 2 ^ 64
-    pub tokens : after.tokens ≡ before.tokens + length p.tokens
-    pub rise : do_tokens_rise before.last p.tokens
-    pub last_is : after.last ≡ last_of before.last p.tokens
-
--- the parts follow, one after the other
-abbrev pub are_next_parts : Bool → SoFar → List PartReport → SoFar → Type 0
-are_next_parts first before [] after = before ≡ after
-are_next_parts first before (p ∷ ps) after =
-    (next : SoFar) × IsNextPart first (is_none_behind ps) before p next
-    × are_next_parts false next ps after
-
--- the tokens of all parts
-abbrev pub tokens_of : List PartReport → List (Token × Sums)
-tokens_of parts = flat_map (λ part. part.tokens) parts
-
--- the report of the whole
-abbrev pub whole_text : SoFar → List PartReport → List ℕ
-whole_text all parts =
-    report (map Posted all.taps) all.totals all.validators (tokens_of parts)

@@ -9,7 +9,8 @@ ghost use Rattle.fare_texts.specs.LedgerLines.{head_text};
 ghost use Rattle.histories.specs.Shown.{validator_sum};
 ghost use Rattle.histories.specs.Sums.{sums_of};
 ghost use Rattle.line_folds.specs.Folds.{TakesAs};
-ghost use Rattle.part_texts.specs.Fronts.{IsWith, begun, fronts_view, is_above, may_end, no_fronts, no_sums};
+ghost use Rattle.part_texts.specs.Fronts.{fronts_view, is_above, may_end, no_fronts, no_sums};
+ghost use Rattle.part_texts.specs.inside.Fronts.{IsWith, begun};
 ghost use Rattle.part_texts.specs.Fronts.{place_eq, plus, posted_in, shown_sums, starts, sums_eq};
 ghost use Rattle.part_texts.specs.Fronts.{sums_within, taps_before};
 ghost use Rattle.part_texts.specs.FrontSteps.{head_step, kind_step};
@@ -17,12 +18,12 @@ ghost use Rattle.part_texts.specs.FrontSteps.{ledger_step, span_step, tokens_ste
 ghost use Rattle.part_texts.specs.FrontSteps.{upload_step, uploads_step, validator_step, validators_step};
 
 use crate::head::span_in;
-use sorted_taps::{FileSpan, Place};
 use fare_texts::head_line;
 use histories::{Totals, ValidatorSum};
 use line_folds::{Fold, Refusal};
 use report_texts::Wrong;
 use report_texts::forms::{head_in, totals_in, upload_in, validator_in};
+use sorted_taps::{FileSpan, Place};
 use std::alloc::{AllocError, Global};
 use std::collections::{BTreeMap, VecDeque};
 use tap_views::UploadEnd;
@@ -36,15 +37,27 @@ pub enum Stage {
     /// `part files 2`.
     Head,
     /// The line of a file; if none is left, `uploads 2` or the header line of a ledger.
-    Files { files: u64, left: u64 },
+    Files {
+        files: u64,
+        left: u64,
+    },
     /// The line of an upload; if none is left, that of the totals. `posted` are the taps so far.
-    Uploads { uploads: u64, left: u64, posted: u64 },
+    Uploads {
+        uploads: u64,
+        left: u64,
+        posted: u64,
+    },
     /// `validators 3`.
     AfterTotals,
     /// The line of a validator; if none is left, `tokens 5`.
-    Validators { left: u64, last: Option<u32> },
+    Validators {
+        left: u64,
+        last: Option<u32>,
+    },
     /// The front is read, and this number of lines of tokens follows.
-    Tokens { left: u64 },
+    Tokens {
+        left: u64,
+    },
     /// The front is read, and the lines of a ledger's entries follow.
     Entries,
 }

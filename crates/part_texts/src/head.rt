@@ -9,12 +9,12 @@ ghost use Rattle.fare_texts.specs.declared.print_fault.PrintFault.TheVariants.{W
 ghost use Rattle.part_texts.specs.HeadForms.{span_in};
 ghost use Rattle.part_texts.specs.Heads.{part_head, place_text, span_line, span_lines, to_text};
 
-use sorted_taps::{FileSpan, Place};
 use fare_texts::{PrintFault, write_out};
 use line_forms::form::FormOf;
 use line_forms::forms::{Behind, Then, after_word, line_of};
 use line_forms::number::Number64;
 use report_texts::write_section_head;
+use sorted_taps::{FileSpan, Place};
 use std::alloc::{AllocError, Global};
 use std::io::Write;
 
@@ -179,7 +179,10 @@ impl<'a> FormOf<'a> for SpanEnd {
 pub fn span_in(line: &[u8]) -> Option<(u64, FileSpan)>
     ensures { result ≡ span_in line.now }
 {
-    let form = Then(Behind(b"file ", Number64), Then(PlaceBehind(b" from "), SpanEnd));
+    let form = Then(
+        Behind(b"file ", Number64),
+        Then(PlaceBehind(b" from "), SpanEnd),
+    );
     let (file, (from, to)) = line_of(&form, line)?;
     Some((file, FileSpan { from, to }))
 }

@@ -13,8 +13,8 @@ ghost use Rattle.part_texts.specs.Fronts.{fronts_view, shown_sums};
 ghost use Rattle.part_texts.specs.Merged.{MergedAs, OpenView, front_of, fronts_of, left_at};
 ghost use Rattle.part_texts.specs.Merged.{lines_left, merge_of, merged, report_front, section_of};
 ghost use Rattle.part_texts.specs.Merged.{sections_of, whole_front};
-ghost use Rattle.part_texts.specs.Opened.{AreOpen, Copied, FrontRead, FrontsRead, fault_by};
-ghost use Rattle.part_texts.specs.Opened.{open_view};
+ghost use Rattle.part_texts.specs.inside.Opened.{AreOpen, Copied, FrontRead, FrontsRead, fault_by};
+ghost use Rattle.part_texts.specs.inside.Opened.{open_view};
 
 use crate::fault::MergeFault;
 use crate::fronts::{Fronts, Stage, no_totals};

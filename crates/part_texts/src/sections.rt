@@ -3,8 +3,10 @@
 ghost use Rattle.std.specs.Prelude.{◌≡◌, IfSome, false, option_map};
 ghost use Rattle.line_folds.specs.Folds.{HasWritten, StopsAs, bounded, lines_of, run, written};
 ghost use Rattle.part_texts.specs.EntryLines.{entry_token_in, first_of};
-ghost use Rattle.part_texts.specs.Sections.{IsNext, entry_step, is_token_above, may_follow};
-ghost use Rattle.part_texts.specs.Sections.{section_end, section_step, section_view, token_step};
+ghost use Rattle.part_texts.specs.Sections.{entry_step, is_token_above, may_follow};
+ghost use Rattle.part_texts.specs.inside.Sections.{IsNext};
+ghost use Rattle.part_texts.specs.Sections.{section_end, section_step, token_step};
+ghost use Rattle.part_texts.specs.inside.Sections.{section_view};
 ghost use Rattle.report_texts.specs.Forms.{token_read};
 ghost use Rattle.report_texts.specs.declared.wrong.Wrong.TheVariants.{Form};
 

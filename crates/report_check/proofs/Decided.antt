@@ -19,7 +19,7 @@ use Rattle.report_check.specs.declared.verdict.ReportVerdict.{ReportVerdict}
 use Rattle.report_check.specs.declared.verdict.ReportVerdict.TheVariants.{OfLedger, Wants, NoLine}
 use Rattle.report_check.specs.declared.verdict.ReportVerdict.TheVariants.{Taps}
 use Rattle.report_check.proofs.Differences.{none_same, same_none}
-use Rattle.report_check.proofs.Uploads.{AreRead, uploads_complete, uploads_sound}
+use Rattle.report_check.proofs.EndLines.{AreRead, uploads_complete, uploads_sound}
 
 other : (Is : Type 0) → ¬ Is → (false ≡ true) ↔ Is
 other Is not = (λ is. absurd (false≢true is), λ own. absurd (not own))

@@ -1,6 +1,7 @@
 -- The first difference of two texts.
 use Rattle.std.proofs.Common.{◌≡◌, ◌∙◌, ◌==◌, ℕ, ◌+◌, Bool, true, false, List, [], ◌∷◌, ◌++◌}
-use Rattle.std.proofs.Common.{Option, Some, None, refl, sym, ap, if◌then◌else◌}
+use Rattle.std.proofs.Common.{Option, Some, None, refl, sym, ap, arith, length, ◌≤◌, ◌<◌}
+use Rattle.std.proofs.Common.{if◌then◌else◌}
 use Rattle.ledger_check.specs.Lines.{begun_with, lines_of}
 use Rattle.line_forms.specs.Forms.{after}
 use Rattle.line_forms.specs.FormLaws.{after_complete, after_sound}
@@ -62,3 +63,18 @@ pub same_none : (text wanted : List ℕ) → text ≡ wanted → difference 1 (l
 same_none text wanted same =
     ap (difference 1 (lines_of wanted)) (same ∙ sym (lines_joined wanted))
     ∙ joined_none 1 (lines_of wanted)
+
+-- all lines stand before the rest
+pub none_behind : (number : ℕ) (left rest : List ℕ) → length left ≤ 0 → length rest ≤ 0
+    → difference number (lines_of left) rest ≡ None
+unfolding lines_of
+none_behind number [] [] gone none = refl
+none_behind number [] (byte ∷ rest) gone none = absurd (omega (arith, none))
+none_behind number (byte ∷ left) rest gone none = absurd (omega (arith, gone))
+
+pub more_behind : (number : ℕ) (left rest : List ℕ) → length left ≤ 0 → 0 < length rest
+    → difference number (lines_of left) rest ≡ Some (number, None)
+unfolding lines_of
+more_behind number [] [] gone some = absurd (omega (arith, some))
+more_behind number [] (byte ∷ rest) gone some = refl
+more_behind number (byte ∷ left) rest gone some = absurd (omega (arith, gone))

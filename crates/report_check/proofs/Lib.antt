@@ -1,7 +1,8 @@
 pub mod Decided
 pub mod Differences
+pub mod EndLines
 pub mod EntryLines
 pub mod OpenSums
 pub mod SummedLines
-pub mod Uploads
+pub mod Verdicts
 pub mod WithoutMoments

@@ -6,8 +6,6 @@ use Rattle.line_forms.specs.Forms.{value_if}
 use Rattle.report_texts.specs.Forms.{count_at, head_in, upload_in}
 use Rattle.tap_views.specs.declared.upload_end.UploadEnd.{UploadEnd}
 use Rattle.tap_views.specs.declared.upload_end.UploadEnd.TheVariants.{Cut, Undrawn}
-use Rattle.report_check.specs.declared.uploads.UploadLines.{UploadLines}
-use Rattle.report_check.specs.declared.uploads.UploadLines.TheVariants.{Reported, NoLine}
 
 -- the end in ` cut 4` or ` undrawn`, with the line feed
 abbrev pub cut_or : Option ℕ → List ℕ → Option UploadEnd
@@ -61,8 +59,3 @@ abbrev pub uploads_in : List (List ℕ) → Result (List UploadEnd) ℕ
 uploads_in [] = Err 1
 uploads_in (head ∷ lines) =
     found_or 1 (head_in (codes "uploads ") head) (λ uploads. ends_from uploads [] lines)
-
--- what was found, as a list
-abbrev pub found_of : UploadLines → Result (List UploadEnd) ℕ
-found_of (Reported ends) = Ok ends.items
-found_of (NoLine number) = Err number

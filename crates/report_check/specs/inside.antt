@@ -2,3 +2,4 @@
 pub mod LedgerSums
 pub mod OpenSums
 pub mod RideTerms
+pub mod Uploads

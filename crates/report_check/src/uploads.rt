@@ -6,7 +6,8 @@ ghost use Rattle.std.specs.Str.{bytes_eq};
 ghost use Rattle.ledger_check.specs.Lines.{lines_of};
 ghost use Rattle.report_texts.specs.Forms.{count_at};
 ghost use Rattle.tap_views.specs.UploadEnds.{taps_of_end};
-ghost use Rattle.report_check.specs.Uploads.{cut_in, end_at, end_in, found_of, unfinished_in};
+ghost use Rattle.report_check.specs.Uploads.{cut_in, end_at, end_in, unfinished_in};
+ghost use Rattle.report_check.specs.inside.Uploads.{found_of};
 ghost use Rattle.report_check.specs.Uploads.{uploads_in};
 
 use ledger_check::{same_bytes, split_line};
@@ -59,7 +60,7 @@ fn cut_in(text: &[u8]) -> Option<UploadEnd>
 fn is_undrawn(text: &[u8]) -> bool
     ensures { result ≡ bytes_eq text.now (codes " undrawn\n") }
 {
-    text == b" undrawn\n"
+    text == b" undrawn\n".as_slice()
 }
 
 /// The upload's number and its end in `upload 0 cut 4` or `upload 0 undrawn`.

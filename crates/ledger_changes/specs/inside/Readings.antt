@@ -2,7 +2,7 @@
 use Rattle.std.specs.Prelude.{◌≡◌, ◌+◌, ℕ, List, [], Option, None, Some, Result, Ok, Err, option_map}
 use Rattle.line_folds.specs.Folds.{lines_of}
 use Rattle.ledger_fields.specs.Rows.{Row}
-use Rattle.ledger_changes.specs.Faults.{IsNoLine}
+use Rattle.ledger_changes.specs.inside.Faults.{IsNoLine}
 use Rattle.ledger_changes.specs.Ledgers.{cons_row, rows_from}
 use Rattle.ledger_changes.specs.declared.fault.Bill.{Bill}
 use Rattle.ledger_changes.specs.declared.fault.CorrectionsFault.{CorrectionsFault}

@@ -1,8 +1,8 @@
-use Rattle.std.proofs.Common.{◌≡◌, Some}
+use Rattle.std.proofs.Common.{◌≡◌, IfSome, Some, subst}
 use Rattle.std.proofs.lemmas.Result.{IfOk-weaker, err_from_is_err_and, on_err_weaker}
 use Rattle.ledger_changes.specs.Ledgers.{rows_of}
 use Rattle.ledger_changes.specs.inside.Readings.{rows_at}
-use Rattle.ledger_changes.proofs.Walking.{head_begun, if_some_at, nothing_begun, whole_begun, whole_text}
+use Rattle.ledger_changes.proofs.Walking.{head_begun, nothing_begun, whole_begun, whole_text}
 use Rattle.ledger_changes.proofs.changes.corrections.Goals as goal
 
 pub returns-in_err-new-clause-begun : goal.returns-in_err-new-clause-begun
@@ -29,8 +29,8 @@ returns-clause-written g c =
     whole_text c.args.is_by_token (g.W.Write.contents c.args.out.now)
     (g.W.Write.contents c.write_text.new.out) (g.W.Write.contents c.write_changes.new.out) removed
     old_text new_text (rows_at remaining c.in_ok-old.old) (rows_at remaining c.in_ok-new.new)
-    (if_some_at (remaining c.args.old) old_text (λ text. rows_at remaining c.in_ok-old.old ≡ Some (rows_of text)) is_old c.in_ok-old.ensures.read)
-    (if_some_at (remaining c.args.new) new_text (λ text. rows_at remaining c.in_ok-new.new ≡ Some (rows_of text)) is_new c.in_ok-new.ensures.read)
+    (subst (λ x. IfSome x (λ text. rows_at remaining c.in_ok-old.old ≡ Some (rows_of text))) is_old c.in_ok-old.ensures.read)
+    (subst (λ x. IfSome x (λ text. rows_at remaining c.in_ok-new.new ≡ Some (rows_of text))) is_new c.in_ok-new.ensures.read)
     head written) c.write_changes.ensures.written
 
 pub returns-clause-begun : goal.returns-clause-begun
@@ -41,6 +41,6 @@ returns-clause-begun g c =
     whole_begun c.args.is_by_token (g.W.Write.contents c.args.out.now)
     (g.W.Write.contents c.write_text.new.out) (g.W.Write.contents c.write_changes.new.out)
     old_text new_text (rows_at remaining c.in_ok-old.old) (rows_at remaining c.in_ok-new.new)
-    (if_some_at (remaining c.args.old) old_text (λ text. rows_at remaining c.in_ok-old.old ≡ Some (rows_of text)) is_old c.in_ok-old.ensures.read)
-    (if_some_at (remaining c.args.new) new_text (λ text. rows_at remaining c.in_ok-new.new ≡ Some (rows_of text)) is_new c.in_ok-new.ensures.read)
+    (subst (λ x. IfSome x (λ text. rows_at remaining c.in_ok-old.old ≡ Some (rows_of text))) is_old c.in_ok-old.ensures.read)
+    (subst (λ x. IfSome x (λ text. rows_at remaining c.in_ok-new.new ≡ Some (rows_of text))) is_new c.in_ok-new.ensures.read)
     head begun) c.write_changes.ensures.begun

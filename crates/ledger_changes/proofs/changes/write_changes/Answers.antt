@@ -1,7 +1,7 @@
 use Rattle.std.proofs.Common.{◌≡◌, ◌∙◌, ◌∷◌, [], ap, sym, Option, List, option_map}
 use Rattle.std.specs.Prelude.{option_to_list}
 use Rattle.std.proofs.lemmas.Result.{err_from_is_err_and}
-use Rattle.ledger_changes.specs.Changes.{next_sides, pairs_of}
+use Rattle.ledger_changes.specs.inside.Pairs.{next_sides, pairs_of}
 use Rattle.ledger_changes.specs.declared.pairs.LinePair.{LinePair}
 use Rattle.ledger_changes.specs.declared.row.LedgerRow.{LedgerRow}
 use Rattle.ledger_changes.specs.inside.Readings.{rows_at}

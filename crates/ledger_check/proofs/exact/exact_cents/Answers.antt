@@ -12,8 +12,9 @@ behind_comma : (rest : List ℕ) (cents : ℕ) (is : IsCentsField rest cents)
     ≡ Some (is.mode ++ 44 ∷ (is.answer ++ 44 ∷ (decimal cents ++ 44 ∷ is.behind)))
 behind_comma rest cents is = ap (after (44 ∷ [])) is.shown
 
-same_rest : (o : Option (List ℕ)) (a b : List ℕ) → o ≡ Some a → o ≡ Some b → a ≡ b
-same_rest o a b one two = cc
+same_rest : (text a b : List ℕ) → after (44 ∷ []) text ≡ Some a → after (44 ∷ []) text ≡ Some b
+    → a ≡ b
+same_rest text a b one two = cc
 
 none_rest : (o : Option (List ℕ)) (a : List ℕ) → o ≡ None → o ≡ Some a → ⊥
 none_rest o a one two = cc
@@ -28,7 +29,7 @@ pub returns-in_err-_mode : goal.returns-in_err-_mode
 returns-in_err-_mode c =
     MatchOption_none _ _ c.from_residual-in_err-_mode.result c.from_residual-in_err-_mode.ensures
     (λ cents is.
-    let fields = same_rest (after (44 ∷ []) c.args.rest.now) c.in_ok-fields.fields.now _
+    let fields = same_rest c.args.rest.now c.in_ok-fields.fields.now _
     c.in_ok-fields.ensures (behind_comma c.args.rest.now cents is) in
     absurd (c.in_err-_mode.ensures.found is.mode _ is.mode_field fields))
 
@@ -37,7 +38,7 @@ returns-in_err-_answer c =
     MatchOption_none _ _ c.from_residual-in_err-_answer.result
     c.from_residual-in_err-_answer.ensures
     (λ cents is.
-    let fields = same_rest (after (44 ∷ []) c.args.rest.now) c.in_ok-fields.fields.now _
+    let fields = same_rest c.args.rest.now c.in_ok-fields.fields.now _
     c.in_ok-fields.ensures (behind_comma c.args.rest.now cents is) in
     let one = c.in_ok-_mode.ensures.found is.mode _ is.mode_field fields in
     absurd (c.in_err-_answer.ensures.found is.answer _ is.answer_field one.1))
@@ -47,7 +48,7 @@ returns-in_err-digits c =
     MatchOption_none _ _ c.from_residual-in_err-digits.result c.from_residual-in_err-digits.ensures
     (λ cents is.
     let small : cents < 2 ^ 32 = is.small in
-    let fields = same_rest (after (44 ∷ []) c.args.rest.now) c.in_ok-fields.fields.now _
+    let fields = same_rest c.args.rest.now c.in_ok-fields.fields.now _
     c.in_ok-fields.ensures (behind_comma c.args.rest.now cents is) in
     let one = c.in_ok-_mode.ensures.found is.mode _ is.mode_field fields in
     let two = c.in_ok-_answer.ensures.found is.answer _ is.answer_field one.1 in
@@ -59,7 +60,7 @@ returns-in_err-cents c =
     MatchOption_none _ _ c.from_residual-in_err-cents.result c.from_residual-in_err-cents.ensures
     (λ cents is.
     let small : cents < 2 ^ 32 = is.small in
-    let fields = same_rest (after (44 ∷ []) c.args.rest.now) c.in_ok-fields.fields.now _
+    let fields = same_rest c.args.rest.now c.in_ok-fields.fields.now _
     c.in_ok-fields.ensures (behind_comma c.args.rest.now cents is) in
     let one = c.in_ok-_mode.ensures.found is.mode _ is.mode_field fields in
     let two = c.in_ok-_answer.ensures.found is.answer _ is.answer_field one.1 in

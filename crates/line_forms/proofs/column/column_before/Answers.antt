@@ -1,20 +1,11 @@
 use Rattle.std.proofs.Common.{◌≡◌, ◌≤◌, ℕ, Bool, true, false, cond, ltb, length, Some, None}
 use Rattle.std.proofs.Common.{refl, sym, ◌∙◌, arith, rules, tests}
-use Rattle.std.proofs.lemmas.Bool.Decides.{nat_tests}
 use Rattle.std.proofs.lemmas.Iterator.{YieldsList-from_slice}
 use Rattle.std.proofs.lemmas.Iterator.Search.{position_from_yields_List}
 use Rattle.line_forms.specs.Columns.{column_in, ends_column}
 use Rattle.line_forms.specs.ColumnLaws.{front_column}
+use Rattle.line_forms.proofs.Positions.{found, past}
 use Rattle.line_forms.proofs.column.column_before.Goals as goal
-
-found : (b : Bool) (n at : ℕ) → (cond b (Some n) None) ≡ Some at → at ≡ n
-found true n at e = cc
-found false n at e = absurd (cc)
-
-past : (n size : ℕ) (b : Bool) → b ≡ ltb n size → (cond b (Some n) None) ≡ None → n ≤ size
-    → size ≡ n
-past n size true is e most = absurd (cc)
-past n size false is e most = grind (arith, nat_tests)
 
 pub returns-in-Some-clause-value : goal.returns-in-Some-clause-value
 returns-in-Some-clause-value c =

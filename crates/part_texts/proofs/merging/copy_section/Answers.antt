@@ -1,9 +1,10 @@
-use Rattle.std.proofs.Common.{◌∙◌, ◌≡◌, List, ℕ, Option, Some, None, Err, true, ap, flat_map, subst, sym}
+use Rattle.std.proofs.Common.{◌∙◌, Option, Err, true, ap, flat_map, subst, sym}
 use Rattle.histories.specs.Sums.{Sums, sums_of}
 use Rattle.tap_views.specs.declared.token.Token.{Token}
-use Rattle.part_texts.specs.Merged.{OpenView, section_of}
-use Rattle.part_texts.specs.Opened.{Copied}
-use Rattle.part_texts.specs.Sections.{SectionView, section_view}
+use Rattle.part_texts.specs.Merged.{section_of}
+use Rattle.part_texts.specs.inside.Opened.{Copied}
+use Rattle.part_texts.specs.Sections.{SectionView}
+use Rattle.part_texts.specs.inside.Sections.{section_view}
 use Rattle.part_texts.specs.declared.fault.MergeFault.{MergeFault}
 use Rattle.part_texts.specs.declared.merging.Open.{Open}
 use Rattle.part_texts.proofs.Copying.{section_fault, section_ok, section_wrong}

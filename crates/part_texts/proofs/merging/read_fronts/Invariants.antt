@@ -1,4 +1,4 @@
-use Rattle.std.proofs.Common.{◌≡◌, ◌++◌, ◌+◌, length}
+use Rattle.std.proofs.Common.{◌≡◌, ◌++◌, length}
 use Rattle.part_texts.specs.Fronts.{fronts_view}
 use Rattle.part_texts.proofs.Opening.{OpensAt}
 use Rattle.part_texts.proofs.merging.read_fronts.Given as goal

@@ -1,6 +1,5 @@
 use Rattle.std.proofs.Common.{◌≡◌, ◌∙◌, ◌++◌, List, ℕ, ap, codes, length, map, rules, string_bytes, sym}
 use Rattle.fare_texts.specs.ReportLines.{number_line}
-use Rattle.histories.specs.Sums.{sums_of}
 use Rattle.report_texts.specs.Report.{upload_lines}
 use Rattle.tap_views.specs.declared.upload_end.UploadEnd.TheVariants.{Posted}
 use Rattle.part_texts.specs.Fronts.{fronts_view}

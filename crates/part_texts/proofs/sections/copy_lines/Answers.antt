@@ -1,10 +1,12 @@
-use Rattle.std.proofs.Common.{◌∙◌, ◌≡◌, Bool, List, ℕ, Option, Some, None, Ok, Err, IfSome, false, refl, subst, sym}
+use Rattle.std.proofs.Common.{◌≡◌, Bool, List, ℕ, Ok, Err, false, refl, subst, sym}
 use Rattle.std.specs.Io.KnownBytes.{Appends}
 use Rattle.std.proofs.KnownBytes.{Appends-nil}
 use Rattle.line_folds.specs.Folds.{AppendsPrefix, line_text}
 use Rattle.line_folds.proofs.Runs.{at_broken, at_more, at_wrong, stops_in, written_in}
-use Rattle.part_texts.specs.Sections.{IsNext, SectionView, section_step, section_view}
+use Rattle.part_texts.specs.Sections.{SectionView, section_step}
+use Rattle.part_texts.specs.inside.Sections.{section_view}
 use Rattle.report_texts.specs.declared.wrong.Wrong.TheVariants.{Form}
+use Rattle.sorted_taps.proofs.Known.{known_all}
 use Rattle.part_texts.proofs.Copying.{begins_prefix}
 use Rattle.part_texts.proofs.sections.copy_lines.Goals as goal
 
@@ -13,10 +15,6 @@ never s = false
 
 abbrev itself : SectionView → List ℕ → List ℕ
 itself s line = line
-
-if_all : {A : Type 0} (P : A → Type 0) (r : Option A) → ((a : A) → P a) → IfSome r P
-if_all P None all = tt
-if_all P (Some a) all = all a
 
 pub returns-in-Err-clause-stops : goal.returns-in-Err-clause-stops
 returns-in-Err-clause-stops g c =
@@ -50,7 +48,7 @@ returns-in-Err-clause-written g c =
 
 pub returns-in-Err-write_out-clause-stops : goal.returns-in-Err-write_out-clause-stops
 returns-in-Err-write_out-clause-stops g c =
-    if_all _ (g.R.Read.remaining c.args.from.now) (λ text. tt)
+    known_all _ (g.R.Read.remaining c.args.from.now) (λ text. tt)
 
 pub returns-in-Err-write_out-clause-written : goal.returns-in-Err-write_out-clause-written
 returns-in-Err-write_out-clause-written g c =

@@ -2,7 +2,8 @@ use Rattle.std.specs.Prelude.{false}
 use Rattle.line_folds.proofs.Runs.{IsAt}
 use Rattle.line_folds.specs.Folds.{bounded}
 use Rattle.report_texts.specs.declared.wrong.Wrong.TheVariants.{Form}
-use Rattle.part_texts.specs.Sections.{section_step, section_view}
+use Rattle.part_texts.specs.Sections.{section_step}
+use Rattle.part_texts.specs.inside.Sections.{section_view}
 use Rattle.part_texts.proofs.sections.copy_lines.Given as goal
 
 abbrev pub invariant-loop-number : goal.invariant-loop-number

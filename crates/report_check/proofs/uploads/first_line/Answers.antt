@@ -2,7 +2,7 @@ use Rattle.std.proofs.Common.{◌≡◌, ◌∙◌, ◌<◌, ◌++◌, ◌∷◌
 use Rattle.std.proofs.Common.{arith}
 use Rattle.ledger_check.specs.Lines.{IsLine, lines_of}
 use Rattle.ledger_check.proofs.LineLemmas.{lines-part}
-use Rattle.report_check.proofs.Uploads.{line_first}
+use Rattle.report_check.proofs.EndLines.{line_first}
 use Rattle.report_check.proofs.uploads.first_line.Goals as goal
 
 shorter : (text line behind : List ℕ) → IsLine line → text ≡ line ++ behind

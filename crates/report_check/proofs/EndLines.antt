@@ -257,3 +257,19 @@ pub last_lines : (uploads upload : ℕ) (ends : List UploadEnd) (lines : List (L
 last_lines uploads upload ends lines over =
     let none : uploads - upload ≡ 0 = omega (arith, over) in
     ap (λ (n : ℕ). ends_from n ends lines) none
+
+pub no_uploads : (text : List ℕ) → length text ≤ 0 → uploads_in (lines_of text) ≡ Err 1
+unfolding lines_of
+no_uploads [] none = refl
+no_uploads (byte ∷ text) none = absurd (omega (arith, none))
+
+none_left : (text : List ℕ) → length text ≤ 0 → lines_of text ≡ []
+unfolding lines_of
+none_left [] none = refl
+none_left (byte ∷ text) none = absurd (omega (arith, none))
+
+pub no_more : (uploads upload : ℕ) (ends : List UploadEnd) (rest : List ℕ) → upload < uploads
+    → length rest ≤ 0
+    → ends_from (uploads - upload) ends (lines_of rest) ≡ Err (length ends + 2)
+no_more uploads upload ends rest below none =
+    ap (ends_from (uploads - upload) ends) (none_left rest none) ∙ no_line uploads upload ends below

@@ -1,9 +1,8 @@
 -- Parts whose fronts are read, as the program has them. Private functions alone cite this.
-use Rattle.std.specs.Prelude.{◌≡◌, ℕ, List, Option, Some, None, Result, Ok, Err, Vec, map, option_map}
+use Rattle.std.specs.Prelude.{◌≡◌, ℕ, List, Option, Some, Result, Ok, Err, Vec, map, option_map}
 use Rattle.std.specs.declared.alloc.Global.{Global}
 use Rattle.std.specs.Io.KnownBytes.{Appends}
 use Rattle.histories.specs.Sums.{sums_of}
-use Rattle.tap_views.specs.declared.token.Token.{Token}
 use Rattle.line_folds.specs.Folds.{AppendsPrefix, lines_of}
 use Rattle.line_folds.specs.declared.lines.Stop.{Stop}
 use Rattle.line_folds.specs.declared.lines.Stop.TheVariants.{Line as StopLine, Unread as StopUnread}
@@ -11,7 +10,6 @@ use Rattle.line_folds.specs.declared.lines.Stop.TheVariants.{Unwritten, NoMemory
 use Rattle.line_folds.specs.declared.lines.Stop.TheVariants.{TooLong as StopLong}
 use Rattle.report_texts.specs.declared.wrong.Wrong.{Wrong}
 use Rattle.part_texts.specs.Fronts.{FrontsView}
-use Rattle.part_texts.specs.Sections.{SectionView}
 use Rattle.part_texts.specs.Merged.{IsFaultOf, OpenView, WrongLine, opened}
 use Rattle.part_texts.specs.declared.fault.MergeFault.{MergeFault}
 use Rattle.part_texts.specs.declared.fault.MergeFault.TheVariants.{Line, Unread, Write, NoMemory}
@@ -21,12 +19,12 @@ use Rattle.part_texts.specs.declared.merging.Open.{Open}
 -- the part's text is left
 abbrev pub open_view : {R : Type 0} → (R → Option (List ℕ)) → Open R → Option OpenView
 open_view remaining opening = option_map (λ rest. record {
-    is_ledger = opening.is_ledger;
-    left = opening.left;
-    part = sums_of opening.part;
-    number = opening.number;
-    lines = lines_of rest;
-  }) (remaining opening.from)
+  is_ledger = opening.is_ledger;
+  left = opening.left;
+  part = sums_of opening.part;
+  number = opening.number;
+  lines = lines_of rest;
+}) (remaining opening.from)
 
 abbrev pub AreOpen : {R : Type 0} → (R → Option (List ℕ)) → List (Open R) → List OpenView → Type 0
 AreOpen remaining opens views = map (open_view remaining) opens ≡ map (λ view. Some view) views

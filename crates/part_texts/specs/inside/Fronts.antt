@@ -1,0 +1,16 @@
+-- What private functions say of the fronts of parts.
+use Rattle.std.specs.Prelude.{◌≡◌, ◌+◌, ℕ, Bool, true, false, List}
+use Rattle.std.specs.Prelude.{Some, None, nat_eq, nat_le}
+use Rattle.histories.specs.Sums.{Sums}
+use Rattle.part_texts.specs.declared.fronts.Stage.TheVariants.{Head}
+use Rattle.part_texts.specs.Fronts.{FrontsView, with_validator}
+
+-- the validator's sums are added, if they fit
+abbrev pub IsWith : List (ℕ × Sums) → List (ℕ × Sums) → ℕ × Sums → Bool → Type 0
+IsWith old new sum true = with_validator old sum ≡ Some new
+IsWith old new sum false = with_validator old sum ≡ None
+
+-- at the begin of the part at this place, of so many parts
+abbrev pub begun : ℕ → ℕ → FrontsView → FrontsView
+begun place count s =
+    record s { stage = Head; is_first = nat_eq place 0; is_last = nat_le count (place + 1) }
