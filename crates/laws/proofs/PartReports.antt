@@ -31,7 +31,7 @@ use Rattle.part_texts.specs.Shown.{SpanFits, part_text, sum_up}
 use Rattle.laws.specs.PartTexts.{IsLedgerText, history_part, part_report}
 use Rattle.laws.specs.Sizes.{CanBeWritten, HaveBoundedTerms, HaveNumbers, HavePlaces}
 use Rattle.laws.proofs.CentsFit.{posted_few, tokens_fit}
-use Rattle.laws.proofs.SumsFit.{CanBeSummed, EntryFits, summed}
+use Rattle.laws.proofs.SumsFit.{CanBeSummed, CostsFew, EntryFits, summed}
 
 -- ---- lengths
 spans_length : (files : List (List ℕ)) (spans : List FileSpan) (lists : List (List TapFields))
@@ -70,9 +70,8 @@ module _ (fares : Fares) (bounds : HaveBoundedTerms fares) (files : List (List �
       → length part.history < 2 ^ 47 → Fits (history_part part)
   part_fits part is few places numbers taps =
       let (spans, lists) = spans_length files part.spans part.lists is.spanned in
-      let E : List Entry → Type 0 = All EntryFits in
       let can = summed part.history taps
-      (subst (All _) (sym is.posted_are) (posted_few fares bounds [] is.taps))
+      (subst (All CostsFew) (sym is.posted_are) (posted_few fares bounds [] is.taps))
       (entries_fit part.history
       (subst (All (λ (entry : Entry). TokenFits entry.token)) (sym is.posted_are)
       (tokens_fit fares [] is.taps is.named)) numbers) in
@@ -259,13 +258,13 @@ LedgersAreWhole = (fares : Fares) (files : ℕ) (part : HistoryPart) (parts : Li
     → IsLedgerOver fares (whole_history (part ∷ parts)) None text
 
 pub ledgers_of_parts : (law : LedgersAreWhole) (fares : Fares) (files : List (List ℕ))
-    (part : PartView) (parts : List PartView) → ArePartsOf fares files (part ∷ parts)
+    (part : PartView) (parts : List PartView) → HavePlaces files (part ∷ parts)
+    → ArePartsOf fares files (part ∷ parts)
     → AreWhole (map (λ p. p.spans) (part ∷ parts)) → DoRise (map (λ p. p.history) (part ∷ parts))
-    → HavePlaces files (part ∷ parts)
     → (texts : List (List ℕ)) → AllZip (IsLedgerText fares) (part ∷ parts) texts
     → (text : List ℕ) → merge_of texts ≡ Ok text
     → IsLedgerOver fares (flat_map (λ p. p.history) (part ∷ parts)) None text
-ledgers_of_parts law fares files part parts are whole rise have texts each text is =
+ledgers_of_parts law fares files part parts have are whole rise texts each text is =
     subst (λ (h : List Entry). IsLedgerOver fares h None text) (whole_same (part ∷ parts))
     (law fares (length files) (history_part part) (map history_part parts) texts
     (join_up fares files (part ∷ parts) are whole rise have)
@@ -280,13 +279,13 @@ LedgersAreMerged = (fares : Fares) (files : ℕ) (part : HistoryPart) (parts : L
     → (text : List ℕ) × (merge_of texts ≡ Ok text)
 
 pub ledgers_merged : (law : LedgersAreMerged) (fares : Fares) (files : List (List ℕ))
-    (part : PartView) (parts : List PartView) → ArePartsOf fares files (part ∷ parts)
+    (part : PartView) (parts : List PartView) → HavePlaces files (part ∷ parts)
+    → ArePartsOf fares files (part ∷ parts)
     → AreWhole (map (λ p. p.spans) (part ∷ parts)) → DoRise (map (λ p. p.history) (part ∷ parts))
-    → HavePlaces files (part ∷ parts)
     → (texts : List (List ℕ)) → AllZip (IsLedgerText fares) (part ∷ parts) texts
     → AllByRecursion (λ p. AreReadable fares p.history) (part ∷ parts)
     → (text : List ℕ) × (merge_of texts ≡ Ok text)
-ledgers_merged law fares files part parts are whole rise have texts each readable =
+ledgers_merged law fares files part parts have are whole rise texts each readable =
     law fares (length files) (history_part part) (map history_part parts) texts
     (join_up fares files (part ∷ parts) are whole rise have)
     (texts_of fares files (part ∷ parts) texts each)

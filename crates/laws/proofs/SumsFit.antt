@@ -25,16 +25,8 @@ use Rattle.histories.specs.SumsByKey.{token_of, tokens, validator_of, validators
 use Rattle.histories.specs.Rising.{rising}
 use Rattle.histories.specs.Sums.{is_capped, is_paid, is_stale, is_transfer, is_unknown, sums}
 use Rattle.histories.specs.Sums.{Sums, sums_of_replies}
+use Rattle.part_texts.proofs.HistoryParts.{all_rising, rising_few}
 use Rattle.report_texts.specs.Numbers.{AreCounts, IsTokenSum, IsValidatorSum}
-
--- what holds of all keys holds of them in their order
-all_rising : {K : Type 0} (cmp : K → K → Ordering) (P : K → Type 0) (keys : List K) → All P keys
-    → All P (rising cmp keys)
-unfolding rising
-all_rising cmp P [] all = All-nil P
-all_rising cmp P (key ∷ keys) all =
-    All-insert_key cmp key P (rising cmp keys) (all_rising cmp P keys (All-tail P key keys all))
-    (All-head P key keys all)
 
 -- the sums of the history can be those of taps, in 64 bits
 pub record CanBeSummed (history : List Entry) : Type 0 where
@@ -121,25 +113,6 @@ some_fit p entries small few =
     (All-filter p CostsFew entries few)
 
 -- ---- how many keys there are
-insert_few : {K : Type 0} (cmp : K → K → Ordering) (keys : List K) (key : K)
-    → length (insert_key cmp keys key) ≤ length keys + 1
-insert_few cmp [] key = omega arith
-insert_few {K} cmp (x ∷ keys) key = by_order (cmp key x) refl (insert_few cmp keys key)
-  where
-    by_order : (order : Ordering) → cmp key x ≡ order
-        → length (insert_key cmp keys key) ≤ length keys + 1
-        → length (insert_key cmp (x ∷ keys) key) ≤ length (x ∷ keys) + 1
-    by_order Less is rest = rw is (omega arith)
-    by_order Equal is rest = rw is (omega arith)
-    by_order Greater is rest = rw is (omega (arith, rest))
-
-rising_few : {K : Type 0} (cmp : K → K → Ordering) (keys : List K)
-    → length (rising cmp keys) ≤ length keys
-unfolding rising
-rising_few cmp [] = omega arith
-rising_few cmp (key ∷ keys) =
-    omega (arith, rising_few cmp keys, insert_few cmp (rising cmp keys) key)
-
 pub summed : (entries : List Entry) → length entries < 2 ^ 47 → All CostsFew entries
     → All EntryFits entries → CanBeSummed entries
 unfolding sums_by_validator sums_by_token validators tokens entries_of_validator own

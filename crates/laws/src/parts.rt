@@ -38,15 +38,15 @@ pub fn merged_reports()
 /// ledger's line.
 pub fn merged_ledgers()
     ensures whole { (fares : Fares) (files : List (List ℕ)) (part : PartView) (parts : List PartView)
-        → ArePartsOf fares files (part ∷ parts) → AreWhole (map (λ p. p.spans) (part ∷ parts))
-        → DoRise (map (λ p. p.history) (part ∷ parts)) → HavePlaces files (part ∷ parts)
+        → HavePlaces files (part ∷ parts) → ArePartsOf fares files (part ∷ parts)
+        → AreWhole (map (λ p. p.spans) (part ∷ parts)) → DoRise (map (λ p. p.history) (part ∷ parts))
         → (texts : List (List ℕ)) → AllZip (IsLedgerText fares) (part ∷ parts) texts
         → (text : List ℕ) → merge_of texts ≡ Ok text
         → IsSettledHistory fares files (flat_map (λ p. p.history) (part ∷ parts))
         × IsLedgerOver fares (flat_map (λ p. p.history) (part ∷ parts)) None text }
     ensures merged { (fares : Fares) (files : List (List ℕ)) (part : PartView) (parts : List PartView)
-        → ArePartsOf fares files (part ∷ parts) → AreWhole (map (λ p. p.spans) (part ∷ parts))
-        → DoRise (map (λ p. p.history) (part ∷ parts)) → HavePlaces files (part ∷ parts)
+        → HavePlaces files (part ∷ parts) → ArePartsOf fares files (part ∷ parts)
+        → AreWhole (map (λ p. p.spans) (part ∷ parts)) → DoRise (map (λ p. p.history) (part ∷ parts))
         → (texts : List (List ℕ)) → AllZip (IsLedgerText fares) (part ∷ parts) texts
         → AllByRecursion (λ p. AreReadable fares p.history) (part ∷ parts)
         → (text : List ℕ) × (merge_of texts ≡ Ok text) }

@@ -25,7 +25,7 @@ use Rattle.histories.specs.SumsByKey.{entries_of_validator, sums_by_token, sums_
 use Rattle.histories.specs.declared.entry.Entry.{Entry}
 use Rattle.histories.proofs.RisingLemmas.{rising-is}
 use Rattle.histories.proofs.SumsByToken.{by_token_joined}
-use Rattle.histories.proofs.SumsLemmas.{add_assoc, add_none, none_add, sums-append}
+use Rattle.histories.proofs.SumsLemmas.{add_assoc, add_none, none_add, sums-append, sums-taps}
 use Rattle.report_texts.specs.Report.{report}
 use Rattle.part_texts.specs.Fronts.{is_above, may_end, no_sums, starts, sums_within, taps_before}
 use Rattle.part_texts.specs.HistoryParts.{AreRight, DoRise, Fits, HistoryPart, added, histories_of, numbers_of, report_of, whole_history}
@@ -38,7 +38,7 @@ use Rattle.sorted_taps.specs.declared.places.Place.{Place}
 use Rattle.sorted_taps.specs.declared.places.FileSpan.{FileSpan}
 use Rattle.part_texts.proofs.KeySums.{all_added, tokens_add, validators_add}
 use Rattle.part_texts.proofs.ShownReports.{reports_merge}
-use Rattle.part_texts.proofs.Tables.{taps_are, validators_added, within}
+use Rattle.part_texts.proofs.Tables.{validators_added, within}
 
 -- ---- sums that are added up
 nothing_is : sums [] ≡ no_sums
@@ -99,12 +99,14 @@ tokens_above f last (k ∷ keys) below rises =
     first_above None below = refl
     first_above (Some token) below = ap is_lt below.0
 
-pub all_keys : (P : Token → Type 0) (keys : List Token) → All P keys → All P (rising token_cmp keys)
+-- what holds of all keys holds of them in their order
+pub all_rising : {K : Type 0} (cmp : K → K → Ordering) (P : K → Type 0) (keys : List K) → All P keys
+    → All P (rising cmp keys)
 unfolding rising
-all_keys P [] all = All-nil P
-all_keys P (key ∷ keys) all =
-    All-insert_key token_cmp key P (rising token_cmp keys)
-    (all_keys P keys (All-tail P key keys all)) (All-head P key keys all)
+all_rising cmp P [] all = All-nil P
+all_rising cmp P (key ∷ keys) all =
+    All-insert_key cmp key P (rising cmp keys) (all_rising cmp P keys (All-tail P key keys all))
+    (All-head P key keys all)
 
 pub below_front : (last : Option Token) (xs ys : List Token) → LastIsBelow last (xs ++ ys)
     → LastIsBelow last xs × LastIsBelow last ys
@@ -119,7 +121,7 @@ pub below_rising : (last : Option Token) (keys : List Token) → LastIsBelow las
 below_rising None keys below = tt
 below_rising (Some last) keys below =
     recursion_from_All (λ t. token_cmp last t ≡ Less) (rising token_cmp keys)
-    (all_keys (λ t. token_cmp last t ≡ Less) keys (from_recursion keys below))
+    (all_rising token_cmp (λ t. token_cmp last t ≡ Less) keys (from_recursion keys below))
   where
     from_recursion : (ks : List Token) → AllByRecursion (λ t. token_cmp last t ≡ Less) ks
         → All (λ t. token_cmp last t ≡ Less) ks
@@ -151,7 +153,7 @@ pub next_last : (last : Option Token) (history : List Entry) (later : List Token
 unfolding sums_by_token tokens
 next_last last history later below rise =
     last_below _ last (rising token_cmp (map token_of history)) later below
-    (all_keys (λ t. All (λ u. token_cmp t u ≡ Less) later) (map token_of history) rise)
+    (all_rising token_cmp (λ t. All (λ u. token_cmp t u ≡ Less) later) (map token_of history) rise)
 
 -- ---- how many keys there are
 insert_few : {K : Type 0} (cmp : K → K → Ordering) (keys : List K) (key : K)
@@ -166,7 +168,7 @@ insert_few cmp (x ∷ keys) key = by_order (cmp key x) refl (insert_few cmp keys
     by_order Equal is rest = rw is (omega arith)
     by_order Greater is rest = rw is (omega (arith, rest))
 
-rising_few : {K : Type 0} (cmp : K → K → Ordering) (keys : List K)
+pub rising_few : {K : Type 0} (cmp : K → K → Ordering) (keys : List K)
     → length (rising cmp keys) ≤ length keys
 unfolding rising
 rising_few cmp [] = omega arith
@@ -252,9 +254,6 @@ may_end_all spans [] all = may_last spans all
 may_end_all spans (next ∷ later) join = may_all spans
 
 -- ---- taps
-zero_first : (n : ℕ) → 0 + n ≡ n
-zero_first n = omega arith
-
 posted_first : (news ns : List ℕ) (posted : ℕ) → posted + sum_up ns < 2 ^ 64
     → are_posted_to true news posted ns (news ++ ns) (posted + sum_up ns)
 posted_first news [] posted few =
@@ -269,7 +268,7 @@ posted_first news (n ∷ ns) posted few =
       omega (arith, few),
       omega (arith, few),
       subst (λ all. are_posted_to true (news ++ (0 + n) ∷ []) (posted + n) ns all (posted + (n + sum_up ns)))
-          (ap (λ k. (news ++ k ∷ []) ++ ns) (zero_first n) ∙ append_assoc news (n ∷ []) ns)
+          (ap (λ k. (news ++ k ∷ []) ++ ns) (let e : 0 + n ≡ n = omega arith in e) ∙ append_assoc news (n ∷ []) ns)
           (subst (λ s. are_posted_to true (news ++ (0 + n) ∷ []) (posted + n) ns
           ((news ++ (0 + n) ∷ []) ++ ns) s) sum
           (posted_first (news ++ (0 + n) ∷ []) ns (posted + n) (omega (arith, few)))),
@@ -313,10 +312,6 @@ added_length (x ∷ xs) [] same = absurd (omega (arith, same))
 added_length (x ∷ xs) (y ∷ ys) same =
     let rest = added_length xs ys (omega (arith, same)) in omega (arith, rest)
 
-added_none : (xs : List ℕ) → added xs [] ≡ xs
-added_none [] = refl
-added_none (x ∷ xs) = refl
-
 three : (a b c : ℕ) → (a + b) + c ≡ a + (b + c)
 three a b c = omega arith
 
@@ -342,7 +337,7 @@ so_far ends taps history last = record {
 
 part_right : (p : HistoryPart) → Fits p → length p.history < 2 ^ 64 → IsRight (report_of p)
 part_right p fits few =
-    let taps : (sums p.history).taps ≡ length p.history = taps_are p.history in
+    let taps : (sums p.history).taps ≡ length p.history = sums-taps p.history in
     let small : (sums p.history).taps ≤ 2 ^ 95 = omega (arith, taps, few) in
     let number = tokens_few p.history in
     record {
@@ -376,7 +371,7 @@ one_part : (first last : Bool) (ends : List (Option Place)) (taps : List ℕ) (h
 one_part first last ends taps history last_one p fits files joined posted few rise below =
     let all = length-append history p.history in
     let summed : (sums (history ++ p.history)).taps ≡ length (history ++ p.history) =
-    taps_are (history ++ p.history) in
+    sums-taps (history ++ p.history) in
     let before = tokens_few history in
     let here = tokens_few p.history in
     let tokens : length (sums_by_token (history ++ p.history))
@@ -384,7 +379,7 @@ one_part first last ends taps history last_one p fits files joined posted few ri
     ap length (by_token_joined history p.history rise)
     ∙ length-append (sums_by_token history) (sums_by_token p.history) in
     let sum : 0 + sum_up p.taps ≡ (sums p.history).taps =
-    zero_first (sum_up p.taps) ∙ fits.posted ∙ sym (taps_are p.history) in
+    (let e : 0 + sum_up p.taps ≡ sum_up p.taps = omega arith in e) ∙ fits.posted ∙ sym (sums-taps p.history) in
     record {
       right = part_right p fits (omega (arith, all, few));
       files = files;
@@ -517,9 +512,13 @@ follow : (files : ℕ) (ends : List (Option Place)) (taps : List ℕ) (history :
 follow files ends taps history last [] number join goes = (
   ends,
   last,
-  ap (λ ts. so_far ends ts history last) (sym (added_none taps))
+  ap (λ ts. so_far ends ts history last) (sym (none_more taps))
       ∙ ap (λ h. so_far ends (added taps []) h last) (sym (append-nil history)),
 )
+  where
+    none_more : (ns : List ℕ) → added ns [] ≡ ns
+    none_more [] = refl
+    none_more (n ∷ ns) = refl
 follow files ends taps history last (p ∷ ps) number join goes =
     let is = is_next files taps history last p ps goes in
     let same : length taps ≡ length p.taps =

@@ -35,7 +35,7 @@ all_added list = add_all (map (λ sum. sum.1) list)
 same_key : (k : ℕ) → is_eq (nat_cmp k k) ≡ true
 same_key k = grind (arith, nat_tests)
 
-number_ties : (a b : ℕ) → nat_cmp a b ≡ Equal → a ≡ b
+pub number_ties : (a b : ℕ) → nat_cmp a b ≡ Equal → a ≡ b
 number_ties a b tied = grind (arith, nat_tests)
 
 -- ---- sums

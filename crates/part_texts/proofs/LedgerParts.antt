@@ -28,8 +28,8 @@ use Rattle.part_texts.specs.HistoryParts.{DoRise, HistoryPart, histories_of, who
 use Rattle.part_texts.specs.LedgerParts.{DoJoinUp, IsPartLedger}
 use Rattle.part_texts.specs.Merged.{merge_of}
 use Rattle.part_texts.specs.Shown.{SpanFits, are_joined, is_none_behind}
-use Rattle.part_texts.specs.ShownLedgers.{PartLedger, all_lines, are_next_ledgers, ledger_text}
-use Rattle.part_texts.proofs.HistoryParts.{all_keys, ends_length, from_ends, joined_first, joined_next, may_end_all, same_number, spans_of, to_ends}
+use Rattle.part_texts.specs.inside.ShownLedgers.{PartLedger, all_lines, are_next_ledgers, ledger_text}
+use Rattle.part_texts.proofs.HistoryParts.{all_rising, ends_length, from_ends, joined_first, joined_next, may_end_all, same_number, spans_of, to_ends}
 use Rattle.part_texts.proofs.ShownLedgers.{ledgers_merge}
 
 -- ---- ledgers of histories, one behind the other
@@ -64,7 +64,7 @@ own_front xs ys below =
     (All-weaker (λ o. token_cmp t o ≡ Less) (λ o. token_eq o t ≡ false)
     (λ o less. less_apart t o less) later all))
     ∙ append-nil (own t xs)) (rising token_cmp (map token_of xs))
-    (all_keys (λ t. All (λ o. token_cmp t o ≡ Less) later) (map token_of xs) below)
+    (all_rising token_cmp (λ t. All (λ o. token_cmp t o ≡ Less) later) (map token_of xs) below)
 
 -- the later tokens are above all earlier ones
 turned : (xs ys : List Token) → AreBelow xs ys → All (λ y. All (λ x. token_cmp x y ≡ Less) xs) ys
@@ -82,7 +82,7 @@ own_behind xs ys below =
     (All-weaker (λ x. token_cmp x t ≡ Less) (λ x. token_eq x t ≡ false)
     (λ x less. token_eq-sym x t ∙ less_apart x t less) earlier all)))
     (rising token_cmp (map token_of ys))
-    (all_keys (λ t. All (λ x. token_cmp x t ≡ Less) earlier) (map token_of ys)
+    (all_rising token_cmp (λ t. All (λ x. token_cmp x t ≡ Less) earlier) (map token_of ys)
     (turned earlier (map token_of ys) below))
 
 module _ (fares : Fares) where

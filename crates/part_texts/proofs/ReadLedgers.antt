@@ -32,8 +32,8 @@ use Rattle.part_texts.specs.HistoryParts.{DoRise, HistoryPart, histories_of, who
 use Rattle.part_texts.specs.LedgerParts.{AreReadable, DoJoinUp, IsPartLedger, IsReadableLine}
 use Rattle.part_texts.specs.Merged.{merge_of}
 use Rattle.part_texts.specs.Sections.{may_follow}
-use Rattle.part_texts.specs.ShownLedgers.{EntryLine, IsEntryLine, PartLedger, all_lines, are_read, do_follow, last_entry, lines_of_entries}
-use Rattle.part_texts.proofs.HistoryParts.{LastIsBelow, all_keys, below_front, below_rising, tokens_both}
+use Rattle.part_texts.specs.inside.ShownLedgers.{EntryLine, IsEntryLine, PartLedger, all_lines, are_read, do_follow, last_entry, lines_of_entries}
+use Rattle.part_texts.proofs.HistoryParts.{LastIsBelow, all_rising, below_front, below_rising, tokens_both}
 use Rattle.part_texts.proofs.LedgerParts.{first_ledgers, ledgers_of, texts_are, whole_lines}
 use Rattle.part_texts.proofs.ShownLedgers.{ledgers_read}
 
@@ -220,10 +220,10 @@ module _ (fares : Fares) (history : List Entry) (readable : AreReadable fares hi
   part_read last text fits below end rise lines =
       let keys = map token_of history in
       each_line true last (rising token_cmp keys) text
-      (recursion_from_All TokenFits (rising token_cmp keys) (all_keys TokenFits keys (mapped history fits)))
+      (recursion_from_All TokenFits (rising token_cmp keys) (all_rising token_cmp TokenFits keys (mapped history fits)))
       (rising-is token_cmp-total token_cmp-ties keys).rises (below_rising last keys below) end
       (recursion_from_All (λ k. AllByRecursion (λ z. token_cmp k z ≡ Less) later) (rising token_cmp keys)
-      (all_keys (λ k. AllByRecursion (λ z. token_cmp k z ≡ Less) later) keys
+      (all_rising token_cmp (λ k. AllByRecursion (λ z. token_cmp k z ≡ Less) later) keys
       (All-weaker (λ k. All (λ z. token_cmp k z ≡ Less) later)
       (λ k. AllByRecursion (λ z. token_cmp k z ≡ Less) later)
       (λ k all. recursion_from_All (λ z. token_cmp k z ≡ Less) later all) keys rise))) lines

@@ -2,6 +2,7 @@
 use Rattle.std.proofs.Common.{◌≡◌, ◌∙◌, ◌+◌, ◌-◌, ◌<◌, ◌^◌, ◌&&◌, ◌||◌, ℕ, suc, Bool, true, false, cond, List, [], ◌∷◌, ◌++◌, length, map}
 use Rattle.std.proofs.Common.{Option, Some, None, Ok, refl, ap, subst, arith, codes}
 use Rattle.std.specs.Prelude.{flat_map, nat_eq, nat_lt}
+use Rattle.std.proofs.Math.Bool.{or-true}
 use Rattle.std.proofs.lemmas.Bool.{and_from}
 use Rattle.std.proofs.lemmas.Bool.Decides.{nat_tests}
 use Rattle.std.specs.List.{AllByRecursion}
@@ -36,7 +37,7 @@ true_itself n = grind (arith, nat_tests)
 same_place : (p : Place) → place_eq p p ≡ true
 same_place p = and_from _ _ (true_itself p.offset) (true_itself p.skip)
 
-same_sums : (s : Sums) → sums_eq s s ≡ true
+pub same_sums : (s : Sums) → sums_eq s s ≡ true
 same_sums s = grind (arith, nat_tests)
 
 plus_fits : (a b : ℕ) → a + b < 2 ^ 64 → plus a b ≡ Some (a + b)
@@ -49,10 +50,6 @@ place_is all at left is = grind (arith, nat_tests, is)
 
 one_less : (n : ℕ) → suc n - 1 ≡ n
 one_less n = omega arith
-
-either : (b : Bool) → (b || true) ≡ true
-either true = refl
-either false = refl
 
 -- ---- where the fold stands
 module _ (first last ledger : Bool) where
@@ -158,7 +155,7 @@ module _ (first last : Bool) where
           (head_complete (codes "uploads ") files small)
           ∙ ap (λ b. where_holds b Form
           (Ok (at first last false (Uploads files files 0) ends taps part so_far totals validators tokens)))
-          (and_from _ _ (true_itself files) (either first)))
+          (and_from _ _ (true_itself files) (or-true first)))
 
   module _ (ends : List (Option Place)) (part so_far totals : Sums) (validators : List (ℕ × Sums))
       (tokens : ℕ) where

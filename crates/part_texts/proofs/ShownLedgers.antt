@@ -3,6 +3,7 @@ use Rattle.std.proofs.Common.{◌≡◌, ◌∙◌, ◌+◌, ◌<◌, ◌≤◌,
 use Rattle.std.proofs.Common.{Option, Some, None, Result, Ok, Err, refl, sym, ap, subst, arith, append_assoc, append-nil, length-append, codes}
 use Rattle.std.specs.Prelude.{flat_map, nat_eq}
 use Rattle.std.specs.Str.{bytes_eq}
+use Rattle.std.proofs.Math.Bool.{or-true}
 use Rattle.std.proofs.lemmas.Bool.Decides.{nat_tests}
 use Rattle.std.proofs.lemmas.List.Concat.{flat_map-append}
 use Rattle.std.proofs.lemmas.List.Elements.{recursion_from_All}
@@ -22,13 +23,13 @@ use Rattle.part_texts.specs.Sections.{SectionView, may_follow, section_step}
 use Rattle.part_texts.specs.Merged.{OpenView, WrongLine, and_then, end_or, front_end, front_of, fronts_of, is_none_left, lines_left, merge_of, merged, section_ended, section_of, sections_of, whole_front}
 use Rattle.part_texts.specs.Heads.{span_lines}
 use Rattle.part_texts.specs.Shown.{SpanFits, are_joined, is_none_behind}
-use Rattle.part_texts.specs.ShownLedgers.{EntryLine, IsEntryLine, PartLedger, all_lines, are_next_ledgers, are_read, do_follow, last_entry, ledger_text, lines_of_entries}
+use Rattle.part_texts.specs.inside.ShownLedgers.{EntryLine, IsEntryLine, PartLedger, all_lines, are_next_ledgers, are_read, do_follow, last_entry, ledger_text, lines_of_entries}
 use Rattle.sorted_taps.specs.declared.places.Place.{Place}
 use Rattle.part_texts.specs.declared.fronts.Stage.{Stage}
 use Rattle.part_texts.specs.declared.fronts.Stage.TheVariants.{Head, Files, Entries}
 use Rattle.part_texts.proofs.Leads.{Leads, by_both, by_line, by_nothing}
 use Rattle.part_texts.proofs.ShownFronts.{FrontLeads, at, head_taken, spans_taken}
-use Rattle.part_texts.proofs.ShownReports.{lines_joined}
+use Rattle.part_texts.proofs.ShownReports.{lines_joined, one_more, stopped}
 use Rattle.part_texts.proofs.ShownSections.{never}
 
 -- ---- one front
@@ -83,14 +84,6 @@ front_leads first last ledger ends next p may few fit files joined =
     joined))
     (header_taken first last ledger n next may)
 
-stopped : (number : ℕ) (s : FrontsView) (lines : List (List ℕ)) → front_done s ≡ true
-    → run front_done (bounded Form front_step) number s lines ≡ Ok (number, s, lines)
-stopped number s [] done = refl
-stopped number s (line ∷ lines) done =
-    ap (λ b. cond b (Ok (number, s, line ∷ lines))
-    (carry (λ next. run front_done (bounded Form front_step) (number + 1) next lines)
-    (λ why. (number, why)) (bounded Form front_step s line))) done
-
 -- the part whose front is read
 abbrev pub ledger_opened : ℕ → PartLedger → OpenView
 ledger_opened number p = record {
@@ -130,14 +123,6 @@ none_left : (ps : List PartLedger) → is_none_left (map ledger_text ps) ≡ is_
 none_left [] = refl
 none_left (p ∷ ps) = refl
 
-one_more : (opens : List OpenView) (opening : OpenView) → nat_eq (length (opens ++ opening ∷ [])) 0 ≡ false
-one_more opens opening =
-    let n = length-append opens (opening ∷ []) in grind (arith, nat_tests, n)
-
-either_true : (b : Bool) → (b || true) ≡ true
-either_true true = refl
-either_true false = refl
-
 -- behind the first ledger
 fronts_shown : (was_first was_last : Bool) (stage : Stage) (ends : List (Option Place))
     (opens : List OpenView) (parts : List PartLedger)
@@ -161,7 +146,7 @@ fronts_shown was_first was_last stage ends opens (p ∷ ps) (next, few, fit, fil
     (λ read. fronts_of read.0 (opens ++ read.1 ∷ []) (map ledger_text ps))) (none_left ps)
     ∙ ap (λ r. and_then r (λ (read : FrontsView × OpenView).
     fronts_of read.0 (opens ++ read.1 ∷ []) (map ledger_text ps)))
-    (front_shown (length opens) first final true ends next p (either_true first) few fit files joined)
+    (front_shown (length opens) first final true ends next p (or-true first) few fit files joined)
     ∙ same
     ∙ ap (λ os. Ok (ledger_at f l true end all_ends, os)) (append_assoc opens (opening ∷ []) more))
 

@@ -147,7 +147,7 @@ front_leads first last old so_far before after p is =
     (at first last false (Tokens (length p.tokens)) e1 t1 p.totals p.totals after.totals v1 n))
     (sym is.tokens) eight
 
-stopped : (number : ℕ) (s : FrontsView) (lines : List (List ℕ)) → front_done s ≡ true
+pub stopped : (number : ℕ) (s : FrontsView) (lines : List (List ℕ)) → front_done s ≡ true
     → run front_done (bounded Form front_step) number s lines ≡ Ok (number, s, lines)
 stopped number s [] done = refl
 stopped number s (line ∷ lines) done =
@@ -191,7 +191,7 @@ none_left : (ps : List PartReport) → is_none_left (map part_text ps) ≡ is_no
 none_left [] = refl
 none_left (p ∷ ps) = refl
 
-one_more : (opens : List OpenView) (opening : OpenView) → nat_eq (length (opens ++ opening ∷ [])) 0 ≡ false
+pub one_more : (opens : List OpenView) (opening : OpenView) → nat_eq (length (opens ++ opening ∷ [])) 0 ≡ false
 one_more opens opening =
     let n = length-append opens (opening ∷ []) in grind (arith, nat_tests, n)
 

@@ -18,6 +18,7 @@ use Rattle.part_texts.specs.FrontSteps.{found_or, said, where_holds}
 use Rattle.part_texts.specs.Sections.{SectionView, is_token_above, section_end, section_step}
 use Rattle.part_texts.specs.inside.Shown.{adds_to, do_tokens_rise, last_of}
 use Rattle.part_texts.proofs.Leads.{Leads, by_both, by_line, by_nothing}
+use Rattle.part_texts.proofs.ShownFronts.{same_sums}
 
 abbrev pub never : SectionView → Bool
 never s = false
@@ -73,8 +74,5 @@ tokens_taken last part so_far all (sum ∷ tokens) fit rise (next, one, more) =
     (one_taken (length tokens) last part so_far next sum fit.0 rise.0 one))
     (tokens_taken (Some sum.0) part next all tokens fit.1 rise.1 more))
 
-same_itself : (s : Sums) → sums_eq s s ≡ true
-same_itself s = grind (arith, nat_tests)
-
 pub tokens_end : (last : Option Token) (all : Sums) → section_end (tokens_at 0 last all all) ≡ None
-tokens_end last all = ap (λ b. cond b None (Some OtherTotals)) (same_itself all)
+tokens_end last all = ap (λ b. cond b None (Some OtherTotals)) (same_sums all)

@@ -12,6 +12,7 @@ use Rattle.std.specs.Ordering.{eq_by_cmp, is_eq, match_ordering, nat_cmp}
 use Rattle.std.specs.Set.{is_member}
 use Rattle.std.specs.declared.cmp.Ordering.{Ordering}
 use Rattle.std.specs.declared.cmp.Ordering.TheVariants.{Less, Equal, Greater}
+use Rattle.std.proofs.Math.Bool.{or-false}
 use Rattle.std.proofs.lemmas.Bool.{false≢true}
 use Rattle.std.proofs.lemmas.Bool.Decides.{nat_tests}
 use Rattle.std.proofs.lemmas.Cmp.{nat_cmp_total}
@@ -25,12 +26,10 @@ use Rattle.histories.specs.declared.entry.Entry.{Entry}
 use Rattle.histories.proofs.RisingLemmas.{rising-is, rising-unique}
 use Rattle.tap_views.proofs.Choices.{or_swap}
 use Rattle.std.proofs.Math.Bool.{or_self_left}
-use Rattle.histories.proofs.SumsLemmas.{sums-append}
+use Rattle.histories.proofs.SumsLemmas.{sums-append, sums-taps}
 use Rattle.part_texts.specs.Fronts.{no_sums, sums_within, with_validator}
 use Rattle.part_texts.specs.inside.Shown.{are_added}
-
-number_ties : (a b : ℕ) → nat_cmp a b ≡ Equal → a ≡ b
-number_ties a b tied = grind (arith, nat_tests)
+use Rattle.part_texts.proofs.KeySums.{number_ties}
 
 abbrev has : List ℕ → ℕ → Bool
 has keys key = is_member (eq_by_cmp nat_cmp) keys key
@@ -182,12 +181,8 @@ or_moved true false c = refl
 or_moved false true c = refl
 or_moved false false c = refl
 
-or_none : (a : Bool) → (a || false) ≡ a
-or_none true = refl
-or_none false = refl
-
 inserted_has : (keys vs : List ℕ) (q : ℕ) → has (inserted keys vs) q ≡ (has keys q || has vs q)
-inserted_has keys [] q = sym (or_none (has keys q))
+inserted_has keys [] q = sym (or-false (has keys q))
 inserted_has keys (v ∷ vs) q =
     inserted_has (insert_key nat_cmp keys v) vs q
     ∙ ap (λ b. b || has vs q) (insert-member keys v q)
@@ -268,10 +263,6 @@ fewer v (e ∷ entries) = by (is_at v e) refl (fewer v entries)
     by true is short = rw is (omega (arith, short))
     by false is short = rw is (omega (arith, short))
 
-pub taps_are : (entries : List Entry) → (sums entries).taps ≡ length entries
-unfolding sums_of_replies
-taps_are entries = length-map entries reply_of
-
 pub within : (a b c : Sums) → c ≡ add_sums a b → c.taps ≤ 2 ^ 95 → sums_within a b ≡ Some c
 within a b c is few =
     let taps : c.taps ≡ a.taps + b.taps = ap (λ (s : Sums). s.taps) is in
@@ -311,7 +302,7 @@ module _ (xs ys : List Entry) (few : length (xs ++ ys) ≤ 2 ^ 95) where
       (λ absent. mixed_out done v out ∙ none_at v xs (of_xs v absent))
       ∙ mixed_out done v out in
       let small : (at_validator v (xs ++ ys)).taps ≤ 2 ^ 95 =
-      (let n = taps_are (entries_of_validator v (xs ++ ys)) in
+      (let n = sums-taps (entries_of_validator v (xs ++ ys)) in
       let f = fewer v (xs ++ ys) in omega (arith, n, f, few)) in
       ap (λ s. option_map (λ sums. insert_entry nat_cmp (table (mixed done) keys) v sums)
       (sums_within s (at_validator v ys))) here
@@ -356,7 +347,7 @@ module _ (xs ys : List Entry) (few : length (xs ++ ys) ≤ 2 ^ 95) where
   )
 
   done_has : (done vs : List ℕ) (k : ℕ) → has (done_after done vs) k ≡ (has done k || has vs k)
-  done_has done [] k = sym (or_none (has done k))
+  done_has done [] k = sym (or-false (has done k))
   done_has done (v ∷ vs) k =
       done_has (v ∷ done) vs k ∙ or_moved (eq_by_cmp nat_cmp k v) (has done k) (has vs k)
 

@@ -3,3 +3,4 @@ pub mod Fronts
 pub mod Opened
 pub mod Sections
 pub mod Shown
+pub mod ShownLedgers
