@@ -28,7 +28,7 @@ returns-in-Ok-finish-2-clause-fault g c = λ files left.
     let reported = c.fault_of.result in
     right_merge words files c.finish-in-Err.new.out.end fault reported
     (subst (λ end. IsNamedAs words end fault reported) c.end.ensures c.fault_of.ensures)
-    (c.in-Err.ensures files left)
+    (c.in-Err.ensures files left).0
 
 pub returns-in-Err-finish-2-clause-fault : goal.returns-in-Err-finish-2-clause-fault
 returns-in-Err-finish-2-clause-fault g c = λ files left.
