@@ -34,17 +34,25 @@ use Rattle.laws.proofs.CentsFit.{posted_few, tokens_fit}
 use Rattle.laws.proofs.SumsFit.{CanBeSummed, CostsFew, EntryFits, summed}
 
 -- ---- lengths
-spans_length : (files : List (List ℕ)) (spans : List FileSpan) (lists : List (List TapFields))
-    → AreSpanned files spans lists
-    → (length spans ≡ length files) × (length lists ≡ length files)
-spans_length [] [] [] are = (refl, refl)
-spans_length (all ∷ files) (span ∷ spans) (taps ∷ lists) are =
-    let (one, two) = spans_length files spans lists are.1 in
-    (omega (arith, one), omega (arith, two))
-spans_length [] [] (taps ∷ lists) are = absurd are
-spans_length [] (span ∷ spans) lists are = absurd are
-spans_length (all ∷ files) [] lists are = absurd are
-spans_length (all ∷ files) (span ∷ spans) [] are = absurd are
+number_of_spans : (files : List (List ℕ)) (spans : List FileSpan) (lists : List (List TapFields))
+    → AreSpanned files spans lists → length spans ≡ length files
+number_of_spans [] [] [] are = refl
+number_of_spans (all ∷ files) (span ∷ spans) (taps ∷ lists) are =
+    let one = number_of_spans files spans lists are.1 in omega (arith, one)
+number_of_spans [] [] (taps ∷ lists) are = absurd are
+number_of_spans [] (span ∷ spans) lists are = absurd are
+number_of_spans (all ∷ files) [] lists are = absurd are
+number_of_spans (all ∷ files) (span ∷ spans) [] are = absurd are
+
+number_of_lists : (files : List (List ℕ)) (spans : List FileSpan) (lists : List (List TapFields))
+    → AreSpanned files spans lists → length lists ≡ length files
+number_of_lists [] [] [] are = refl
+number_of_lists (all ∷ files) (span ∷ spans) (taps ∷ lists) are =
+    let one = number_of_lists files spans lists are.1 in omega (arith, one)
+number_of_lists [] [] (taps ∷ lists) are = absurd are
+number_of_lists [] (span ∷ spans) lists are = absurd are
+number_of_lists (all ∷ files) [] lists are = absurd are
+number_of_lists (all ∷ files) (span ∷ spans) [] are = absurd are
 
 lists_length : (lists : List (List TapFields))
     → sum_up (map length lists) ≡ length (flat_map (λ list. list) lists)
@@ -69,7 +77,8 @@ module _ (fares : Fares) (bounds : HaveBoundedTerms fares) (files : List (List �
       → length files < 2 ^ 64 → AllByRecursion SpanFits part.spans → HaveNumbers part.history
       → length part.history < 2 ^ 47 → Fits (history_part part)
   part_fits part is few places numbers taps =
-      let (spans, lists) = spans_length files part.spans part.lists is.spanned in
+      let spans = number_of_spans files part.spans part.lists is.spanned in
+      let lists = number_of_lists files part.spans part.lists is.spanned in
       let can = summed part.history taps
       (subst (All CostsFew) (sym is.posted_are) (posted_few fares bounds [] is.taps))
       (entries_fit part.history
@@ -96,7 +105,7 @@ module _ (fares : Fares) (bounds : HaveBoundedTerms fares) (files : List (List �
   all_spans [] are = tt
   all_spans (part ∷ parts) are =
       let here = All-head (λ (p : PartView). IsPartOf fares files p.spans p.lists p.history) part parts are in
-      ((spans_length files part.spans part.lists here.spanned).0, all_spans parts
+      (number_of_spans files part.spans part.lists here.spanned, all_spans parts
       (All-tail (λ (p : PartView). IsPartOf fares files p.spans p.lists p.history) part parts are))
 
   all_fits : (parts : List PartView) → ArePartsOf fares files parts → length files < 2 ^ 64
@@ -205,8 +214,8 @@ module _ (fares : Fares) (files : List (List ℕ)) where
       → AllByRecursion (λ (p : HistoryPart). length p.spans ≡ length files) (map history_part parts)
   numbers_are [] are = tt
   numbers_are (part ∷ parts) are = (
-    (spans_length files part.spans part.lists
-        (All-head (λ (p : PartView). IsPartOf fares files p.spans p.lists p.history) part parts are).spanned).0,
+    number_of_spans files part.spans part.lists
+        (All-head (λ (p : PartView). IsPartOf fares files p.spans p.lists p.history) part parts are).spanned,
     numbers_are parts
         (All-tail (λ (p : PartView). IsPartOf fares files p.spans p.lists p.history) part parts are),
   )

@@ -32,7 +32,8 @@ use Rattle.part_texts.specs.HistoryParts.{AreRight, DoRise, Fits, HistoryPart, a
 use Rattle.part_texts.specs.Merged.{merge_of}
 use Rattle.sorted_taps.specs.Places.{AreWhole, DoJoin, first_place}
 use Rattle.part_texts.specs.Sections.{is_token_above}
-use Rattle.part_texts.specs.Shown.{PartReport, are_joined, is_none_behind, part_text, sum_up}
+use Rattle.part_texts.specs.Shown.{PartReport, part_text, sum_up}
+use Rattle.part_texts.specs.inside.Shown.{are_joined, is_none_behind}
 use Rattle.part_texts.specs.inside.Shown.{IsNextPart, IsRight, SoFar, adds_to, are_next_parts, are_posted_to, do_rise, do_tokens_rise, last_of, nothing_so_far, tokens_of}
 use Rattle.sorted_taps.specs.declared.places.Place.{Place}
 use Rattle.sorted_taps.specs.declared.places.FileSpan.{FileSpan}

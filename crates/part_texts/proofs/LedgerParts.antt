@@ -27,7 +27,8 @@ use Rattle.part_texts.specs.Heads.{part_head}
 use Rattle.part_texts.specs.HistoryParts.{DoRise, HistoryPart, histories_of, whole_history}
 use Rattle.part_texts.specs.LedgerParts.{DoJoinUp, IsPartLedger}
 use Rattle.part_texts.specs.Merged.{merge_of}
-use Rattle.part_texts.specs.Shown.{SpanFits, are_joined, is_none_behind}
+use Rattle.part_texts.specs.Shown.{SpanFits}
+use Rattle.part_texts.specs.inside.Shown.{are_joined, is_none_behind}
 use Rattle.part_texts.specs.inside.ShownLedgers.{PartLedger, all_lines, are_next_ledgers, ledger_text}
 use Rattle.part_texts.proofs.HistoryParts.{all_rising, ends_length, from_ends, joined_first, joined_next, may_end_all, same_number, spans_of, to_ends}
 use Rattle.part_texts.proofs.ShownLedgers.{ledgers_merge}

@@ -19,7 +19,8 @@ use Rattle.report_texts.proofs.OneLine.{head_is_one, totals_line_is_one, upload_
 use Rattle.part_texts.specs.Fronts.{FrontsView, is_above, may_end, no_sums, place_eq, plus, posted_in, starts, sums_eq, sums_within, taps_before, with_validator}
 use Rattle.part_texts.specs.FrontSteps.{found_or, front_done, front_step, said, where_holds}
 use Rattle.part_texts.specs.Heads.{span_line, span_lines}
-use Rattle.part_texts.specs.Shown.{SpanFits, are_joined}
+use Rattle.part_texts.specs.Shown.{SpanFits}
+use Rattle.part_texts.specs.inside.Shown.{are_joined}
 use Rattle.part_texts.specs.inside.Shown.{adds_to, are_added, are_posted_to, do_rise}
 use Rattle.sorted_taps.specs.declared.places.Place.{Place}
 use Rattle.sorted_taps.specs.declared.places.FileSpan.{FileSpan}

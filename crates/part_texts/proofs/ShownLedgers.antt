@@ -22,7 +22,8 @@ use Rattle.part_texts.specs.EntryLines.{entry_token_in}
 use Rattle.part_texts.specs.Sections.{SectionView, may_follow, section_step}
 use Rattle.part_texts.specs.Merged.{OpenView, WrongLine, and_then, end_or, front_end, front_of, fronts_of, is_none_left, lines_left, merge_of, merged, section_ended, section_of, sections_of, whole_front}
 use Rattle.part_texts.specs.Heads.{span_lines}
-use Rattle.part_texts.specs.Shown.{SpanFits, are_joined, is_none_behind}
+use Rattle.part_texts.specs.Shown.{SpanFits}
+use Rattle.part_texts.specs.inside.Shown.{are_joined, is_none_behind}
 use Rattle.part_texts.specs.inside.ShownLedgers.{EntryLine, IsEntryLine, PartLedger, all_lines, are_next_ledgers, are_read, do_follow, last_entry, ledger_text, lines_of_entries}
 use Rattle.sorted_taps.specs.declared.places.Place.{Place}
 use Rattle.part_texts.specs.declared.fronts.Stage.{Stage}

@@ -18,7 +18,8 @@ use Rattle.part_texts.specs.FrontSteps.{front_done, front_step}
 use Rattle.part_texts.specs.Sections.{SectionView, section_end, section_step}
 use Rattle.part_texts.specs.Merged.{OpenView, WrongLine, and_then, end_or, front_end, front_of, fronts_of, is_none_left, lines_left, merge_of, merged, opened, report_front, section_ended, section_of, sections_of, whole_front}
 use Rattle.part_texts.specs.Heads.{span_lines}
-use Rattle.part_texts.specs.Shown.{PartReport, is_none_behind, part_text}
+use Rattle.part_texts.specs.Shown.{PartReport, part_text}
+use Rattle.part_texts.specs.inside.Shown.{is_none_behind}
 use Rattle.part_texts.specs.inside.Shown.{IsNextPart, SoFar, are_next_parts, last_of, nothing_so_far, tokens_of, whole_text}
 use Rattle.sorted_taps.specs.declared.places.Place.{Place}
 use Rattle.part_texts.specs.declared.fronts.Stage.{Stage}

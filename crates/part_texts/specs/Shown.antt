@@ -1,11 +1,10 @@
 -- Texts of parts as they are printed, and what they are merged into.
-use Rattle.std.specs.Prelude.{◌≡◌, ◌+◌, ◌<◌, ◌^◌, ℕ, Bool, true, false, List, [], ◌∷◌, ◌++◌}
+use Rattle.std.specs.Prelude.{◌+◌, ◌<◌, ◌^◌, ℕ, List, [], ◌∷◌, ◌++◌}
 use Rattle.std.specs.Prelude.{Option, Some, None, map}
 use Rattle.histories.specs.Sums.{Sums}
 use Rattle.tap_views.specs.declared.token.Token.{Token}
 use Rattle.tap_views.specs.declared.upload_end.UploadEnd.TheVariants.{Posted}
 use Rattle.report_texts.specs.Report.{report}
-use Rattle.part_texts.specs.Fronts.{may_end, starts}
 use Rattle.part_texts.specs.Heads.{part_head}
 use Rattle.sorted_taps.specs.declared.places.Place.{Place}
 use Rattle.sorted_taps.specs.declared.places.FileSpan.{FileSpan}
@@ -36,15 +35,3 @@ SpanFits span = PlaceFits span.from × EndFits span.to
 abbrev pub sum_up : List ℕ → ℕ
 sum_up [] = 0
 sum_up (n ∷ ns) = n + sum_up ns
-
--- the spans, one after the other, join the ends of the parts before: these are the ends behind them
-abbrev pub are_joined : Bool → Bool → List (Option Place) → List FileSpan → List (Option Place)
-    → Type 0
-are_joined first last ends [] all = ends ≡ all
-are_joined first last ends (span ∷ spans) all =
-    (rest : List (Option Place)) × (starts first ends ≡ Some (span.from, rest))
-    × (may_end last span.to ≡ true) × are_joined first last (rest ++ span.to ∷ []) spans all
-
-abbrev pub is_none_behind : {A : Type 0} → List A → Bool
-is_none_behind [] = true
-is_none_behind (x ∷ xs) = false

@@ -7,11 +7,24 @@ use Rattle.tap_views.specs.declared.token.Token.{Token}
 use Rattle.tap_views.specs.declared.upload_end.UploadEnd.TheVariants.{Posted}
 use Rattle.report_texts.specs.Numbers.{AreCounts, IsTokenSum, IsValidatorSum}
 use Rattle.report_texts.specs.Report.{report}
-use Rattle.part_texts.specs.Fronts.{is_above, no_sums, sums_within, taps_before}
+use Rattle.part_texts.specs.Fronts.{is_above, may_end, no_sums, starts, sums_within, taps_before}
 use Rattle.part_texts.specs.Fronts.{with_validator}
 use Rattle.part_texts.specs.Sections.{is_token_above}
+use Rattle.sorted_taps.specs.declared.places.FileSpan.{FileSpan}
 use Rattle.sorted_taps.specs.declared.places.Place.{Place}
-use Rattle.part_texts.specs.Shown.{PartReport, SpanFits, sum_up, are_joined, is_none_behind}
+use Rattle.part_texts.specs.Shown.{PartReport, SpanFits, sum_up}
+
+-- the spans, one after the other, join the ends of the parts before: these are the ends behind them
+abbrev pub are_joined : Bool → Bool → List (Option Place) → List FileSpan → List (Option Place)
+    → Type 0
+are_joined first last ends [] all = ends ≡ all
+are_joined first last ends (span ∷ spans) all =
+    (rest : List (Option Place)) × (starts first ends ≡ Some (span.from, rest))
+    × (may_end last span.to ≡ true) × are_joined first last (rest ++ span.to ∷ []) spans all
+
+abbrev pub is_none_behind : {A : Type 0} → List A → Bool
+is_none_behind [] = true
+is_none_behind (x ∷ xs) = false
 
 -- the sums of keys, one after the other, behind some: no more taps than any run has
 abbrev pub adds_to : {K : Type 0} → Sums → List (K × Sums) → Sums → Type 0

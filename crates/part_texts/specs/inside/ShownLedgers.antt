@@ -7,7 +7,8 @@ use Rattle.fare_texts.specs.LedgerLines.{head_text}
 use Rattle.part_texts.specs.EntryLines.{entry_token_in}
 use Rattle.part_texts.specs.Heads.{part_head}
 use Rattle.part_texts.specs.Sections.{may_follow}
-use Rattle.part_texts.specs.Shown.{SpanFits, are_joined, is_none_behind}
+use Rattle.part_texts.specs.Shown.{SpanFits}
+use Rattle.part_texts.specs.inside.Shown.{are_joined, is_none_behind}
 use Rattle.sorted_taps.specs.declared.places.Place.{Place}
 use Rattle.sorted_taps.specs.declared.places.FileSpan.{FileSpan}
 
