@@ -66,9 +66,10 @@ entries_fit : (history : List Entry) → All (λ entry. TokenFits entry.token) h
     → HaveNumbers history → All EntryFits history
 entries_fit [] tokens numbers = All-nil EntryFits
 entries_fit (e ∷ history) tokens numbers =
-    All-cons EntryFits e history
-    (All-head (λ entry. entry.validator < 2 ^ 32) e history numbers,
-    All-head (λ entry. TokenFits entry.token) e history tokens)
+    All-cons EntryFits e history (
+      All-head (λ entry. entry.validator < 2 ^ 32) e history numbers,
+      All-head (λ entry. TokenFits entry.token) e history tokens,
+    )
     (entries_fit history (All-tail (λ entry. TokenFits entry.token) e history tokens)
     (All-tail (λ entry. entry.validator < 2 ^ 32) e history numbers))
 
@@ -104,9 +105,11 @@ module _ (fares : Fares) (bounds : HaveBoundedTerms fares) (files : List (List �
       → AllByRecursion (λ (p : HistoryPart). length p.spans ≡ length files) (map history_part parts)
   all_spans [] are = tt
   all_spans (part ∷ parts) are =
-      let here = All-head (λ (p : PartView). IsPartOf fares files p.spans p.lists p.history) part parts are in
-      (number_of_spans files part.spans part.lists here.spanned, all_spans parts
-      (All-tail (λ (p : PartView). IsPartOf fares files p.spans p.lists p.history) part parts are))
+      let here = All-head (λ (p : PartView). IsPartOf fares files p.spans p.lists p.history) part parts are in (
+        number_of_spans files part.spans part.lists here.spanned,
+        all_spans parts
+            (All-tail (λ (p : PartView). IsPartOf fares files p.spans p.lists p.history) part parts are),
+      )
 
   all_fits : (parts : List PartView) → ArePartsOf fares files parts → length files < 2 ^ 64
       → AllByRecursion (λ part. AllByRecursion SpanFits part.spans) parts
@@ -191,8 +194,7 @@ pub reports_of_parts : (merge : ReportsMerge) (fares : Fares) (files : List (Lis
 reports_of_parts merge fares files part parts are whole rise bounds can ends =
     let history = flat_map (λ (p : PartView). p.history) (part ∷ parts) in
     let text = report (map Posted (numbers_of_parts (part ∷ parts))) (sums history)
-    (sums_by_validator history) (sums_by_token history) in
-    (
+    (sums_by_validator history) (sums_by_token history) in (
       text,
       ap merge_of (sym (texts_same (part ∷ parts)))
           ∙ merge (length files) (history_part part) (map history_part parts)
@@ -250,8 +252,7 @@ module _ (fares : Fares) (files : List (List ℕ)) where
       (map history_part parts)
   all_readable [] are readable = tt
   all_readable (part ∷ parts) are readable =
-      let here = All-head (λ (p : PartView). IsPartOf fares files p.spans p.lists p.history) part parts are in
-      (
+      let here = All-head (λ (p : PartView). IsPartOf fares files p.spans p.lists p.history) part parts are in (
         (subst TokensFit (sym here.posted_are) (tokens_fit fares [] here.taps here.named), readable.0),
         all_readable parts
             (All-tail (λ (p : PartView). IsPartOf fares files p.spans p.lists p.history) part parts are)

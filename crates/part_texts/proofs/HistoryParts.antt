@@ -228,8 +228,7 @@ pub joined_first : (last : Bool) (news : List (Option Place)) (spans : List File
 joined_first last news [] from ends = sym (append-nil news)
 joined_first last news (span ∷ spans) from ends =
     let here : first_place ≡ span.from = cc in
-    let more : map (λ (span : FileSpan). Some first_place) spans ≡ from_ends spans = cc in
-    (
+    let more : map (λ (span : FileSpan). Some first_place) spans ≡ from_ends spans = cc in (
       news,
       ap (λ (p : Place). Some (p, news)) here,
       ends.0,
@@ -260,8 +259,7 @@ posted_first : (news ns : List ℕ) (posted : ℕ) → posted + sum_up ns < 2 ^ 
 posted_first news [] posted few =
     (sym (append-nil news), (let e : posted ≡ posted + 0 = omega arith in e))
 posted_first news (n ∷ ns) posted few =
-    let sum : (posted + n) + sum_up ns ≡ posted + (n + sum_up ns) = omega arith in
-    (
+    let sum : (posted + n) + sum_up ns ≡ posted + (n + sum_up ns) = omega arith in (
       0,
       news,
       refl,
@@ -283,8 +281,7 @@ posted_next [] news [] posted same few all =
 posted_next [] news (n ∷ ns) posted same few all = absurd (omega (arith, same))
 posted_next (o ∷ olds) news [] posted same few all = absurd (omega (arith, same))
 posted_next (o ∷ olds) news (n ∷ ns) posted same few all =
-    let sum : (posted + n) + sum_up ns ≡ posted + (n + sum_up ns) = omega arith in
-    (
+    let sum : (posted + n) + sum_up ns ≡ posted + (n + sum_up ns) = omega arith in (
       o,
       olds ++ news,
       refl,
@@ -376,7 +373,7 @@ one_part first last ends taps history last_one p fits files joined posted few ri
     let before = tokens_few history in
     let here = tokens_few p.history in
     let tokens : length (sums_by_token (history ++ p.history))
-        ≡ length (sums_by_token history) + length (sums_by_token p.history) =
+    ≡ length (sums_by_token history) + length (sums_by_token p.history) =
     ap length (by_token_joined history p.history rise)
     ∙ length-append (sums_by_token history) (sums_by_token p.history) in
     let sum : 0 + sum_up p.taps ≡ (sums p.history).taps =
@@ -542,21 +539,22 @@ follow files ends taps history last (p ∷ ps) number join goes =
     let (all_ends, all_last, more) = follow files (to_ends p.spans) (added taps p.taps)
     (history ++ p.history) (last_of last (sums_by_token p.history)) ps
     (ends_length p.spans ∙ goes.number.0) join.1 (goes_further files taps history last p ps goes uploads)
-    in
-    (
+    in (
       all_ends,
       all_last,
-      (so_far (to_ends p.spans) (added taps p.taps) (history ++ p.history)
-          (last_of last (sums_by_token p.history)),
-      part,
-      subst (λ ts. are_next_parts false (so_far (to_ends p.spans) (added taps p.taps)
-          (history ++ p.history) (last_of last (sums_by_token p.history))) (map report_of ps)
-          (so_far all_ends ts (history ++ (p.history ++ whole_history ps)) all_last))
-          (added_assoc taps p.taps (numbers_of ps))
-          (subst (λ h. are_next_parts false (so_far (to_ends p.spans) (added taps p.taps)
-          (history ++ p.history) (last_of last (sums_by_token p.history))) (map report_of ps)
-          (so_far all_ends (added (added taps p.taps) (numbers_of ps)) h all_last))
-          (append_assoc history p.history (whole_history ps)) more)),
+      (
+        so_far (to_ends p.spans) (added taps p.taps) (history ++ p.history)
+            (last_of last (sums_by_token p.history)),
+        part,
+        subst (λ ts. are_next_parts false (so_far (to_ends p.spans) (added taps p.taps)
+            (history ++ p.history) (last_of last (sums_by_token p.history))) (map report_of ps)
+            (so_far all_ends ts (history ++ (p.history ++ whole_history ps)) all_last))
+            (added_assoc taps p.taps (numbers_of ps))
+            (subst (λ h. are_next_parts false (so_far (to_ends p.spans) (added taps p.taps)
+            (history ++ p.history) (last_of last (sums_by_token p.history))) (map report_of ps)
+            (so_far all_ends (added (added taps p.taps) (numbers_of ps)) h all_last))
+            (append_assoc history p.history (whole_history ps)) more),
+      ),
     )
 
 starts_as : nothing_so_far ≡ so_far [] [] [] None
@@ -594,15 +592,16 @@ begins files p ps right =
       few = few;
     } in
     let (all_ends, all_last, more) = follow files (to_ends p.spans) (added [] p.taps) ([] ++ p.history)
-    (last_of None (sums_by_token p.history)) ps (ends_length p.spans ∙ right.number.0) whole.1 goes in
-    (
+    (last_of None (sums_by_token p.history)) ps (ends_length p.spans ∙ right.number.0) whole.1 goes in (
       all_ends,
       all_last,
-      (so_far (to_ends p.spans) (added [] p.taps) ([] ++ p.history) (last_of None (sums_by_token p.history)),
-      subst (λ s. IsNextPart true (is_none_behind (map report_of ps)) s (report_of p)
-          (so_far (to_ends p.spans) (added [] p.taps) ([] ++ p.history)
-          (last_of None (sums_by_token p.history)))) (sym starts_as) part,
-      more),
+      (
+        so_far (to_ends p.spans) (added [] p.taps) ([] ++ p.history) (last_of None (sums_by_token p.history)),
+        subst (λ s. IsNextPart true (is_none_behind (map report_of ps)) s (report_of p)
+            (so_far (to_ends p.spans) (added [] p.taps) ([] ++ p.history)
+            (last_of None (sums_by_token p.history)))) (sym starts_as) part,
+        more,
+      ),
     )
 
 none_of_none : [] ≡ sums_by_token []

@@ -139,9 +139,11 @@ behind_false (e ∷ entries) = refl
 follow_both : (first : Bool) (last : Option Token) (a b : List EntryLine) → do_follow first last a
     → do_follow (behind first a) (last_entry last a) b → do_follow first last (a ++ b)
 follow_both first last [] b one two = two
-follow_both first last (e ∷ a) b one two =
-    (one.0, follow_both false (Some e.token) a b one.1
-    (subst (λ f. do_follow f (last_entry (Some e.token) a) b) (sym (behind_false a)) two))
+follow_both first last (e ∷ a) b one two = (
+  one.0,
+  follow_both false (Some e.token) a b one.1
+      (subst (λ f. do_follow f (last_entry (Some e.token) a) b) (sym (behind_false a)) two),
+)
 
 last_both : (last : Option Token) (a b : List EntryLine)
     → last_entry last (a ++ b) ≡ last_entry (last_entry last a) b
@@ -250,8 +252,7 @@ module _ (fares : Fares) where
       let (front, back) = below_front last (map token_of p.history) (map token_of rest)
       (subst (LastIsBelow last) (tokens_both p.history rest) below) in
       let here = part_read fares p.history read.0.1 (map token_of rest) last are.0.over.lines read.0.0 front
-      back rise.0 are.0.over.of_each in
-      (
+      back rise.0 are.0.over.of_each in (
         here.entries,
         here.shown,
         here.fit,

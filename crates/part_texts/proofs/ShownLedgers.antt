@@ -132,24 +132,36 @@ fronts_shown : (was_first was_last : Bool) (stage : Stage) (ends : List (Option 
     × are_opened parts more
     × (fronts_of (ledger_at was_first was_last true stage ends) opens (map ledger_text parts)
     ≡ Ok (ledger_at first final true end all_ends, opens ++ more))
-fronts_shown was_first was_last stage ends opens [] are =
-    (was_first, was_last, stage, ends, [], tt,
-    ap (λ os. Ok (ledger_at was_first was_last true stage ends, os)) (sym (append-nil opens)))
+fronts_shown was_first was_last stage ends opens [] are = (
+  was_first,
+  was_last,
+  stage,
+  ends,
+  [],
+  tt,
+  ap (λ os. Ok (ledger_at was_first was_last true stage ends, os)) (sym (append-nil opens)),
+)
 fronts_shown was_first was_last stage ends opens (p ∷ ps) (next, few, fit, files, joined, others) =
     let first = nat_eq (length opens) 0 in
     let final = is_none_behind ps in
     let opening = ledger_opened (1 + front_count p) p in
     let (f, l, end, all_ends, more, opened_rest, same) =
     fronts_shown first final Entries next (opens ++ opening ∷ []) ps
-    (subst (λ b. are_next_ledgers b next ps) (sym (one_more opens opening)) others) in
-    (f, l, end, all_ends, opening ∷ more, (1 + front_count p, refl, opened_rest),
-    ap (λ b. and_then (front_of (length opens) (ledger_at first b true Head ends) (ledger_text p))
-    (λ read. fronts_of read.0 (opens ++ read.1 ∷ []) (map ledger_text ps))) (none_left ps)
-    ∙ ap (λ r. and_then r (λ (read : FrontsView × OpenView).
-    fronts_of read.0 (opens ++ read.1 ∷ []) (map ledger_text ps)))
-    (front_shown (length opens) first final true ends next p (or-true first) few fit files joined)
-    ∙ same
-    ∙ ap (λ os. Ok (ledger_at f l true end all_ends, os)) (append_assoc opens (opening ∷ []) more))
+    (subst (λ b. are_next_ledgers b next ps) (sym (one_more opens opening)) others) in (
+      f,
+      l,
+      end,
+      all_ends,
+      opening ∷ more,
+      (1 + front_count p, refl, opened_rest),
+      ap (λ b. and_then (front_of (length opens) (ledger_at first b true Head ends) (ledger_text p))
+          (λ read. fronts_of read.0 (opens ++ read.1 ∷ []) (map ledger_text ps))) (none_left ps)
+          ∙ ap (λ r. and_then r (λ (read : FrontsView × OpenView).
+          fronts_of read.0 (opens ++ read.1 ∷ []) (map ledger_text ps)))
+          (front_shown (length opens) first final true ends next p (or-true first) few fit files joined)
+          ∙ same
+          ∙ ap (λ os. Ok (ledger_at f l true end all_ends, os)) (append_assoc opens (opening ∷ []) more),
+    )
 
 left_shown : (parts : List PartLedger) (opens : List OpenView) → are_opened parts opens
     → lines_left opens ≡ all_lines parts
@@ -172,8 +184,7 @@ fronts_merge p ps (next, few, fit, files, joined, others) =
     let (f, l, end, all_ends, more, opened_rest, same) =
     fronts_shown true final Entries next (opening ∷ []) ps others in
     let opened_all : are_opened (p ∷ ps) (opening ∷ more) = (1 + front_count p, refl, opened_rest) in
-    let s = ledger_at f l true end all_ends in
-    (
+    let s = ledger_at f l true end all_ends in (
       opening ∷ more,
       opened_all,
       ap (λ r. and_then r merged)
@@ -261,8 +272,7 @@ sections_shown place last [] (opening ∷ opens) are opened_all = absurd opened_
 sections_shown place last (p ∷ ps) [] are opened_all = absurd opened_all
 sections_shown place last (p ∷ ps) (opening ∷ opens) (entries, lines, fit, follow, more)
     (number, shown, others) =
-    let (end, rest) = sections_shown (place + 1) (last_entry last entries) ps opens more others in
-    (
+    let (end, rest) = sections_shown (place + 1) (last_entry last entries) ps opens more others in (
       end,
       ap (λ (o : OpenView). and_then (section_of place last o)
           (λ (s : SectionView). sections_of (place + 1) s.last opens)) shown

@@ -169,8 +169,10 @@ opened_at number p = record {
 pub front_shown : (place : ℕ) (first last : Bool) (old so_far : Sums) (before after : SoFar)
     (p : PartReport) → IsNextPart first last before p after
     → front_of place (behind first last Head old so_far before) (part_text p)
-    ≡ Ok (behind first last (Tokens (length p.tokens)) p.totals p.totals after,
-    opened_at (1 + front_count p) p)
+    ≡ Ok (
+      behind first last (Tokens (length p.tokens)) p.totals p.totals after,
+      opened_at (1 + front_count p) p,
+    )
 front_shown place first last old so_far before after p is =
     let s = behind first last Head old so_far before in
     let t = behind first last (Tokens (length p.tokens)) p.totals p.totals after in
@@ -203,10 +205,17 @@ pub fronts_shown : (was_first was_last : Bool) (stage : Stage) (old so_far : Sum
     × are_opened parts more
     × (fronts_of (behind was_first was_last stage old so_far before) opens (map part_text parts)
     ≡ Ok (behind first last end part so after, opens ++ more))
-fronts_shown was_first was_last stage old so_far before after opens [] are =
-    (was_first, was_last, stage, old, so_far, [], tt,
-    ap (λ s. Ok (behind was_first was_last stage old so_far s, opens)) are
-    ∙ ap (λ os. Ok (behind was_first was_last stage old so_far after, os)) (sym (append-nil opens)))
+fronts_shown was_first was_last stage old so_far before after opens [] are = (
+  was_first,
+  was_last,
+  stage,
+  old,
+  so_far,
+  [],
+  tt,
+  ap (λ s. Ok (behind was_first was_last stage old so_far s, opens)) are
+      ∙ ap (λ os. Ok (behind was_first was_last stage old so_far after, os)) (sym (append-nil opens)),
+)
 fronts_shown was_first was_last stage old so_far before after opens (p ∷ ps) (next, is, more_parts) =
     let first = nat_eq (length opens) 0 in
     let last = is_none_behind ps in
@@ -214,15 +223,22 @@ fronts_shown was_first was_last stage old so_far before after opens (p ∷ ps) (
     let t = behind first last (Tokens (length p.tokens)) p.totals p.totals next in
     let (f, l, end, part, so, more, opened_rest, same) =
     fronts_shown first last (Tokens (length p.tokens)) p.totals p.totals next after (opens ++ opening ∷ []) ps
-    (subst (λ b. are_next_parts b next ps after) (sym (one_more opens opening)) more_parts) in
-    (f, l, end, part, so, opening ∷ more, (1 + front_count p, refl, opened_rest),
-    ap (λ b. and_then (front_of (length opens) (behind first b Head old so_far before) (part_text p))
-    (λ read. fronts_of read.0 (opens ++ read.1 ∷ []) (map part_text ps))) (none_left ps)
-    ∙ ap (λ r. and_then r (λ (read : FrontsView × OpenView).
-    fronts_of read.0 (opens ++ read.1 ∷ []) (map part_text ps)))
-    (front_shown (length opens) first last old so_far before next p is)
-    ∙ same
-    ∙ ap (λ os. Ok (behind f l end part so after, os)) (append_assoc opens (opening ∷ []) more))
+    (subst (λ b. are_next_parts b next ps after) (sym (one_more opens opening)) more_parts) in (
+      f,
+      l,
+      end,
+      part,
+      so,
+      opening ∷ more,
+      (1 + front_count p, refl, opened_rest),
+      ap (λ b. and_then (front_of (length opens) (behind first b Head old so_far before) (part_text p))
+          (λ read. fronts_of read.0 (opens ++ read.1 ∷ []) (map part_text ps))) (none_left ps)
+          ∙ ap (λ r. and_then r (λ (read : FrontsView × OpenView).
+          fronts_of read.0 (opens ++ read.1 ∷ []) (map part_text ps)))
+          (front_shown (length opens) first last old so_far before next p is)
+          ∙ same
+          ∙ ap (λ os. Ok (behind f l end part so after, os)) (append_assoc opens (opening ∷ []) more),
+    )
 
 -- ---- all sections
 abbrev tokens_rise : Option Token → List PartReport → Type 0

@@ -113,14 +113,43 @@ sums_say word s are = (counted_of s, says, sums_made s are)
     says : IsCountedText word (counted_of s) (counted_text word (counted_of s))
     says =
         let fit = are.taps in
-        let all = are.answers in
-        (_, _, count_says word s.taps fit,
-        (_, _, count_says (codes " paid ") s.paid (omega (arith, fit, all)),
-        (_, _, count_says (codes " transfers ") s.transfers (omega (arith, fit, all)),
-        (_, _, count_says (codes " capped ") s.capped (omega (arith, fit, all)),
-        (_, _, count_says (codes " stale ") s.stale (omega (arith, fit, all)),
-        (_, _, count_says (codes " unknown ") s.unknown (omega (arith, fit, all)),
-        count_says (codes " cents ") s.cents are.cents, refl), refl), refl), refl), refl), refl)
+        let all = are.answers in (
+          _,
+          _,
+          count_says word s.taps fit,
+          (
+            _,
+            _,
+            count_says (codes " paid ") s.paid (omega (arith, fit, all)),
+            (
+              _,
+              _,
+              count_says (codes " transfers ") s.transfers (omega (arith, fit, all)),
+              (
+                _,
+                _,
+                count_says (codes " capped ") s.capped (omega (arith, fit, all)),
+                (
+                  _,
+                  _,
+                  count_says (codes " stale ") s.stale (omega (arith, fit, all)),
+                  (
+                    _,
+                    _,
+                    count_says (codes " unknown ") s.unknown (omega (arith, fit, all)),
+                    count_says (codes " cents ") s.cents are.cents,
+                    refl,
+                  ),
+                  refl,
+                ),
+                refl,
+              ),
+              refl,
+            ),
+            refl,
+          ),
+          refl,
+        )
 
 counts_of : (n : Counted) (s : Sums) (word text : List ℕ) → IsCountedText word n text
     → sums_by n ≡ Some s → AreCounts s × (text ≡ counted_text word (counted_of s))
@@ -163,9 +192,11 @@ head_complete word n small =
 pub head_sound : (word line : List ℕ) (n : ℕ) → head_in word line ≡ Some n
     → (n < 2 ^ 64) × (line ≡ number_line word n)
 head_sound word line n e =
-    let (text, is, shown) = line_sound (count_form word) line n e in
-    (is.1.0, shown ∙ ap (λ (x : List ℕ). x ++ 10 ∷ []) (count_shown word n text is)
-    ∙ append_assoc word (decimal n) (10 ∷ []))
+    let (text, is, shown) = line_sound (count_form word) line n e in (
+      is.1.0,
+      shown ∙ ap (λ (x : List ℕ). x ++ 10 ∷ []) (count_shown word n text is)
+          ∙ append_assoc word (decimal n) (10 ∷ []),
+    )
 
 -- ---- validators
 key_line : (word digits : List ℕ) (s : Sums)
@@ -285,10 +316,19 @@ end_complete (Refused taps offset fault) fits =
     ap refused_by (ap (said_by (then_read (count_at (codes " refused "))
     (then_read (count_at (codes " at ")) (count_at (codes " L"))))) (refused_line taps offset fault)
     ∙ line_complete refused_form refl (taps, (offset, fault_number fault))
-    (RefusedText (taps, (offset, fault_number fault)))
-    (_, _, count_says (codes " refused ") taps fits.0,
-    (_, _, count_says (codes " at ") offset fits.1,
-    count_says (codes " L") (fault_number fault) (small_number fault), refl), refl))
+    (RefusedText (taps, (offset, fault_number fault))) (
+      _,
+      _,
+      count_says (codes " refused ") taps fits.0,
+      (
+        _,
+        _,
+        count_says (codes " at ") offset fits.1,
+        count_says (codes " L") (fault_number fault) (small_number fault),
+        refl,
+      ),
+      refl,
+    ))
     ∙ ap (option_map (λ fault. Refused taps offset fault)) (fault_found fault fits.2)
 end_complete (Cut taps) fits = absurd fits
 end_complete Undrawn fits = absurd fits

@@ -72,7 +72,10 @@ fn counted<'a>(
     let (unknown, text) = count(text, b" unknown ")?;
     let (cents, text) = count(text, b" cents ")?;
     Some((
-        (taps, (paid, (transfers, (capped, (stale, (unknown, cents)))))),
+        (
+            taps,
+            (paid, (transfers, (capped, (stale, (unknown, cents))))),
+        ),
         text,
     ))
 }

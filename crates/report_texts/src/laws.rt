@@ -17,8 +17,7 @@ pub fn heads_are_read()
         → head_in word (number_line word number) ≡ Some number }
     ensures sound { (word line : List ℕ) (number : ℕ) → head_in word line ≡ Some number
         → (number < 2 ^ 64) × (line ≡ number_line word number) }
-{
-}
+{}
 
 /// The line of an upload is read back.
 pub fn uploads_are_read()
@@ -27,16 +26,14 @@ pub fn uploads_are_read()
     ensures sound { (line : List ℕ) (upload : ℕ) (end : UploadEnd)
         → upload_in line ≡ Some (upload, end)
         → ((upload < 2 ^ 64) × IsUploadEnd end) × (line ≡ upload_line upload end) }
-{
-}
+{}
 
 /// The line of the totals is read back.
 pub fn totals_are_read()
     ensures complete { (sums : Sums) → AreCounts sums → totals_in (totals_line sums) ≡ Some sums }
     ensures sound { (line : List ℕ) (sums : Sums) → totals_in line ≡ Some sums
         → AreCounts sums × (line ≡ totals_line sums) }
-{
-}
+{}
 
 /// The line of a validator is read back.
 pub fn validators_are_read()
@@ -44,8 +41,7 @@ pub fn validators_are_read()
         → validator_in (validator_line sum) ≡ Some sum }
     ensures sound { (line : List ℕ) (sum : ℕ × Sums) → validator_in line ≡ Some sum
         → IsValidatorSum sum × (line ≡ validator_line sum) }
-{
-}
+{}
 
 /// The line of a token is read back.
 pub fn tokens_are_read()
@@ -53,5 +49,4 @@ pub fn tokens_are_read()
         → token_line_in (token_line sum) ≡ Some sum }
     ensures sound { (line : List ℕ) (sum : Token × Sums) → token_line_in line ≡ Some sum
         → IsTokenSum sum × (line ≡ token_line sum) }
-{
-}
+{}
