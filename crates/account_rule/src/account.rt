@@ -1,4 +1,4 @@
-//! The account of one token: what it keeps, and its step.
+//! The account of one token: its state, and its step.
 
 ghost use Rattle.std.specs.Prelude.{◌≡◌, ℕ, ◌+◌, ◌<◌, ◌≤◌, List, [], ◌∷◌, ◌++◌, length, All};
 ghost use Rattle.std.specs.Prelude.{IfSome, IsTrue, Some, false};
@@ -24,29 +24,22 @@ use crate::tap::TapIn;
 use crate::window::{Window, WindowView};
 use tariffs::{Clock, FareTable, Mode, Tariff};
 
-/// The account of one token under one fare table.
-///
-/// It stands for the list of all taps of the token, and keeps of them a few numbers that decide
-/// every later reply.
+/// The account of one token under one fare table: a few numbers in place of its list of taps.
 #[derive(Clone, Copy, Debug, PartialEq, Eq)]
 pub struct Account {
     /// The moment of the last live tap.
     last: u64,
     /// The moment of the last ride.
     ride: u64,
-    /// Whether there was a live tap: the first one is a ride and so opens a window. Before it, no
-    /// other field says anything.
+    /// False before the first live tap, which is a ride: then no other field says anything.
     has_window: bool,
     /// How many transfers followed the last ride.
     given: u8,
     /// The mode of the last live tap.
     mode: Mode,
-    /// The mode of the last ride.
     ride_mode: Mode,
-    /// The place of the token's class in the tariff that is valid at the last live tap, so that
-    /// each tariff is asked for it once.
+    /// The index of the token's class in the last live tap's tariff, so that it is looked up once.
     class: u32,
-    /// The last window.
     window: Window,
 }
 
@@ -68,14 +61,10 @@ impl Account {
         }
     }
 
-    /// Takes one more tap of the token, and returns what the rule replies to it.
-    ///
-    /// The table and the token are the same in all calls on an account, the clock is the table's,
-    /// the tap's mode is one of the table's, and its moment lies before 2100-01-01T00:00Z. There is
-    /// no order of moments to keep: a tap that comes too late is stale. The step takes no memory.
-    /// It asks a tariff for the token's class at the first live tap under it alone, and the clock
-    /// for the window's end if a ride opens a window. No reply costs more than the greatest fare of
-    /// a table.
+    /// Charges one more tap of the token, and returns the rule's reply: a tap that comes too late
+    /// is stale. Takes no memory. It looks up the class at the first live tap under a tariff, and
+    /// the window's end if a ride opens a window. All calls on an account have one table and one
+    /// token.
     #[inline(always)]
     pub fn step(&mut self, table: &FareTable, clock: &Clock, token: &[u8], tap: TapIn) -> Reply
         requires clock { clock.now ≡ table.now.zone }
@@ -84,7 +73,7 @@ impl Account {
         requires early { tap.moment < 4_102_444_800_000 }
         requires stands { StandsForSome (rules_of table.now token.now) self.old }
 
-        // Of every list for which the account stood.
+        // For every list of taps that the account represents.
         ensures reply { (taps : List TapIn) → Stands (rules_of table.now token.now) self.old taps
             → result ≡ reply (rules_of table.now token.now) taps tap }
         ensures stands { (taps : List TapIn) → Stands (rules_of table.now token.now) self.old taps
@@ -107,8 +96,7 @@ impl Account {
         self.live_step(table.first(), clock, mode, tap.moment)
     }
 
-    /// The last window, or `None` before the first ride: its paid rides and its cents are within
-    /// the highest limits of the terms of its rides (MTA, fare capping).
+    /// The last window, within the limits of its rides' terms, or `None` before the first ride.
     pub fn window(&self) -> Option<WindowView>
         ensures window { (rules : TokenRules) (taps : List TapIn) → Stands rules self.now taps
             → result ≡ last_window rules taps }
@@ -128,10 +116,7 @@ impl Account {
         }
     }
 
-    /// Takes a first live tap at the moment, on the mode, which is a ride, and returns the reply to
-    /// it.
-    ///
-    /// Kept out of the step, since it runs once a token and the rest of the step at every tap.
+    /// Kept out of `step`: it runs once a token, and the rest of the step at every tap.
     #[cold]
     #[inline(never)]
     #[tactic(auto, unfolding(crate::specs::Kept::kept_of, crate::specs::inside::Kept::open_window, crate::specs::TokenRules::rules_of))]
@@ -181,9 +166,7 @@ impl Account {
         Reply::to_ride(cents)
     }
 
-    /// What `step` does with a tap at the moment, on the mode.
-    ///
-    /// Kept out of the step, so that a run with one tariff has a compare there and no more.
+    /// Kept out of `step`, so that a run with one tariff has a compare there and no more.
     #[cold]
     #[inline(never)]
     fn later_step(
@@ -215,8 +198,6 @@ impl Account {
         self.live_step(table.at(moment), clock, mode, moment)
     }
 
-    /// Takes a live tap at the moment, on the mode, where the tariff is valid then and the class is
-    /// the token's in it, and returns the reply to it.
     #[inline(always)]
     fn live_step(&mut self, tariff: &Tariff, clock: &Clock, mode: Mode, moment: u64) -> Reply
         requires class { self.old.class < length tariff.now.meaning.classes }
@@ -242,8 +223,6 @@ impl Account {
         Reply::to_ride(self.take_ride(tariff, clock, mode, moment))
     }
 
-    /// The place of the token's class in the tariff that is valid at the moment, which is no
-    /// earlier than the last live tap: the one that is kept, unless another tariff is valid now.
     #[inline(always)]
     fn class_at(&self, table: &FareTable, token: &[u8], moment: u64) -> u32
         requires token { length token.now ≡ 16 }
@@ -260,9 +239,7 @@ impl Account {
         }
     }
 
-    /// Whether the last ride gives a transfer to a live tap at the moment, on the mode, where the
-    /// tariff is valid then and the class is the token's in it. The time is asked first, since it
-    /// says no most often.
+    /// The time is compared first, since it fails most often.
     #[tactic(auto, unfolding(crate::specs::inside::Kept::transfers_in, crate::specs::inside::Kept::gives, crate::specs::Kept::kept_trip, crate::specs::Taps::live_at))]
     fn gives_transfer(&self, tariff: &Tariff, moment: u64, mode: Mode) -> bool
         requires class { self.now.class < length tariff.now.meaning.classes }
@@ -279,7 +256,6 @@ impl Account {
             && tariff.permits(self.mode, mode)
     }
 
-    /// Takes a live tap at the moment, on the mode, as a transfer.
     fn take_transfer(&mut self, mode: Mode, moment: u64)
         requires few { self.old.given < 9 }
         ensures has_window { self.new.has_window ≡ self.old.has_window }
@@ -296,7 +272,6 @@ impl Account {
         self.given += 1;
     }
 
-    /// Takes a live tap at the moment, on the mode, as a ride, and returns what it costs.
     #[tactic(auto, unfolding(crate::specs::inside::Kept::window_at, crate::specs::inside::Kept::open_window))]
     fn take_ride(&mut self, tariff: &Tariff, clock: &Clock, mode: Mode, moment: u64) -> Option<u32>
         requires class { self.old.class < length tariff.now.meaning.classes }
@@ -326,7 +301,6 @@ impl Account {
         self.window.add_ride(tariff.ride_terms(self.class, mode))
     }
 
-    /// Keeps a live tap at the moment, on the mode, as the last ride.
     fn begin_trip(&mut self, mode: Mode, moment: u64)
         ensures has_window { self.new.has_window ≡ self.old.has_window }
         ensures state { kept_numbers self.new ≡ record {

@@ -1,9 +1,6 @@
-//! The fare rule of one account: what each tap of a token costs, and why.
-//!
-//! The rule speaks of the whole list of a token's taps (`specs/`): which of them are live, which
-//! live taps are rides and which free transfers, and into which windows the rides fall.
-//! [`Account`] keeps a few numbers in place of the list, and answers each tap as the rule answers
-//! it after all taps before it. [`laws`] has what holds of the windows of every list.
+//! The fare rule of one account: what each tap of a token costs, and why. `specs/` states it over
+//! the whole list of a token's taps. [`Account`] stores a few numbers in place of the list, and
+//! [`laws`] has theorems about every list. A moment is in milliseconds since 1970-01-01T00:00Z.
 #![tactic(auto)]
 
 mod account;

@@ -28,7 +28,6 @@ pub struct Reply {
 }
 
 impl Reply {
-    /// A reply that costs nothing.
     #[tactic(auto, unfolding(crate::specs::Replies::reply_with))]
     pub(crate) fn free(answer: Answer) -> Self
         ensures { result ≡ reply_with answer 0 }
@@ -36,7 +35,6 @@ impl Reply {
         Reply { answer, cents: 0 }
     }
 
-    /// The reply to a ride for which this is paid, or for which a limit is reached.
     #[tactic(auto, unfolding(crate::specs::Replies::ride_reply, crate::specs::Replies::reply_with))]
     pub(crate) fn to_ride(paid: Option<u32>) -> Self
         ensures { result ≡ ride_reply paid }

@@ -14,13 +14,12 @@ use tariffs::{Clock, Tariff, Terms};
 /// The highest ride limit of a table's classes. A window counts its rides up to it.
 const MAX_RIDES: u16 = 1_000;
 
-/// A window as its owner sees it: its rides, and what they cost together.
+/// A window: its rides, and what they cost together.
 #[derive(Clone, Copy, Debug, PartialEq, Eq)]
 pub struct WindowView {
-    /// The moment of its first ride, in milliseconds since 1970-01-01T00:00Z.
+    /// The moment of its first ride.
     pub start: u64,
-    /// The moment from which on a ride opens the next window, in milliseconds since
-    /// 1970-01-01T00:00Z.
+    /// The moment from which on a ride opens the next window.
     pub until: u64,
     /// How many of its rides were paid.
     pub paid: u32,
@@ -28,23 +27,18 @@ pub struct WindowView {
     pub cents: u32,
 }
 
-/// What an account keeps of its last window.
+/// What an account stores of its last window.
 #[derive(Clone, Copy, Debug, PartialEq, Eq)]
 pub(crate) struct Window {
-    /// The moment of its first ride, in milliseconds since 1970-01-01T00:00Z.
     pub(crate) start: u64,
-    /// The moment from which on a ride opens the next window.
     pub(crate) until: u64,
-    /// What its rides cost together.
     pub(crate) cents: u32,
-    /// How many rides it has, counted up to `MAX_RIDES` and no further.
+    /// Counted up to `MAX_RIDES` and no further.
     pub(crate) rides: u16,
-    /// How many of them were paid.
     pub(crate) paid: u16,
 }
 
 impl Window {
-    /// A window with no ride yet, for a first ride at `start`.
     #[tactic(auto, unfolding(crate::specs::inside::Kept::open_window))]
     pub(crate) fn open(start: u64, until: u64) -> Self
         ensures { result ≡ open_window start until }
@@ -58,9 +52,6 @@ impl Window {
         }
     }
 
-    /// A window with no ride yet, for a first ride at `start`, as long as the tariff says that is
-    /// valid then.
-    ///
     /// Kept out of its callers: a token opens few windows.
     #[cold]
     #[inline(never)]
@@ -72,7 +63,6 @@ impl Window {
         Window::open(start, clock.window_end(tariff.window_span(), start))
     }
 
-    /// What its owner sees of it.
     #[tactic(auto, unfolding(crate::specs::inside::Kept::shown_of))]
     pub(crate) fn shown(self) -> WindowView
         ensures { result ≡ shown_of self }
@@ -85,7 +75,6 @@ impl Window {
         }
     }
 
-    /// Counts one more ride, and returns what is paid for it, or `None` if a limit is reached.
     #[tactic(auto, unfolding(crate::specs::inside::Kept::with_ride, crate::specs::Windows::is_paid))]
     pub(crate) fn add_ride(&mut self, terms: Terms) -> Option<u32>
         requires bounds { AreRideTerms terms }
@@ -104,7 +93,6 @@ impl Window {
         Some(cents)
     }
 
-    /// Counts one more ride, for which nothing is paid since the ride limit is reached.
     fn count_free_ride(&mut self)
         requires room { self.old.rides ≤ 1_000 }
         ensures { self.new ≡ record self.old { rides = min (self.old.rides + 1) 1_000 } }
@@ -114,7 +102,6 @@ impl Window {
         }
     }
 
-    /// Why its next ride is answered as it is.
     #[tactic(auto, unfolding(crate::specs::inside::Kept::next_reason))]
     pub(crate) fn next_reason(self, terms: Terms) -> Reason
         requires bounds { AreRideTerms terms }
@@ -129,8 +116,7 @@ impl Window {
     }
 }
 
-/// What a ride costs, in cents, if all rides of its window have these terms. `place` is the number
-/// of rides before it in the window.
+/// The cents of a ride after `place` rides of its window, all of which have these terms.
 #[tactic(auto, unfolding(crate::specs::Windows::charge, crate::specs::Laws::place_cents))]
 pub fn cents_at(terms: Terms, place: u32) -> u32
     requires bounds { AreRideTerms terms }
@@ -140,7 +126,6 @@ pub fn cents_at(terms: Terms, place: u32) -> u32
     charge(terms, place, place * terms.fare).cents()
 }
 
-/// What decides the cents of a ride, if its window has had `rides` rides, which cost `cents`.
 #[tactic(auto, unfolding(crate::specs::Windows::charge))]
 fn charge(terms: Terms, rides: u32, cents: u32) -> Charge
     requires bounds { AreRideTerms terms }
@@ -164,8 +149,7 @@ fn charge(terms: Terms, rides: u32, cents: u32) -> Charge
     }
 }
 
-/// What is paid for a ride below the ride limit, if the rides of its window cost `cents`; `None` if
-/// the ceiling is reached. The numbers alone, since this runs at each ride.
+/// The numbers alone, since it runs at each ride.
 #[tactic(auto, unfolding(crate::specs::Windows::charge, crate::specs::Windows::is_paid))]
 fn paid_below(terms: Terms, cents: u32) -> Option<u32>
     requires bounds { AreRideTerms terms }

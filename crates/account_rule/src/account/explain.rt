@@ -23,10 +23,7 @@ use crate::window::Window;
 use tariffs::{Clock, FareTable, Mode, Tariff};
 
 impl Account {
-    /// Takes one more tap of the token, as `step` does, and returns why the rule replies to it as
-    /// it does.
-    ///
-    /// Table, clock, token and tap are those of `step`. It takes no memory.
+    /// As `step`, but returns the reason, from which the reply follows. Takes no memory.
     pub fn explain_step(
         &mut self,
         table: &FareTable,
@@ -40,7 +37,6 @@ impl Account {
         requires early { tap.moment < 4_102_444_800_000 }
         requires stands { StandsForSome (rules_of table.now token.now) self.old }
 
-        // Of every list for which the account stood.
         ensures reason { (taps : List TapIn) → Stands (rules_of table.now token.now) self.old taps
             → result ≡ reason (rules_of table.now token.now) taps tap }
         ensures stands { (taps : List TapIn) → Stands (rules_of table.now token.now) self.old taps
@@ -71,11 +67,7 @@ impl Account {
         self.explain_ride(tariff, clock, mode, tap.moment)
     }
 
-    /// Why a ride at the moment, on the mode, would be no transfer after the taps that the account
-    /// has seen.
-    ///
-    /// The table and the token are those of `step`. It says so of rides alone: of a tap that is a
-    /// transfer, its answer has no meaning.
+    /// Why a ride at the moment, on the mode, is not a transfer. Of a transfer it says nothing.
     pub fn no_transfer(
         &self,
         table: &FareTable,
@@ -85,7 +77,6 @@ impl Account {
     ) -> NoTransfer
         requires token { length token.now ≡ 16 }
 
-        // Of every list for which the account stands.
         ensures lacks { (taps : List TapIn) → Stands (rules_of table.now token.now) self.now taps
             → result ≡ no_transfer (rules_of table.now token.now) taps moment mode }
         ensures modes { (rules : TokenRules) (taps : List TapIn) → Stands rules self.now taps
@@ -98,8 +89,6 @@ impl Account {
         self.spent(tariff, tariff.class_of(token), moment, mode)
     }
 
-    /// Why the last trip gives no transfer to a ride at the moment, on the mode, if the tariff is
-    /// valid then and the class is the token's in it.
     #[tactic(auto, unfolding(crate::specs::inside::Kept::transfers_in, crate::specs::NoTransfers::no_transfer_from, crate::specs::Kept::kept_trip, crate::specs::Taps::live_at))]
     fn spent(&self, tariff: &Tariff, class: u32, moment: u64, mode: Mode) -> NoTransfer
         requires class { class < length tariff.now.meaning.classes }
@@ -128,7 +117,6 @@ impl Account {
         }
     }
 
-    /// Why a tap is a transfer: the last ride gives it.
     #[tactic(auto, unfolding(crate::specs::Reasons::given_by, crate::specs::Kept::kept_trip, crate::specs::Taps::live_at))]
     fn given(&self) -> Reason
         ensures { result ≡ given_by (kept_trip (Some (kept_numbers self.now))) }
@@ -139,8 +127,6 @@ impl Account {
         }
     }
 
-    /// Takes a live tap at the moment, on the mode, as a ride, and returns why it costs what it
-    /// costs.
     #[tactic(auto, unfolding(crate::specs::inside::Kept::window_at, crate::specs::inside::Kept::open_window))]
     fn explain_ride(&mut self, tariff: &Tariff, clock: &Clock, mode: Mode, moment: u64) -> Reason
         requires class { self.old.class < length tariff.now.meaning.classes }
