@@ -26,13 +26,12 @@ use toml::{Table, Value};
 
 const MAX_NAME_BYTES: usize = 64;
 
-/// Why the names of classes are not had.
+/// Why the names of classes cannot be had.
 #[derive(Clone, Copy, Debug, PartialEq, Eq)]
 pub enum ClassFault {
-    /// The text is no TOML, or names no default class.
+    /// The text is not TOML, or names no default class.
     Text,
-    /// A name cannot stand in a ledger: it is empty, longer than 64 bytes, or has a byte that is no
-    /// letter, digit, hyphen or low line.
+    /// A name cannot be in a ledger: not 1 to 64 letters, digits, hyphens and low lines.
     Name,
     NoMemory,
 }
@@ -49,16 +48,15 @@ impl From<AllocError> for ClassFault {
     }
 }
 
-/// Why the names of classes of several texts are not had.
+/// Why the names of classes of several texts cannot be had.
 #[derive(Clone, Copy, Debug, PartialEq, Eq)]
 pub struct WrongNames {
-    /// The place of the text, from 0.
+    /// The index of the text.
     pub place: usize,
     /// Why.
     pub fault: ClassFault,
 }
 
-/// The names of riders' classes by one text, by their tokens.
 #[derive(Drop)]
 struct TextNames {
     riders: BTreeMap<[u8; 16], String>,
@@ -66,7 +64,6 @@ struct TextNames {
     usual: String,
 }
 
-/// The names by a text that is valid from a moment on.
 #[derive(Drop)]
 struct DatedNames {
     /// The moment, in milliseconds since 1970-01-01T00:00Z.
@@ -81,7 +78,6 @@ pub struct ClassNames {
     later: Vec<DatedNames>,
 }
 
-/// Whether the byte is a letter, a digit, a hyphen or a low line.
 fn is_bare(byte: u8) -> bool
     ensures { result ≡ is_bare byte }
 {
@@ -103,14 +99,12 @@ fn are_bare(bytes: &[u8]) -> bool
     true
 }
 
-/// Whether the name can stand in a ledger.
 fn is_plain(name: &str) -> bool
     ensures { result ≡ is_plain_name name.now }
 {
     1 <= name.len() && (name.len() <= MAX_NAME_BYTES && are_bare(name.as_bytes()))
 }
 
-/// The name, if it can stand in a ledger.
 fn plain(alloc: Global, name: &str) -> Result<String, ClassFault>
     ensures name { IfOk result (λ copy. string_bytes copy ≡ name.now) }
     ensures right { OnOk result (is_plain_name name.now ≡ true) }
@@ -124,7 +118,6 @@ fn plain(alloc: Global, name: &str) -> Result<String, ClassFault>
     Ok(String::from_str(alloc, name)?)
 }
 
-/// The token that 32 hexadecimal digits of either case name.
 fn token_of(digits: &str) -> Option<[u8; 16]>
     ensures { result ≡ result_ok (decode_sized digits.now 16) }
 {
@@ -153,7 +146,6 @@ fn default_of<'a>(tree: &'a Table) -> Option<&'a str>
     at(tree, "default_class")?.as_str()
 }
 
-/// Keeps the class of a rider, if no earlier key has named the token.
 fn keep(
     riders: &mut BTreeMap<[u8; 16], String>,
     token: [u8; 16],
@@ -170,7 +162,6 @@ fn keep(
     Ok(())
 }
 
-/// Keeps the class of a key, if it names a token that no earlier key has named.
 fn add(
     alloc: Global,
     riders: &mut BTreeMap<[u8; 16], String>,
@@ -222,7 +213,6 @@ fn rider_classes(alloc: Global, tree: &Table) -> Result<BTreeMap<[u8; 16], Strin
     }
 }
 
-/// The names of the classes in the text of a fare table.
 fn names_of(alloc: Global, text: &[u8]) -> Result<TextNames, ClassFault>
     ensures classes { IfOk result (λ names. (tree : Members)
         × (parse_document text.now ≡ Some tree) × NamesOf names tree) }
@@ -252,7 +242,6 @@ fn names_of(alloc: Global, text: &[u8]) -> Result<TextNames, ClassFault>
 }
 
 impl TextNames {
-    /// The class of the rider of a token.
     fn class_of(&self, token: &[u8; 16]) -> &str
         ensures { result.now ≡ class_in self.now token.now }
     {
@@ -263,7 +252,6 @@ impl TextNames {
     }
 }
 
-/// Names, and those of the text at a place, which is valid from the moment on.
 fn next_names(
     alloc: Global,
     names: ClassNames,
@@ -294,20 +282,19 @@ fn next_names(
 }
 
 impl ClassNames {
-    /// The names of the classes in the text of a fare table, which no other text follows. The text
-    /// is one that is read as a fare table: else a token has the class of the first key that names
-    /// it.
+    /// The names of the classes in the text of a fare table that no other follows. If the text is
+    /// not one that is read as a fare table, a token has the class of the first key that names it.
     pub fn read(alloc: Global, text: &[u8]) -> Result<ClassNames, ClassFault>
         ensures classes { IfOk result (λ names. (tree : Members)
             × (parse_document text.now ≡ Some tree) × HasClasses names tree []) }
 
-        // A name that cannot stand in a ledger is reported exactly if the text has one.
+        // A name that cannot be in a ledger is reported exactly if the text has one.
         ensures plain { OnOk result ((tree : Members)
             → parse_document text.now ≡ Some tree → has_plain_classes tree ≡ true) }
         ensures fault { IfErr result (λ fault. fault ≡ ClassFault.Name → (tree : Members)
             × (parse_document text.now ≡ Some tree) × (has_plain_classes tree ≡ false)) }
 
-        // The text fault comes only if the text is no TOML, or names no default class.
+        // The text fault comes only if the text is not TOML, or names no default class.
         ensures text { IfErr result (λ fault. fault ≡ ClassFault.Text → IsUtf8 text.now
             → (tree : Members) → parse_document text.now ≡ Some tree → default_in tree ≡ None) }
     {
@@ -318,9 +305,8 @@ impl ClassNames {
         })
     }
 
-    /// These names, and those of a text that is valid from the moment on, in milliseconds since
-    /// 1970-01-01T00:00Z, and that no other text follows. The moment lies after those of the texts
-    /// before it.
+    /// These names, and those of a text that is valid from the moment on, after all texts before
+    /// it.
     pub fn followed_by(mut self, from: u64, next: ClassNames) -> Result<ClassNames, AllocError>
         ensures { IfOk result (λ names. (tree other : Members) (later : List (ℕ × Members))
             → HasClasses self tree later → HasClasses next other []
@@ -333,12 +319,8 @@ impl ClassNames {
         Ok(self)
     }
 
-    /// The names of the classes in the texts of fare tables that follow one another, of which these
-    /// are the fares.
-    ///
-    /// # Errors
-    ///
-    /// The fault of the first text that has one, with the place of the text.
+    /// The names of the classes in the texts that follow one another, of which these are the fares.
+    /// The error is the first text's that has one.
     pub fn of_texts(
         alloc: Global,
         fares: &FareTable,
@@ -365,8 +347,7 @@ impl ClassNames {
         Ok(names)
     }
 
-    /// The class that the rider of a token has at the moment, in milliseconds since
-    /// 1970-01-01T00:00Z: the one by the text that is valid then.
+    /// The class of a token's rider at the moment, by the text that is valid then.
     pub fn class_of(&self, moment: u64, token: &[u8; 16]) -> &str
         ensures { result.now ≡ class_by self.now moment token.now }
     {
