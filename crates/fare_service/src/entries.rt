@@ -21,7 +21,6 @@ fn count(books: &[ShardBook]) -> usize {
     count as usize
 }
 
-/// Appends the spots of a book's entries, in history order.
 fn push_book(
     list: &mut Vec<Spot>,
     books: &[ShardBook],
@@ -40,7 +39,6 @@ fn push_book(
     Ok(())
 }
 
-/// The spots of the entries of all books, book by book, in eight bytes each.
 fn all_of(alloc: Global, books: &[ShardBook]) -> Result<Vec<Spot>, NoMemory>
     ensures { IfOk result (λ list. entries_at_spots books.now list.items ≡ all_entries books.now) }
 {
@@ -53,7 +51,6 @@ fn all_of(alloc: Global, books: &[ShardBook]) -> Result<Vec<Spot>, NoMemory>
     Ok(list)
 }
 
-/// Puts the spots in order of their entries' tokens: those of one token stay in their order.
 fn sort(list: &mut Vec<Spot>, books: &[ShardBook]) -> Result<(), NoMemory>
     ensures { OnOk result
         (IsByToken (entries_at_spots books.now list.old.items)
@@ -63,8 +60,7 @@ fn sort(list: &mut Vec<Spot>, books: &[ShardBook]) -> Result<(), NoMemory>
     Ok(())
 }
 
-/// The spots of the entries of all books in order of token, those of a token in history order.
-/// While they are sorted they take sixteen bytes each, and eight from then on.
+/// While they are sorted the spots take sixteen bytes each, and eight from then on.
 pub(crate) fn by_token(alloc: Global, books: &[ShardBook]) -> Result<Vec<Spot>, NoMemory>
     ensures { IfOk result
         (λ list. IsByToken (all_entries books.now) (entries_at_spots books.now list.items)) }
@@ -74,7 +70,6 @@ pub(crate) fn by_token(alloc: Global, books: &[ShardBook]) -> Result<Vec<Spot>, 
     Ok(list)
 }
 
-/// The token's entries of all books, book by book.
 pub(crate) fn own_of(
     alloc: Global,
     books: &[ShardBook],

@@ -16,7 +16,6 @@ use std::alloc::Global;
 use std::io::Write;
 use tap_views::{NoMemory, Token};
 
-/// The explained statement of a token.
 fn explained_text(alloc: Global, books: &[ShardBook], token: Token) -> Result<String, NoMemory>
     requires { 0 < length books.now }
     ensures { IfOk result (λ text. IsExplainedOf books.now token (string_bytes text)) }
@@ -27,11 +26,9 @@ fn explained_text(alloc: Global, books: &[ShardBook], token: Token) -> Result<St
     Ok(text)
 }
 
-/// Writes the explained statement of a token: the head line, the token's terms by each
-/// table, its entries, each
-/// with the account rule's reason for it after its earlier entries, their totals, and all its
-/// windows, the last one last. Under a zone each entry and each window has its local times too. All
-/// memory is taken before the first byte is written: on a fault of memory nothing was.
+/// Writes the explained statement of a token: header line, the token's terms by each table, its
+/// entries with the account rule's reasons, their totals, and all its windows. Under a zone entries
+/// and windows have local times too. All memory is taken before the first byte is written.
 pub fn write_explained<W: Write>(
     alloc: Global,
     books: &[ShardBook],

@@ -13,7 +13,7 @@ pub enum OpenFault {
     /// There are more than 65,535 uploads.
     #[error("too many uploads")]
     Uploads,
-    /// Memory was refused, or the system gave no seed.
+    /// An allocation failed, or the system gave no seed.
     #[error("out of memory")]
     NoMemory,
 }
@@ -21,7 +21,7 @@ pub enum OpenFault {
 /// Why shares were not gathered. Service and shares are dropped.
 #[derive(Clone, Copy, Debug, PartialEq, Eq, thiserror::Error)]
 pub enum GatherFault {
-    /// Memory was refused. It is all taken first.
+    /// An allocation failed. All memory is taken first.
     #[error("out of memory")]
     NoMemory,
     /// The shares hold fewer visits of a shard than were made. The first such shard is named.
@@ -38,13 +38,13 @@ pub enum RunFault {
     /// The number of workers is not 1 to 16.
     #[error("a service has 1 to 16 workers")]
     Workers,
-    /// Memory or a thread was refused. Workers that were started have ended.
+    /// An allocation or a thread failed. Workers that were started have ended.
     #[error("out of memory")]
     NoMemory,
     /// The shares were not gathered.
     #[error("{0}")]
     Gather(GatherFault),
-    /// An upload was not lent. The shares of the other workers were dropped too.
+    /// An upload was not lent. The other workers' shares were dropped too.
     #[error("{0}")]
     Unlent(Unlent),
 }

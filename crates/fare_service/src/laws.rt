@@ -1,4 +1,4 @@
-//! Laws of the definitions and of what was gathered, each as the contract of a small function.
+//! Theorems about the definitions and about an outcome, each the contract of a small function.
 
 mod draws;
 mod places;

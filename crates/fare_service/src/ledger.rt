@@ -22,7 +22,7 @@ use std::io::Write;
 use tap_views::{NoMemory, Token};
 use tariffs::FareTable;
 
-/// The fare table of the first book, which is that of all books of a service.
+/// All books of a service have one table.
 pub(crate) fn table_of(books: &[ShardBook]) -> &FareTable
     requires { 0 < length books.now }
     ensures { (first : Book) × (slice_get books.now 0 ≡ Some first) × (result.now ≡ first.table) }
@@ -30,8 +30,7 @@ pub(crate) fn table_of(books: &[ShardBook]) -> &FareTable
     books[0].table()
 }
 
-/// The head line in a text with room for a piece and a line more, and the spots of the entries of
-/// all books in order of token.
+/// The text has room for a piece and a line more.
 fn begun(alloc: Global, books: &[ShardBook]) -> Result<(String, Vec<Spot>), NoMemory>
     ensures head { IfOk result (λ begun. string_bytes begun.0 ≡ head_text) }
     ensures entries { IfOk result
@@ -42,7 +41,6 @@ fn begun(alloc: Global, books: &[ShardBook]) -> Result<(String, Vec<Spot>), NoMe
     Ok((text, spots))
 }
 
-/// Writes the ledger of all tokens.
 fn write_all<W: Write>(alloc: Global, books: &[ShardBook], out: &mut W) -> Result<(), PrintFault>
     requires { 0 < length books.now }
     ensures ok { OnOk result ((text : List ℕ) × IsLedgerOfBooks books.now None text
@@ -59,7 +57,6 @@ fn write_all<W: Write>(alloc: Global, books: &[ShardBook], out: &mut W) -> Resul
     Ok(())
 }
 
-/// The ledger of one token.
 fn own_text(alloc: Global, books: &[ShardBook], token: Token) -> Result<String, NoMemory>
     requires { 0 < length books.now }
     ensures { IfOk result (λ text. IsLedgerOfBooks books.now (Some token) (string_bytes text)) }
@@ -70,7 +67,6 @@ fn own_text(alloc: Global, books: &[ShardBook], token: Token) -> Result<String, 
     Ok(text)
 }
 
-/// Writes the ledger of one token.
 fn write_own<W: Write>(
     alloc: Global,
     books: &[ShardBook],
@@ -90,11 +86,10 @@ fn write_own<W: Write>(
     Ok(())
 }
 
-/// Writes the ledger of all tokens, or of one: the head line, then the lines of each token, by
-/// rising tokens, in the order of its entries. A line has twelve fields, of which the reason is the
-/// account rule's for the token's earlier entries. Of all tokens it goes out in pieces, and takes
-/// sixteen bytes a line beside the books while it sorts, and eight while it writes. All memory is
-/// taken before the first byte is written: on a fault of memory nothing was.
+/// Writes the ledger of all tokens, or of one: the header line, then each token's lines in the
+/// order of its entries, with the account rule's reasons. That of all tokens is written in pieces;
+/// sorting takes sixteen bytes a line beside the books, writing eight. All memory is taken before
+/// the first byte is written.
 pub fn write_ledger<W: Write>(
     alloc: Global,
     books: &[ShardBook],

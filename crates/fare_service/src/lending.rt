@@ -2,7 +2,7 @@
 
 use world::Trace;
 
-/// An upload that was drawn could not be read, or memory for it was refused.
+/// An upload that was drawn could not be read, or an allocation for it failed.
 #[derive(Clone, Copy, Debug, PartialEq, Eq, thiserror::Error)]
 #[error("upload {upload} cannot be read")]
 pub struct Unlent {
@@ -10,9 +10,8 @@ pub struct Unlent {
     pub upload: u32,
 }
 
-/// Uploads that are lent, each by its number, to several threads at once. A list of loaded uploads
-/// lends itself. Another source may load an upload when it is lent: no more than one upload a
-/// worker lies in memory then.
+/// Uploads that are lent, each by its number, to several threads at once: a list of loaded uploads,
+/// or a source that loads each as it is lent, so that memory holds one upload a worker.
 pub trait LentUploads {
     ghost use Rattle.std.specs.Prelude.{◌≡◌, ◌<◌, List, IfNone, IfSome, length};
     ghost use Rattle.world.specs.Origins.{Origin};
@@ -25,10 +24,8 @@ pub trait LentUploads {
     fn len(&self) -> usize
         ensures { result ≡ length (origins self.now) };
 
-    /// The bytes of the upload of this number, from 0. They may be read into `room`, which a worker
-    /// keeps from one upload to the next: what stands there is overwritten. The calls of the system
-    /// by which they are read are recorded. It lends none if memory is refused or the upload cannot
-    /// be read. An upload that memory holds is lent.
+    /// The bytes of the upload of this number, from 0, read into `room` or not: what is in it is
+    /// lost. The reads are recorded. An error: an allocation failed, or the upload cannot be read.
     fn lend<'b>(&'b self, upload: u32, room: &'b mut Vec<u8>, calls: &mut Trace) -> Option<&'b [u8]>
         requires { upload < length (origins self.now) }
         ensures lent { IfSome result (λ bytes. IsLentAs (origins self.now) upload

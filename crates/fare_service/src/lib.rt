@@ -1,5 +1,5 @@
-//! Posts uploads of tap batches by worker threads, gathers what they did into books that are each
-//! one thread's history, and writes the report and the statements of these books.
+//! Posts uploads of tap batches by worker threads, joins their work into a book a shard, each one
+//! thread's history, and writes the report and the statements of these books.
 #![tactic(auto)]
 
 mod entries;

@@ -1,4 +1,4 @@
-//! The lines of entries that stand in order of token, written in pieces.
+//! The lines of entries in order of token, written in pieces.
 
 ghost use Rattle.std.specs.Prelude.{◌≡◌, ℕ, List, [], ◌++◌, IfErr, OnErr, OnOk, string_bytes};
 ghost use Rattle.std.specs.Io.KnownBytes.{Appends};
@@ -14,8 +14,7 @@ use std::io::Write;
 use tap_views::Token;
 use tariffs::{Clock, FareTable};
 
-/// Appends the lines of the entries at the spots to the text, of which what stands there may go out
-/// first.
+/// Appends the lines of the entries at the spots to the text, whose contents may go out first.
 fn write_pieces<W: Write>(
     text: &mut String,
     table: &FareTable,
@@ -49,8 +48,7 @@ fn write_pieces<W: Write>(
     Ok(())
 }
 
-/// Appends the lines of the entries at the spots, of which there may be none, as `write_pieces`
-/// does.
+/// As `write_pieces`, also of no entries.
 fn write_some<W: Write>(
     text: &mut String,
     table: &FareTable,
@@ -79,7 +77,6 @@ fn write_some<W: Write>(
     }
 }
 
-/// Writes the text, and after it the lines of the entries at the spots.
 pub(crate) fn write_lines<W: Write>(
     text: &mut String,
     table: &FareTable,

@@ -1,4 +1,4 @@
-//! What was gathered: the books, the end of each upload and the totals of each worker.
+//! An outcome: the books, the end of each upload and the totals of each worker.
 
 use shard_book::{ShardBook, Totals};
 use std::marker::Model;
@@ -11,7 +11,6 @@ pub struct Outcome {
     pub(crate) books: Vec<ShardBook>,
     pub(crate) ends: Vec<UploadEnd>,
     pub(crate) workers: Vec<Totals>,
-    /// The totals of all workers.
     pub(crate) totals: Totals,
     /// The calls of the system by which the uploads were lent.
     pub(crate) calls: Trace,

@@ -1,5 +1,4 @@
-//! Prints the report and the statements of an outcome. All memory is taken before the first byte
-//! is written.
+//! Prints the report and the statements of an outcome.
 
 ghost use Rattle.std.specs.Prelude.{◌≡◌, ℕ, List, OnOk, IfOk, IfErr, string_bytes};
 ghost use Rattle.std.specs.Prelude.{map};
@@ -48,10 +47,9 @@ impl Outcome {
         Ok(text)
     }
 
-    /// Writes the report: the end of each upload, the totals of all books, the sums of each
-    /// validator, by rising validator, and those of each token, by rising token. Of many entries,
-    /// threads sum up a quarter of the books each; if one is refused, another does its part. On a
-    /// fault of memory nothing was written.
+    /// Writes the report: the end of each upload, the totals of all books, and the sums of each
+    /// validator and each token, in their orders. Threads sum up many entries, a quarter of the
+    /// books each. All memory is taken before the first byte is written.
     pub fn write_report<R: Threads + Sync, W: Write>(
         &self,
         rt: &R,
@@ -67,8 +65,7 @@ impl Outcome {
         self.write_report_with(rt, alloc, self.ends.as_slice(), out)
     }
 
-    /// Writes the report as `write_report` does, with these ends of uploads in place of the
-    /// outcome's own: of the uploads that were given, if others were made of them and posted.
+    /// As `write_report`, with these ends in place of the outcome's: those of the uploads as given.
     pub fn write_report_with<R: Threads + Sync, W: Write>(
         &self,
         rt: &R,
@@ -89,9 +86,8 @@ impl Outcome {
         write_report(alloc, ends, &totals, validators.as_slice(), &tokens, out)
     }
 
-    /// Writes the statement of a token: its entries in the order of its shard's book, their totals
-    /// and its last window. A token without entries has a statement of no entries. On a fault of
-    /// memory nothing was written.
+    /// Writes the statement of a token, also of one without entries: its entries, their totals and
+    /// its last window. All memory is taken before the first byte is written.
     pub fn write_statement<W: Write>(
         &self,
         alloc: Global,

@@ -24,16 +24,13 @@ const MAX_SHARDS: u32 = 64;
 
 const MAX_UPLOADS: usize = 65_535;
 
-/// The uploads, a shared book for each shard, and the fare table. Many threads may work at it at
-/// once.
+/// The uploads, a shared book for each shard, and the fare table, at which many threads work.
 #[derive(Drop)]
 pub struct Service<U: LentUploads + Drop> {
-    /// The fare table, by which each book charges.
     pub(crate) table: FareTable,
-    /// What the workers draw the uploads' numbers from.
+    /// The workers draw the uploads' numbers from it.
     pub(crate) draw: Draw,
     pub(crate) books: Vec<SharedBook>,
-    /// What lends the uploads.
     pub(crate) uploads: U,
 }
 
@@ -65,9 +62,8 @@ impl<U: LentUploads + Drop> Service<U> {
     ghost use Rattle.fare_service.specs.Faults.{IsOpenFault};
     ghost use Rattle.fare_service.specs.Shares.{IsFresh, IsShareOf};
 
-    /// Opens a service of `shards` shards, 1 to 64, over at most 65,535 uploads, none of them
-    /// drawn, and gives its first share, which has all claims. Every shard's visits are numbered
-    /// from 0. On a fault what was handed in is dropped.
+    /// Opens a service of `shards` shards, 1 to 64, over at most 65,535 uploads, none drawn, and
+    /// gives its first share, which has all claims. On a fault the arguments are dropped.
     pub fn open<R: RandomSource>(
         rt: &R,
         alloc: Global,
@@ -111,8 +107,7 @@ impl<U: LentUploads + Drop> Service<U> {
         Ok((service, share))
     }
 
-    /// A new share, with no uploads and no visits, and half of the claims. The old one keeps all
-    /// that it has but these.
+    /// A new share, with no uploads, no visits and half of the claims of the old one.
     pub fn share(&self, alloc: Global, old: &mut Share) -> Result<Share, NoMemory>
         requires { IsShareOf self.now old.old }
         ensures new { IfOk result (λ new. IsShareOf self.now new) }
@@ -136,7 +131,6 @@ impl<U: LentUploads + Drop> Service<U> {
         })
     }
 
-    /// How many shards there are, 1 to 64.
     pub(crate) fn shards(&self) -> u32
         ensures number { result ≡ shards_of self.now }
         ensures some { 0 < result }

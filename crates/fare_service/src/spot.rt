@@ -1,4 +1,4 @@
-//! Where an entry stands among the entries of several books, in eight bytes.
+//! The position of an entry among the entries of several books, in eight bytes.
 
 ghost use Rattle.std.specs.Prelude.{◌≡◌, IfOk};
 ghost use Rattle.fare_service.specs.inside.Spots.{book_at, entry_in, entry_at_spot, no_entry};
@@ -8,20 +8,19 @@ use account_rule::Answer;
 use shard_book::{Entry, ShardBook};
 use tap_views::{NoMemory, Token};
 
-/// 2^16, above the place of every book among the books.
+/// 2^16, above the index of every book among the books.
 const MAX_BOOKS: u64 = 65_536;
 
-/// 2^48, above every place of an entry in its book.
+/// 2^48, above every index of an entry in its book.
 const MAX_PLACES: u64 = 281_474_976_710_656;
 
-/// Where an entry stands. A reference would take as much, but a book lends none.
+/// The position of an entry. A reference would take as much, but a book lends none.
 #[derive(Clone, Copy)]
 pub(crate) struct Spot {
-    /// The book's place among the books in the lowest 16 bits, the entry's place in its book above.
+    /// The book's index in the lowest 16 bits, the entry's index in its book above.
     bits: u64,
 }
 
-/// What stands at a place without an entry.
 fn nothing() -> Entry
     ensures { result ≡ no_entry }
 {
@@ -38,8 +37,7 @@ fn nothing() -> Entry
 }
 
 impl Spot {
-    /// The spot of an entry. Places that do not fit, of some 2^48 entries, are reported as want of
-    /// memory.
+    /// Indices that do not fit, of some 2^48 entries, are reported as `NoMemory`.
     pub(crate) fn of(book: usize, place: u64) -> Result<Self, NoMemory>
         ensures book { IfOk result (λ spot. book_at spot ≡ book) }
         ensures place { IfOk result (λ spot. place_at spot ≡ place) }
@@ -53,7 +51,6 @@ impl Spot {
         })
     }
 
-    /// The entry that stands there.
     #[inline(always)]
     pub(crate) fn entry(self, books: &[ShardBook]) -> Entry
         ensures { result ≡ entry_at_spot books.now self }
@@ -69,7 +66,6 @@ impl Spot {
     }
 }
 
-/// The entry at a place of a book, if there is one.
 #[inline(always)]
 fn entry_at(books: &[ShardBook], index: usize, place: u64) -> Option<Entry>
     ensures { result ≡ entry_in books.now index place }

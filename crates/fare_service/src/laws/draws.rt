@@ -9,7 +9,7 @@ ghost use Rattle.fare_service.specs.Headline.{Headline, drawn_by};
 ghost use Rattle.fare_service.specs.Outcomes.{OutcomeView};
 ghost use Rattle.fare_service.specs.Shares.{Worked};
 
-/// Each upload whose end is not `Undrawn` was drawn once. So its load is there once.
+/// Each upload whose end is not `Undrawn` was drawn once, so its load is there once.
 pub fn drawn_once()
     ensures { (fares : Fares) (shards : ℕ) (files : List (List ℕ)) (works : List (List Worked))
         (outcome : OutcomeView) → Headline fares shards files works outcome

@@ -10,16 +10,14 @@ ghost use Rattle.fare_service.specs.Placing.{in_posting_order, in_file_order, po
 ghost use Rattle.fare_service.specs.Placing.{IsReordered, WerePostedOf};
 ghost use Rattle.fare_service.specs.Shares.{Worked, all_works, file_at};
 
-/// In posting order, batch by batch and each batch by rising shard, stand the taps of an upload's
-/// batches, of each kind as many as there, and the taps of a shard in the order of the upload. So
-/// what the clauses say of posted taps, they say of the taps of the upload.
+/// In posting order (batch by batch, each by shard) an upload's taps are reordered and no more, and
+/// those of a shard keep their order: what holds of posted taps holds of the upload's.
 pub fn posting_order()
     ensures { (shards : ℕ) (batches : List (List Tap)) → 0 < shards
         → IsReordered shards (in_file_order batches) (in_posting_order shards batches) }
 {}
 
-/// What was posted of an upload, by how it ended: all taps before its first fault, or, if it was
-/// cut, the first of them in posting order.
+/// What was posted of an upload: all taps before its fault, or if cut the first in posting order.
 pub fn posted_taps()
     ensures { (fares : Fares) (shards : ℕ) (files : List (List ℕ)) (works : List (List Worked))
         (outcome : OutcomeView) → Headline fares shards files works outcome

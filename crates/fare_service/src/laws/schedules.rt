@@ -1,4 +1,4 @@
-//! Schedule independence: what was gathered against the plain history of the uploads.
+//! Schedule independence: an outcome against the sequential history of the uploads.
 
 ghost use Rattle.std.specs.Prelude.{◌≡◌, ◌↔◌, ℕ, ◌<◌, List, All, Decides, Some, flat_map, map};
 ghost use Rattle.std.specs.Prelude.{length, slice_get};
@@ -23,8 +23,7 @@ use shard_book::laws::one_rising_list;
 use tap_views::UploadEnd;
 use tap_views::laws::one_reading_each;
 
-/// The tokens of an outcome's books are those that their bytes name, and are of their book's shard.
-/// Reads no entry.
+/// The tokens of an outcome's books are those of their bytes and of their shard. Reads no entry.
 pub fn tokens_are_named(outcome: &Outcome)
     ensures named { (shard : ℕ) (book : Book) → slice_get outcome.now.books shard ≡ Some book
         → All IsNamed book.entries }
@@ -37,9 +36,8 @@ pub fn tokens_are_named(outcome: &Outcome)
     }
 }
 
-/// If no upload was cut or left undrawn and no token has taps in two uploads, the entries of each
-/// token are those of the plain history of the uploads, and so is the text of its statement: for
-/// every schedule, number of workers and number of shards.
+/// If no upload was cut or undrawn and no token has taps in two uploads, each token's entries and
+/// statement are those of the sequential history: for every schedule, workers and shards.
 pub fn statements_are_plain(uploads: &[Vec<u8>], outcome: &Outcome)
     ensures entries { (fares : Fares) (shards : ℕ) (history : List Entry)
         → IsUncutGathering fares shards
@@ -67,9 +65,8 @@ pub fn uncut_ends_are_plain(outcome: &Outcome)
     let _ = outcome.shards();
 }
 
-/// If no upload was cut or left undrawn and no token has taps in two uploads, the report is that of
-/// the plain history of the uploads, each upload posted or refused as its bytes call for: for every
-/// schedule, number of workers and number of shards.
+/// If no upload was cut or undrawn and no token has taps in two uploads, the report is that of the
+/// sequential history: for every schedule, number of workers and number of shards.
 pub fn report_is_plain(uploads: &[Vec<u8>], outcome: &Outcome)
     ensures { (fares : Fares) (shards : ℕ) (history : List Entry)
         → IsUncutGathering fares shards
@@ -82,9 +79,8 @@ pub fn report_is_plain(uploads: &[Vec<u8>], outcome: &Outcome)
     one_rising_list();
 }
 
-/// Two outcomes over the same uploads and under one table have the same report and the same text of
-/// each statement, if no upload was cut or left undrawn and no token has taps in two uploads:
-/// whatever their schedules, workers and shards were.
+/// Two outcomes over the same uploads and table have the same report and the same statements, if no
+/// upload was cut or undrawn and no token has taps in two uploads.
 pub fn same_texts(uploads: &[Vec<u8>], one: &Outcome, other: &Outcome)
     ensures report { (fares : Fares) (shards others : ℕ) (history again : List Entry)
         → IsUncutGathering fares shards (map (λ upload. upload.items) uploads.now) one.now history
@@ -104,7 +100,6 @@ pub fn same_texts(uploads: &[Vec<u8>], one: &Outcome, other: &Outcome)
     statements_are_plain(uploads, other);
 }
 
-/// Whether the upload ended by itself: posted, or refused by a layout fault.
 fn was_not_cut(end: UploadEnd) -> bool
     ensures { Decides result (WasNotCut end) }
 {

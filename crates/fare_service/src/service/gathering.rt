@@ -38,7 +38,6 @@ fn set_ends(ends: &mut Vec<UploadEnd>, done: &[Done])
     }
 }
 
-/// How each upload ended, by the shares.
 fn ends_of(alloc: Global, uploads: usize, shares: &[Share]) -> Result<Vec<UploadEnd>, NoMemory>
     requires { All (λ share. All (λ d. d.upload < uploads) share.done) shares.now }
     ensures ends { IfOk result
@@ -52,7 +51,6 @@ fn ends_of(alloc: Global, uploads: usize, shares: &[Share]) -> Result<Vec<Upload
     Ok(ends)
 }
 
-/// The totals of each share's replies.
 fn workers_of(alloc: Global, shares: &[Share]) -> Result<Vec<Totals>, NoMemory>
     ensures { IfOk result (λ r. map sums_of r.items ≡ map (λ share. share.totals) shares.now) }
 {
@@ -63,7 +61,6 @@ fn workers_of(alloc: Global, shares: &[Share]) -> Result<Vec<Totals>, NoMemory>
     Ok(workers)
 }
 
-/// Joins the passes of another share, shard by shard.
 fn join_passes(books: &[SharedBook], into: &mut Vec<Pass>, other: Vec<Pass>)
     requires into { books_of into.old.items ≡ books.now }
     requires other { books_of other.items ≡ books.now }
@@ -79,7 +76,6 @@ fn join_passes(books: &[SharedBook], into: &mut Vec<Pass>, other: Vec<Pass>)
     }
 }
 
-/// Joins the other shares into the first, and appends the calls of all.
 fn join_shares(
     draw: &Draw,
     books: &[SharedBook],
@@ -118,7 +114,6 @@ fn join_shares(
     (drawer, passes)
 }
 
-/// Closes each shard's book with its pass, by rising shard.
 fn close_all(
     books: Vec<SharedBook>,
     passes: Vec<Pass>,
@@ -148,7 +143,6 @@ fn close_all(
     Ok(())
 }
 
-/// Closes each shard's book if there is no share, by rising shard.
 fn close_unseen(books: Vec<SharedBook>, closed: &mut Vec<ShardBook>) -> Result<(), GatherFault>
     requires few { length books.items ≤ 64 }
     requires empty { closed.old.items ≡ [] }
@@ -168,7 +162,6 @@ fn close_unseen(books: Vec<SharedBook>, closed: &mut Vec<ShardBook>) -> Result<(
     Ok(())
 }
 
-/// Appends the book of a shard that was closed; else reports how many visits to it are missing.
 fn push_closed(
     shard: u32,
     end: Result<ShardBook, Missing>,
@@ -196,7 +189,6 @@ fn push_closed(
     }
 }
 
-/// Closes all books and the drawing, with what the shares hold, and appends their calls.
 fn close_with(
     draw: Draw,
     books: Vec<SharedBook>,
@@ -246,11 +238,10 @@ impl<U: LentUploads + Drop> Service<U> {
     ghost use Rattle.fare_service.specs.Shares.{IsShareOf};
     ghost use Rattle.fare_service.specs.Stopping.{FullIsMade};
 
-    /// Gathers shares: joins what their workers did, closes the shards' books, and gives these with
-    /// the end of each upload, the totals of each share, in the order of the shares, and their
-    /// calls. All memory is taken first; then missing visits are reported, of the first shard that misses some, and
-    /// then missing uploads. Shares that have all claims together miss nothing. On a fault service
-    /// and shares are dropped.
+    /// Joins what the workers of the shares did, closes the shards' books, and returns them with
+    /// the end of each upload, the totals of each share and the calls. All memory is taken first.
+    /// Missing visits of the first such shard are reported, then missing uploads: none if the
+    /// shares have all claims together. On a fault service and shares are dropped.
     pub fn gather(self, alloc: Global, shares: Vec<Share>) -> Result<Outcome, GatherFault>
         requires { All (IsShareOf self) shares.items }
         ensures headline { IfOk result (HasOutcome self shares.items) }
@@ -273,8 +264,8 @@ impl<U: LentUploads + Drop> Service<U> {
         } = self;
         let mut calls = Trace::new();
         close_with(draw, books, shares, &mut closed, &mut calls)?;
-        // proof: the books have few entries, so that the sums of the workers' totals fit; they are
-        // those of the books
+        // proof: the books have few entries, so that the workers' totals fit; they are those of the
+        // books
         let _entries = entries_in(closed.as_slice());
         let totals = added(workers.as_slice());
         Ok(Outcome {

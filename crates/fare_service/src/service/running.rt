@@ -1,4 +1,4 @@
-//! A run: a thread for each worker, and the gathering of their shares.
+//! A run: a thread for each worker, and the joining of their shares.
 
 ghost use Rattle.std.specs.Prelude.{◌≡◌, ◌<◌, ◌≤◌, ◌++◌, ◌∷◌, [], All, IfOk, IfErr, Ok};
 ghost use Rattle.std.specs.Prelude.{OnOk, length, map};
@@ -32,7 +32,6 @@ const MAX_WORKERS: u32 = 16;
 #[derive(Drop)]
 struct OfShare<'s, U: LentUploads + Drop> {
     service: &'s Service<U>,
-    /// The share, as it was when the thread began.
     began: Snapshot<Share>,
 }
 
@@ -47,7 +46,6 @@ fn push(shares: &mut Vec<Share>, share: Share) -> Result<(), NoMemory>
     Ok(())
 }
 
-/// The shares that were given back, if none was dropped at an upload that was not lent.
 fn all_shares(alloc: Global, answers: Vec<Result<Share, Unlent>>) -> Result<Vec<Share>, RunFault>
     ensures shares { IfOk result (λ shares. answers.items ≡ map Ok shares.items) }
     ensures fault { IfErr result (IsFaultOf answers.items) }
@@ -63,7 +61,6 @@ fn all_shares(alloc: Global, answers: Vec<Result<Share, Unlent>>) -> Result<Vec<
 }
 
 impl<U: LentUploads + Drop + Sync> Service<U> {
-    /// A share for each worker, of which the given one is the first.
     fn share_out(&self, alloc: Global, first: Share, workers: u32) -> Result<Vec<Share>, NoMemory>
         requires first { IsShareOf self.now first }
         requires some { 0 < workers }
@@ -84,8 +81,7 @@ impl<U: LentUploads + Drop + Sync> Service<U> {
         Ok(shares)
     }
 
-    /// Starts a thread for each share, and joins them. If one is refused, those that were started
-    /// end with the scope.
+    /// If a thread is refused, those that were started end with the scope.
     fn work_in<'s, E, R: Threads + Wait + Sync, G: Gatekeeper + Sync>(
         &'s self,
         scope: &Scope<'s, E>,
@@ -121,7 +117,6 @@ impl<U: LentUploads + Drop + Sync> Service<U> {
         Ok(worked)
     }
 
-    /// Works with each share, in a thread of its own.
     fn work_all<R: Threads + Wait + Sync, G: Gatekeeper + Sync>(
         &self,
         rt: &R,
@@ -144,9 +139,8 @@ impl<U: LentUploads + Drop + Sync> Service<U> {
         Ok(worked)
     }
 
-    /// Runs the service with `workers` workers, 1 to 16, each in a thread of its own, and gathers
-    /// their shares. The given share is the first worker's. If it has all claims, nothing is
-    /// missing. Nothing is gathered if an upload was not lent.
+    /// Runs the service with `workers` workers, 1 to 16, a thread each, and gathers their shares.
+    /// The first has the given share: if that has all claims, nothing is missing.
     pub fn run<R: Threads + Wait + Sync, G: Gatekeeper + Sync>(
         self,
         rt: &R,

@@ -1,4 +1,4 @@
-//! Opening the shards' books, and splitting the passes to them.
+//! Opens the shards' books, and splits the passes to them.
 
 ghost use Rattle.std.specs.Prelude.{◌≡◌, ℕ, ◌<◌, ◌≤◌, IfOk, IsOk, OnOk, length, map, [], slice_get};
 ghost use Rattle.std.specs.Prelude.{Some, vec_len, vec_capacity};
@@ -13,7 +13,6 @@ use std::alloc::Global;
 use tap_views::NoMemory;
 use tariffs::FareTable;
 
-/// A shared book for each shard, without entries, and the first pass to each.
 pub(crate) fn open_books(
     alloc: Global,
     seed: HashSeed,
@@ -41,7 +40,6 @@ impl<U: LentUploads + Drop> Service<U> {
     ghost use Rattle.shared_books.specs.Passes.{fresh_pass, left_pass};
     ghost use Rattle.fare_service.specs.Shares.{books_of};
 
-    /// Splits a new pass from each of the old ones. No split is refused.
     pub(crate) fn split_passes(
         &self,
         old: &mut Vec<Pass>,

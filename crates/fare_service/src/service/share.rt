@@ -1,4 +1,4 @@
-//! What a worker keeps of its work.
+//! What a worker stores of its work.
 
 ghost use Rattle.std.specs.Prelude.{◌≡◌};
 
@@ -15,19 +15,17 @@ pub struct Done {
     pub end: UploadEnd,
 }
 
-/// What a worker posts by: a pass to each shard's book, and the totals of the replies that it got.
+/// What a worker posts by: a pass to each shard's book, and the totals of its replies.
 #[derive(Drop)]
 pub(crate) struct Posting {
     pub(crate) passes: Vec<Pass>,
     pub(crate) totals: Totals,
 }
 
-/// A worker's share of a service: the uploads that it drew, each with its end, the visits that it
-/// made for them, the totals of the replies that it got, and the calls of the system by which the
-/// uploads were lent. It keeps no entries.
+/// A worker's share of a service: the uploads that it drew with their ends, its visits, the totals
+/// of its replies, and the calls by which the uploads were lent. It stores no entries.
 #[derive(Drop)]
 pub struct Share {
-    /// The numbers of the uploads that it drew.
     pub(crate) drawer: Drawer,
     pub(crate) posting: Posting,
     /// Each upload that it drew, in the order of drawing.

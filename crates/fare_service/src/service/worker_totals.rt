@@ -19,7 +19,6 @@ pub(crate) fn entries_in(books: &[ShardBook]) -> u128
     number
 }
 
-/// The totals of all workers.
 pub(crate) fn added(workers: &[Totals]) -> Totals
     requires { (add_all (map sums_of workers.now)).taps ≤ 2 ^ 95 }
     ensures { sums_of result ≡ add_all (map sums_of workers.now) }

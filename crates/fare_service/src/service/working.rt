@@ -20,8 +20,7 @@ use tariffs::Clock;
 pub trait Gatekeeper {
     ghost use Rattle.std.specs.Prelude.{ℕ, ◌≡◌};
 
-    /// What shows that an upload was begun. A worker cannot post the upload without it, nor let it
-    /// go: only `before` gives it, and only `after` takes it.
+    /// Shows that an upload was begun: only `before` gives it, and only `after` takes it.
     type Begun;
 
     // The upload that was begun.
@@ -51,20 +50,17 @@ impl Gatekeeper for OpenGatekeeper {
     fn after(&self, _: u32) {}
 }
 
-/// What a worker makes once: its clock, and the buffer that it keeps from run to run.
+/// What a worker makes once: its clock, and the buffer that it reuses for each run.
 #[derive(Drop)]
 pub(crate) struct RunBuffers {
-    /// The clock of the table's zone.
     pub(crate) clock: Clock,
     pub(crate) replies: Replies,
 }
 
-/// What a worker makes once: the runs that it fills for each batch, and what it keeps from run to
-/// run.
+/// What a worker makes once: the runs that it fills for each batch, and what it reuses.
 #[derive(Drop)]
 pub(crate) struct Buffers {
     pub(crate) runs: Runs,
-    /// What is kept from run to run.
     pub(crate) run: RunBuffers,
 }
 
@@ -135,7 +131,7 @@ impl<U: LentUploads + Drop> Service<U> {
     ghost use Rattle.fare_service.specs.Stopping.{SomeFull, StoppedWell, WasCut};
     ghost use Rattle.fare_service.specs.inside.Stopping.{ReportsFull, ReportsMemory};
 
-    /// Posts a run of the batch, if it has a tap. Memory for its replies is taken before the turn.
+    /// Memory for its replies is taken before the turn.
     fn post_run<'b, R: Wait>(
         &self,
         rt: &R,
@@ -183,7 +179,6 @@ impl<U: LentUploads + Drop> Service<U> {
         }
     }
 
-    /// Posts the runs of a batch, by rising shard.
     fn post_batch<R: Wait>(
         &self,
         rt: &R,
@@ -211,8 +206,6 @@ impl<U: LentUploads + Drop> Service<U> {
         Ok(())
     }
 
-    /// Posts the batches of an upload before its first layout fault, and answers that fault with
-    /// the offset of its batch.
     fn post_batches<R: Wait>(
         &self,
         rt: &R,
@@ -244,8 +237,7 @@ impl<U: LentUploads + Drop> Service<U> {
         Ok(good.fault())
     }
 
-    /// Posts an upload that was begun at the gatekeeper and lent. Returns how it ended, and whether
-    /// the worker may go on.
+    /// Returns how the upload ended, and whether the worker may go on.
     fn post_upload<R: Wait, G: Gatekeeper>(
         &self,
         rt: &R,
@@ -282,7 +274,6 @@ impl<U: LentUploads + Drop> Service<U> {
         }
     }
 
-    /// Draws an upload, if one is left.
     fn next_number(&self, drawer: &mut Drawer) -> Option<u32>
         requires { drawer.old.drawn_from ≡ self.now.drawing }
         ensures none { IfNone result
@@ -297,8 +288,7 @@ impl<U: LentUploads + Drop> Service<U> {
         self.draw.draw(drawer)
     }
 
-    /// Posts an upload that was drawn and lent. Returns how it ended, and whether the worker may go
-    /// on.
+    /// Returns how the upload ended, and whether the worker may go on.
     fn post_drawn<R: Wait, G: Gatekeeper>(
         &self,
         rt: &R,
@@ -333,7 +323,6 @@ impl<U: LentUploads + Drop> Service<U> {
         (Done { upload, end }, goes_on)
     }
 
-    /// What a worker makes once.
     fn buffers(&self, alloc: Global) -> Result<Buffers, NoMemory>
         ensures clock { IfOk result (λ buffers. buffers.run.clock ≡ self.now.table.zone) }
         ensures runs { IfOk result (λ buffers. length buffers.runs ≡ shards_of self.now) }
@@ -347,14 +336,11 @@ impl<U: LentUploads + Drop> Service<U> {
         Ok(Buffers { runs, run })
     }
 
-    /// Draws uploads and posts their batches, until all are drawn or memory is refused. A refusal
-    /// after the draw ends that upload as cut. If a shard takes no more visits, the upload ends as
-    /// cut, and the work goes on. Memory for the results of all uploads is taken first: if it is
-    /// refused, the share is given back as it was.
-    ///
-    /// Gives the share back with the uploads that it drew, the visits that it made, the totals of
-    /// their replies, and the calls by which the uploads were lent. If an upload is not lent, the share is dropped, and the upload is named.
-    /// It waits for turns at the shards' books.
+    /// Draws uploads and posts their batches, until all are drawn, an allocation fails, or an
+    /// upload is not lent. A refusal after the draw, or a shard that takes no more visits, ends
+    /// that upload as cut. Memory for the results of all uploads is taken first: if that fails, the
+    /// share comes back unchanged. An upload that is not lent is named, and the share dropped. It
+    /// waits for turns at the shards' books.
     pub fn work<R: Wait, G: Gatekeeper>(
         &self,
         rt: &R,
