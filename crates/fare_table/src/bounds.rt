@@ -1,4 +1,4 @@
-//! The bounds of the numbers of a table's text, for its readers and for reports of what is wrong.
+//! The bounds of the numbers of a table's text.
 ghost use Rattle.std.specs.Prelude.{◌≡◌, ◌≢◌, ℤ, false, IfSome, None, Some};
 ghost use Rattle.toml.specs.Data.{Data, Members, integer};
 ghost use Rattle.fare_table.specs.Faults.{is_from, is_in_bounds, is_kind};
@@ -30,8 +30,7 @@ impl Key {
     ghost use Rattle.fare_table.specs.Faults.{is_from, is_in_bounds, is_kind};
 
     /// The least and the greatest number that the key may have, or `None` if it takes no number.
-    /// Those of `Fares` are of each fare in it. Those of `Last` are without the `first` beside it,
-    /// which it may not be below.
+    /// Those of `Fares` are of each fare in it; `Last` may also not be below the `first` beside it.
     pub fn bounds(self) -> Option<(u32, u32)>
         ensures bounds { IfSome result (λ b. self ≢ Key.Last → (beside : Members) (value : Data)
             → is_in_bounds self beside value ≡ is_from b.0 b.1 value) }

@@ -1,4 +1,4 @@
-//! Why a text is no fare table.
+//! Why a text is not a fare table.
 ghost use Rattle.std.specs.Prelude.{◌≡◌, Some};
 ghost use Rattle.fare_table.specs.Faults.{key_word};
 ghost use Rattle.fare_table.specs.Key.{key_name};
@@ -107,34 +107,24 @@ impl fmt::Display for Key {
 }
 
 /// The first fault of a table's text, in the order in which its keys are read: `modes`,
-/// `transfers`, `classes` (class by class in the order of the names: `fare`, `rides`, `ceiling`,
-/// `fares` and in it key by key the mode and the number, `transfers`, `transfer_minutes`),
-/// `default_class`, `validators` (element by element: `first`, `last`, `mode`, the range), `riders`
-/// (in the order of the tokens), `zone`, `window`. Of an array or table the kind of all its
-/// elements comes first.
+/// `transfers`, `classes` (by name: `fare`, `rides`, `ceiling`, `fares` with the mode and the
+/// number of each, `transfers`, `transfer_minutes`), `default_class`, `validators` (each: `first`,
+/// `last`, `mode`, the range), `riders` (by token), `zone`, `window`. The kind of all elements of
+/// an array or table comes first.
 #[derive(Clone, Copy, Debug, PartialEq, Eq, Error)]
 pub enum TableFault {
-    /// The bytes are no TOML text, or not UTF-8.
+    /// The bytes are not a TOML text, or not UTF-8.
     #[error("the text is not TOML")]
     Text,
     /// A key is absent that every table has.
     #[error("{key} is missing")]
-    Missing {
-        /// The key.
-        key: Key,
-    },
+    Missing { key: Key },
     /// A value is of another kind than its key takes.
     #[error("{key} is of another kind")]
-    Kind {
-        /// The key.
-        key: Key,
-    },
+    Kind { key: Key },
     /// A value is outside its bounds.
     #[error("{key} is out of range")]
-    Range {
-        /// The key.
-        key: Key,
-    },
+    Range { key: Key },
     /// A transfer or a range of validators names none of the table's modes.
     #[error("a name is no mode of the table")]
     Mode,
@@ -144,10 +134,10 @@ pub enum TableFault {
     /// A rider's token is not 32 hexadecimal digits or is named twice, or a class does not exist.
     #[error("a rider or a class is not one of the table")]
     Rider,
-    /// A growth of memory was refused.
+    /// A growth of an allocation failed.
     #[error("out of memory")]
     NoMemory,
-    /// The zone is no POSIX rule text.
+    /// The zone is not a POSIX rule text.
     #[error("the zone is no POSIX rule")]
     Zone,
 }

@@ -1,5 +1,4 @@
-//! Laws of fare tables. Each function's contract is the law; it has nothing to do, but for
-//! `read_reports_the_first_row`, which reads.
+//! Theorems about fare tables, each the contract of a function that does nothing.
 ghost use Rattle.std.specs.Prelude.{◌≡◌, ◌≢◌, ◌⊎◌, ◌↔◌, ℕ, true, List};
 ghost use Rattle.std.specs.Prelude.{Err, None, Ok, Some, IfErr, IfOk, IsErrOf, IsUtf8, position};
 ghost use Rattle.std.specs.Cmp.Lexicographic.{slice_cmp};
@@ -28,16 +27,14 @@ use crate::read_table::ReadFareTable;
 use std::alloc::Global;
 use tariffs::FareTable;
 
-/// A table permits a transfer from one mode to another exactly if its text lists the pair of their
-/// names.
+/// A table permits a transfer between two modes exactly if its text lists the pair of their names.
 pub fn permitted_pairs_are_listed()
     ensures { (tree : Members) (meaning : TableMeaning) (from to : ℕ)
         → meaning_of_tree tree ≡ Ok meaning
         → (has_pair meaning.transfers from to ≡ true) ↔ ListsPair meaning.modes tree from to }
 {}
 
-/// The mode of a validator is the one that the element of the text's `validators` names which has
-/// it, and none exactly if no element has it. At most one element has it.
+/// A validator's mode is that of the only element of the text's `validators` that has it, if any.
 pub fn modes_are_of_ranges()
     ensures some { (tree : Members) (meaning : TableMeaning) (validator mode : ℕ)
         → meaning_of_tree tree ≡ Ok meaning
@@ -51,8 +48,7 @@ pub fn modes_are_of_ranges()
         → RangeHas tree validator place' → place ≡ place' }
 {}
 
-/// What a token pays are the terms of the class that the key of the text's `riders` has which names
-/// it, else those of the default class. At most one key names it.
+/// A token's terms are those of the class of its only key in `riders`, else of the default class.
 pub fn terms_are_of_classes()
     ensures terms { (tree : Members) (meaning : TableMeaning) (token : List ℕ) (terms : Terms)
         → meaning_of_tree tree ≡ Ok meaning
@@ -62,9 +58,8 @@ pub fn terms_are_of_classes()
         → NamesRider tree token key' class' → key ≡ key' }
 {}
 
-/// A ride of a token on a mode costs what the `fares` of the token's class say of the mode's name,
-/// else the class's own fare, under the limits of the class. It gives the transfers, for the
-/// minutes, that the class says, else one within two hours.
+/// A ride costs what the `fares` of the token's class say of the mode's name, else the class's own
+/// fare, within its limits, and gives the transfers that the class says, else one within two hours.
 pub fn rides_are_of_classes()
     ensures pays { (text : List ℕ) (tree : Members) (meaning : TableMeaning)
         (token name : List ℕ) (mode : ℕ)
@@ -76,14 +71,13 @@ pub fn rides_are_of_classes()
         → Gives tree token (transfer_terms meaning (class_of meaning token)) }
 {}
 
-/// The keys of the tables of a text, as of `classes` and `riders`, stand in the byte order in which
-/// they are read.
+/// The keys of the tables of a text, as of `classes`, are in the byte order in which they are read.
 pub fn keys_come_in_byte_order()
     ensures { (text key : List ℕ) (tree keys : Members) → parse_document text ≡ Some tree
         → get_member key tree ≡ Some (table keys) → in_byte_order keys ≡ true }
 {}
 
-/// The ranges of a table rise and stand apart. Its riders come in the byte order of their tokens.
+/// A table's ranges are disjoint and increasing, and its riders in the byte order of their tokens.
 pub fn ranges_and_riders_rise()
     ensures ranges { (tree : Members) (meaning : TableMeaning) → meaning_of_tree tree ≡ Ok meaning
         → stand_apart meaning.ranges ≡ true }
@@ -91,8 +85,7 @@ pub fn ranges_and_riders_rise()
         → IsStrictlySortedBy (slice_cmp nat_cmp) (keys_of meaning.riders) }
 {}
 
-/// A text has a fault exactly where a row of the table of faults holds, and it is that of the first
-/// such row. Where none holds it has a meaning.
+/// A text has a fault exactly if a row of the table of faults holds: that of the first such row.
 pub fn first_row_reports_the_fault()
     ensures fault { (text : List ℕ) (fault : TableFault)
         → (meaning_in text ≡ Err fault) ↔ (first_fault (parse_document text) ≡ Some fault) }
@@ -101,7 +94,7 @@ pub fn first_row_reports_the_fault()
 {}
 
 /// The same of `FareTable::read`, which it calls: a text of which a row holds is answered by the
-/// fault of the first such row, or by want of memory. A table is answered only where no row holds.
+/// fault of the first such row, or by an allocation failure, and never by a table.
 pub fn read_reports_the_first_row(alloc: Global, text: &[u8]) -> Result<FareTable, TableFault>
     ensures reported { IsUtf8 text.now → (fault : TableFault)
         → first_fault (parse_document text.now) ≡ Some fault

@@ -1,8 +1,5 @@
-//! The reader of an agency's fare table: a TOML text, and the table that it means, which is one of
-//! `tariffs`. What wrong texts are answered with, by the first fault in the order of the keys.
-//!
-//! Every number, name, pair and class is data of the table, and the text's layout is this
-//! project's.
+//! The reader of an agency's fare table: a TOML text, and the table of `tariffs` that it means, or
+//! the first fault in the order of the keys. The layout of the text is this project's.
 #![tactic(auto)]
 
 mod bounds;

@@ -1,4 +1,4 @@
-//! The reader of a fare table's TOML text: one file a key, in the order in which the keys are read.
+//! The reader of a fare table's TOML text: one file a key.
 
 mod class_names;
 mod classes;

@@ -11,8 +11,7 @@ use std::alloc::Global;
 use tariffs::FareTable;
 use toml::Table;
 
-/// How a fare table comes of a text. `FareTable` alone has it: bring it, and call
-/// `FareTable::read`.
+/// How a fare table comes of a text. `FareTable` alone has it: call `FareTable::read`.
 pub trait ReadFareTable {
     ghost use Rattle.std.specs.Prelude.{◌≡◌, ◌≢◌, ◌⊎◌, [], IfErr, IfOk, IsErrOf, IsUtf8, Err, Ok};
     ghost use Rattle.std.specs.Prelude.{None};
@@ -22,29 +21,26 @@ pub trait ReadFareTable {
     ghost use Rattle.fare_table.specs.TableMeaning.{meaning_in, meaning_of_tree};
     ghost use Rattle.fare_table.specs.declared.fault.TableFault.{TableFault};
 
-    /// Reads a table from its TOML text. The first fault is returned, in the order in which the
-    /// keys are read: modes, transfers, classes, the default class, validators, riders, zone,
-    /// window. `NoMemory` is returned if a growth is refused.
+    /// Reads a table from its TOML text, or returns `NoMemory` or the first fault in the order of
+    /// the keys: modes, transfers, classes, the default class, validators, riders, zone, window.
     fn read(alloc: Global, text: &[u8]) -> Result<FareTable, TableFault>
         ensures ok { IfOk result (λ t. IsUtf8 text.now × (meaning_in text.now ≡ Ok t.meaning)) }
         ensures zone { IfOk result (λ t. IsClockOf t.meaning t.zone) }
         ensures alone { IfOk result (λ t. t.later ≡ []) }
 
-        // A fault is the text's first, and a text with a fault is answered by it or by want of
-        // memory.
+        // A fault is the text's first, and a text with a fault is answered by it or by `NoMemory`.
         ensures fault { IfErr result (λ e. e ≢ TableFault.NoMemory → IsUtf8 text.now
             → meaning_in text.now ≡ Err e) }
         ensures refused { IsUtf8 text.now → (e : TableFault) → meaning_in text.now ≡ Err e
             → IsErrOf result e ⊎ IsErrOf result TableFault.NoMemory }
 
-        // The text fault comes only if the text is no TOML, and always if it is not UTF-8.
+        // The text fault comes only if the text is not TOML, and always if it is not UTF-8.
         ensures text { IsErrOf result TableFault.Text → IsUtf8 text.now
             → parse_document text.now ≡ None }
         ensures not_text { ¬ IsUtf8 text.now
             → IsErrOf result TableFault.Text ⊎ IsErrOf result TableFault.NoMemory };
 
-    /// Reads a table from the TOML tree of its text, so that a caller that has the tree need not
-    /// parse the text again. The first fault is returned, in the order of `read`.
+    /// As `read`, from the TOML tree of the text, for a caller that has it.
     fn of_tree(alloc: Global, tree: &Table) -> Result<FareTable, TableFault>
         ensures ok { IfOk result (λ t. meaning_of_tree (table_view tree.now) ≡ Ok t.meaning) }
         ensures zone { IfOk result (λ t. IsClockOf t.meaning t.zone) }
@@ -72,7 +68,6 @@ impl ReadFareTable for FareTable {
     }
 }
 
-/// Reads each key in its turn, up to the first fault.
 fn table_of(alloc: Global, table: &Table) -> Result<FareTable, TableFault>
     ensures answer { Answers (λ t. t.meaning) result (meaning_of_tree (table_view table.now)) }
     ensures zone { IfOk result (λ t. IsClockOf t.meaning t.zone) }

@@ -1,4 +1,4 @@
-//! The names of the classes by their places.
+//! The names of the classes by index.
 ghost use Rattle.std.specs.Prelude.{◌≡◌, ◌<◌, true, IfErr, IfOk, map, string_bytes, vec_len};
 ghost use Rattle.toml.specs.View.{table_view};
 ghost use Rattle.fare_table.specs.ByteOrder.{in_byte_order};
@@ -13,19 +13,16 @@ use crate::fault::TableFault;
 use std::alloc::Global;
 use toml::Table;
 
-/// The names of the classes by their places, in which a name is found by halves.
+/// The names of the classes by index, in which a name is found by binary search.
 #[derive(Drop)]
 pub(crate) struct ClassNames<'t> {
-    /// The classes, as the text has them.
     pub classes: &'t Table,
-    /// Their names, rising.
     pub names: Vec<&'t str>,
     pub ghost listed: { map (λ name. name.now) names.items ≡ names_in (table_view classes.now) },
     pub ghost rising: { in_byte_order (table_view classes.now) ≡ true },
 }
 
 impl<'t> ClassNames<'t> {
-    /// The names of these classes. `NoMemory` is returned if a growth is refused.
     pub(crate) fn new(alloc: Global, classes: &'t Table) -> Result<ClassNames<'t>, TableFault>
         ensures same { IfOk result (λ c. table_view c.classes.now ≡ table_view classes.now) }
         ensures refused { IfErr result (λ e. e ≡ TableFault.NoMemory) }
@@ -37,8 +34,7 @@ impl<'t> ClassNames<'t> {
         Ok(ClassNames { classes, names })
     }
 
-    /// The place of the class of this name. A place that `u32` does not hold is returned as refused
-    /// memory, since no memory holds that many classes.
+    /// An index that `u32` does not hold counts as an allocation failure: no memory holds so many.
     pub(crate) fn place_of(&self, name: &str) -> Result<u32, TableFault>
         ensures place { Answers (λ place. place) result
             (spec.class_named (table_view self.now.classes.now) name.now) }
@@ -47,14 +43,13 @@ impl<'t> ClassNames<'t> {
     {
         match self.names.as_slice().binary_search(&name) {
             Ok(place) => short_place(place),
-            // proof: no class has the name, which ends the reading. It is looked for one by one, so
-            // that it need not be proved that a search by halves finds each name.
+            // proof: no class has the name. A linear search, so that no proof need say that a
+            // binary search finds each name.
             Err(_) => class_named(self.classes, name),
         }
     }
 }
 
-/// The place in 32 bits.
 fn short_place(place: usize) -> Result<u32, TableFault>
     ensures same { IfOk result (λ short. short ≡ place) }
     ensures refused { IfErr result (λ e. e ≡ TableFault.NoMemory) }
@@ -65,8 +60,6 @@ fn short_place(place: usize) -> Result<u32, TableFault>
     Ok(place as u32)
 }
 
-/// Copies of the names of these classes, each at its place. `NoMemory` is returned if a growth is
-/// refused.
 pub(crate) fn names_of(alloc: Global, classes: &Table) -> Result<Vec<String>, TableFault>
     ensures names { IfOk result
         (λ names. map string_bytes names.items ≡ names_in (table_view classes.now)) }

@@ -21,10 +21,8 @@ use std::alloc::Global;
 use tariffs::{Class, MAX_MODES, Terms, TransferTerms};
 use toml::{Table, Value};
 
-/// A minute in milliseconds.
 const MINUTE_MS: u32 = 60_000;
 
-/// The classes of the text, at least one.
 #[tactic(auto, unfolding(crate::specs::Classes::classes_of))]
 pub(crate) fn classes_of(table: &Table) -> Result<&Table, TableFault>
     ensures { seen_through (λ m. table_view m.now) result ≡ spec.classes_of (table_view table.now) }
@@ -39,14 +37,12 @@ pub(crate) fn classes_of(table: &Table) -> Result<&Table, TableFault>
     Ok(classes)
 }
 
-/// Whether there is no class.
 fn is_empty(classes: &Table) -> bool
     ensures { result ≡ spec.is_empty (table_view classes.now) }
 {
     classes.is_empty()
 }
 
-/// The classes of these members, each at its place.
 pub(crate) fn classes_from(
     alloc: Global,
     modes: &[String],
@@ -66,7 +62,6 @@ pub(crate) fn classes_from(
     Ok(found)
 }
 
-/// The class of a value, if it is a table.
 fn class_in(modes: &[String], value: &Value) -> Result<Class, TableFault>
     requires { length modes.now ≤ 32 }
     ensures class { result ≡ spec.class_in (map string_bytes modes.now) (view value.now) }
@@ -75,7 +70,6 @@ fn class_in(modes: &[String], value: &Value) -> Result<Class, TableFault>
     class_of(modes, of_kind(value.as_table(), Key::Classes)?)
 }
 
-/// A class: its terms, its fares by mode, and what its rides give.
 #[tactic(auto, unfolding(crate::specs::Classes::class_of))]
 fn class_of(modes: &[String], element: &Table) -> Result<Class, TableFault>
     requires { length modes.now ≤ 32 }
@@ -92,7 +86,6 @@ fn class_of(modes: &[String], element: &Table) -> Result<Class, TableFault>
     })
 }
 
-/// The terms of a class: its fare, its rides and its ceiling.
 #[tactic(auto, unfolding(crate::specs::Classes::terms_of))]
 fn terms_of(element: &Table) -> Result<Terms, TableFault>
     ensures terms { result ≡ spec.terms_of (table_view element.now) }
@@ -108,7 +101,6 @@ fn terms_of(element: &Table) -> Result<Terms, TableFault>
     })
 }
 
-/// The fares by the places of the modes: the class's own, if it names none.
 fn fares_of(
     modes: &[String],
     fare: u32,
@@ -131,7 +123,6 @@ fn fares_of(
     fares_from(modes, fare, named)
 }
 
-/// The class's own fare at the place of each mode.
 fn equal_fares(fare: u32) -> [u32; MAX_MODES]
     requires { fare ≤ 100_000 }
     ensures fares { result ≡ replicate 32 fare }
@@ -141,7 +132,6 @@ fn equal_fares(fare: u32) -> [u32; MAX_MODES]
     [fare; MAX_MODES]
 }
 
-/// The fares by the places of the modes: those that the members name, else the class's own.
 fn fares_from(modes: &[String], fare: u32, members: &Table) -> Result<[u32; MAX_MODES], TableFault>
     requires modes { length modes.now ≤ 32 }
     requires fare { fare ≤ 100_000 }
@@ -159,7 +149,6 @@ fn fares_from(modes: &[String], fare: u32, members: &Table) -> Result<[u32; MAX_
     Ok(fares)
 }
 
-/// What the rides of a class give: one transfer within two hours, if it does not say otherwise.
 #[tactic(auto, unfolding(crate::specs::Classes::ride_transfers_of))]
 fn ride_transfers_of(element: &Table) -> Result<TransferTerms, TableFault>
     ensures terms { result ≡ spec.ride_transfers_of (table_view element.now) }
@@ -176,7 +165,6 @@ fn ride_transfers_of(element: &Table) -> Result<TransferTerms, TableFault>
     })
 }
 
-/// The ceiling that the class names, else the price of all its rides.
 fn ceiling_of(price: u32, value: Option<&Value>) -> Result<u32, TableFault>
     requires low { 1 ≤ price }
     requires high { price ≤ 100_000_000 }
@@ -190,8 +178,7 @@ fn ceiling_of(price: u32, value: Option<&Value>) -> Result<u32, TableFault>
     }
 }
 
-/// The place of the class of this name. A place that `u32` does not hold is returned as refused
-/// memory, since no memory holds that many classes.
+/// An index that `u32` does not hold counts as an allocation failure: no memory holds so many.
 pub(crate) fn class_named(classes: &Table, name: &str) -> Result<u32, TableFault>
     ensures place { Answers (λ place. place) result
         (spec.class_named (table_view classes.now) name.now) }
@@ -207,7 +194,6 @@ pub(crate) fn class_named(classes: &Table, name: &str) -> Result<u32, TableFault
     Err(TableFault::Rider)
 }
 
-/// The place behind this one.
 fn next_place(place: u32) -> Result<u32, TableFault>
     ensures next { IfOk result (λ next. next ≡ place + 1) }
     ensures refused { IfErr result (λ e. e ≡ TableFault.NoMemory) }
@@ -218,7 +204,6 @@ fn next_place(place: u32) -> Result<u32, TableFault>
     }
 }
 
-/// The place of the default class.
 #[tactic(auto, unfolding(crate::specs::Classes::default_of))]
 pub(crate) fn default_of(classes: &Table, table: &Table) -> Result<u32, TableFault>
     ensures place { Answers (λ place. place) result

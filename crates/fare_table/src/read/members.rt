@@ -9,14 +9,12 @@ use crate::fault::{Key, TableFault};
 use toml::value::Array;
 use toml::{Table, Value};
 
-/// The value at a key, if there is one.
 pub(crate) fn optional<'a>(table: &'a Table, name: &str) -> Option<&'a Value>
     ensures { option_map (λ v. view v.now) result ≡ get_member name.now (table_view table.now) }
 {
     table.get(name)
 }
 
-/// The value at a key that has to be there.
 pub(crate) fn needed<'a>(table: &'a Table, name: &str, key: Key) -> Result<&'a Value, TableFault>
     ensures { seen_through (λ v. view v.now) result
         ≡ spec.needed name.now key (table_view table.now) }
@@ -27,7 +25,6 @@ pub(crate) fn needed<'a>(table: &'a Table, name: &str, key: Key) -> Result<&'a V
     }
 }
 
-/// The part of a value, if the value is of the kind that the key needs.
 pub(crate) fn of_kind<T>(part: Option<T>, key: Key) -> Result<T, TableFault>
     ensures { result ≡ spec.of_kind key part }
 {
@@ -60,7 +57,6 @@ fn is_within(low: u32, number: i64, high: u32) -> bool
     i64::from(low) <= number && number <= i64::from(high)
 }
 
-/// The value as a number from `low` to `high`.
 pub(crate) fn number_in(value: &Value, key: Key, low: u32, high: u32) -> Result<u32, TableFault>
     ensures number { result ≡ spec.number_in key low high (view value.now) }
     ensures low { IfOk result (λ n. low ≤ n) }
@@ -74,7 +70,6 @@ pub(crate) fn number_in(value: &Value, key: Key, low: u32, high: u32) -> Result<
     }
 }
 
-/// The number at a key, from `low` to `high`.
 pub(crate) fn number_at(
     table: &Table,
     name: &str,
@@ -89,7 +84,6 @@ pub(crate) fn number_at(
     number_in(needed(table, name, key)?, key, low, high)
 }
 
-/// The value as a number from `low` to `high`, or the default if there is none.
 pub(crate) fn number_or(
     default: u32,
     value: Option<&Value>,
@@ -110,28 +104,24 @@ pub(crate) fn number_or(
     }
 }
 
-/// Whether each value of an array is a table.
 pub(crate) fn are_tables(array: &Array) -> bool
     ensures { result ≡ spec.are_tables (array_view array.now) }
 {
     array.iter().all(Value::is_table)
 }
 
-/// Whether each value of a table is a table.
 pub(crate) fn hold_tables(table: &Table) -> bool
     ensures { result ≡ spec.hold_tables (table_view table.now) }
 {
     table.values().all(Value::is_table)
 }
 
-/// Whether each value of a table is a string.
 pub(crate) fn hold_strings(table: &Table) -> bool
     ensures { result ≡ spec.hold_strings (table_view table.now) }
 {
     table.values().all(Value::is_str)
 }
 
-/// Whether each value of a table is a number.
 pub(crate) fn hold_numbers(table: &Table) -> bool
     ensures { result ≡ spec.hold_numbers (table_view table.now) }
 {

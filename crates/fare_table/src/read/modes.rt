@@ -1,4 +1,4 @@
-//! The key `modes`: the names of the modes by their places.
+//! The key `modes`: the names of the modes by index.
 ghost use Rattle.std.specs.Prelude.{◌≡◌, ◌<◌, ◌≤◌, ◌&&◌, [], IfOk, IsTrue, length, map, nat_le};
 ghost use Rattle.std.specs.Prelude.{string_bytes, vec_len};
 ghost use Rattle.std.specs.List.{list_all, list_any};
@@ -16,7 +16,6 @@ use tariffs::MAX_MODES;
 use toml::Table;
 use toml::value::Array;
 
-/// The names of the modes, 1 to 32 of 1 to 16 letters `a` to `z`, none twice.
 #[tactic(auto, unfolding(crate::specs::Modes::modes_of))]
 pub(crate) fn modes_of(alloc: Global, table: &Table) -> Result<Vec<String>, TableFault>
     ensures answer { Answers (λ v. map string_bytes v.items) result
@@ -31,7 +30,6 @@ pub(crate) fn modes_of(alloc: Global, table: &Table) -> Result<Vec<String>, Tabl
     }
 }
 
-/// The strings of an array, in its order.
 fn strings_of(alloc: Global, array: &Array) -> Result<Vec<String>, TableFault>
     ensures { Answers (λ v. map string_bytes v.items) result
         (spec.strings_from [] (array_view array.now)) }
@@ -44,7 +42,6 @@ fn strings_of(alloc: Global, array: &Array) -> Result<Vec<String>, TableFault>
     Ok(names)
 }
 
-/// Whether these are the names of the modes of a table.
 fn are_mode_names(names: &[String]) -> bool
     ensures names { result ≡ spec.are_mode_names (map string_bytes names.now) }
     ensures few { IsTrue result → length names.now ≤ 32 }
@@ -52,14 +49,12 @@ fn are_mode_names(names: &[String]) -> bool
     is_count(names.len()) && are_short_words(names) && are_distinct(names)
 }
 
-/// Whether a table may have this number of modes.
 fn is_count(modes: usize) -> bool
     ensures { result ≡ (nat_le 1 modes && nat_le modes 32) }
 {
     1 <= modes && modes <= MAX_MODES
 }
 
-/// Whether each name may be that of a mode.
 fn are_short_words(names: &[String]) -> bool
     ensures { result ≡ list_all spec.is_mode_name (map string_bytes names.now) }
 {
@@ -71,21 +66,18 @@ fn are_short_words(names: &[String]) -> bool
     true
 }
 
-/// Whether the name has 1 to 16 letters `a` to `z`.
 fn is_mode_name(name: &str) -> bool
     ensures { result ≡ spec.is_mode_name name.now }
 {
     1 <= name.len() && name.len() <= MAX_MODE_NAME_BYTES && are_letters(name.as_bytes())
 }
 
-/// Whether each byte is a letter `a` to `z`.
 fn are_letters(bytes: &[u8]) -> bool
     ensures { result ≡ list_all is_ascii_lowercase bytes.now }
 {
     bytes.iter().all(|byte| byte.is_ascii_lowercase())
 }
 
-/// Whether no name comes twice.
 fn are_distinct(names: &[String]) -> bool
     ensures { result ≡ spec.are_distinct (map string_bytes names.now) }
 {
@@ -97,7 +89,6 @@ fn are_distinct(names: &[String]) -> bool
     true
 }
 
-/// Whether the name is among these.
 fn has_name(names: &[String], name: &str) -> bool
     ensures { result ≡ list_any (same_name name.now) (map string_bytes names.now) }
 {
@@ -109,7 +100,6 @@ fn has_name(names: &[String], name: &str) -> bool
     false
 }
 
-/// The place of the mode of this name.
 pub(crate) fn mode_named(modes: &[String], name: &str) -> Result<u8, TableFault>
     requires { length modes.now ≤ 32 }
     ensures mode { result ≡ spec.mode_named (map string_bytes modes.now) name.now }

@@ -18,8 +18,6 @@ use tap_views::Token;
 use tariffs::Riders;
 use toml::{Table, Value};
 
-/// The places of the classes of the riders that the text names, by their tokens; none if it has no
-/// such key.
 #[tactic(auto, unfolding(crate::specs::Riders::riders_of))]
 pub(crate) fn riders_of(alloc: Global, classes: &Table, table: &Table) -> Result<Riders, TableFault>
     ensures answer { Answers (λ r. r) result
@@ -38,7 +36,6 @@ pub(crate) fn riders_of(alloc: Global, classes: &Table, table: &Table) -> Result
     Ok(Riders::new(alloc, riders)?)
 }
 
-/// The places of the classes of these members, each a token in hexadecimal digits and a class.
 fn riders_from(
     alloc: Global,
     classes: &Table,
@@ -63,7 +60,6 @@ fn riders_from(
     Ok(riders)
 }
 
-/// The token of a rider and the place of the class that the value names.
 fn rider_of(names: &ClassNames<'_>, key: &str, value: &Value) -> Result<([u8; 16], u32), TableFault>
     ensures rider { Answers (λ rider. rider) result
         (spec.rider_of (table_view names.now.classes.now) key.now (view value.now)) }
@@ -74,7 +70,6 @@ fn rider_of(names: &ClassNames<'_>, key: &str, value: &Value) -> Result<([u8; 16
     Ok((token, names.place_of(name)?))
 }
 
-/// The token of 32 hexadecimal digits of either case.
 fn token_of_digits(digits: &str) -> Result<[u8; 16], TableFault>
     ensures { result ≡ spec.token_of_digits digits.now }
 {

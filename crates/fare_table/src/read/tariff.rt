@@ -18,7 +18,6 @@ use std::alloc::Global;
 use tariffs::{Tariff, TariffParts};
 use toml::Table;
 
-/// Reads each key in its turn, up to the first fault.
 #[tactic(auto, unfolding(crate::specs::TableMeaning::meaning_of_tree))]
 pub(crate) fn tariff_of(alloc: Global, table: &Table) -> Result<Tariff, TableFault>
     ensures answer { Answers (λ t. t.meaning) result (meaning_of_tree (table_view table.now)) }

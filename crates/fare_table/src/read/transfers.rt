@@ -12,7 +12,6 @@ use tariffs::Transfers;
 use toml::value::Array;
 use toml::{Table, Value};
 
-/// The pairs of places of modes that the text permits.
 #[tactic(auto, unfolding(crate::specs::Transfers::transfers_of))]
 pub(crate) fn transfers_of(
     alloc: Global,
@@ -27,7 +26,7 @@ pub(crate) fn transfers_of(
     transfers_from(alloc, modes, &pairs)
 }
 
-/// The names of each pair, so that a pair of another kind is found before a name that is no mode.
+/// So that a pair of another kind is found before a name that is not a mode.
 fn pairs_of(alloc: Global, array: &Array) -> Result<Vec<(&str, &str)>, TableFault>
     ensures { Answers (λ v. map (λ pair. (pair.0.now, pair.1.now)) v.items) result
         (spec.pairs_from [] (array_view array.now)) }
@@ -39,7 +38,6 @@ fn pairs_of(alloc: Global, array: &Array) -> Result<Vec<(&str, &str)>, TableFaul
     Ok(pairs)
 }
 
-/// The two names of a value, if it is an array of two strings.
 fn name_pair(value: &Value) -> Option<(&str, &str)>
     ensures { option_map (λ pair. (pair.0.now, pair.1.now)) result
         ≡ spec.name_pair (view value.now) }
@@ -51,7 +49,6 @@ fn name_pair(value: &Value) -> Option<(&str, &str)>
     Some((array[0].as_str()?, array[1].as_str()?))
 }
 
-/// The pairs of places of these pairs of names.
 fn transfers_from(
     alloc: Global,
     modes: &[String],
@@ -70,7 +67,6 @@ fn transfers_from(
     Ok(transfers)
 }
 
-/// The places of the modes of these two names.
 fn places_of(modes: &[String], from: &str, to: &str) -> Result<(u8, u8), TableFault>
     requires { length modes.now ≤ 32 }
     ensures places { result ≡ spec.places_of (map string_bytes modes.now) (from.now, to.now) }

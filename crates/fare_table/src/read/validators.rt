@@ -18,7 +18,6 @@ use tariffs::{RangeRest, Ranges};
 use toml::value::Array;
 use toml::{Table, Value};
 
-/// The ranges of the text by their first numbers, rising.
 #[tactic(auto, unfolding(crate::specs::Validators::ranges_of))]
 pub(crate) fn ranges_of(
     alloc: Global,
@@ -40,7 +39,6 @@ pub(crate) fn ranges_of(
     Ok(Ranges::new(alloc, ranges)?)
 }
 
-/// The ranges of these elements by their first numbers.
 fn ranges_from(
     alloc: Global,
     modes: &[String],
@@ -63,8 +61,7 @@ fn ranges_from(
     Ok(ranges)
 }
 
-/// Whether an earlier range shares a number with this one. The last range that begins no later than
-/// this one ends is the only one that can share a number.
+/// Only the last range that begins no later than this one ends can share a number.
 fn shares_number(ranges: &BTreeMap<u32, RangeRest>, first: u32, rest: RangeRest) -> bool
     requires apart { stand_apart ranges.now.entries ≡ true }
     requires order { first ≤ rest.last }
@@ -76,7 +73,6 @@ fn shares_number(ranges: &BTreeMap<u32, RangeRest>, first: u32, rest: RangeRest)
     }
 }
 
-/// The last number of the last range that begins at the number or before it.
 fn last_upto(ranges: &BTreeMap<u32, RangeRest>, number: u32) -> Option<u32>
     requires { stand_apart ranges.now.entries ≡ true }
     ensures { result ≡ option_map (λ range. range.1.last) (last_begun number ranges.now.entries) }
@@ -87,7 +83,6 @@ fn last_upto(ranges: &BTreeMap<u32, RangeRest>, number: u32) -> Option<u32>
     }
 }
 
-/// The range of a value, if it is a table.
 fn range_in(modes: &[String], value: &Value) -> Result<(u32, RangeRest), TableFault>
     requires { length modes.now ≤ 32 }
     ensures range { result ≡ spec.range_in (map string_bytes modes.now) (view value.now) }
@@ -97,7 +92,6 @@ fn range_in(modes: &[String], value: &Value) -> Result<(u32, RangeRest), TableFa
     range_of(modes, of_kind(value.as_table(), Key::Validators)?)
 }
 
-/// The range of an element: its first number, its last one and its mode.
 #[tactic(auto, unfolding(crate::specs::Validators::range_of))]
 fn range_of(modes: &[String], element: &Table) -> Result<(u32, RangeRest), TableFault>
     requires { length modes.now ≤ 32 }

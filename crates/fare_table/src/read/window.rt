@@ -9,7 +9,6 @@ use crate::fault::{Key, TableFault};
 use tariffs::WindowSpan;
 use toml::{Table, Value};
 
-/// The span of the windows of the text; seven days if it has no such key.
 #[tactic(auto, unfolding(crate::specs::Window::window_of))]
 pub(crate) fn window_of(table: &Table) -> Result<WindowSpan, TableFault>
     ensures span { result ≡ spec.window_of (table_view table.now) }
@@ -21,7 +20,6 @@ pub(crate) fn window_of(table: &Table) -> Result<WindowSpan, TableFault>
     }
 }
 
-/// The span that a value names.
 fn window_in(value: &Value) -> Result<WindowSpan, TableFault>
     ensures span { result ≡ spec.window_in (Some (view value.now)) }
     ensures bounds { IfOk result IsBoundedSpan }

@@ -15,7 +15,6 @@ use std::alloc::Global;
 use tariffs::Zone;
 use toml::{Table, Value};
 
-/// The zone of the text; none if it has no such key.
 #[tactic(auto, unfolding(crate::specs::Zone::zone_of))]
 pub(crate) fn zone_of(alloc: Global, table: &Table) -> Result<Option<Zone>, TableFault>
     ensures answer { Answers zone_text result (spec.zone_of (table_view table.now)) }
@@ -27,7 +26,6 @@ pub(crate) fn zone_of(alloc: Global, table: &Table) -> Result<Option<Zone>, Tabl
     }
 }
 
-/// The zone of a value, if it is a text that reads as a rule.
 fn zone_in(alloc: Global, value: &Value) -> Result<Zone, TableFault>
     ensures answer { Answers (λ z. Some (string_bytes z.text)) result
         (spec.zone_in (Some (view value.now))) }
