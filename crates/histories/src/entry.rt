@@ -6,8 +6,7 @@ ghost use Rattle.histories.specs.Entry.{reply_of};
 use account_rule::{Answer, Reply};
 use tap_views::Token;
 
-/// One posted tap and the account rule's reply to it. A book keeps it in 16 bytes, and gives it by
-/// value.
+/// One posted tap and the account rule's reply. A book stores it in 16 bytes.
 #[derive(Clone, Copy, Debug, PartialEq, Eq)]
 pub struct Entry {
     /// Whose account was tapped.
@@ -23,7 +22,7 @@ pub struct Entry {
 }
 
 impl Entry {
-    /// The reply that the entry keeps.
+    /// The reply that the entry stores.
     pub fn reply(&self) -> Reply
         ensures { result ≡ reply_of self.now }
     {

@@ -1,4 +1,4 @@
-//! Laws of the definitions, each as the contract of a small function.
+//! Theorems about the definitions, each the contract of a small function.
 
 ghost use Rattle.std.specs.Prelude.{◌≡◌, ◌↔◌, ◌++◌, ℕ, List};
 ghost use Rattle.std.specs.Ordering.{nat_cmp};
@@ -14,7 +14,7 @@ mod plain;
 
 pub use plain::plain_history;
 
-/// The rising list of the keys is the one strictly rising list that has the same members.
+/// The sorted list of the keys is the one strictly increasing list with the same members.
 pub fn one_rising_list()
     ensures numbers { (keys risen : List ℕ) → IsRising nat_cmp keys risen
         ↔ (risen ≡ rising nat_cmp keys) }
@@ -28,7 +28,7 @@ pub fn sums_add_up()
         → sums (before ++ after) ≡ add_sums (sums before) (sums after) }
 {}
 
-/// The beginning of a legal history is legal.
+/// The prefix of a legal history is legal.
 pub fn beginnings_are_legal()
     ensures { (table : Fares) (before after : List Entry) → IsLegal table (before ++ after)
         → IsLegal table before }

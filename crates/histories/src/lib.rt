@@ -1,7 +1,4 @@
-//! What entries of a history are, their sums, and the plain history of uploads.
-//!
-//! An entry is a tap with the account rule's reply. Here are the lists of entries, their sums by
-//! token and by validator, and the history that uploads have without shards and without workers.
+//! What entries of a history are, their sums by token and validator, and the sequential history.
 #![tactic(auto)]
 
 mod entry;

@@ -35,7 +35,7 @@ impl Lines {
         self.entries.len() as u64
     }
 
-    /// The line at place `i`, from 0.
+    /// The line at index `i`.
     pub fn get(&self, i: u64) -> &Entry
         requires { i < length self.now }
         ensures { slice_get self.now i ≡ Some result.now }

@@ -8,10 +8,9 @@ use std::alloc::Global;
 use std::marker::Model;
 use tap_views::NoMemory;
 
-/// A list of replies and the number of those that it has room for besides. Contracts see both.
+/// A list of replies, and for how many more it has room. Contracts see both.
 #[derive(Drop)]
 pub struct Replies {
-    /// The replies, with room behind them.
     replies: Vec<Reply>,
 }
 
@@ -37,7 +36,7 @@ impl Replies {
         }
     }
 
-    /// Takes room for `n` replies more. On want of memory the replies stay as they were.
+    /// Takes room for `n` replies more. If an allocation fails, the replies stay as they were.
     pub fn reserve(&mut self, n: u32) -> Result<(), NoMemory>
         ensures items { self.new.items ≡ self.old.items }
         ensures ok { OnOk result (n ≤ self.new.spare) }
@@ -51,7 +50,7 @@ impl Replies {
         Ok(())
     }
 
-    /// For how many replies more there is room.
+    /// For how many more replies there is room.
     pub fn spare(&self) -> u64
         ensures { result ≡ self.now.spare }
     {
@@ -65,7 +64,7 @@ impl Replies {
         self.replies.len() as u64
     }
 
-    /// The reply at place `i`, from 0.
+    /// The reply at index `i`.
     pub fn get(&self, i: u64) -> Reply
         requires { i < length self.now.items }
         ensures { slice_get self.now.items i ≡ Some result }
@@ -73,7 +72,7 @@ impl Replies {
         self.replies[i as usize]
     }
 
-    /// Drops all replies and keeps the room.
+    /// Drops all replies, and the room stays.
     pub fn clear(&mut self)
         ensures items { self.new.items ≡ [] }
         ensures spare { self.old.spare ≤ self.new.spare }

@@ -1,7 +1,4 @@
-//! The seed of the accounts' hash.
-//!
-//! Uploads come from strangers, who could fill one bucket of a hash whose seed they know. So the
-//! seed is random, made once a service, and handed to each book that is opened.
+//! The seed of the accounts' hash: random, since strangers could fill a bucket of a known one.
 
 ghost use Rattle.std.specs.Prelude.{◌≡◌};
 ghost use Rattle.histories.specs.Folding.{leading_number, folded_multiply};
@@ -10,23 +7,17 @@ use std::hash::{BuildHasher, Hasher, RandomState};
 use std::random::RandomSource;
 use tap_views::NoMemory;
 
-/// The seed under which a book hashes tokens. One value serves any number of books.
-///
-/// The hash multiplies each eight bytes into a state and folds the two halves of the product: a few
-/// instructions a token. State and multiplier are 128 bits from the system's randomness. No proof
-/// says that a stranger cannot find tokens that collide; a collision costs time and changes no
-/// answer.
+/// The seed under which any number of books hash tokens: 128 random bits. A hash is a folded
+/// product for each eight bytes. No proof says that a stranger cannot find collisions. One costs
+/// time and changes no answer.
 #[derive(Clone, Copy)]
 pub struct HashSeed {
-    /// The state with which each hash begins.
     state: u64,
-    /// By what each eight bytes are multiplied.
     multiplier: u64,
 }
 
 impl HashSeed {
-    /// A seed from the system's randomness. A seed that the system refuses counts as want of
-    /// memory.
+    /// A seed from the system's randomness. One that the system refuses is `NoMemory`.
     pub fn new<R: RandomSource>(rt: &R) -> Result<Self, NoMemory> {
         match RandomState::new(rt) {
             Ok(random) => {
@@ -43,13 +34,11 @@ impl HashSeed {
 /// The hasher of a book's accounts: a folded product for each eight bytes.
 #[derive(Clone, Copy)]
 pub struct FoldedProduct {
-    /// The hash of the bytes so far.
     state: u64,
-    /// By what each eight bytes are multiplied.
     multiplier: u64,
 }
 
-/// The whole number in the first eight, four or one of these bytes, the lowest first.
+/// The lowest byte first.
 #[tactic(auto, unfolding(crate::specs::Folding::leading_number))]
 fn leading_number(bytes: &[u8]) -> u64
     ensures { result ≡ leading_number bytes.now }
@@ -67,7 +56,6 @@ fn leading_number(bytes: &[u8]) -> u64
     }
 }
 
-/// The two halves of the product, joined by xor.
 #[tactic(auto, unfolding(crate::specs::Folding::folded_multiply))]
 fn folded_multiply(a: u64, b: u64) -> u64
     ensures { result ≡ folded_multiply a b }

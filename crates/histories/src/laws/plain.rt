@@ -1,4 +1,4 @@
-//! The plain history of uploads.
+//! The sequential history of uploads.
 
 ghost use Rattle.std.specs.Prelude.{◌≡◌, ◌<◌, ℕ, List, All, flat_map, map};
 ghost use Rattle.tariffs.specs.Fares.{Fares};
@@ -11,7 +11,6 @@ ghost use Rattle.histories.specs.Plain.{IsPlain};
 
 use tap_views::laws::one_reading_each;
 
-/// A file has taps before its first layout fault, and its bytes are bytes.
 fn taps_of(file: &[u8])
     ensures taps { (taps : List Tap) × AreGoodTaps file.now taps }
     ensures bytes { All (λ byte. byte < 256) file.now }
@@ -19,8 +18,7 @@ fn taps_of(file: &[u8])
     let _ = tap_views::good_batches(file);
 }
 
-/// Uploads have exactly one plain history under a table. It is legal, and its entries have the
-/// fields of the uploads' taps, in their order.
+/// Uploads have exactly one sequential history under a table: legal, with their taps in order.
 pub fn plain_history(uploads: &[Vec<u8>])
     ensures some { (fares : Fares) → (history : List Entry)
         × IsPlain fares (map (λ upload. upload.items) uploads.now) history }

@@ -59,7 +59,6 @@ pub fn add_entry<K: SumKey>(
     Ok(())
 }
 
-/// Whether the tally of the key stands at the place.
 #[inline(always)]
 fn is_at<K: SumKey>(tallies: &IndexMap<K, Tally, HashSeed>, place: usize, key: K) -> bool
     ensures { IsTrue result → (tally : Tally)
@@ -72,8 +71,7 @@ fn is_at<K: SumKey>(tallies: &IndexMap<K, Tally, HashSeed>, place: usize, key: K
     }
 }
 
-/// Adds one entry to the tally of its key, if that stands at the place: no look-up is needed then.
-/// Returns whether it does.
+/// The tally at the index is tried first, which saves a look-up. Returns whether it is the key's.
 #[inline(always)]
 pub(crate) fn add_at<K: SumKey>(
     tallies: &mut IndexMap<K, Tally, HashSeed>,
@@ -107,7 +105,6 @@ fn rising_keys<K: SumKey>(
     Ok(keys)
 }
 
-/// The totals that are kept for the key, of nothing if there are none.
 fn kept_totals<K: SumKey>(tallies: &IndexMap<K, Tally, HashSeed>, key: K) -> Totals
     requires { HasRoom K.eq K.key_of tallies.now.entries 0 }
     ensures { sums_of result ≡ kept_sums (get K.eq tallies.now key) }
@@ -118,7 +115,7 @@ fn kept_totals<K: SumKey>(tallies: &IndexMap<K, Tally, HashSeed>, key: K) -> Tot
     }
 }
 
-/// Each key with its totals, by rising keys.
+/// Each key with its totals, in increasing order of keys.
 pub fn listed<K: SumKey>(
     alloc: Global,
     tallies: &IndexMap<K, Tally, HashSeed>,
@@ -136,7 +133,6 @@ pub fn listed<K: SumKey>(
     Ok(list)
 }
 
-/// Adds one tally to that of its key.
 fn add_tally<K: SumKey>(
     tallies: &mut IndexMap<K, Tally, HashSeed>,
     key: K,

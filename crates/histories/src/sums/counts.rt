@@ -1,4 +1,4 @@
-//! The counts that a book keeps of each token, small and beside the token's account.
+//! The counts that a book stores of each token, small and beside the token's account.
 
 ghost use Rattle.std.specs.Prelude.{◌≡◌, ◌+◌, ◌*◌, ◌<◌, ◌≤◌, IsTrue};
 
@@ -7,26 +7,18 @@ use crate::sums::totals::Totals;
 use account_rule::{Answer, Reply};
 use tap_views::Token;
 
-/// What `Totals` counts, while the cents fit 32 bits and each other number 16. They take 16 bytes,
-/// and `Totals` 112, so that an account and its counts take 64.
+/// What `Totals` counts, while cents fit 32 bits and the others 16: 16 bytes, and `Totals` 112.
 #[derive(Clone, Copy, Debug, PartialEq, Eq)]
 pub struct Counts {
-    /// What was charged, in cents.
     cents: u32,
-    /// How many rides were paid, in full or in part.
     paid: u16,
-    /// How many transfers there were.
     transfers: u16,
-    /// How many rides were free by the cap.
     capped: u16,
-    /// How many taps were stale.
     stale: u16,
-    /// How many taps were at unknown validators.
     unknown: u16,
     ghost in_cents: { cents ≤ (paid + transfers + capped + stale + unknown) * 4294967295 },
 }
 
-/// Adds one, and returns whether there was room: the largest number stays.
 #[inline(always)]
 fn add_one(count: &mut u16) -> bool
     ensures added { IsTrue result → count.new ≡ count.old + 1 }
@@ -64,7 +56,6 @@ impl Counts {
         }
     }
 
-    /// Five counts, by the places of their answers, and the cents, if all of them fit.
     pub(crate) fn of_counts(counts: [u128; 5], cents: u128) -> Option<Self>
         requires { HasFewCents counts cents }
         ensures { IfSome result (λ small. sums_of_counts small ≡ sums_of_places counts cents) }
@@ -80,8 +71,7 @@ impl Counts {
         })
     }
 
-    /// Counts one reply more, and returns whether there was room: else the counts are right no
-    /// more.
+    /// Counts one reply more, and returns whether there was room: else the counts are of no use.
     #[tactic(auto, unfolding(crate::specs::Sums::sums_of_replies))]
     pub fn add(&mut self, reply: Reply) -> bool
         ensures { IsTrue result → sums_of_counts self.new
@@ -114,7 +104,6 @@ impl Counts {
         self.cents < u32::MAX
     }
 
-    /// The counts, widened to totals.
     pub(crate) fn totals(&self) -> Totals
         ensures { sums_of result ≡ sums_of_counts self.now }
     {
@@ -145,7 +134,6 @@ impl TokenCounts {
     ghost use Rattle.histories.specs.Counts.{token_counts};
     ghost use Rattle.histories.specs.Shown.{token_sum};
 
-    /// The token with its counts, widened to totals.
     pub(crate) fn sum(&self) -> TokenSum
         ensures { token_sum result ≡ token_counts self.now }
     {
@@ -156,5 +144,4 @@ impl TokenCounts {
     }
 }
 
-/// Counts have 16 bytes.
 const _: () = prove!(size_of::<Counts>() == 16);

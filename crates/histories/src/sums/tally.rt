@@ -1,4 +1,4 @@
-//! Counts of replies, a place for each answer, so that counting takes no branch.
+//! Counts of replies, indexed by answer, so that counting takes no branch.
 
 ghost use Rattle.std.specs.Prelude.{◌≡◌, ◌<◌};
 ghost use Rattle.histories.specs.Places.{count_place};
@@ -8,19 +8,17 @@ use crate::sums::counts::Counts;
 use crate::sums::totals::Totals;
 use account_rule::{Answer, Reply};
 
-/// What `Totals` counts, before the counts are added up. Answers come in no order that a processor
-/// could guess, so that a reply is counted at the place of its answer, and not by a choice between
-/// five counts.
+/// What `Totals` counts. Answers come in no order that a processor predicts, so a reply is counted
+/// at the index of its answer, not by a choice between five counts.
 #[derive(Clone, Copy, Debug, PartialEq, Eq)]
 pub struct Tally {
-    /// How many replies have each answer, by the places of the answers.
+    /// How many replies have each answer, by the index of the answer.
     counts: [u128; 5],
-    /// What was charged, in cents.
     cents: u128,
     ghost in_cents: { HasFewCents counts cents },
 }
 
-/// The place of the answer's count.
+/// The index of the answer's count.
 pub fn place_of(answer: Answer) -> usize
     ensures place { result ≡ count_place answer }
     ensures within { result < 5 }
@@ -87,7 +85,6 @@ impl Tally {
         };
     }
 
-    /// The tally as small counts, if it fits them.
     pub(crate) fn small(&self) -> Option<Counts>
         ensures { IfSome result (λ counts. sums_of_counts counts ≡ sums_of_tally self.now) }
     {

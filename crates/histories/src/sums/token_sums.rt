@@ -1,4 +1,4 @@
-//! The sums of the tokens of many books, in the little memory that the books keep of each.
+//! The sums of the tokens of many books, in the little memory that the books have of each.
 
 ghost use Rattle.std.specs.Prelude.{◌≡◌, ◌<◌, ◌≤◌, ◌^◌, ◌++◌, ◌∷◌, [], length, map, slice_get};
 ghost use Rattle.std.specs.Prelude.{IfOk, OnOk, Some};
@@ -14,10 +14,10 @@ use std::alloc::Global;
 use std::marker::Model;
 use tap_views::{NoMemory, Token};
 
-/// Counts of 32 bytes a token if the books keep them, else sums of 128.
+/// Counts of 32 bytes a token if the books have them, else sums of 128.
 #[derive(Drop)]
 pub(crate) enum SumList {
-    /// The counts that the books keep of each token.
+    /// The counts that the books have of each token.
     Counted(Vec<TokenCounts>),
     /// The sums of each token over the entries.
     Added(Vec<TokenSum>),
@@ -28,7 +28,6 @@ impl SumList {
     ghost use Rattle.histories.specs.Shown.{token_sum};
     ghost use Rattle.histories.specs.inside.Shown.{sums_in};
 
-    /// The sums in the larger form.
     fn into_added(self, alloc: Global) -> Result<Vec<TokenSum>, NoMemory>
         ensures { IfOk result (λ list. map token_sum list.items ≡ sums_in self) }
     {
@@ -39,7 +38,6 @@ impl SumList {
     }
 }
 
-/// One list behind the other: small if both are.
 fn joined(alloc: Global, first: SumList, second: SumList) -> Result<SumList, NoMemory>
     ensures { IfOk result (λ list. sums_in list ≡ sums_in first ++ sums_in second) }
 {
@@ -57,10 +55,9 @@ fn joined(alloc: Global, first: SumList, second: SumList) -> Result<SumList, NoM
     }
 }
 
-/// Tokens, rising, each with the totals of its entries. Contracts see the list.
+/// Tokens in increasing order, each with the totals of its entries. Contracts see the list.
 #[derive(Drop)]
 pub struct TokenSums {
-    /// The tokens, rising.
     list: SumList,
 }
 
@@ -76,7 +73,7 @@ impl Model for TokenSums {
 }
 
 impl TokenSums {
-    /// The tokens of the counts, which rise, with what they count.
+    /// The tokens of the counts, in increasing order, with what they count.
     pub fn of_counts(list: Vec<TokenCounts>) -> Self
         ensures { result ≡ map token_counts list.items }
     {
@@ -85,7 +82,7 @@ impl TokenSums {
         }
     }
 
-    /// The tokens of the sums, which rise, with their totals.
+    /// The tokens of the sums, in increasing order, with their totals.
     pub fn of_totals(list: Vec<TokenSum>) -> Self
         ensures { result ≡ map token_sum list.items }
     {
@@ -103,8 +100,7 @@ impl TokenSums {
         }
     }
 
-    /// Adds a token behind the others, with what its entries come to. After want of memory the sums
-    /// are of no use.
+    /// Appends a token and its totals. After an allocation failure the sums are of no use.
     pub fn push(&mut self, alloc: Global, token: Token, tally: &Tally) -> Result<(), NoMemory>
         requires { (sums_of_tally tally.now).taps ≤ 2 ^ 95 }
         ensures { OnOk result (self.new ≡ self.old ++ (token, sums_of_tally tally.now) ∷ []) }
@@ -119,7 +115,6 @@ impl TokenSums {
         self.push_total(alloc, TokenSum { token, totals })
     }
 
-    /// Adds a token behind the others, in the larger form.
     #[cold]
     fn push_total(&mut self, alloc: Global, sum: TokenSum) -> Result<(), NoMemory>
         ensures { OnOk result (self.new ≡ self.old ++ token_sum sum ∷ []) }
@@ -131,7 +126,7 @@ impl TokenSums {
         Ok(())
     }
 
-    /// Adds more tokens behind the others. After want of memory the sums are of no use.
+    /// Appends more tokens. After an allocation failure the sums are of no use.
     pub fn append(&mut self, alloc: Global, more: Self) -> Result<(), NoMemory>
         ensures { OnOk result (self.new ≡ self.old ++ more) }
     {
@@ -150,7 +145,7 @@ impl TokenSums {
         }
     }
 
-    /// The sum at place `i`, from 0.
+    /// The sum at index `i`.
     pub fn get(&self, i: usize) -> TokenSum
         requires { i < length self.now }
         ensures { slice_get self.now i ≡ Some (token_sum result) }

@@ -46,7 +46,6 @@ impl Totals {
         }
     }
 
-    /// The totals of five counts, by the places of their answers, and of the cents.
     pub(crate) fn of_counts(counts: [u128; 5], cents: u128) -> Self
         requires room { all_of counts ≤ 2 ^ 95 }
         requires in_cents { HasFewCents counts cents }

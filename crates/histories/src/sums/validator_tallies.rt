@@ -16,25 +16,20 @@ use std::alloc::Global;
 use std::marker::Model;
 use tap_views::NoMemory;
 
-/// How many hints there are, a power of two.
 const HINTS: usize = 16_384;
 
-/// By how many bits a number is shifted, once it is spread, so that it is below the number of
-/// hints.
+/// This shift takes a hash below the number of hints.
 const HINT_SHIFT: u32 = 18;
 
-/// The tally of each validator of the entries that were added. Contracts see the validators with
-/// their tallies, in no order.
+/// The tally of each validator of the added entries. Contracts see a map, in no order.
 #[derive(Drop)]
 pub struct ValidatorTallies {
-    /// The tallies, by the number of the validator.
     tallies: IndexMap<u32, Tally, HashSeed>,
-    /// Where the tally of a validator may stand: the place is asked for before the validator is
-    /// looked up. Any places serve. None are kept before the first entry.
+    /// Where a validator's tally may be, tried before it is looked up. Any indices serve.
     hints: Vec<u32>,
 }
 
-/// The hint of the validator. The numbers of neighbours spread evenly.
+/// The numbers of neighbors spread evenly.
 #[inline(always)]
 fn hint_of(validator: u32) -> usize {
     (validator.wrapping_mul(0x9e37_79b1) >> HINT_SHIFT) as usize
@@ -50,7 +45,7 @@ impl Model for ValidatorTallies {
 }
 
 impl ValidatorTallies {
-    /// Of no entries. The seed serves to hash the validators' numbers.
+    /// Of no entries. The seed hashes the validators' numbers.
     pub fn new(alloc: Global, seed: HashSeed) -> Self
         ensures { AreByKey ◌==◌ validator_of [] result }
     {
@@ -60,7 +55,7 @@ impl ValidatorTallies {
         }
     }
 
-    /// Adds an entry. After want of memory the tallies are of no use.
+    /// Adds an entry. After an allocation failure the tallies are of no use.
     #[inline(always)]
     pub fn add(&mut self, entry: &Entry) -> Result<(), NoMemory>
         requires { HasRoom ◌==◌ validator_of self.old 1 }
@@ -80,7 +75,6 @@ impl ValidatorTallies {
         self.look_up(&unhinted)
     }
 
-    /// Adds an entry whose hint is wrong, and keeps a hint for it.
     #[inline(never)]
     fn look_up(&mut self, entry: &Entry) -> Result<(), NoMemory>
         requires { HasRoom ◌==◌ validator_of self.old 1 }
@@ -92,7 +86,6 @@ impl ValidatorTallies {
         self.keep_hint(entry.validator)
     }
 
-    /// Keeps the place of the validator's tally as its hint.
     fn keep_hint(&mut self, validator: u32) -> Result<(), NoMemory>
         ensures { self.new ≡ self.old }
     {
@@ -104,7 +97,7 @@ impl ValidatorTallies {
         Ok(())
     }
 
-    /// Adds all entries of other tallies. After want of memory the tallies are of no use.
+    /// Adds all entries of other tallies. After an allocation failure they are of no use.
     pub fn add_all(&mut self, more: &ValidatorTallies) -> Result<(), NoMemory>
         requires { HaveRoom ◌==◌ validator_of self.old more.now }
         ensures { OnOk result ((before after : List Entry)
@@ -115,7 +108,7 @@ impl ValidatorTallies {
         add_tallies(&mut self.tallies, &more.tallies)
     }
 
-    /// The validators, rising, each with the totals of its entries.
+    /// The validators, in increasing order, each with the totals of its entries.
     #[tactic(auto, unfolding(crate::specs::SumsBy::sums_by, crate::specs::ByKey::with_key, crate::specs::SumsByKey::sums_by_validator, crate::specs::SumsByKey::validators, crate::specs::SumsByKey::entries_of_validator))]
     pub fn sums(&self, alloc: Global) -> Result<Vec<ValidatorSum>, NoMemory>
         requires { HasRoom ◌==◌ validator_of self.now 0 }
