@@ -11,7 +11,7 @@ use std::alloc::Global;
 use std::random::RandomSource;
 use tap_views::{Batch, TapFields, Token, encode};
 
-/// A book without entries, the only one of its service.
+/// The only book of its service.
 fn book<R: RandomSource>(rt: &R, alloc: Global) -> Result<ShardBook, Stop>
     ensures { IfOk result (λ book. (book.shard ≡ 0) × (book.shards ≡ 1)) }
 {
@@ -20,7 +20,6 @@ fn book<R: RandomSource>(rt: &R, alloc: Global) -> Result<ShardBook, Stop>
     Ok(ShardBook::open(alloc, seed, table, 0, 1))
 }
 
-/// Forty rides, each of a token of its own.
 fn forty_taps(alloc: Global) -> Result<Vec<TapFields>, Stop> {
     let mut taps = Vec::new(alloc);
     for last in 0..40u8 {
@@ -29,7 +28,6 @@ fn forty_taps(alloc: Global) -> Result<Vec<TapFields>, Stop> {
     Ok(taps)
 }
 
-/// The entry is the ride of the token with this last byte.
 fn is_ride(entry: &Entry, last: u8) -> bool {
     *entry
         == Entry {
@@ -41,7 +39,6 @@ fn is_ride(entry: &Entry, last: u8) -> bool {
         }
 }
 
-/// The book has the first `count` of the forty rides, and nothing else.
 fn has_rides(book: &ShardBook, count: u64) -> Case {
     promise(book.len() == count, "another number of entries")?;
     for last in 0..40u8 {
@@ -52,7 +49,7 @@ fn has_rides(book: &ShardBook, count: u64) -> Case {
     Ok(())
 }
 
-/// Posts the taps as one run. If memory is refused before that, nothing is posted.
+/// If an allocation fails before that, nothing is posted.
 fn post(
     alloc: Global,
     book: &mut ShardBook,
@@ -67,7 +64,6 @@ fn post(
     Ok(book.post_run(&clock, &run, out))
 }
 
-/// The taps that a cut run left.
 fn left(taps: &[TapFields], end: RunEnd) -> &[TapFields] {
     match end {
         RunEnd::Cut { posted } if (posted as usize) < taps.len() => &taps[posted as usize..],
@@ -76,7 +72,6 @@ fn left(taps: &[TapFields], end: RunEnd) -> &[TapFields] {
     }
 }
 
-/// The replies are `count` paid rides.
 fn are_paid(out: &Replies, count: u64) -> Case {
     promise(out.len() == count, "another number of replies")?;
     for i in 0..out.len() {
@@ -89,7 +84,6 @@ fn are_paid(out: &Replies, count: u64) -> Case {
     Ok(())
 }
 
-/// Posts what a cut run left: all forty rides are there then.
 fn post_rest(alloc: Global, book: &mut ShardBook, rest: &[TapFields], out: &mut Replies) -> Case {
     if post(alloc, book, rest, out)? != RunEnd::Whole {
         return Err(Stop::Refused);
@@ -98,9 +92,8 @@ fn post_rest(alloc: Global, book: &mut ShardBook, rest: &[TapFields], out: &mut 
     has_rides(book, 40)
 }
 
-/// `post_run` of forty taps: a cut run posted exactly its first taps, and the others can be posted
-/// afterwards. Would catch a book that keeps a mark of a refusal, which no contract sees, and takes
-/// nothing more.
+/// `post_run`: a cut run posted exactly its first taps, and the others can be posted afterwards.
+/// Would catch a book that remembers a refusal, which no contract sees, and takes nothing more.
 pub(crate) fn cut_run<R: RandomSource>(rt: &R, alloc: Global) -> Case {
     let taps = forty_taps(alloc)?;
     let mut book = book(rt, alloc)?;
@@ -117,7 +110,6 @@ pub(crate) fn cut_run<R: RandomSource>(rt: &R, alloc: Global) -> Case {
     }
 }
 
-/// Posts the tap by itself, a paid ride.
 fn post_tap(alloc: Global, book: &mut ShardBook, tap: &TapFields) -> Case {
     let bytes = encode(alloc, std::slice::from_ref(tap))?;
     let (batch, _) = Batch::first(&bytes)?;
@@ -133,8 +125,7 @@ fn post_tap(alloc: Global, book: &mut ShardBook, tap: &TapFields) -> Case {
     )
 }
 
-/// Posts the tap to a book of `rides` rides. If it is refused, the book stays as it was, and the
-/// tap can be posted again. Returns whether it was refused.
+/// Posts the tap to a book of `rides` rides, again if it is refused, and returns whether it was.
 fn post_twice(
     alloc: Global,
     book: &mut ShardBook,
@@ -154,9 +145,7 @@ fn post_twice(
     Ok(true)
 }
 
-/// `post` of forty taps, one at a time. Would catch one that gives up although memory is there, as
-/// a book whose first growth is forgotten and which never takes a tap, and one that gives up for
-/// good after a refusal.
+/// `post`, one tap at a time. Would catch a book whose first growth is forgotten.
 pub(crate) fn posts<R: RandomSource>(rt: &R, alloc: Global) -> Case {
     let taps = forty_taps(alloc)?;
     let mut book = book(rt, alloc)?;
@@ -170,7 +159,6 @@ pub(crate) fn posts<R: RandomSource>(rt: &R, alloc: Global) -> Case {
     ended(refused)
 }
 
-/// A book of the forty rides.
 fn full_book<R: RandomSource>(rt: &R, alloc: Global) -> Result<ShardBook, Stop> {
     let mut book = book(rt, alloc)?;
     let mut out = Replies::new(alloc);
@@ -181,7 +169,6 @@ fn full_book<R: RandomSource>(rt: &R, alloc: Global) -> Result<ShardBook, Stop> 
     }
 }
 
-/// The list of the forty tokens, rising.
 fn lists_tokens(alloc: Global, book: &ShardBook) -> Case {
     let tokens = book.tokens(alloc)?;
     promise(tokens.len() == 40, "another number of tokens")?;
@@ -196,8 +183,7 @@ fn lists_tokens(alloc: Global, book: &ShardBook) -> Case {
     Ok(())
 }
 
-/// `tokens`. Would catch one that always gives up, or does so for good after a refusal, also if the
-/// book stayed the same.
+/// Also if the book stayed the same.
 pub(crate) fn tokens<R: RandomSource>(rt: &R, alloc: Global) -> Case {
     let book = full_book(rt, alloc)?;
     twice!({
@@ -206,7 +192,6 @@ pub(crate) fn tokens<R: RandomSource>(rt: &R, alloc: Global) -> Case {
     })
 }
 
-/// The sums by validator and by token.
 fn adds_up(alloc: Global, book: &ShardBook) -> Case {
     let validators = book.by_validator(alloc)?;
     promise(validators.len() == 1, "another number of validators")?;
@@ -228,8 +213,6 @@ fn adds_up(alloc: Global, book: &ShardBook) -> Case {
     Ok(())
 }
 
-/// `by_validator` and `token_sums_of_books`. Would catch one that always gives up, or does so for good
-/// after a refusal.
 pub(crate) fn sums<R: RandomSource>(rt: &R, alloc: Global) -> Case {
     let book = full_book(rt, alloc)?;
     twice!({
@@ -238,7 +221,6 @@ pub(crate) fn sums<R: RandomSource>(rt: &R, alloc: Global) -> Case {
     })
 }
 
-/// The statement of one token, with its window.
 fn states(alloc: Global, book: &ShardBook) -> Case {
     let statement = book.statement(alloc, &Token::of(&bytes_of(7)))?;
     promise(
@@ -253,7 +235,6 @@ fn states(alloc: Global, book: &ShardBook) -> Case {
     )
 }
 
-/// `statement`. Would catch one that always gives up, or does so for good after a refusal.
 pub(crate) fn statement<R: RandomSource>(rt: &R, alloc: Global) -> Case {
     let book = full_book(rt, alloc)?;
     twice!({

@@ -28,7 +28,7 @@ pub(crate) const CASES: [&str; 13] = [
     "write_statement",
 ];
 
-/// The cases of settled runs, which are made behind the others.
+/// The cases of settled runs, which are made after the others.
 pub(crate) const SETTLED_CASES: [&str; 5] = [
     "settled_bill",
     "sort_uploads",

@@ -1,11 +1,10 @@
-//! Hostile use of the service's libraries: memory that is refused, in every place.
-//!
-//! `hostile CASE` makes one case of calls that take memory, and looks at what a refused call left
-//! behind. Its status is 0 if all was answered, 3 if memory was refused and all stood as promised,
-//! 4 if a run reported an upload that was cut or left undrawn, and 1 if something else was found,
-//! which it names. The script `hostile/refuse` runs each case with its first allocation refused,
-//! then with its second, and so on, until a run meets no refusal. Without a word the program makes
-//! every case with the memory that there is, and each answers.
+//! Hostile use of the service's libraries: each allocation refused in turn. `hostile CASE` makes
+//! one case of calls, and looks at what a refused call left behind. Each case would catch a call
+//! that always fails, or fails for good after a refusal. The status is 0 if all was answered, 3 if
+//! an allocation failed and all promises hold, 4 if a run reported an upload as cut or undrawn, and
+//! 1 if something else was found, which it names. `hostile/refuse` runs each case with its first
+//! allocation refused, then with its second, and so on. Without an argument the program makes every
+//! case.
 #![tactic(auto)]
 
 mod books;
@@ -35,7 +34,6 @@ fn status_of(case: &Case) -> u8 {
     }
 }
 
-/// What is printed of a case.
 fn word_of(case: &Case) -> &'static str {
     match case {
         Ok(()) => "answered",
@@ -45,15 +43,13 @@ fn word_of(case: &Case) -> &'static str {
     }
 }
 
-/// The word after the program's name, if there is one.
 fn word<R: Env + AllocGlobal>(rt: &R) -> io::Result<Option<String>> {
     let mut words = env::args(rt)?;
     let _program = words.next();
     Ok(words.next())
 }
 
-/// Makes the case of this name if it is wanted, or if none is named, and prints how it ended. The
-/// status of the case, or 0.
+/// Returns the status of the case, or 0 if it is not wanted.
 fn status_if_wanted<R: Threads + Wait + RandomSource + Sync + Print + AllocGlobal>(
     rt: &R,
     wanted: &Option<String>,
@@ -67,7 +63,7 @@ fn status_if_wanted<R: Threads + Wait + RandomSource + Sync + Print + AllocGloba
     status_of(&case)
 }
 
-/// Runs the case that the words name; its status says how it ended.
+/// Runs the case that the arguments name. Its status says how it ended.
 fn main(rt: HostRuntime) -> ExitCode {
     let Ok(wanted) = word(&rt) else {
         return ExitCode::from(3);

@@ -9,12 +9,10 @@ use tap_views::encode;
 /// Where a window that starts with the day ends: 2024-03-15T04:00Z, midnight in New York.
 pub(crate) const UNTIL: u64 = 1_710_475_200_000;
 
-/// The sample table under New York's civil time.
 pub(crate) fn table(alloc: Global) -> Result<FareTable, Stop> {
     Ok(FareTable::read(alloc, NEW_YORK.as_bytes())?)
 }
 
-/// The uploads of the example.
 pub(crate) fn uploads(alloc: Global) -> Result<Vec<Vec<u8>>, Stop> {
     let mut uploads = Vec::new(alloc);
     uploads.push(encode(alloc, &rides())?)?;

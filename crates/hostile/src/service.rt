@@ -11,8 +11,7 @@ use std::sync::Wait;
 use std::thread::Threads;
 use tap_views::Token;
 
-/// A gatekeeper that prints which uploads have ended, so that whoever refuses memory knows what was
-/// refused before and what after.
+/// Prints which uploads have ended, so that whoever refuses memory knows what was refused after it.
 #[derive(Drop)]
 struct Printing<'a, R> {
     rt: &'a R,
@@ -32,7 +31,6 @@ impl<R: Print> Gatekeeper for Printing<'_, R> {
     }
 }
 
-/// One worker posts the uploads to eight shards.
 fn outcome_of<R: Threads + Wait + RandomSource + Sync>(
     rt: &R,
     alloc: Global,
@@ -42,7 +40,7 @@ fn outcome_of<R: Threads + Wait + RandomSource + Sync>(
     Ok(service.run(rt, alloc, share, 1, &OpenGatekeeper)?)
 }
 
-/// A service opens, and its first share is gathered: both uploads are undrawn.
+/// Both uploads are undrawn.
 fn opens<R: RandomSource>(rt: &R, alloc: Global, uploads: &[Vec<u8>]) -> Case {
     let (service, share) = Service::open(rt, alloc, table(alloc)?, 8, uploads)?;
     let outcome = service.gather(alloc, vec![in alloc; share]?)?;
@@ -57,14 +55,12 @@ fn opens<R: RandomSource>(rt: &R, alloc: Global, uploads: &[Vec<u8>]) -> Case {
     )
 }
 
-/// `open` and `gather`. Would catch one that always gives up, and one that does so for good after a
-/// refusal.
 pub(crate) fn opening<R: RandomSource>(rt: &R, alloc: Global) -> Case {
     let uploads = uploads(alloc)?;
     twice!(opens(rt, alloc, uploads.as_slice()))
 }
 
-/// How many taps of the uploads were posted, and whether each upload was posted whole.
+/// Returns how many taps were posted, and whether each upload was posted whole.
 fn posted(outcome: &Outcome) -> Result<(u128, bool), Stop> {
     let (mut taps, mut whole) = (0u128, true);
     for upload in 0..outcome.uploads() {
@@ -103,13 +99,10 @@ fn runs<R: Threads + Wait + RandomSource + Sync + Print, G: Gatekeeper + Sync>(
     if whole { Ok(()) } else { Err(Stop::Less) }
 }
 
-/// `run` with one worker. After a refusal another service posts the same uploads. Would catch a
-/// worker that stops though no memory was refused, and an upload reported as cut of which all was
-/// posted: each is reported truly, and the promises hold.
-///
-/// It prints when the run begins and which uploads have ended, and `hostile/refuse` holds it to
-/// this: memory that is refused in between leaves an upload cut or undrawn, or no outcome; and if
-/// it is refused after the last upload's end, none is.
+/// `run` with one worker. Would catch a worker that stops though no allocation failed, and an
+/// upload reported as cut of which all was posted. It prints when the run begins and which uploads
+/// have ended: memory refused in between leaves an upload cut or undrawn, or no outcome; after the
+/// last upload's end, no outcome.
 pub(crate) fn run<R: Threads + Wait + RandomSource + Sync + Print>(rt: &R, alloc: Global) -> Case {
     let uploads = uploads(alloc)?;
     let first = runs(rt, alloc, uploads.as_slice(), &Printing { rt });
@@ -120,7 +113,6 @@ pub(crate) fn run<R: Threads + Wait + RandomSource + Sync + Print>(rt: &R, alloc
     first
 }
 
-/// An outcome of which each upload was posted whole.
 fn uncut_outcome<R: Threads + Wait + RandomSource + Sync>(
     rt: &R,
     alloc: Global,
@@ -134,7 +126,7 @@ fn uncut_outcome<R: Threads + Wait + RandomSource + Sync>(
     }
 }
 
-/// The text was written whole, or memory was refused and nothing was written.
+/// The text was written whole, or an allocation failed and nothing was written.
 fn is_written(answer: Result<(), PrintFault>, written: &[u8], text: &str) -> Case {
     match answer {
         Ok(()) => promise(written == text.as_bytes(), "another text"),
@@ -146,9 +138,7 @@ fn is_written(answer: Result<(), PrintFault>, written: &[u8], text: &str) -> Cas
     }
 }
 
-/// `write_report`. Would catch one that always gives up, or does so for good after a refusal; also
-/// a part of the text that is written before a refusal, to a writer of which contracts know
-/// nothing.
+/// `write_report`. Would also catch a part of the text that is written before a refusal.
 pub(crate) fn prints_report<R: Threads + Wait + RandomSource + Sync>(
     rt: &R,
     alloc: Global,
@@ -165,7 +155,6 @@ pub(crate) fn prints_report<R: Threads + Wait + RandomSource + Sync>(
     }
 }
 
-/// `write_statement`. Would catch the same as `prints_report`.
 pub(crate) fn prints_statement<R: Threads + Wait + RandomSource + Sync>(
     rt: &R,
     alloc: Global,

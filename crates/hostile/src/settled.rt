@@ -19,10 +19,8 @@ use world::Trace;
 /// How many threads a case may start: as `omny_tools sort` does.
 const WORKERS: u32 = 4;
 
-/// How the uploads of the example end.
 const ENDS: [UploadEnd; 2] = [UploadEnd::Posted { taps: 4 }, UploadEnd::Posted { taps: 2 }];
 
-/// The sums of the first token's taps, and of the second one's.
 const SUMS: [Totals; 2] = [
     Totals {
         taps: 4,
@@ -55,7 +53,6 @@ const LEDGER: &str =
 000000000000000000000000000000b2,2,2024-03-08T17:00:00.010Z,9,,unknown,0,,,,unknown,
 ";
 
-/// The bill has the example's tokens with their sums, and each upload was posted whole.
 fn is_billed(made: &Billed) -> Case {
     promise(made.ends.as_slice() == ENDS.as_slice(), "other ends")?;
     let tokens = &made.bill.tokens;
@@ -82,7 +79,6 @@ fn bills<R: Threads + RandomSource + Sync>(rt: &R, alloc: Global, uploads: &[Vec
     is_billed(&settled_bill(rt, alloc, &table, seed, &loaded, WORKERS, &mut Trace::new())?)
 }
 
-/// `settled_bill`. Would catch one that always gives up, or does so for good after a refusal.
 pub(crate) fn bill<R: Threads + RandomSource + Sync>(rt: &R, alloc: Global) -> Case {
     let uploads = uploads(alloc)?;
     twice!(bills(rt, alloc, uploads.as_slice()))
@@ -98,7 +94,6 @@ fn bills_sorted<R: Threads + RandomSource + Sync>(
     is_billed(&sorted_bill(rt, alloc, &table, seed, files, WORKERS)?)
 }
 
-/// `sorted_bill`. Would catch one that always gives up, or does so for good after a refusal.
 pub(crate) fn bill_of_sorted<R: Threads + RandomSource + Sync>(rt: &R, alloc: Global) -> Case {
     let (rides, strays) = sorted_files(alloc)?;
     let files = [InMemory { all: &rides }, InMemory { all: &strays }];
@@ -113,15 +108,12 @@ fn writes_ledger<R: Threads + Sync>(rt: &R, alloc: Global, files: &[InMemory<'_>
     promise(written.as_slice() == LEDGER.as_bytes(), "another ledger")
 }
 
-/// `write_sorted_ledger`. Would catch one that always gives up, or does so for good after a
-/// refusal.
 pub(crate) fn ledger_of_sorted<R: Threads + Sync>(rt: &R, alloc: Global) -> Case {
     let (rides, strays) = sorted_files(alloc)?;
     let files = [InMemory { all: &rides }, InMemory { all: &strays }];
     twice!(writes_ledger(rt, alloc, &files))
 }
 
-/// Both uploads as one sorted file.
 fn sorts<R: Threads + Sync>(rt: &R, alloc: Global) -> Case {
     let mut written = Vec::with_capacity(alloc, 2000)?;
     let ends = sort_uploads(rt, alloc, uploads(alloc)?, WORKERS, &mut written)?;
@@ -129,12 +121,10 @@ fn sorts<R: Threads + Sync>(rt: &R, alloc: Global) -> Case {
     promise(written == merged_file(alloc)?, "another sorted file")
 }
 
-/// `sort_uploads`. Would catch one that always gives up, or does so for good after a refusal.
 pub(crate) fn sort<R: Threads + Sync>(rt: &R, alloc: Global) -> Case {
     twice!(sorts(rt, alloc))
 }
 
-/// The sorted files as one.
 fn merges(alloc: Global, files: &[InMemory<'_>]) -> Case {
     let mut written = Vec::with_capacity(alloc, 2000)?;
     let numbers = merge_sorted(alloc, files, &mut written)?;
@@ -145,7 +135,6 @@ fn merges(alloc: Global, files: &[InMemory<'_>]) -> Case {
     promise(written == merged_file(alloc)?, "another merged file")
 }
 
-/// `merge_sorted`. Would catch one that always gives up, or does so for good after a refusal.
 pub(crate) fn merge(alloc: Global) -> Case {
     let (rides, strays) = sorted_files(alloc)?;
     let files = [InMemory { all: &rides }, InMemory { all: &strays }];

@@ -1,4 +1,4 @@
-//! Why a case stops before all is answered.
+//! Why a case stops early.
 
 use fare_service::{GatherFault, OpenFault, RunFault};
 use fare_table::TableFault;
@@ -7,10 +7,10 @@ use sorted_taps::{FileFault, MergeFault, SortedFault, WriteFault};
 use std::alloc::{AllocError, AllocFailed};
 use tap_views::{EncodeFault, LayoutFault, NoMemory};
 
-/// Why a case stops before all is answered.
+/// Why a case stops early.
 #[derive(Clone, Copy, Debug, PartialEq, Eq)]
 pub(crate) enum Stop {
-    /// Memory was refused, and what stood then was as promised.
+    /// An allocation failed, and all promises held.
     Refused,
     /// A run was gathered, and it reports an upload that was cut or left undrawn.
     Less,
@@ -35,8 +35,7 @@ pub(crate) fn ended(refused: bool) -> Case {
     if refused { Err(Stop::Refused) } else { Ok(()) }
 }
 
-/// How a case ends in which a refused call was made again: one allocation of a run is refused, so
-/// the second call must be answered.
+/// One allocation of a run is refused, so the second call must be answered.
 pub(crate) fn again(second: Case) -> Case {
     match second {
         Ok(()) => Err(Stop::Refused),
@@ -45,8 +44,7 @@ pub(crate) fn again(second: Case) -> Case {
     }
 }
 
-/// Asks, and asks again if memory was refused. It is a macro, since the borrow checker does not
-/// cover a closure whose result has a `&'static str`.
+/// Asks, and again if an allocation failed. A closure with a `&'static str` is not borrow-checked.
 macro_rules! twice {
     ($ask:expr) => {
         match $ask {

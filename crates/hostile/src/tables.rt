@@ -7,7 +7,6 @@ use sample_table::{BUS, START, SUBWAY, bytes_of, tap_after};
 use std::alloc::Global;
 use tap_views::{Batch, Tap2Fields, TapFields, encode, encode_tap2};
 
-/// The bytes are a batch of these taps, and nothing follows.
 fn reads_back(bytes: &[u8], taps: &[TapFields]) -> Case {
     let (batch, rest) = Batch::first(bytes)?;
     promise(rest.is_empty(), "bytes follow what was encoded")?;
@@ -26,7 +25,7 @@ fn reads_back(bytes: &[u8], taps: &[TapFields]) -> Case {
     Ok(())
 }
 
-/// The taps are encoded in both layouts, in the second one the first tap alone.
+/// In the second layout the first tap alone.
 fn encoded(alloc: Global, taps: &[TapFields; 2]) -> Case {
     reads_back(&encode(alloc, taps)?, taps)?;
     let shared = Tap2Fields {
@@ -39,8 +38,7 @@ fn encoded(alloc: Global, taps: &[TapFields; 2]) -> Case {
     )
 }
 
-/// `encode` and `encode_tap2`. Would catch one that gives up although memory is there, or that
-/// keeps a mark of a refusal and gives up from then on.
+/// `encode` and `encode_tap2`.
 pub(crate) fn encodes(alloc: Global) -> Case {
     let taps = [tap_after(0xa1, SUBWAY, 0), tap_after(0xa1, BUS, 7_200_000)];
     twice!(encoded(alloc, &taps))
@@ -73,18 +71,16 @@ fn is_sample(table: &FareTable) -> Case {
     )
 }
 
-/// The sample is read, and is the sample.
 fn was_read(alloc: Global) -> Case {
     is_sample(&table(alloc)?)
 }
 
-/// `FareTable::read`. Would catch one that gives up although memory is there. A refusal inside
-/// `toml` must not be reported as a fault of the text, which a contract says too.
+/// A refusal inside `toml` must not be reported as a fault of the text.
 pub(crate) fn read(alloc: Global) -> Case {
     twice!(was_read(alloc))
 }
 
-/// A clone is equal, and the table still answers when the clone is gone.
+/// The table still answers when its clone is gone.
 fn cloned(alloc: Global, table: &FareTable) -> Case {
     let copy = table.try_clone(alloc)?;
     is_sample(&copy)?;
@@ -92,7 +88,7 @@ fn cloned(alloc: Global, table: &FareTable) -> Case {
     is_sample(table)
 }
 
-/// `try_clone`, which takes no memory of its own. Would catch one that always gives up.
+/// `try_clone` takes no memory of its own.
 pub(crate) fn clone(alloc: Global) -> Case {
     let table = table(alloc)?;
     twice!({
@@ -101,8 +97,7 @@ pub(crate) fn clone(alloc: Global) -> Case {
     })
 }
 
-/// A clock of the sample table says where windows end: in March, before its first second, and when
-/// clocks are turned back.
+/// In March, before its first second, and when clocks are turned back.
 fn window_ends(alloc: Global, table: &FareTable) -> Case {
     let clock = table.clock(alloc)?;
     let ends = [
@@ -116,8 +111,7 @@ fn window_ends(alloc: Global, table: &FareTable) -> Case {
     )
 }
 
-/// `clock` and `window_end`. Would catch a rule text that means other dates than New York's, since
-/// the contract leaves to `jiff` what a text means.
+/// Would catch a rule text that means other dates than New York's: `jiff` says what it means.
 pub(crate) fn clock(alloc: Global) -> Case {
     let table = table(alloc)?;
     twice!({
