@@ -1,4 +1,4 @@
-//! Laws of settled bills: what a bill depends on.
+//! Theorems about settled bills: what a bill depends on.
 
 ghost use Rattle.std.specs.Prelude.{◌≡◌, ◌≤◌, ◌++◌, ℕ, List, map};
 ghost use Rattle.tariffs.specs.Fares.{Fares};
@@ -13,10 +13,8 @@ ghost use Rattle.laws.specs.TapSets.{HaveSameTapsBefore, HaveTapsAlike, HaveTaps
 use fare_service::laws::plain_history;
 use tap_views::laws::one_reading_each;
 
-/// A settled bill is a function of the set of good taps: a tap is charged once, however often it
-/// comes. Uploads with the same set of taps have the same rides and transfers, the same charges in
-/// all, of each token and at each validator, and the same windows. Only the numbers of all, of
-/// stale and of unknown taps may differ.
+/// A settled bill is a function of the set of valid taps: a repeated tap is charged once. Only the
+/// numbers of all, of stale and of unknown taps depend on more.
 pub fn set_of_taps_is_billed(uploads: &[Vec<u8>], others: &[Vec<u8>])
     ensures { (fares : Fares) (history again : List Entry)
         → HaveSameSetOfTaps (map (λ u. u.items) uploads.now) (map (λ u. u.items) others.now)
@@ -28,7 +26,7 @@ pub fn set_of_taps_is_billed(uploads: &[Vec<u8>], others: &[Vec<u8>])
     one_reading_each(others);
 }
 
-/// Taps that are sent again, in whatever uploads, change no ride, no transfer and no charge.
+/// Taps that are sent again, in any uploads, change no ride, no transfer and no charge.
 pub fn repeats_are_free(uploads: &[Vec<u8>], more: &[Vec<u8>])
     ensures { (fares : Fares) (history again : List Entry)
         → AreSentAgain (map (λ u. u.items) uploads.now) (map (λ u. u.items) more.now)
@@ -40,9 +38,7 @@ pub fn repeats_are_free(uploads: &[Vec<u8>], more: &[Vec<u8>])
     one_reading_each(more);
 }
 
-/// If a token's good taps before a moment are the same set in both, so are its rides and transfers
-/// before the moment, and what each costs. So a tap that comes late changes no ride and no transfer
-/// of another token, and none of its own token before it.
+/// A late tap changes no ride and no transfer of its token before it, and none of another token.
 pub fn late_taps_change_nothing_before(uploads: &[Vec<u8>], others: &[Vec<u8>])
     ensures { (fares : Fares) (token : Token) (moment : ℕ) (history again : List Entry)
         → HaveSameTapsBefore token moment (map (λ u. u.items) uploads.now)
@@ -57,9 +53,8 @@ pub fn late_taps_change_nothing_before(uploads: &[Vec<u8>], others: &[Vec<u8>])
     plain_history(others);
 }
 
-/// What is posted from a moment on changes nothing before it. If the good taps before the moment
-/// are the same, of all tokens, so are all lines before it: rides, transfers, stale and unknown
-/// taps, each with its answer and cents, in the same order.
+/// What is posted from a moment on changes no line before it: if the valid taps of all tokens
+/// before it are the same, so are all lines before it, with answers and cents, in the same order.
 pub fn later_taps_change_no_line_before(uploads: &[Vec<u8>], others: &[Vec<u8>])
     ensures { (fares : Fares) (moment : ℕ) (history again : List Entry)
         → HaveTapsAlikeBefore moment (map (λ u. u.items) uploads.now)
@@ -74,10 +69,8 @@ pub fn later_taps_change_no_line_before(uploads: &[Vec<u8>], others: &[Vec<u8>])
     plain_history(others);
 }
 
-/// A token is charged by its own taps alone, whatever it is called and whatever others tap. If two
-/// tokens have the same terms and taps at the same moments and validators, each in uploads of its
-/// own, then the one's lines are the other's but for the token: the same answers, cents and
-/// reasons, and the same windows.
+/// Two tokens with the same terms, and taps at the same moments and validators, each in its own
+/// uploads, have the same lines and windows but for the token.
 pub fn tokens_are_charged_by_their_taps(uploads: &[Vec<u8>], others: &[Vec<u8>])
     ensures { (fares : Fares) (token other : Token) (history again : List Entry)
         → HaveSameTerms fares token other
@@ -93,11 +86,8 @@ pub fn tokens_are_charged_by_their_taps(uploads: &[Vec<u8>], others: &[Vec<u8>])
     plain_history(others);
 }
 
-/// One more tap of a token, at a moment at which it has no known tap, never lowers its number of
-/// rides: it may take a transfer from a later tap, which is a ride then, but no ride from the
-/// token. It can lower what the token pays, since it can open a window earlier. If a ride gives
-/// more than one transfer, it can lower the number of rides: a tap between two modes that have no
-/// transfer joins them.
+/// If a ride gives one transfer at most, one more tap at a moment without a known tap never lowers
+/// the token's number of rides. It may lower what it pays, since it may open a window earlier.
 pub fn one_more_tap_makes_no_fewer_rides(uploads: &[Vec<u8>], others: &[Vec<u8>])
     ensures { (fares : Fares) (token : Token) (history again : List Entry)
         → GivesOneAtMost fares token

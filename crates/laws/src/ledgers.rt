@@ -20,8 +20,7 @@ ghost use Rattle.laws.specs.Written.{reported_entries};
 
 use ledger_check::laws::{columns_are_read_back, verdicts_decide};
 
-/// The written ledger of a history, or of one of its tokens, is a ledger as the check of ledgers
-/// reads it, of the same entries token by token, if no line is too long for one.
+/// The written ledger of a history or of a token is read back as a ledger, if no line is too long.
 pub fn written_is_a_ledger()
     ensures { (fares : Fares) (only : Option Token) (history : List Entry) (text : List ℕ)
         → CanBePrinted fares only history → AreShort text → IsLedgerOver fares history only text
@@ -34,8 +33,7 @@ pub fn own_entries_are_legal()
         → IsLegal fares (own token history) }
 {}
 
-/// The ledger that a run prints of its books, or of one token, is a ledger as the check of ledgers
-/// reads it under the books' table, if no line is too long for one.
+/// A ledger that a run prints is one under the books' table, as read back, if no line is too long.
 pub fn printed_ledger_is_legal()
     ensures ledger { (fares : Fares) (shards : ℕ) (books : List Book) (only : Option Token)
         (text : List ℕ) → AreBooksOf fares shards books
@@ -44,7 +42,6 @@ pub fn printed_ledger_is_legal()
         → IsWrittenOf books only text
         → IsLedgerOf fares (reported_entries only (all_entries books)) text }
 
-    // So a check of it ends with the verdict that it is legal.
     ensures legal { (fares : Fares) (shards : ℕ) (books : List Book) (only : Option Token)
         (text : List ℕ) (verdict : Verdict) → AreBooksOf fares shards books
         → AllByRecursion IsPostable (all_entries books) → AreLetters fares.meaning.modes
@@ -55,8 +52,7 @@ pub fn printed_ledger_is_legal()
     verdicts_decide();
 }
 
-/// The columns that a traced ledger has behind a line are read back by the check of ledgers as they
-/// were written: the same fields and class, and the same place of the same upload.
+/// The columns after a traced line are read back as they were written: class, upload and index.
 pub fn traced_lines_are_read_back()
     ensures { TracedLinesAreReadBack }
 {

@@ -1,5 +1,4 @@
-//! Laws that speak of several crates, each proved of every value that it names: of bills, of the
-//! ledgers that are written and checked, of the parts of one run, and of the texts of one.
+//! Theorems that speak of several crates: of bills, ledgers, the parts of a run, and its texts.
 #![tactic(auto)]
 
 pub mod bills;

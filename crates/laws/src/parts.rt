@@ -1,5 +1,4 @@
-//! Laws of runs in parts: files are cut by tokens, each part is charged by a run of its own, and what
-//! these runs print is merged into what one settled run prints.
+//! Theorems about runs in parts: each part of a file's tokens is charged by a run of its own.
 
 ghost use Rattle.std.specs.Prelude.{◌≡◌, ◌∷◌, ℕ, List, None, Ok, flat_map, map};
 ghost use Rattle.std.specs.List.{AllByRecursion, AllZip};
@@ -17,8 +16,7 @@ ghost use Rattle.laws.specs.Sizes.{CanBeWritten, HaveBoundedTerms, HavePlaces};
 use part_texts::laws::{ledgers_are_merged, reports_are_merged};
 use sorted_bills::laws::joined_parts_are_settled;
 
-/// Parts of the same files join from the files' begins to their ends, and rise by token. The texts
-/// of their reports are merged into the report of one settled run over the files.
+/// The reports of parts that join and rise by token are merged into that of one settled run.
 pub fn merged_reports()
     ensures { (fares : Fares) (files : List (List ℕ)) (part : PartView) (parts : List PartView)
         → ArePartsOf fares files (part ∷ parts) → AreWhole (map (λ p. p.spans) (part ∷ parts))
@@ -32,10 +30,8 @@ pub fn merged_reports()
     reports_are_merged();
 }
 
-/// Parts of the same files join from the files' begins to their ends, and rise by token. Each text
-/// is that of a part with the ledger of its history. Whatever is merged of these texts is the ledger
-/// of one settled run over the files. They are merged, if each line of the ledgers has the form of a
-/// ledger's line.
+/// What is merged of the ledgers of parts that join and rise by token is that of one settled run.
+/// They are merged if each line has the form of a ledger's line.
 pub fn merged_ledgers()
     ensures whole { (fares : Fares) (files : List (List ℕ)) (part : PartView) (parts : List PartView)
         → HavePlaces files (part ∷ parts) → ArePartsOf fares files (part ∷ parts)

@@ -1,4 +1,4 @@
-//! Laws of the texts of settled histories, and of those that runs of the program print.
+//! Theorems about the texts of settled histories and of runs.
 
 ghost use Rattle.std.specs.Prelude.{◌≡◌, ℕ, Bool, List, Option, map};
 ghost use Rattle.tariffs.specs.Fares.{Fares};
@@ -13,8 +13,7 @@ ghost use Rattle.laws.specs.Agree.{DifferInUploads, TextsAgree};
 
 use settlement::laws::same_history;
 
-/// Uploads that have the same good taps, whatever their order and however the taps are split into
-/// uploads, have reports that are the same after the lines of the uploads.
+/// Reports over the same valid taps, in any order and split, agree after the lines of the uploads.
 pub fn same_reports(uploads: &[Vec<u8>], others: &[Vec<u8>])
     ensures { (fares : Fares) (history again : List Entry) (text other : List ℕ)
         → HaveSameTaps (map (λ u. u.items) uploads.now) (map (λ u. u.items) others.now)
@@ -28,9 +27,8 @@ pub fn same_reports(uploads: &[Vec<u8>], others: &[Vec<u8>])
     same_history(uploads, others);
 }
 
-/// Two settled runs under one table over files with the same good taps, in whatever order and
-/// however split, by any numbers of workers and shards, print the same ledger, the same statement
-/// and the same explained statement. Their reports are the same after the lines of the uploads.
+/// Two settled runs over the same valid taps, in any order and split, by any workers and shards,
+/// print the same ledger and statements, and the same report after the lines of the uploads.
 pub fn settled_texts_agree(files: &[Vec<u8>], others: &[Vec<u8>])
     ensures { (asked again : Asked) (fares : Fares) (token : Option Token) (text other : List ℕ)
         (well ill : Bool)
