@@ -1,4 +1,4 @@
-//! The taps of uploads, of which those of the other side are struck out.
+//! The taps of uploads, from which those of the other side are subtracted.
 
 ghost use Rattle.std.specs.Prelude.{◌≡◌, ◌+◌, ◌<◌, ◌++◌, ◌∷◌, [], ℕ};
 ghost use Rattle.std.specs.Prelude.{List, IfNone, IfSome, OnOk};
@@ -13,26 +13,22 @@ use std::alloc::{AllocError, Global};
 use std::collections::BTreeMap;
 use tap_views::{Batch, TapFields, good_batches};
 
-/// A tap that one side has more often than the other. If there are several, it is the first that is
-/// surplus, else the first that is missing.
+/// A tap that one side has more often: the first that is surplus, else the first that is missing.
 #[derive(Clone, Copy, Debug, PartialEq, Eq)]
 pub enum Difference {
-    /// The uploads have it more often: the first such one by token, moment and validator, if none
-    /// is surplus.
+    /// The uploads have it more often: the first such tap by token, moment and validator.
     Missing(TapFields),
-    /// The other side has it more often: the first that was struck out once too often.
+    /// The other side has it more often: the first that was subtracted once too often.
     Surplus(TapFields),
 }
 
-/// How many are left of the tap.
 pub(crate) fn count_at(left: &BTreeMap<TapFields, u64>, tap: TapFields) -> u64
     ensures { result ≡ left_at left.now tap }
 {
     left.get(&tap).copied().unwrap_or(0)
 }
 
-/// One more is left of the tap. Its one error is want of memory; 2^64 of one tap are
-/// taken for that.
+/// 2^64 of one tap count as an allocation failure.
 pub(crate) fn put_one(left: &mut BTreeMap<TapFields, u64>, tap: TapFields) -> Result<(), AllocError>
     ensures { OnOk result ((other : TapFields) → left_at left.new other
         ≡ left_at left.old other + (if is_eq (tap_cmp tap other) then 1 else 0)) }
@@ -45,7 +41,6 @@ pub(crate) fn put_one(left: &mut BTreeMap<TapFields, u64>, tap: TapFields) -> Re
     Ok(())
 }
 
-/// One fewer is left of the tap. False if none was left.
 pub(crate) fn take_one(left: &mut BTreeMap<TapFields, u64>, tap: TapFields) -> bool
     ensures taken { result ≡ true → (other : TapFields) → left_at left.old other
         ≡ left_at left.new other + (if is_eq (tap_cmp tap other) then 1 else 0) }
@@ -60,7 +55,6 @@ pub(crate) fn take_one(left: &mut BTreeMap<TapFields, u64>, tap: TapFields) -> b
     }
 }
 
-/// The first tap of which some are left.
 fn first_left(left: &BTreeMap<TapFields, u64>) -> Option<TapFields>
     ensures found { IfSome result (λ tap. 0 < left_at left.now tap) }
     ensures first { IfSome result (λ tap. (other : TapFields) → 0 < left_at left.now other
@@ -75,17 +69,17 @@ fn first_left(left: &BTreeMap<TapFields, u64>) -> Option<TapFields>
     None
 }
 
-/// The taps of uploads, of which those of the other side are struck out.
+/// The taps of uploads, from which those of the other side are subtracted.
 #[derive(Drop)]
 pub struct Balance {
     /// How many of each tap are left.
     pub(crate) left: BTreeMap<TapFields, u64>,
-    /// The first tap that was struck out more often than the uploads have it.
+    /// The first tap that was subtracted more often than the uploads have it.
     pub(crate) surplus: Option<TapFields>,
 }
 
 impl Balance {
-    /// No upload was added, and nothing struck out.
+    /// No upload was added, and nothing subtracted.
     pub fn new(alloc: Global) -> Balance
         ensures { IsBalance result [] [] }
     {
@@ -95,7 +89,6 @@ impl Balance {
         }
     }
 
-    /// Adds a tap of an upload.
     fn add(&mut self, tap: &TapFields) -> Result<(), AllocError>
         ensures { OnOk result ((good : List TapFields) → IsBalance self.old good []
             → IsBalance self.new (good ++ tap.now ∷ []) []) }
@@ -103,7 +96,6 @@ impl Balance {
         put_one(&mut self.left, *tap)
     }
 
-    /// Adds the taps of a batch.
     fn add_batch(&mut self, batch: &Batch<'_>) -> Result<(), AllocError>
         ensures { OnOk result ((good : List TapFields) → IsBalance self.old good []
             → IsBalance self.new (good ++ map fields_of batch.now) []) }
@@ -114,9 +106,7 @@ impl Balance {
         Ok(())
     }
 
-    /// Adds the good taps of an upload: those before its first layout fault. All uploads are
-    /// added before a tap is struck out. Its one error is want of memory, and after it the balance
-    /// is of no use.
+    /// Adds the valid taps of an upload. After an allocation failure the balance is of no use.
     pub fn add_upload(&mut self, upload: &[u8]) -> Result<(), AllocError>
         ensures { OnOk result ((taps : List TapFields) × AreGoodFields upload.now taps
             × ((good : List TapFields) → IsBalance self.old good []
@@ -128,7 +118,7 @@ impl Balance {
         Ok(())
     }
 
-    /// Strikes out a tap of the other side.
+    /// Subtracts a tap of the other side.
     pub fn strike(&mut self, tap: &TapFields)
         ensures { (good struck : List TapFields) → IsBalance self.old good struck
             → IsBalance self.new good (struck ++ tap.now ∷ []) }
@@ -141,9 +131,8 @@ impl Balance {
         }
     }
 
-    /// A tap that one side has more often than the other: the first struck one of which the uploads
-    /// have no more, else the first of those that are left, by token, moment and validator. `None`
-    /// if the taps that were struck out are, in some order, those of the uploads.
+    /// A tap that one side has more often: the first subtracted one that the uploads lack, else the
+    /// first that is left, by token, moment and validator. `None` if both sides have the same taps.
     pub fn difference(&self) -> Option<Difference>
         ensures { (good struck : List TapFields) → IsBalance self.now good struck
             → IsDifference good struck result }

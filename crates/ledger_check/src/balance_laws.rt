@@ -1,5 +1,4 @@
-//! What follows of a difference. Each law is the contract of a function, which does nothing at run
-//! time.
+//! Theorems about differences, each the contract of a function that does nothing.
 
 ghost use Rattle.std.specs.Prelude.{◌≡◌, ◌↔◌, [], List, Some, true};
 ghost use Rattle.std.specs.List.Sorted.{IsPermutation};
@@ -8,8 +7,7 @@ ghost use Rattle.ledger_check.specs.FullBalances.{AreLacking};
 ghost use Rattle.ledger_check.specs.declared.balance.Difference.{Difference};
 ghost use Rattle.tap_views.specs.declared.encoder.TapFields.{TapFields};
 
-/// Taps that are the same by token, moment and validator are one tap; if a tap is reported that one
-/// side has more often, the taps of both sides are not the same in any order.
+/// A reported difference is real: the taps of both sides are not the same in any order.
 pub fn differences_are_real()
     ensures same { (tap other : TapFields) → (is_same tap other ≡ true) ↔ (tap ≡ other) }
     ensures apart { (good others : List TapFields) (difference : Difference)

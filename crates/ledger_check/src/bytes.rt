@@ -7,7 +7,6 @@ ghost use Rattle.ledger_check.specs.Lines.{IsLine, Lacks};
 
 use memchr::memchr;
 
-/// What stands before the first such byte of the text, and what stands behind it.
 pub(crate) fn split_at_byte(text: &[u8], byte: u8) -> Option<(&[u8], &[u8])>
     ensures some { IfSome result (λ parts. Lacks byte parts.0.now
         × (text.now ≡ parts.0.now ++ byte ∷ parts.1.now)) }
@@ -19,7 +18,7 @@ pub(crate) fn split_at_byte(text: &[u8], byte: u8) -> Option<(&[u8], &[u8])>
     }
 }
 
-/// What stands before the first comma of the text, and what stands behind it.
+/// What is before the first comma of the text, and what is after it.
 pub fn field(text: &[u8]) -> Option<(&[u8], &[u8])>
     ensures found { (front : List ℕ) (back : List ℕ) → Lacks 44 front
         → text.now ≡ front ++ 44 ∷ back
@@ -33,8 +32,7 @@ pub fn field(text: &[u8]) -> Option<(&[u8], &[u8])>
     }
 }
 
-/// The first line of the text with its newline, and what stands behind it; `None` if the text has
-/// no newline.
+/// The first line of the text with its newline, and the rest. `None` if the text has no newline.
 pub fn split_line(text: &[u8]) -> Option<(&[u8], &[u8])>
     ensures some { IfSome result (λ parts. IsLine parts.0.now
         × (text.now ≡ parts.0.now ++ parts.1.now)) }

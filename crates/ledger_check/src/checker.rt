@@ -23,32 +23,28 @@ use std::alloc::Global;
 use tap_views::NoMemory;
 use tariffs::{Clock, FareTable};
 
-/// What a check finds of a text. Lines count from 1, the head line.
+/// What a check finds of a text. Lines count from 1, the header line.
 #[derive(Drop)]
 pub enum Verdict {
     /// The text is a ledger of this number of entries. It is settled, or the line of the second
     /// number is the first that is earlier than the line before it.
     Legal(u64, Option<u64>),
-    /// The line of this number is the first that no ledger has there. Its tap should have this
-    /// line, with the newline.
+    /// The line of this number is the first wrong one: its tap should have this line, with newline.
     Wants(u64, String),
     /// The line of this number is the first that no ledger has there.
     NoLine(u64),
 }
 
-/// The lines read so far, the head line first.
+/// The lines read so far, the header line first.
 #[derive(Drop)]
 struct LinesSoFar {
-    /// Whether the head line was read.
     has_head: bool,
-    /// The lines behind it.
     replay: Replay,
     /// The line that the last tap should have.
     wanted: String,
 }
 
 impl LinesSoFar {
-    /// The next line is no ledger line.
     fn no_line(&self) -> Verdict
         requires { (fares : Fares) × (lines : List (List ℕ)) × HasTaken fares self.now lines }
         ensures { result ≡ NoLine (number_after self.now) }
@@ -60,7 +56,6 @@ impl LinesSoFar {
         }
     }
 
-    /// Reads the next whole line, and strikes its tap out.
     fn take(
         &mut self,
         table: &FareTable,
@@ -97,13 +92,11 @@ impl LinesSoFar {
     }
 }
 
-/// A check under one fare table of a text that comes in pieces. It keeps no more of the text than
-/// the beginning of a line.
+/// A check under one fare table of a text in pieces. It stores at most the prefix of a line.
 #[derive(Drop)]
 pub struct Checker {
-    /// The whole lines.
     so_far: LinesSoFar,
-    /// The beginning of the line whose end has not come yet.
+    /// The prefix of the line that has not ended.
     begun: Vec<u8>,
 }
 
@@ -124,10 +117,9 @@ impl Checker {
         }
     }
 
-    /// Reads the next piece of the text, and strikes the taps of its lines out. A verdict, if there
-    /// is one, reports the first wrong line, whatever follows the piece; the checker and the
-    /// balance are of no use then, nor after an error. The clock is the table's, and the table and
-    /// the balance are the same in all calls.
+    /// Reads the next piece of the text, and subtracts the taps of its lines. A verdict, if there
+    /// is one, reports the first wrong line, whatever follows. After it, or an error, checker and
+    /// balance are of no use. The table, its clock and the balance are the same in all calls.
     pub fn feed(
         &mut self,
         table: &FareTable,
@@ -138,7 +130,7 @@ impl Checker {
         requires clock { clock.now ≡ table.now.zone }
         requires fed { (text : List ℕ) × HasFed table.now self.old text }
 
-        // After every text that was read so far.
+        // For every text that was read so far.
         ensures fed { IfOk result (λ reported. (text : List ℕ) → HasFed table.now self.old text
             → IsFed table.now self.new (text ++ piece.now) reported) }
         ensures struck { IfOk result (λ reported. (text : List ℕ) (good : List TapFields)
@@ -161,7 +153,6 @@ impl Checker {
         Ok(None)
     }
 
-    /// Reads the rest of a line, with its newline.
     fn take_line(
         &mut self,
         table: &FareTable,
@@ -191,7 +182,6 @@ impl Checker {
         Ok(reported)
     }
 
-    /// Keeps the beginning of a line, or reports that it is too long.
     fn keep(&mut self, rest: &[u8]) -> Result<Option<Verdict>, NoMemory>
         requires fed { (fares : Fares) × (text : List ℕ) × HasFed fares self.old text }
         requires rest { Lacks 10 rest.now }

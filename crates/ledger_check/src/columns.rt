@@ -19,10 +19,9 @@ use memchr::memrchr;
 /// The most bytes of a traced ledger's line, with its line feed.
 const MAX_TRACED_BYTES: usize = 352;
 
-/// The most bytes of a class's name.
 const MAX_NAME_BYTES: usize = 64;
 
-/// The head line of a traced ledger.
+/// The header line of a traced ledger.
 pub fn traced_head_line() -> &'static [u8]
     ensures { result.now ≡ traced_head }
 {
@@ -36,21 +35,19 @@ pub fn has_traced_head(text: &[u8]) -> bool
     text.starts_with(traced_head_line())
 }
 
-/// Whether the text begins with the head line of a ledger that is not traced.
 fn has_plain_head(text: &[u8]) -> bool
     ensures { result ≡ has_plain_head text.now }
 {
     text.starts_with(head_line().as_bytes())
 }
 
-/// Whether the text begins with the head line of a ledger, traced or not.
+/// Whether the text begins with the header line of a ledger, traced or not.
 pub fn has_ledger_head(text: &[u8]) -> bool
     ensures { result ≡ has_ledger_head text.now }
 {
     has_plain_head(text) || has_traced_head(text)
 }
 
-/// What stands before the last comma of the text, and what stands behind it.
 fn last_field(text: &[u8]) -> Option<(&[u8], &[u8])>
     ensures { option_map (λ parts. (parts.0.now, parts.1.now)) result ≡ last_field text.now }
 {
@@ -60,7 +57,6 @@ fn last_field(text: &[u8]) -> Option<(&[u8], &[u8])>
     }
 }
 
-/// Whether the byte is a letter, a digit, a hyphen or a low line.
 fn is_name_byte(byte: u8) -> bool
     ensures { result ≡ is_name_byte byte }
 {
@@ -69,7 +65,6 @@ fn is_name_byte(byte: u8) -> bool
             || ((b'0' <= byte && byte <= b'9') || (byte == b'-' || byte == b'_')))
 }
 
-/// Whether all bytes are letters, digits, hyphens and low lines.
 fn are_name_bytes(bytes: &[u8]) -> bool
     ensures { result ≡ list_all is_name_byte bytes.now }
 {
@@ -83,28 +78,24 @@ fn are_name_bytes(bytes: &[u8]) -> bool
     true
 }
 
-/// Whether a ledger can have the class of this name.
 fn is_class_name(name: &[u8]) -> bool
     ensures { result ≡ is_class_name name.now }
 {
     1 <= name.len() && (name.len() <= MAX_NAME_BYTES && are_name_bytes(name))
 }
 
-/// The number of at most 64 bits that the text writes, with a line feed behind it.
 fn number_line(text: &[u8]) -> Option<u64>
     ensures { result ≡ number_line text.now }
 {
     line_of(&Number64, text)
 }
 
-/// The number of at most 32 bits that the digits write.
 fn small_number(digits: &[u8]) -> Option<u32>
     ensures { result ≡ number_in (2 ^ 32) digits.now }
 {
     exact_number(digits)
 }
 
-/// Whether these can be the fields of a ledger's line and the class of a rider.
 fn are_fields_and_class(fields: &[u8], class: &[u8]) -> bool
     ensures short { result ≡ true → length fields.now < 255 }
     ensures both { result ≡ (nat_lt (length fields.now) 255 && is_class_name class.now) }
@@ -125,7 +116,6 @@ pub struct CutLine<'a> {
     pub place: u64,
 }
 
-/// The class that ends the text, and the fields before it.
 fn class_in(text: &[u8], upload: u32, place: u64) -> Option<CutLine<'_>>
     ensures cut { option_map cut_of result ≡ class_in upload place text.now }
     ensures short { IfSome result (λ cut. length cut.fields.now < 255) }
@@ -143,7 +133,6 @@ fn class_in(text: &[u8], upload: u32, place: u64) -> Option<CutLine<'_>>
     }
 }
 
-/// The upload's number that ends the text, and what stands before it.
 fn upload_in(text: &[u8], place: u64) -> Option<CutLine<'_>>
     ensures cut { option_map cut_of result ≡ upload_in place text.now }
     ensures short { IfSome result (λ cut. length cut.fields.now < 255) }
@@ -153,7 +142,6 @@ fn upload_in(text: &[u8], place: u64) -> Option<CutLine<'_>>
     class_in(front, upload, place)
 }
 
-/// The place that ends the line, and what stands before it.
 fn columns_in(line: &[u8]) -> Option<CutLine<'_>>
     ensures cut { option_map cut_of result ≡ columns_in line.now }
     ensures short { IfSome result (λ cut. length cut.fields.now < 255) }
@@ -163,8 +151,7 @@ fn columns_in(line: &[u8]) -> Option<CutLine<'_>>
     upload_in(text, place)
 }
 
-/// The fields and the columns of the line, which ends with its line feed; `None` if it has not the
-/// form of a traced ledger's line.
+/// The fields and columns of a line, with its line feed. `None` without a traced line's form.
 #[tactic(auto, unfolding(crate::specs::Columns::cut_line))]
 pub fn cut_line(line: &[u8]) -> Option<CutLine<'_>>
     ensures cut { option_map cut_of result ≡ cut_line line.now }

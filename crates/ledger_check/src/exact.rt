@@ -22,20 +22,15 @@ use line_forms::forms::after_word;
 use std::alloc::AllocError;
 use tap_views::{TapFields, Token};
 
-/// The first four fields of a line, and what stands behind them.
+/// The first four fields of a line, and the rest of it.
 #[derive(Clone, Copy)]
 pub(crate) struct Front<'a> {
-    /// The first field.
     token: &'a [u8],
-    /// The third field.
     moment: &'a [u8],
-    /// The fourth field.
     validator: &'a [u8],
-    /// What stands from the end of the fourth field on.
     rest: &'a [u8],
 }
 
-/// What stands before the line feed that ends the text.
 fn before_feed(text: &[u8]) -> Option<&[u8]>
     ensures { MatchOption result ((front : List ℕ) → ¬ (text.now ≡ front ++ 10 ∷ []))
         (λ front. text.now ≡ front.now ++ 10 ∷ []) }
@@ -44,7 +39,6 @@ fn before_feed(text: &[u8]) -> Option<&[u8]>
     if *last == b'\n' { Some(front) } else { None }
 }
 
-/// The field with which the text begins, and what stands from its end on: a comma, or the line's end.
 fn open_field(text: &[u8]) -> Option<(&[u8], &[u8])>
     ensures some { IfSome result (λ parts. Lacks 44 parts.0.now × EndsField parts.1.now
         × (text.now ≡ parts.0.now ++ parts.1.now)) }
@@ -60,7 +54,6 @@ fn open_field(text: &[u8]) -> Option<(&[u8], &[u8])>
     }
 }
 
-/// The first four fields of the line, of which the last may end it.
 fn front_of(line: &[u8]) -> Option<Front<'_>>
     ensures some { IfSome result (IsFrontOf line.now) }
     ensures none { IfNone result ((token number moment validator rest : List ℕ)
@@ -78,7 +71,6 @@ fn front_of(line: &[u8]) -> Option<Front<'_>>
     })
 }
 
-/// Whether the digits are those of the bytes, in lower case.
 fn are_digits_of(digits: &[u8], bytes: &[u8; 16]) -> bool
     ensures { IsTrue result ↔ (digits.now ≡ encode_lower bytes.now) }
 {
@@ -89,7 +81,6 @@ fn are_digits_of(digits: &[u8], bytes: &[u8; 16]) -> bool
     }
 }
 
-/// The token that 32 hexadecimal digits in lower case spell.
 fn exact_token(digits: &[u8]) -> Option<Token>
     ensures { MatchOption result
         ((token : AToken) → Fits token → ¬ (digits.now ≡ encode_lower (bytes_of token)))
@@ -103,7 +94,6 @@ fn exact_token(digits: &[u8]) -> Option<Token>
     }
 }
 
-/// The number of at most 32 bits that the digits write, if they are written as the number is.
 pub(crate) fn exact_number(digits: &[u8]) -> Option<u32>
     ensures { MatchOption result
         ((number : ℕ) → number < 2 ^ 32 → ¬ (digits.now ≡ decimal number))
@@ -118,7 +108,6 @@ pub(crate) fn exact_number(digits: &[u8]) -> Option<u32>
     }
 }
 
-/// Whether the text is that of the moment. The text in `again` is replaced.
 fn is_moment_text(text: &[u8], moment: u64, again: &mut String) -> Result<bool, AllocError>
     ensures { IfOk result (λ same. IsTrue same ↔ IsMomentText moment text.now) }
 {
@@ -127,8 +116,6 @@ fn is_moment_text(text: &[u8], moment: u64, again: &mut String) -> Result<bool, 
     Ok(same_bytes(again.as_bytes(), text))
 }
 
-/// The tap that the line names, and what stands from the end of its validator on. The text in `again` is
-/// replaced.
 pub(crate) fn exact_tap<'a>(
     line: &'a [u8],
     again: &mut String,
@@ -177,7 +164,6 @@ pub fn tap_of_line(line: &[u8], again: &mut String) -> Result<Option<TapFields>,
     }
 }
 
-/// The cents that a line asks for, from what stands from the end of its validator on.
 pub(crate) fn exact_cents(rest: &[u8]) -> Option<u32>
     ensures { MatchOption result ((cents : ℕ) → ¬ (IsCentsField rest.now cents))
         (λ cents. IsCentsField rest.now cents) }

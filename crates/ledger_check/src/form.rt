@@ -1,15 +1,11 @@
-//! Whether a line has the form of a ledger's line.
-//!
-//! This decides only how a line is called that no ledger has there: one that wants another line, or
-//! no ledger line at all. Nothing is promised of it.
+//! Whether a line has the form of a ledger's line, which decides only how a wrong line is called.
 
 use crate::bytes::field;
 use crate::exact::exact_number;
 use crate::moment::{read_any_moment, read_moment};
 use line_forms::number::number_of;
 
-/// Twelve fields with the newline behind them, each a text of its kind within its range. What
-/// [`read_tap`](crate::tap::read_tap) reads of the first four is not looked at again.
+/// Twelve fields with their newline. What `read_tap` reads of the first four is not read again.
 pub(crate) fn has_form(line: &[u8]) -> bool {
     match line.split_last() {
         Some((b'\n', fields)) => has_first_fields(fields).is_some(),
@@ -17,7 +13,6 @@ pub(crate) fn has_form(line: &[u8]) -> bool {
     }
 }
 
-/// The token, the number, the moment and the validator.
 fn has_first_fields(fields: &[u8]) -> Option<()> {
     let (token, rest) = field(fields)?;
     let (number, rest) = field(rest)?;
@@ -30,7 +25,6 @@ fn has_first_fields(fields: &[u8]) -> Option<()> {
     }
 }
 
-/// The mode, the answer and the cents.
 fn has_answer(fields: &[u8]) -> Option<()> {
     let (mode, rest) = field(fields)?;
     let (answer, rest) = field(rest)?;
@@ -42,7 +36,6 @@ fn has_answer(fields: &[u8]) -> Option<()> {
     }
 }
 
-/// The window, the ride, the reason and the moment to which it points.
 fn has_reason(fields: &[u8]) -> Option<()> {
     let (start, rest) = field(fields)?;
     let (end, rest) = field(rest)?;
@@ -57,7 +50,6 @@ fn has_reason(fields: &[u8]) -> Option<()> {
     }
 }
 
-/// Whether the text is 32 hexadecimal digits of the lower case.
 fn is_token(text: &[u8]) -> bool {
     text.len() == 32
         && text
@@ -65,7 +57,6 @@ fn is_token(text: &[u8]) -> bool {
             .all(|byte| matches!(*byte, b'0'..=b'9' | b'a'..=b'f'))
 }
 
-/// Whether the text is a number of at most 64 bits, as it is written.
 fn is_number(text: &[u8]) -> bool {
     number_of(text).is_some()
 }

@@ -1,4 +1,4 @@
-//! The taps of uploads, of which those of the other side are struck out, however many differ.
+//! The multiset difference of the uploads' taps and the other side's.
 
 ghost use Rattle.std.specs.Prelude.{◌≡◌, ◌++◌, ◌∷◌, [], List, IfOk, OnOk};
 ghost use Rattle.std.specs.List.Sorted.{IsSorted};
@@ -13,7 +13,6 @@ use std::alloc::{AllocError, Global};
 use std::collections::BTreeMap;
 use tap_views::TapFields;
 
-/// Appends the tap this number of times.
 fn push_times(taps: &mut Vec<TapFields>, tap: &TapFields, times: u64) -> Result<(), AllocError>
     ensures { OnOk result (taps.new.items ≡ taps.old.items ++ replicate times tap.now) }
 {
@@ -23,7 +22,6 @@ fn push_times(taps: &mut Vec<TapFields>, tap: &TapFields, times: u64) -> Result<
     Ok(())
 }
 
-/// The taps that are left, each as often as it is left, by token, moment and validator.
 fn taps_left(alloc: Global, left: &BTreeMap<TapFields, u64>) -> Result<Vec<TapFields>, AllocError>
     ensures copies { IfOk result (λ taps. (tap : TapFields)
         → copies_among tap taps.items ≡ left_at left.now tap) }
@@ -36,8 +34,7 @@ fn taps_left(alloc: Global, left: &BTreeMap<TapFields, u64>) -> Result<Vec<TapFi
     Ok(taps)
 }
 
-/// The taps of uploads, of which those of the other side are struck out. It goes on after a tap
-/// that the uploads do not have, and counts it.
+/// The multiset difference of the uploads' taps and the other side's, in both directions.
 #[derive(Drop)]
 pub struct FullBalance {
     /// How many of each tap the uploads have more often.
@@ -47,7 +44,7 @@ pub struct FullBalance {
 }
 
 impl FullBalance {
-    /// Goes on from the uploads' good taps, of which nothing was struck out.
+    /// Goes on from the uploads' valid taps, from which nothing was subtracted.
     pub fn of(alloc: Global, balance: Balance) -> FullBalance
         ensures { (good : List TapFields) → IsBalance balance good []
             → IsFullBalance result good [] }
@@ -59,8 +56,7 @@ impl FullBalance {
         }
     }
 
-    /// Strikes out a tap of the other side. Its one error is want of memory, and after it the
-    /// balance is of no use.
+    /// Subtracts a tap of the other side. After an allocation failure the balance is of no use.
     pub fn strike(&mut self, tap: &TapFields) -> Result<(), AllocError>
         ensures { OnOk result ((good struck : List TapFields) → IsFullBalance self.old good struck
             → IsFullBalance self.new good (struck ++ tap.now ∷ [])) }

@@ -5,7 +5,6 @@ ghost use Rattle.ledger_check.specs.Recounts.{legal_text, order_text};
 
 use std::alloc::AllocError;
 
-/// Appends `, settled`, or which line is the first that is earlier than the line before it.
 #[tactic(auto, unfolding(crate::specs::Recounts::order_text))]
 fn write_order(text: &mut String, early: Option<u64>) -> Result<(), AllocError>
     ensures { OnOk result (string_bytes text.new ≡ string_bytes text.old ++ order_text early) }
@@ -19,8 +18,7 @@ fn write_order(text: &mut String, early: Option<u64>) -> Result<(), AllocError>
     }
 }
 
-/// Appends `legal 6 lines, settled`, or which line is the first that is earlier than the line before
-/// it.
+/// Appends `legal 6 lines, settled`, or the first line that is earlier than the line before it.
 #[tactic(auto, unfolding(crate::specs::Recounts::legal_text))]
 pub fn write_legal(text: &mut String, entries: u64, early: Option<u64>) -> Result<(), AllocError>
     ensures { OnOk result

@@ -1,14 +1,8 @@
 //! A check of a ledger's text: whether it is, whole, the ledger of legal histories under a fare
-//! table, and else which line is the first that no such ledger has there.
-//!
-//! It trusts nobody who wrote the text. It reads each line's tap, steps the account of its token,
-//! prints the line that the tap should have, and compares the bytes. It keeps one account and at
-//! most 255 bytes of the text.
-//!
-//! A balance holds the taps of uploads against the taps that a ledger has: whether both are the
-//! same taps, in whatever order, and else a tap that one side has more often than the other. It
-//! keeps each tap of the uploads once, with a number, and nothing of the other side. It knows no
-//! fare.
+//! table, and else which line is the first that no such ledger has there. It steps the account of
+//! each line's token, prints the line that the tap should have, and compares: it stores one account
+//! and at most 255 bytes of the text. A balance compares the taps of uploads with those of a ledger
+//! as multisets, and stores each tap of the uploads once.
 #![tactic(auto)]
 
 mod balance;

@@ -11,13 +11,11 @@ ghost use Rattle.fare_texts.specs.Moments.{IsMomentText, clock_text};
 use jiff_core::civil::Date;
 use tap_views::MOMENT_LIMIT_MS;
 
-/// A day in milliseconds.
 const DAY_MS: u64 = 86_400_000;
 
 /// 1970-01-01, in days since the first date of the calendar.
 const EPOCH_DAY: u64 = 4_371_587;
 
-/// The number of two decimal digits.
 fn two_digits(tens: u8, ones: u8) -> Option<u64>
     ensures small { IfSome result (λ number. number < 100) }
     ensures found { (number : ℕ) → number < 100 → tens ≡ 48 + number / 10
@@ -30,7 +28,6 @@ fn two_digits(tens: u8, ones: u8) -> Option<u64>
     }
 }
 
-/// The number of one decimal digit.
 fn one_digit(ones: u8) -> Option<u64>
     ensures small { IfSome result (λ number. number < 10) }
     ensures found { (number : ℕ) → number < 10 → ones ≡ 48 + number → result ≡ Some number }
@@ -42,7 +39,6 @@ fn one_digit(ones: u8) -> Option<u64>
     }
 }
 
-/// The date of these numbers, if the calendar has it.
 fn date_of(year: u64, month: u64, day: u64) -> Option<Date>
     requires year { year < 10_000 }
     requires month { month < 100 }
@@ -56,7 +52,6 @@ fn date_of(year: u64, month: u64, day: u64) -> Option<Date>
     }
 }
 
-/// How many days the date lies behind 1970-01-01; `None` for a date before it.
 fn since_epoch(date: Date) -> Option<u64>
     ensures small { IfSome result (λ day. day < 2_932_897) }
     ensures found { (day : ℕ) → epoch_day date ≡ pos day → result ≡ Some day }
@@ -68,8 +63,6 @@ fn since_epoch(date: Date) -> Option<u64>
     Some(days - EPOCH_DAY)
 }
 
-/// The day number of a date of the years 0 to 9999, counted from 1970-01-01 as 0; `None` before
-/// that.
 fn read_day(text: &[u8; 10]) -> Option<u64>
     ensures small { IfSome result (λ day. day < 2_932_897) }
     ensures found { (date : Date) (day : ℕ) → epoch_day date ≡ pos day
@@ -86,7 +79,6 @@ fn read_day(text: &[u8; 10]) -> Option<u64>
     since_epoch(date)
 }
 
-/// The milliseconds since midnight of the time of day in a moment's text, from its `T` to its `Z`.
 fn read_clock(text: &[u8; 14]) -> Option<u64>
     ensures small { IfSome result (λ ms. ms < 86_400_000) }
     ensures found { (ms : ℕ) → ms < 86_400_000 → text.now ≡ clock_text ms → result ≡ Some ms }
@@ -125,7 +117,6 @@ pub fn read_moment(text: &[u8]) -> Option<u64>
     }
 }
 
-/// The same of any moment up to the year 9999.
 pub(crate) fn read_any_moment(text: &[u8]) -> Option<u64>
     ensures found { (moment : ℕ) → moment < 253_402_207_200_000 → IsMomentText moment text.now
         → result ≡ Some moment }
@@ -141,7 +132,6 @@ pub(crate) fn read_any_moment(text: &[u8]) -> Option<u64>
     Some(day * DAY_MS + ms)
 }
 
-/// The text as the 14 bytes of a time of day, if it has 14.
 fn whole_clock(text: &[u8]) -> Option<&[u8; 14]>
     ensures some { IfSome result (λ clock. clock.now ≡ text.now) }
     ensures none { IfNone result (length text.now ≢ 14) }

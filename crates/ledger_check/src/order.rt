@@ -12,22 +12,19 @@ use tap_views::TapFields;
 /// The order of a ledger's taps, which come line by line.
 #[derive(Clone, Copy)]
 pub(crate) struct TapOrder {
-    /// The tap of the last line.
     last: Option<TapFields>,
-    /// How many lines came, the head line included.
+    /// How many lines came, the header line included.
     lines: u64,
     /// The number of the first line that is earlier than the line before it.
     pub(crate) early: Option<u64>,
 }
 
-/// Whether the tap is less than the other.
 fn is_less(tap: &TapFields, other: &TapFields) -> bool
     ensures { result ≡ is_lt (tap_cmp tap.now other.now) }
 {
     tap.cmp(other).is_lt()
 }
 
-/// Whether the tap comes before the last one in canonical order.
 fn comes_before(tap: &TapFields, last: &Option<TapFields>) -> bool
     ensures { result ≡ comes_before tap.now last.now }
 {
@@ -37,7 +34,6 @@ fn comes_before(tap: &TapFields, last: &Option<TapFields>) -> bool
     }
 }
 
-/// The number, if it is asked for.
 fn number_if(is_asked: bool, number: u64) -> Option<u64>
     ensures { result ≡ (if is_asked then Some number else None) }
 {
@@ -45,7 +41,6 @@ fn number_if(is_asked: bool, number: u64) -> Option<u64>
 }
 
 impl TapOrder {
-    /// No tap came.
     pub(crate) fn new() -> TapOrder
         ensures { IsOrderOf [] result }
     {
@@ -56,7 +51,7 @@ impl TapOrder {
         }
     }
 
-    /// The order with one tap more. 2^64 lines count as out of memory.
+    /// 2^64 lines count as an allocation failure.
     pub(crate) fn with(self, tap: &TapFields) -> Result<TapOrder, AllocError>
         ensures { IfOk result (λ order. (taps : List ATap) → IsOrderOf taps self
             → IsOrderOf (taps ++ tap.now ∷ []) order) }

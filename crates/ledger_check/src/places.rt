@@ -1,4 +1,4 @@
-//! Where the taps of uploads stand, and whether somebody else names each place once.
+//! The positions of the taps of uploads, and whether each is named once.
 
 ghost use Rattle.std.specs.Prelude.{◌≡◌, ◌+◌, ◌<◌, ◌≤◌, ◌⊎◌, ◌++◌, ◌∷◌, ◌||◌, [], ℕ, List};
 ghost use Rattle.std.specs.Prelude.{MatchOption};
@@ -14,26 +14,24 @@ ghost use Rattle.ledger_check.specs.inside.Places.{unnamed};
 use std::alloc::{AllocError, Global};
 use tap_views::{Batch, TapFields, good_batches};
 
-/// A good tap of an upload.
+/// A valid tap of an upload.
 #[derive(Clone, Copy)]
 pub(crate) struct PlacedTap {
     tap: TapFields,
-    /// Whether its place was named.
     is_named: bool,
 }
 
-/// What is found of a tap that is said to stand at a place of an upload.
+/// What is found of a tap that is said to be at a position of an upload.
 #[derive(Clone, Copy, Debug, PartialEq, Eq)]
 pub enum PlaceFinding {
-    /// It stands there, and its place was not named before.
+    /// It is there, and its position was not named before.
     Right,
-    /// Another tap stands there, or none.
+    /// Another tap is there, or none.
     Another,
-    /// It stands there, and its place was named before.
+    /// It is there, and its position was named before.
     Again,
 }
 
-/// The index of a place in a list of this length, if the list has it.
 fn index_of(place: u64, len: usize) -> Option<usize>
     ensures { MatchOption result ((place ≡ 0) ⊎ (len < place))
         (λ at. (place ≡ at + 1) × (at < len)) }
@@ -44,7 +42,6 @@ fn index_of(place: u64, len: usize) -> Option<usize>
     Some((place - 1) as usize)
 }
 
-/// Adds the taps of a batch, whose places were not named.
 fn add_batch(placed: &mut Vec<PlacedTap>, batch: &Batch<'_>) -> Result<(), AllocError>
     ensures { OnOk result (placed.new.items
         ≡ placed.old.items ++ map unnamed (map fields_of batch.now)) }
@@ -58,7 +55,6 @@ fn add_batch(placed: &mut Vec<PlacedTap>, batch: &Batch<'_>) -> Result<(), Alloc
     Ok(())
 }
 
-/// The good taps of an upload: those before its first layout fault.
 fn placed_taps(alloc: Global, upload: &[u8]) -> Result<Vec<PlacedTap>, AllocError>
     ensures { IfOk result (λ placed. (taps : List ATap) × AreGoodFields upload.now taps
         × (placed.items ≡ map unnamed taps)) }
@@ -70,14 +66,12 @@ fn placed_taps(alloc: Global, upload: &[u8]) -> Result<Vec<PlacedTap>, AllocErro
     Ok(placed)
 }
 
-/// Whether both are taps of one token, at one moment and one validator.
 fn is_same(tap: &TapFields, other: &TapFields) -> bool
     ensures { result ≡ is_same tap.now other.now }
 {
     tap.cmp(other).is_eq()
 }
 
-/// Names a place of these taps, and says what is found of the tap that is said to stand there.
 fn name_in(placed: &mut Vec<PlacedTap>, place: u64, tap: &TapFields) -> PlaceFinding
     ensures finding { result ≡ place_finding (at_place (taps_of placed.old.items) place)
         (named_of (at_place placed.old.items place)) tap.now }
@@ -103,7 +97,6 @@ fn name_in(placed: &mut Vec<PlacedTap>, place: u64, tap: &TapFields) -> PlaceFin
     PlaceFinding::Right
 }
 
-/// The first place of these taps that was not named.
 fn first_in(placed: &[PlacedTap]) -> Option<u64>
     ensures found { IfSome result (λ place. (0 < place) × (place ≤ length placed.now)
         × (named_of (at_place placed.now place) ≡ false)) }
@@ -120,10 +113,9 @@ fn first_in(placed: &[PlacedTap]) -> Option<u64>
     None
 }
 
-/// The good taps of uploads by their places, and which places were named.
+/// The valid taps of uploads by position, and which positions were named.
 #[derive(Drop)]
 pub struct Places {
-    /// The good taps of each upload.
     uploads: Vec<Vec<PlacedTap>>,
 }
 
@@ -137,9 +129,7 @@ impl Places {
         }
     }
 
-    /// Adds the good taps of the next upload: those before its first layout fault. All uploads are
-    /// added before a place is named. Its one error is want of memory, and after it the places are
-    /// of no use.
+    /// Adds the next upload's valid taps. After an allocation failure the places are of no use.
     pub fn add_upload(&mut self, alloc: Global, upload: &[u8]) -> Result<(), AllocError>
         ensures { OnOk result ((taps : List ATap) × AreGoodFields upload.now taps
             × ((uploads : List (List ATap)) → HasUploads self.old uploads
@@ -150,7 +140,7 @@ impl Places {
         Ok(())
     }
 
-    /// Names a place of an upload, and says what is found of the tap that is said to stand there.
+    /// Names a position of an upload, and says what is found of the tap that is said to be there.
     pub fn name(&mut self, upload: u32, place: u64, tap: &TapFields) -> PlaceFinding
         ensures finding { result ≡ place_finding (tap_at (uploads_of self.old) upload place)
             (is_named self.old upload place) tap.now }
@@ -166,7 +156,7 @@ impl Places {
         name_in(&mut self.uploads[at], place, tap)
     }
 
-    /// The first place that was not named, by the number of its upload and then by the place.
+    /// The first position that was not named, by upload and then by position.
     pub fn first_unnamed(&self) -> Option<(u64, u64)>
         ensures found { IfSome result
             (λ at. IsFirstUnnamed (uploads_of self.now) (is_named self.now) at.0 at.1) }

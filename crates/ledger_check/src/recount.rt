@@ -1,4 +1,4 @@
-//! A check of a text that comes in pieces, which goes on after a wrong line.
+//! A full check of a text that comes in pieces, past wrong lines.
 
 ghost use Rattle.std.specs.Prelude.{◌≡◌, ◌++◌, ◌∷◌, [], ℕ, List, IfOk, OnOk, Bool, nat_eq, true};
 ghost use Rattle.std.specs.Prelude.{string_bytes, ◌<◌, ◌↔◌, IsTrue};
@@ -30,7 +30,6 @@ const NO_LINE: LineFinding = LineFinding {
     remark: Remark::NoLine,
 };
 
-/// What is found of the first line.
 fn first_finding(line: &[u8]) -> LineFinding
     ensures { IsFirstFinding line.now result }
 {
@@ -44,7 +43,6 @@ fn first_finding(line: &[u8]) -> LineFinding
     }
 }
 
-/// Strikes out the tap of a line, if taps are struck out and it names one.
 fn strike_tap(strikes: bool, full: &mut FullBalance, finding: LineFinding) -> Result<(), AllocError>
     ensures { OnOk result ((good taps : List TapFields) → strikes ≡ true
         → IsFullBalance full.old good taps
@@ -59,16 +57,14 @@ fn strike_tap(strikes: bool, full: &mut FullBalance, finding: LineFinding) -> Re
     }
 }
 
-/// The lines that were taken: the walk behind them, and their sums.
+/// The lines that were taken: the walk after them, and their sums.
 #[derive(Drop)]
 pub(crate) struct LinesTaken {
-    /// The walk behind them.
     walk: Walk,
     sums: RecountSums,
 }
 
 impl LinesTaken {
-    /// What is found of the next line. The sums are those of the lines before it.
     fn find(
         &mut self,
         table: &FareTable,
@@ -93,8 +89,6 @@ impl LinesTaken {
         Ok(finding)
     }
 
-    /// Takes the next line, appends the remark on it, and strikes its tap out, if it is to strike
-    /// taps out.
     fn take(
         &mut self,
         table: &FareTable,
@@ -126,7 +120,6 @@ impl LinesTaken {
     }
 }
 
-/// Appends the text to what is kept of a line, but no more than shows that the line is too long.
 fn keep(kept: &mut Vec<u8>, text: &[u8]) -> Result<(), AllocError>
     ensures { OnOk result ((before : List ℕ) → IsKept kept.old.items before
         → IsKept kept.new.items (before ++ text.now)) }
@@ -142,7 +135,7 @@ fn keep(kept: &mut Vec<u8>, text: &[u8]) -> Result<(), AllocError>
     }
 }
 
-/// What a recount finds of a whole text.
+/// What a full check finds of a whole text.
 #[derive(Clone, Copy)]
 pub struct Recounted {
     /// Whether no line is wrong.
@@ -151,13 +144,11 @@ pub struct Recounted {
     pub is_settled: bool,
 }
 
-/// A check under one fare table of a text that comes in pieces. It goes on after a wrong line, and
-/// keeps no more of the text than the beginning of a line.
+/// A full check under one fare table of a text in pieces. It stores at most the prefix of a line.
 #[derive(Drop)]
 pub struct Recount {
-    /// The whole lines.
     so_far: LinesTaken,
-    /// The beginning of the line whose end has not come yet.
+    /// The prefix of the line that has not ended.
     begun: Vec<u8>,
 }
 
@@ -177,10 +168,9 @@ impl Recount {
         }
     }
 
-    /// Reads the next piece of the text, appends the remarks on its lines, and strikes the taps
-    /// that they name out of the balance, if it is to strike taps out. Its one error is want of
-    /// memory, and after it the recount is of no use. The clock is the table's, and the table, the
-    /// balance and whether taps are struck out are the same in all calls.
+    /// Reads the next piece of the text, appends the remarks on its lines, and subtracts their taps
+    /// from the balance, if it is to. After an allocation failure the check is of no use. The
+    /// table, its clock, the balance and whether taps are subtracted are the same in all calls.
     pub fn feed(
         &mut self,
         table: &FareTable,
@@ -194,7 +184,7 @@ impl Recount {
         requires fed { (text : List ℕ) × (written : List ℕ) × (good : List TapFields)
             × HasRecounted table.now self.old strikes full.old text written good }
 
-        // After every text that was read so far.
+        // For every text that was read so far.
         ensures { OnOk result ((text written : List ℕ) (good : List TapFields)
             → HasRecounted table.now self.old strikes full.old text written good
             → (more : List ℕ) × (string_bytes reported.new ≡ string_bytes reported.old ++ more)
@@ -213,7 +203,6 @@ impl Recount {
         Ok(())
     }
 
-    /// Reads the rest of a line, with its newline.
     fn end_line(
         &mut self,
         table: &FareTable,
@@ -244,7 +233,6 @@ impl Recount {
         Ok(())
     }
 
-    /// Whether the text ends behind a line.
     fn is_whole(&self) -> bool
         ensures { IsTrue result
             ↔ ((0 < self.now.so_far.sums.lines) × (self.now.begun.items ≡ [])) }
@@ -252,8 +240,6 @@ impl Recount {
         self.so_far.sums.lines > 0 && self.begun.is_empty()
     }
 
-    /// Takes the line that the text's end cuts, or the first line of a text that has none, and
-    /// gives the sums of all lines.
     fn end_text(&self, reported: &mut String) -> Result<RecountSums, AllocError>
         ensures { IfOk result (λ sums. (fares : Fares) (strikes : Bool) (full : AFullBalance)
             (text written : List ℕ) (good : List TapFields)

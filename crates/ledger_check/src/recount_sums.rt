@@ -1,4 +1,4 @@
-//! The sums of a recount.
+//! The sums of a full check.
 
 ghost use Rattle.std.specs.Prelude.{◌≡◌, ◌+◌, ◌-◌, ◌++◌, ◌∷◌, [], ℕ, List, IfOk, OnOk};
 ghost use Rattle.std.specs.Prelude.{if◌then◌else◌, nat_eq, string_bytes};
@@ -15,29 +15,26 @@ use crate::walk::{CountedTap, LineFinding, Remark};
 use std::alloc::AllocError;
 use tap_views::Token;
 
-/// The most lines of a ledger, the head line aside: 2 to the power of 62.
+/// The most lines of a ledger, the header line aside: 2 to the power of 62.
 const MAX_LINES: u64 = 4_611_686_018_427_387_904;
 
-/// The sums of the lines that a recount has taken.
+/// The sums of the lines that a full check has taken.
 #[derive(Clone, Copy)]
 pub(crate) struct RecountSums {
     /// How many lines were taken, the first one included.
     pub(crate) lines: u64,
-    /// How many of them are wrong.
     pub(crate) wrong: u64,
     /// The token of the last wrong line that names a tap.
     last_wrong: Option<Token>,
-    /// How many tokens have wrong lines.
     tokens: u64,
     /// The cents that the lines ask for.
     cents: u64,
     /// The cents that the rules give their taps.
     wanted: u64,
-    /// The order of their taps.
     pub(crate) order: TapOrder,
 }
 
-/// The sum. What does not fit 64 bits is taken for want of memory.
+/// A sum over 64 bits counts as an allocation failure.
 fn sum(a: u64, b: u64) -> Result<u64, AllocError>
     ensures { IfOk result (λ both. both ≡ a + b) }
 {
@@ -47,7 +44,6 @@ fn sum(a: u64, b: u64) -> Result<u64, AllocError>
     }
 }
 
-/// 1 for a line with a remark.
 fn one_wrong(remark: Remark) -> u64
     ensures { result ≡ one_wrong remark }
 {
@@ -57,7 +53,6 @@ fn one_wrong(remark: Remark) -> u64
     }
 }
 
-/// The token of a wrong line, if it names a tap; else the last one.
 fn wrong_token_of(last: Option<Token>, remark: Remark, tap: Option<CountedTap>) -> Option<Token>
     ensures { result ≡ wrong_token_of last remark tap }
 {
@@ -69,7 +64,6 @@ fn wrong_token_of(last: Option<Token>, remark: Remark, tap: Option<CountedTap>) 
     }
 }
 
-/// 1 for another token.
 fn one_other(last: Option<Token>, token: Option<Token>) -> u64
     ensures { result ≡ one_other last token }
 {
@@ -80,7 +74,6 @@ fn one_other(last: Option<Token>, token: Option<Token>) -> u64
     }
 }
 
-/// The cents that a line asks for.
 fn asked_cents(tap: Option<CountedTap>) -> u64
     ensures { result ≡ asked_cents tap }
 {
@@ -90,7 +83,6 @@ fn asked_cents(tap: Option<CountedTap>) -> u64
     }
 }
 
-/// The cents that the rules give a line's tap.
 fn ruled_cents(tap: Option<CountedTap>) -> u64
     ensures { result ≡ ruled_cents tap }
 {
@@ -100,7 +92,6 @@ fn ruled_cents(tap: Option<CountedTap>) -> u64
     }
 }
 
-/// The order of the taps with that of a line, if it names one.
 fn order_with(order: TapOrder, tap: Option<CountedTap>) -> Result<TapOrder, AllocError>
     ensures { IfOk result (λ after. (taps : List TapFields) → IsOrderOf taps order
         → IsOrderOf (taps_with taps tap) after) }
@@ -112,7 +103,6 @@ fn order_with(order: TapOrder, tap: Option<CountedTap>) -> Result<TapOrder, Allo
 }
 
 impl RecountSums {
-    /// The sums of no line.
     pub(crate) fn new() -> RecountSums
         ensures { AreSums result [] }
     {
@@ -127,7 +117,7 @@ impl RecountSums {
         }
     }
 
-    /// The sums with one line more. More than 2^62 lines are taken for want of memory.
+    /// More than 2^62 lines count as an allocation failure.
     pub(crate) fn with(self, finding: LineFinding) -> Result<RecountSums, AllocError>
         ensures { IfOk result (λ sums. (taken : List TakenLine) (next : TakenLine)
             → next.finding ≡ finding → AreSums self taken → AreSums sums (next ∷ taken)) }
@@ -168,7 +158,6 @@ impl RecountSums {
         )
     }
 
-    /// Appends the line behind the remarks.
     pub(crate) fn write_end(self, text: &mut String) -> Result<(), AllocError>
         ensures { OnOk result ((taken : List TakenLine) → AreSums self taken
             → string_bytes text.new ≡ string_bytes text.old ++ end_text taken) }

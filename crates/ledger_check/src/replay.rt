@@ -33,23 +33,19 @@ pub(crate) enum Step {
     Legal(Tap),
     /// Its tap should have another line here, which was written.
     Wants,
-    /// It is no ledger line, or its token is out of order.
+    /// It is not a ledger line, or its token is out of order.
     NoLine,
 }
 
 /// The lines read so far: how many there are, the explainer of the last one's token, and their order.
 #[derive(Clone, Copy)]
 pub(crate) struct Replay {
-    /// How many lines were read.
     pub(crate) lines: u64,
-    /// The explainer of the last line's token; none if no line was read.
     explainer: Option<Explainer>,
-    /// The order of their taps.
     pub(crate) order: TapOrder,
 }
 
 impl Replay {
-    /// No line was read.
     pub(crate) fn new() -> Replay
         ensures { (fares : Fares) → HasRead fares result [] }
     {
@@ -60,8 +56,6 @@ impl Replay {
         }
     }
 
-    /// The explainer of the token, which goes on or begins here; `None` if the token is less than
-    /// the last one.
     fn explainer_of(&self, token: Token) -> Option<Explainer>
         requires { Fits token }
         ensures token { IfSome result (λ explainer. explainer.token ≡ token) }
@@ -82,7 +76,6 @@ impl Replay {
         }
     }
 
-    /// Checks the next line, and writes the line that its tap should have in place of `wanted`.
     pub(crate) fn next(
         &mut self,
         table: &FareTable,
@@ -93,7 +86,7 @@ impl Replay {
         requires clock { clock.now ≡ table.now.zone }
         requires read { (lines : List (List ℕ)) × HasRead table.now self.old lines }
 
-        // After all lines for which it stood.
+        // For all lines that were read so far.
         ensures { IfOk result (λ step. (lines : List (List ℕ)) → HasRead table.now self.old lines
             → IsStep table.now self.new lines line.now (string_bytes wanted.new) step) }
     {

@@ -20,16 +20,13 @@ use tap_views::{TapFields, Token};
 /// What a line says of a tap.
 #[derive(Clone, Copy)]
 pub(crate) struct Tap {
-    /// Whose account was tapped.
     pub(crate) token: Token,
-    /// The number of the validator.
     pub(crate) validator: u32,
     /// When, in milliseconds since 1970-01-01T00:00Z.
     pub(crate) moment: u64,
 }
 
 impl Tap {
-    /// The tap, with the bytes of its token.
     pub(crate) fn fields(self) -> TapFields
         ensures { result ≡ tap_fields self }
     {
@@ -65,8 +62,6 @@ pub fn read_small_number(digits: &[u8]) -> Option<u32>
     }
 }
 
-/// The tap of the line, from its first fields; what follows the validator is not read. `None` if no
-/// entry has this line.
 pub(crate) fn read_tap(line: &[u8]) -> Option<Tap>
     ensures fits { IfSome result (λ tap. Fits tap.token) }
     ensures moment { IfSome result (λ tap. tap.moment < 4_102_444_800_000) }

@@ -29,12 +29,11 @@ use tariffs::{Clock, FareTable};
 pub(crate) struct CountedTap {
     /// The entry that the rules give it.
     pub(crate) entry: Entry,
-    /// The cents that the line asks for; 0 if its cents are no number.
+    /// The cents of the line, or 0 if these are not a number.
     pub(crate) cents: u32,
 }
 
 impl CountedTap {
-    /// The tap, as an upload has it.
     pub(crate) fn fields(self) -> TapFields
         ensures { result ≡ tap_of_entry self.entry }
     {
@@ -53,20 +52,17 @@ pub(crate) enum Remark {
     Nothing,
     /// Its tap should have another line.
     Wants,
-    /// It is no ledger line: it names no tap, or its token is less than that of the tap before it.
+    /// It is not a ledger line: it names no tap, or its token is less than that of the tap before.
     NoLine,
 }
 
-/// What a recount finds of a line.
+/// What a full check finds of a line.
 #[derive(Clone, Copy)]
 pub(crate) struct LineFinding {
-    /// The tap that it names, if it names one.
     pub(crate) tap: Option<CountedTap>,
     pub(crate) remark: Remark,
 }
 
-/// The remark on a line that names a tap, by whether its token falls, and whether it is the line
-/// that the tap should have.
 fn remark_for(falls: bool, same: bool) -> Remark
     ensures { result ≡ remark_for falls same }
 {
@@ -79,7 +75,6 @@ fn remark_for(falls: bool, same: bool) -> Remark
     }
 }
 
-/// Appends that the line of this number is no ledger line.
 #[tactic(auto, unfolding(crate::specs::Recounts::no_line_text))]
 fn write_no_line(text: &mut String, number: u64) -> Result<(), AllocError>
     ensures { OnOk result (string_bytes text.new ≡ string_bytes text.old ++ no_line_text number) }
@@ -87,7 +82,6 @@ fn write_no_line(text: &mut String, number: u64) -> Result<(), AllocError>
     write!(text, "line {number} is no ledger line\n")
 }
 
-/// Appends that the line of this number wants another line, which has its newline.
 #[tactic(auto, unfolding(crate::specs::Recounts::wants_text))]
 fn write_wants(text: &mut String, number: u64, wanted: &str) -> Result<(), AllocError>
     ensures { OnOk result (string_bytes text.new
@@ -96,7 +90,6 @@ fn write_wants(text: &mut String, number: u64, wanted: &str) -> Result<(), Alloc
     write!(text, "line {number} wants {wanted}")
 }
 
-/// Appends the remark on the line of this number.
 pub(crate) fn write_remark(
     text: &mut String,
     number: u64,
@@ -113,8 +106,6 @@ pub(crate) fn write_remark(
     }
 }
 
-/// The explainer of the token, which goes on or begins here; and whether the token is less than the
-/// last one.
 fn explainer_after(last: &Option<Explainer>, token: Token) -> (Explainer, bool)
     requires { Fits token }
     ensures token { result.0.token ≡ token }
@@ -136,16 +127,13 @@ fn explainer_after(last: &Option<Explainer>, token: Token) -> (Explainer, bool)
 /// The explainer of the last tap's token, and the line that this tap should have.
 #[derive(Drop)]
 pub(crate) struct Walk {
-    /// The explainer of the last tap's token; none before the first tap.
     explainer: Option<Explainer>,
-    /// The line that the last tap should have.
     pub(crate) wanted: String,
-    /// A moment, printed again.
+    /// A moment, printed again to be compared.
     again: String,
 }
 
 impl Walk {
-    /// No tap was taken.
     pub(crate) fn new(alloc: Global) -> Walk
         ensures { (fares : Fares) → HasRunExplainer fares result.explainer [] }
     {
@@ -156,8 +144,6 @@ impl Walk {
         }
     }
 
-    /// Takes the next tap, and writes the line that it should have in place of the last one. Gives
-    /// its entry, and whether its token is less than the last one.
     fn take_tap(
         &mut self,
         table: &FareTable,
@@ -170,7 +156,7 @@ impl Walk {
         requires run { (run : List AnEntry) × HasRunExplainer table.now self.old.explainer run
             × (length run < 2 ^ 63) }
 
-        // After all entries for which it stood.
+        // For all entries that it represents.
         ensures { IfOk result (λ took. (run : List AnEntry)
             → HasRunExplainer table.now self.old.explainer run
             → TookTap table.now run tap self.new took.0 took.1) }
@@ -190,7 +176,6 @@ impl Walk {
         Ok((entry, falls))
     }
 
-    /// Judges the next line, of at most 255 bytes.
     pub(crate) fn judge(
         &mut self,
         table: &FareTable,
@@ -203,7 +188,6 @@ impl Walk {
         requires run { (run : List AnEntry) × HasRunExplainer table.now self.old.explainer run
             × (length run < 2 ^ 63) }
 
-        // After all entries for which it stood.
         ensures { IfOk result (λ finding. (run : List AnEntry)
             → HasRunExplainer table.now self.old.explainer run
             → HasJudged table.now run line.now self.new finding) }

@@ -11,8 +11,6 @@ use histories::Entry;
 use tap_views::NoMemory;
 use tariffs::{Clock, FareTable};
 
-/// Takes one more tap of the explainer's token, and writes the line that it should have in place of
-/// the text.
 pub(crate) fn write_wanted(
     explainer: &mut Explainer,
     table: &FareTable,
@@ -25,7 +23,7 @@ pub(crate) fn write_wanted(
     requires number { explainer.old.number + 1 < 2 ^ 64 }
     requires stands { (entries : List Entry) × StandsForOwn table.now explainer.old entries }
 
-    // Of all entries for which the explainer stood.
+    // For all entries that the explainer represents.
     ensures { OnOk result ((entries : List Entry) → StandsForOwn table.now explainer.old entries
         → GoesOn table.now explainer.old entries validator moment
         (string_bytes wanted.new) explainer.new) }
