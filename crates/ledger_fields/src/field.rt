@@ -1,4 +1,4 @@
-//! The fields of a ledger's line that are no plain numbers.
+//! The fields of a ledger's line that are not plain numbers.
 
 ghost use Rattle.std.specs.Prelude.{◌≡◌};
 ghost use Rattle.std.specs.List.{list_all};
@@ -35,14 +35,12 @@ pub(crate) enum Field {
     Ride,
 }
 
-/// Whether the byte is a hexadecimal digit in lower case.
 fn is_token_byte(byte: u8) -> bool
     ensures { result ≡ is_token_byte byte }
 {
     (48 <= byte && byte <= 57) || (97 <= byte && byte <= 102)
 }
 
-/// Whether the byte is a letter in lower case, or a hyphen.
 fn is_word_byte(byte: u8) -> bool
     ensures { result ≡ is_word_byte byte }
 {
@@ -62,7 +60,6 @@ fn are_word_bytes(text: &[u8]) -> bool
 }
 
 impl Field {
-    /// Whether the text is one of this field.
     fn fits(self, text: &[u8]) -> bool
         ensures { result ≡ fits self text.now }
     {

@@ -1,4 +1,4 @@
-//! The line of a ledger: its form, and what it says that corrections and merged parts look at.
+//! The line of a ledger: its form, and what it says that corrections and merged parts read.
 #![tactic(auto)]
 
 mod field;

@@ -4,7 +4,6 @@ ghost use Rattle.std.specs.Prelude.{◌≡◌, ◌<◌, IfSome, length};
 ghost use Rattle.ledger_fields.specs.Moments.{days_in_month, has_clock, has_date, is_date};
 ghost use Rattle.ledger_fields.specs.Moments.{is_leap_year, is_moment, number_of_two};
 
-/// The number of two decimal digits.
 fn number_of_two(tens: u8, ones: u8) -> Option<u64>
     ensures value { result ≡ number_of_two tens ones }
     ensures small { IfSome result (λ number. number < 100) }
@@ -22,7 +21,6 @@ fn is_leap_year(year: u64) -> bool
     year % 4 == 0 && (year % 100 != 0 || year % 400 == 0)
 }
 
-/// How many days the month has; 0 if the calendar lacks it.
 fn days_in_month(year: u64, month: u64) -> u64
     ensures { result ≡ days_in_month year month }
 {
@@ -37,14 +35,12 @@ fn days_in_month(year: u64, month: u64) -> u64
     }
 }
 
-/// Whether the calendar has the date, from 1970 on.
 fn is_date(year: u64, month: u64, day: u64) -> bool
     ensures { result ≡ is_date year month day }
 {
     1970 <= year && (1 <= day && day <= days_in_month(year, month))
 }
 
-/// Whether the first ten bytes are those of a date from 1970 on and before this year.
 fn has_date(text: &[u8], year_limit: u64) -> bool
     requires { length text.now ≡ 24 }
     ensures { result ≡ has_date year_limit text.now }
@@ -65,7 +61,6 @@ fn has_date(text: &[u8], year_limit: u64) -> bool
     text[4] == b'-' && (text[7] == b'-' && (year < year_limit && is_date(year, month, day)))
 }
 
-/// Whether the others are those of a time of day, from its `T` to its `Z`.
 fn has_clock(text: &[u8]) -> bool
     requires { length text.now ≡ 24 }
     ensures { result ≡ has_clock text.now }
@@ -88,7 +83,6 @@ fn has_clock(text: &[u8]) -> bool
             && (text[19] == b'.' && text[23] == b'Z'))
 }
 
-/// Whether the text is that of a moment from 1970 on and before this year.
 pub(crate) fn is_moment(text: &[u8], year_limit: u64) -> bool
     ensures { result ≡ is_moment year_limit text.now }
 {
