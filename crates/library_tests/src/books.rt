@@ -69,7 +69,7 @@ fn two_entries(cents: u32) -> [Entry; 2] {
     [ride, transfer]
 }
 
-/// From the very list, from one with other cents, and from its beginning.
+/// From the very list, from one with other cents, and from its prefix.
 #[test]
 fn differences_from_a_list(rt: HostRuntime) -> Result<(), Fail> {
     let taps = [tap(0xa1, SUBWAY, START), tap(0xa1, BUS, START + 7_200_000)];
@@ -130,7 +130,7 @@ fn sharing_books<R: RandomSource>(alloc: Global, rt: &R) -> Result<[ShardBook; 2
     Ok([one, other])
 }
 
-/// A token that stands in two books is summed once.
+/// A token that is in two books is summed once.
 #[test]
 fn sums_of_a_shared_token(rt: HostRuntime) -> Result<(), Fail> {
     let alloc = rt.alloc();

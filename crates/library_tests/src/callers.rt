@@ -19,8 +19,6 @@ use std::sync::Wait;
 use std::test::Fail;
 use std::thread::Threads;
 
-/// Runs a service of these uploads, and knows of the outcome that its report is that of their plain
-/// history.
 fn run<R: Threads + Wait + Sync, G: Gatekeeper + Sync>(
     service: Service<&[Vec<u8>]>,
     uploads: &[Vec<u8>],

@@ -14,8 +14,7 @@ fn two_taps(alloc: Global) -> Result<Vec<u8>, Fail> {
     )?)
 }
 
-/// How a file ends whose first batch has two taps and whose second has one, if it is cut to `bytes`
-/// bytes.
+/// How a file ends whose two batches have two taps and one, if it is cut to `bytes` bytes.
 fn end_of_a_cut_file(bytes: usize) -> UploadEnd {
     let have = bytes as u64;
     let (taps, offset, fault) = match bytes {
@@ -41,8 +40,7 @@ fn end_of_a_cut_file(bytes: usize) -> UploadEnd {
     }
 }
 
-/// Would catch an offset or a count that is one batch or one byte off in the service, which hands
-/// the views' fault on.
+/// Would catch an offset or a count that is one batch or one byte off in the service.
 #[test]
 fn a_file_cut_at_every_length(rt: HostRuntime) -> Result<(), Fail> {
     let alloc = rt.alloc();

@@ -19,7 +19,6 @@ fn no_number_is_drawn_of_none(rt: HostRuntime) -> Result<(), Fail> {
     Ok(())
 }
 
-/// Two drawers draw 0 and 1, and the third draw finds none.
 fn drawn_by_two<R: Abort>(rt: &R, alloc: Global) -> Result<(Draw, Drawer, Drawer), NoMemory>
     ensures { IfOk result (λ r. (r.1.drawn_from ≡ r.0) × (r.2.drawn_from ≡ r.0)) }
 {
@@ -91,7 +90,6 @@ fn an_owner_without_a_drawer_finishes_too(rt: HostRuntime) -> Result<(), Fail> {
     Ok(())
 }
 
-/// Draws until there are no more.
 fn draw_all(draw: &Draw, mut drawer: Drawer) -> Drawer
     requires belongs { drawer.drawn_from ≡ draw.now }
     ensures { result.drawn_from ≡ draw.now }
@@ -100,7 +98,6 @@ fn draw_all(draw: &Draw, mut drawer: Drawer) -> Drawer
     drawer
 }
 
-/// Two drawers draw in threads of their own until there are no more.
 fn draw_by_two<R: Threads + Sync>(rt: &R, draw: &Draw, one: Drawer, two: Drawer) -> (Drawer, Drawer)
     requires one { one.drawn_from ≡ draw.now }
     requires two { two.drawn_from ≡ draw.now }

@@ -28,9 +28,8 @@ fn read_rows<F: Placed, R: std::process::Abort>(rt: &R, file: &F, name: &str) {
     }
 }
 
-/// A file of the system, bytes in memory, and a file whose reads give one byte and are interrupted.
-/// Would catch a `File` that reads from the start, gives less than it read, or is always at its
-/// end.
+/// Of a file of the system, of bytes in memory, and of interrupted reads of one byte. Would catch a
+/// `File` that reads from the start, gives less than it read, or is always at its end.
 #[test]
 fn fills_from_each_offset(rt: HostRuntime) -> Result<(), Fail> {
     let bytes = b"abcdefgh".as_slice();

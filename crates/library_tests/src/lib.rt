@@ -1,9 +1,6 @@
-//! Tests of the libraries by their public calls: books, numbers that are drawn, turns, texts of
-//! faults; the service with its shares and workers, damaged uploads, writers that fail, schedules;
-//! files of the system, and files whose reads are short, interrupted or fail, or that change. They are what no
-//! command line shows; what one shows is a case in `cases/`.
-//!
-//! They stand in a crate of their own, so that no library is proved anew with them.
+//! Tests of the libraries by their public calls: books, draws, turns, texts of faults, services,
+//! damaged uploads, writers that fail, schedules, and files whose reads are short, interrupted or
+//! fail. They are apart, so that no library is proved again with them.
 #![tactic(auto)]
 
 #[cfg(test)]

@@ -1,16 +1,11 @@
-//! The reference account: it keeps all taps of a token and works the rule out anew from the whole
-//! list at each.
-//!
-//! It asks no table: its modes, transfers and terms are its own, and its windows end after seven
-//! days.
+//! The reference account: it stores all taps of a token, and applies the rule to the whole list at
+//! each. Its modes, transfers and terms are its own, and its windows end after seven days.
 
 use account_rule::{Answer, Reply, WindowView};
 use std::alloc::{AllocError, Global};
 
-/// Two hours, in milliseconds.
 const TWO_HOURS: u64 = 7_200_000;
 
-/// Seven days, in milliseconds.
 const WEEK: u64 = 604_800_000;
 
 /// A tap at a known validator.
@@ -93,8 +88,7 @@ impl ReferenceAccount {
         Ok(live)
     }
 
-    /// The moments of the rides: in each row of linked live taps every second one, from the first
-    /// on.
+    /// In each row of linked live taps every second one, from the first on.
     fn rides(&self) -> Result<Vec<u64>, AllocError> {
         let mut rides = Vec::new(self.alloc);
         let mut before: Option<Known> = None;
@@ -115,13 +109,12 @@ fn free(answer: Answer) -> Reply {
     Reply { answer, cents: 0 }
 }
 
-/// Whether two live taps are within two hours, the limit included, and one of them at least is on a
-/// bus.
+/// Within two hours, the limit included, and one of them at least on a bus.
 fn is_linked(earlier: Known, tap: Known) -> bool {
     tap.moment.saturating_sub(earlier.moment) <= TWO_HOURS && (earlier.on_bus || tap.on_bus)
 }
 
-/// Where the last window starts, and the place in it of the last ride, from 0.
+/// Where the last window starts, and the index in it of the last ride.
 fn last_window(rides: &[u64]) -> (u64, u32) {
     let mut window: Option<(u64, u32)> = None;
     for ride in rides {
@@ -135,7 +128,7 @@ fn last_window(rides: &[u64]) -> (u64, u32) {
     window.unwrap_or((0, 0))
 }
 
-/// What the ride at a place of its window costs, in cents: 300 each, 12 of them, 3,500 together.
+/// What the ride at an index of its window costs, in cents: 300 each, 12 of them, 3,500 together.
 fn charge(place: u32) -> u32 {
     if place < 12 {
         3_500u32.saturating_sub(place.saturating_mul(300)).min(300)

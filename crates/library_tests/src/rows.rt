@@ -68,8 +68,7 @@ fn no_uploads_are_reported(rt: HostRuntime) -> Result<(), Fail> {
 /// The most turns that a gatekeeper waits.
 const TURNS: u64 = 1_000_000_000;
 
-/// The first upload waits for the end of the second, which waits for the start of the first: so two
-/// workers draw one each.
+/// The first upload waits for the end of the second, which waits for the start of the first.
 #[derive(Drop)]
 struct Both {
     started: AtomicBool,
@@ -143,7 +142,6 @@ fn two_workers_post_at_once(rt: HostRuntime) -> Result<(), Fail> {
     is_reported(&rt, alloc, &outcome, REPORT)
 }
 
-/// A service of one shard whose two shares have posted one upload each.
 fn both_worked<'a, R: Threads + Wait + RandomSource + Sync>(
     rt: &R,
     alloc: Global,
@@ -210,7 +208,6 @@ fn a_share_held_back_is_missing(rt: HostRuntime) -> Result<(), Fail> {
     Ok(())
 }
 
-/// Two shares of a service, to be gathered.
 fn pair(
     service: &Service<&[Vec<u8>]>,
     alloc: Global,

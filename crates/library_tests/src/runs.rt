@@ -40,7 +40,6 @@ pub(crate) fn two_taps(alloc: Global) -> Result<Vec<Vec<u8>>, Fail> {
     uploads_of(alloc, &[one], &[other])
 }
 
-/// A service over the uploads, with its first share.
 pub(crate) fn opened<'a, R: RandomSource>(
     rt: &R,
     alloc: Global,

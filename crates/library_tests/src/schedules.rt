@@ -35,8 +35,7 @@ fn report_by_all_workers<R: Threads + Wait + RandomSource + Sync + Abort>(
     Ok(())
 }
 
-/// Would catch a worker that stops while uploads are left, or that gives up if others hold the turn
-/// it wants: the contracts let a gathering report uploads that nobody drew.
+/// Would catch a worker that stops while uploads are left, or if others hold the turn it wants.
 #[test]
 fn the_report_is_the_same_for_every_number_of_workers(rt: HostRuntime) -> Result<(), Fail> {
     let alloc = rt.alloc();
@@ -56,8 +55,7 @@ fn ten_rides(alloc: Global, token: u8) -> Result<Vec<u8>, Fail> {
     Ok(file)
 }
 
-/// Would catch an upload that two workers draw, and batches that are lost if both workers want one
-/// shard.
+/// Would catch an upload that two workers draw, and batches that are lost if both want one shard.
 #[test]
 fn twenty_uploads_by_two_workers(rt: HostRuntime) -> Result<(), Fail> {
     let alloc = rt.alloc();

@@ -5,8 +5,7 @@ use std::cell::Cell;
 use std::io;
 use std::io::ErrorKind;
 
-/// Bytes that are read one at a time. A signal interrupts each read once before it succeeds. A read
-/// from `fails_at` on fails.
+/// Bytes that are read one at a time, each read interrupted once. A read from `fails_at` on fails.
 #[derive(Drop)]
 pub struct SlowFile<'a> {
     bytes: &'a [u8],

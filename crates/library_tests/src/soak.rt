@@ -42,8 +42,7 @@ impl Numbers {
     }
 }
 
-/// A tap of one of sixteen tokens within two hours after `from`, on the subway, a bus or at a
-/// validator that nobody knows.
+/// Of one of sixteen tokens within two hours after `from`, on the subway, a bus or unknown.
 fn some_tap(numbers: &mut Numbers, from: u32) -> TapFields {
     let validator = match numbers.below(5) {
         0 | 1 => 1000,
@@ -76,8 +75,7 @@ fn some_upload(alloc: Global, numbers: &mut Numbers) -> Result<Vec<u8>, Fail> {
     Ok(file)
 }
 
-/// Every line, the totals and the window of a statement are those of the reference account over the
-/// order that it shows.
+/// Lines, totals and window are those of the reference account over the order that they show.
 fn is_explained<R: Abort>(rt: &R, alloc: Global, statement: &Statement) -> Result<(), Fail> {
     let mut account = ReferenceAccount::new(alloc);
     let mut cents = 0u128;
@@ -127,8 +125,7 @@ fn taps_of_workers(outcome: &Outcome) -> u128 {
 }
 
 /// Would catch what only many threads meet: a turn that two have at once, a wake that is lost (the
-/// test would not end), a worker that leaves uploads undrawn; also that an order which the service
-/// shows is not one that the account rule explains.
+/// test would not end), uploads left undrawn, and an order that the account rule does not explain.
 #[test]
 fn sixteen_workers_share_tokens(rt: HostRuntime) -> Result<(), Fail> {
     let alloc = rt.alloc();

@@ -77,8 +77,7 @@ impl Placed for ChangedFile<'_> {
     }
 }
 
-/// A file of which nothing changed has its stamp, and one of which anything did has not, wherever
-/// it stands. Would catch a `have_stamps` that passes over a part of the stamp, or over a file.
+/// Would catch a `have_stamps` that passes over a part of the stamp, or over a file.
 #[test]
 fn each_change_of_a_stamp_counts(rt: HostRuntime) -> Result<(), Fail> {
     let alloc = rt.alloc();
@@ -116,8 +115,7 @@ fn comes_of<R: Threads + RandomSource + Sync>(
     Ok(([report, ledger, own], merged))
 }
 
-/// Whatever changes of a file while it is read, the report, the ledger, the taps of one token and
-/// the merged file are refused as `Changed`.
+/// The report, the ledger, the taps of one token and the merged file are refused as `Changed`.
 #[test]
 fn each_change_of_a_file_is_seen(rt: HostRuntime) -> Result<(), Fail> {
     let alloc = rt.alloc();

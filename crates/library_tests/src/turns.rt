@@ -15,8 +15,6 @@ use std::thread;
 use std::thread::Threads;
 use tap_views::{Batch, NoMemory, TapFields};
 
-/// A book that is the only one of its service, shared from the number on, with its first pass and
-/// its clock.
 fn shared_from<R: RandomSource>(
     rt: &R,
     alloc: Global,
@@ -34,7 +32,6 @@ fn shared_from<R: RandomSource>(
     Ok((shared, pass, clock))
 }
 
-/// Visits with one run of these taps: the visit's number and end, or nothing if the book is full.
 fn visit<R: Wait>(
     rt: &R,
     alloc: Global,
@@ -89,7 +86,6 @@ fn the_last_number_is_given_and_then_the_book_is_full(rt: HostRuntime) -> Result
     Ok(())
 }
 
-/// Visit 0 of one token, a read of it, and visit 2 of another token by a new pass.
 fn three_turns<R: Wait + RandomSource + Abort>(
     rt: &R,
     alloc: Global,
@@ -176,8 +172,6 @@ fn begin(first: &Lines, second: &Lines) -> bool {
 
 const TURNS: u64 = 100;
 
-/// Reads the token again and again. Nothing if a read has no answer, or does not begin with the
-/// lines of the one before.
 fn read_often<R: Wait>(rt: &R, alloc: Global, shared: &SharedBook, mut pass: Pass) -> Option<Pass>
     requires belongs { pass.book ≡ shared.now }
     ensures { IfSome result (λ pass. pass.book ≡ shared.now) }
@@ -198,7 +192,6 @@ fn read_often<R: Wait>(rt: &R, alloc: Global, shared: &SharedBook, mut pass: Pas
     Some(pass)
 }
 
-/// Visits with one tap of the token again and again. Nothing if a visit has no answer.
 fn visit_often<R: Wait>(
     rt: &R,
     alloc: Global,
@@ -254,8 +247,7 @@ fn a_reader_beside_a_visitor_sees_the_history_grow(rt: HostRuntime) -> Result<()
     Ok(())
 }
 
-/// What one of several threads does: as many visits of these taps as it is given, or fewer if the
-/// book gets full.
+/// What one of several threads does: this many visits of these taps, or fewer if the book is full.
 #[derive(Drop)]
 struct Job<'a> {
     shared: &'a SharedBook,
@@ -287,7 +279,6 @@ fn work<R: AllocGlobal + Wait>(rt: &R, job: Job<'_>) -> Result<u64, NoMemory> {
 
 const THREADS: u64 = 4;
 
-/// A job for each thread, with a pass of its own.
 fn jobs_of<'a>(
     alloc: Global,
     shared: &'a SharedBook,
@@ -314,8 +305,7 @@ fn jobs_of<'a>(
     Ok(jobs)
 }
 
-/// Visits by several threads, each so long that whoever waits for it falls asleep: how many were
-/// made in all, and are counted.
+/// Each visit is so long that whoever waits for it falls asleep. Returns how many were made.
 fn visits_by_all<R: AllocGlobal + RandomSource + Threads + Wait + Sync>(
     rt: &R,
     first: u64,

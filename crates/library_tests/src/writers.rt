@@ -6,7 +6,7 @@ use sample_table::Narrow;
 use std::test::Fail;
 use tap_views::Token;
 
-/// Would catch a text that is said to be written, but whose end was not.
+/// Would catch a text that is reported as written, but whose end was not.
 #[test]
 fn a_writer_that_fails_after_some_bytes(rt: HostRuntime) -> Result<(), Fail> {
     let alloc = rt.alloc();
