@@ -5,31 +5,24 @@ ghost use Rattle.line_folds.specs.Folds.{IsNextLine};
 
 use std::io::{BufRead, ErrorKind};
 
-/// How many bytes a line has at most, with its line feed.
 const MAX_LINE_BYTES: usize = 1_024;
 
-/// What the next line is.
+/// What the next line is. Only a text's last line may lack a line feed.
 #[derive(Clone, Copy, Debug, PartialEq, Eq)]
 pub enum NextLine {
-    /// A line. The last one of a text may have no line feed.
     Whole,
-    /// A line of more than 1,024 bytes.
     Long,
-    /// There is none.
     End,
 }
 
 /// Why no line was read.
 #[derive(Clone, Copy, Debug, PartialEq, Eq)]
 pub enum ReadFault {
-    /// A read failed.
     Unread,
-    /// An allocation failed.
     NoMemory,
 }
 
-/// Reads the next line, with its line feed, in place of what the room has. It holds a line of any
-/// length in memory: a reader of texts of others bounds its lines.
+/// Reads the next line, of any length, with its line feed, in place of what the room has.
 pub fn next_line<R: BufRead>(from: &mut R, line: &mut Vec<u8>) -> Result<NextLine, ReadFault>
     ensures { IfSome (R.remaining from.old) (λ text.
         IsNextLine text line.new.items (R.remaining from.new) result) }
