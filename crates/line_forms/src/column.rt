@@ -1,4 +1,4 @@
-//! Columns of a line: what stands up to a comma, or to the line feed.
+//! Columns of a line: what is before a comma, or before the line feed.
 
 ghost use Rattle.std.specs.Prelude.{◌≡◌, ◌≤◌, length, MatchOption};
 ghost use Rattle.line_forms.specs.Columns.{column_in};

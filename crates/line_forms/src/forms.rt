@@ -7,7 +7,6 @@ ghost use Rattle.line_forms.specs.FormLaws.{behind_law, then_law};
 
 use crate::form::FormOf;
 
-/// What follows the word with which the text begins.
 fn stripped<'a>(text: &'a [u8], word: &[u8]) -> Option<&'a [u8]>
     ensures { MatchOption result ((rest : List ℕ) → ¬ (text.now ≡ word.now ++ rest))
         (λ rest. text.now ≡ word.now ++ rest.now) }
@@ -23,7 +22,7 @@ pub fn after_word<'a>(text: &'a [u8], word: &[u8]) -> Option<&'a [u8]>
     stripped(text, word)
 }
 
-/// A form behind a word. It says what the form says.
+/// A form after a word. It says what the form says.
 #[derive(Drop)]
 pub struct Behind<'w, F>(pub &'w [u8], pub F);
 
@@ -50,7 +49,7 @@ impl<'a, 'w, F: FormOf<'a> + Drop> FormOf<'a> for Behind<'w, F> {
     ghost law = { λ form valid. behind_law form.0.now (F.law form.1 valid) };
 }
 
-/// One form behind another.
+/// One form after another.
 #[derive(Drop)]
 pub struct Then<A, B>(pub A, pub B);
 

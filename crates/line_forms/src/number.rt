@@ -10,7 +10,6 @@ ghost use Rattle.line_forms.specs.inside.Narrow.{below};
 use crate::form::FormOf;
 use itoa::Buffer;
 
-/// The number of at most 64 bits that the digits write, if it is written so.
 fn parsed(digits: &[u8]) -> Option<u64>
     ensures { MatchOption result
         ((number : ℕ) → number < 2 ^ 64 → ¬ (digits.now ≡ decimal number))
