@@ -12,9 +12,7 @@ use thiserror::Error;
 #[error("a file cannot be read")]
 pub struct Unread;
 
-/// Reads from this offset on until the buffer is full or the file ends, and returns the number of
-/// bytes that were read. It reads on after a short read, and again if a signal interrupted one. Its
-/// one error is a read that failed.
+/// Reads from this offset until the buffer is full or the file ends, past short reads and signals.
 pub fn fill_from<F: Placed>(file: &F, buffer: &mut [u8], offset: u64) -> Result<usize, Unread>
     requires { offset + length buffer.old < 2 ^ 64 }
     ensures most { IfOk result (λ count. count ≤ length buffer.new) }

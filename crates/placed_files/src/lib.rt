@@ -1,7 +1,4 @@
-//! Files that are read at any offset, as often as needed: files of the system, and bytes in memory.
-//!
-//! What a file of the system has is not known to any proof. So the contracts speak of the bytes if
-//! they are known, as those in memory are.
+//! Files read at any offset: of the system, whose bytes no proof knows, or bytes in memory.
 #![tactic(auto)]
 
 mod fill;

@@ -16,9 +16,7 @@ pub trait Placed {
     // All its bytes, if they are known. Known bytes do not change.
     ghost bytes: { Self → Option (List ℕ) } = { λ _. None };
 
-    /// Reads bytes from this offset on into the front of the buffer, and returns their number. One
-    /// read may give fewer bytes than there are: `fill_from` reads on. An empty buffer gives 0, and
-    /// any other gives 0 only at the file's end.
+    /// Reads into the front of the buffer. One read may give fewer than there are: see `fill_from`.
     fn read_from(&self, buffer: &mut [u8], offset: u64) -> io::Result<usize>
         ensures bound { ReadsAtMost result buffer.new }
         ensures bytes { IfSome (bytes self.now)

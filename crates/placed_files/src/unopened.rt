@@ -9,10 +9,8 @@ use std::io::ErrorKind;
 use std::{fs, io};
 use thiserror::Error;
 
-/// The system's error if this process has as many open files as it may.
 const EMFILE: i32 = 24;
 
-/// The system's error if all processes together have.
 const ENFILE: i32 = 23;
 
 /// Why a file was not opened.
@@ -24,7 +22,6 @@ pub enum Unopened {
     /// It is a folder, a pipe or a device, which have no offsets.
     #[error("it is no regular file")]
     NotRegular,
-    /// As many files are open as the system allows.
     #[error("too many files are open")]
     TooManyOpen,
     #[error("out of memory")]
@@ -41,7 +38,6 @@ impl From<AllocError> for Unopened {
     }
 }
 
-/// Why a file was not opened, by the system's error.
 fn fault_of(error: &io::Error) -> Unopened
     ensures memory { error_kind error.now ≡ ErrorKind.OutOfMemory → result ≡ Unopened.NoMemory }
     ensures many { error_kind error.now ≢ ErrorKind.OutOfMemory
@@ -57,8 +53,7 @@ fn fault_of(error: &io::Error) -> Unopened
     }
 }
 
-/// The regular file of this name, opened to be read. Another is not opened: the open of a pipe
-/// would wait for a writer.
+/// Opens the regular file of this name, and no other: the open of a pipe would wait for a writer.
 pub fn open_regular<R: Files>(rt: &R, name: &str) -> Result<R::File, Unopened> {
     match fs::metadata(rt, name) {
         Ok(about) if !about.is_file() => Err(Unopened::NotRegular),
