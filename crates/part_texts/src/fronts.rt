@@ -88,7 +88,6 @@ pub struct Fronts {
     pub tokens: u64,
 }
 
-/// Two sums added up, if they have no more taps than any run has.
 pub(crate) fn added(sum: &Totals, more: &Totals) -> Option<Totals>
     ensures { option_map sums_of result ≡ sums_within (sums_of sum.now) (sums_of more.now) }
 {
@@ -102,7 +101,6 @@ pub(crate) fn added(sum: &Totals, more: &Totals) -> Option<Totals>
     }
 }
 
-/// Whether the sums are the same.
 pub(crate) fn are_same(a: &Totals, b: &Totals) -> bool
     ensures { result ≡ sums_eq (sums_of a.now) (sums_of b.now) }
 {
@@ -115,7 +113,6 @@ pub(crate) fn are_same(a: &Totals, b: &Totals) -> bool
         && a.cents == b.cents
 }
 
-/// Two numbers added up, if the sum fits 64 bits.
 fn plus(a: u64, b: u64) -> Option<u64>
     ensures { result ≡ plus a b }
 {
@@ -128,7 +125,6 @@ fn is_same_place(a: Place, b: Place) -> bool
     a.offset == b.offset && a.skip == b.skip
 }
 
-/// Whether a span of the part may end there.
 fn may_end(is_last: bool, to: Option<Place>) -> bool
     ensures { result ≡ may_end is_last to }
 {
@@ -138,7 +134,6 @@ fn may_end(is_last: bool, to: Option<Place>) -> bool
     }
 }
 
-/// Where the part's taps must begin in the next file.
 fn next_start(is_first: bool, ends: &mut VecDeque<Option<Place>>) -> Option<Place>
     ensures { MatchOption result (starts is_first ends.old.items ≡ None)
         (λ place. starts is_first ends.old.items ≡ Some (place, ends.new.items)) }
@@ -153,7 +148,6 @@ fn next_start(is_first: bool, ends: &mut VecDeque<Option<Place>>) -> Option<Plac
     }
 }
 
-/// How many taps the earlier parts have of the next upload.
 fn next_taps(is_first: bool, taps: &mut VecDeque<u64>) -> Option<u64>
     ensures { MatchOption result (taps_before is_first taps.old.items ≡ None)
         (λ number. taps_before is_first taps.old.items ≡ Some (number, taps.new.items)) }
@@ -164,7 +158,6 @@ fn next_taps(is_first: bool, taps: &mut VecDeque<u64>) -> Option<u64>
     taps.pop_front()
 }
 
-/// The taps of an upload that was posted whole.
 fn posted_in(end: &UploadEnd) -> Option<u64>
     ensures { result ≡ posted_in end.now }
 {
@@ -174,7 +167,6 @@ fn posted_in(end: &UploadEnd) -> Option<u64>
     }
 }
 
-/// Whether the validator is above the last one.
 fn is_above(last: Option<u32>, validator: u32) -> bool
     ensures { result ≡ is_above last validator }
 {
@@ -184,7 +176,6 @@ fn is_above(last: Option<u32>, validator: u32) -> bool
     }
 }
 
-/// The sums that a validator has; those of nothing if it has none.
 fn kept_of(validators: &BTreeMap<u32, Totals>, validator: u32) -> Totals
     ensures { sums_of result ≡ unwrap_or (lookup (is_at (nat_cmp validator))
         (shown_sums sums_of validators.now.entries)) no_sums }
@@ -195,7 +186,6 @@ fn kept_of(validators: &BTreeMap<u32, Totals>, validator: u32) -> Totals
     }
 }
 
-/// The totals of nothing.
 pub(crate) fn no_totals() -> Totals
     ensures { sums_of result ≡ no_sums }
 {
@@ -210,7 +200,6 @@ pub(crate) fn no_totals() -> Totals
     }
 }
 
-/// Adds a validator's sums to those that it has. Says whether they are no more than any run has.
 fn add_validator(
     validators: &mut BTreeMap<u32, Totals>,
     sum: &ValidatorSum,
@@ -233,7 +222,6 @@ fn is_head_line(line: &[u8]) -> bool
 }
 
 impl Fronts {
-    /// What no parts say.
     pub(crate) fn new(alloc: Global) -> Fronts
         ensures { fronts_view result ≡ no_fronts }
     {
@@ -252,7 +240,6 @@ impl Fronts {
         }
     }
 
-    /// Begins the part at this place, of so many parts.
     pub(crate) fn begin(&mut self, place: usize, count: usize)
         ensures { fronts_view self.new ≡ begun place count (fronts_view self.old) }
     {

@@ -36,14 +36,12 @@ fn write_to(text: &mut String, to: Option<Place>) -> Result<(), AllocError>
     }
 }
 
-/// Appends these words.
 fn write_words(text: &mut String, words: &str) -> Result<(), AllocError>
     ensures { OnOk result (string_bytes text.new ≡ string_bytes text.old ++ words.now) }
 {
     text.push_str(words)
 }
 
-/// Appends `file 0 from `.
 fn write_file(text: &mut String, file: u64) -> Result<(), AllocError>
     ensures { OnOk result (string_bytes text.new
         ≡ string_bytes text.old ++ (codes "file " ++ (decimal file ++ codes " from "))) }
@@ -63,7 +61,6 @@ fn write_span(text: &mut String, file: u64, span: &FileSpan) -> Result<(), Alloc
     write_words(text, "\n")
 }
 
-/// Appends a line for each file.
 fn write_spans(text: &mut String, spans: &[FileSpan]) -> Result<(), AllocError>
     ensures { OnOk result (string_bytes text.new
         ≡ string_bytes text.old ++ span_lines 0 spans.now) }
@@ -74,7 +71,6 @@ fn write_spans(text: &mut String, spans: &[FileSpan]) -> Result<(), AllocError>
     Ok(())
 }
 
-/// The head of the text of a part that has these taps of each file.
 fn head_text(alloc: Global, spans: &[FileSpan]) -> Result<Vec<u8>, AllocError>
     ensures { IfOk result (λ text. text.items ≡ part_head spans.now) }
 {
@@ -84,8 +80,7 @@ fn head_text(alloc: Global, spans: &[FileSpan]) -> Result<Vec<u8>, AllocError>
     Ok(text.into_bytes())
 }
 
-/// Writes the head of the text of a part that has these taps of each file. On a fault of memory
-/// nothing was written.
+/// Writes the head of the text of a part with these taps of each file, once it has all memory.
 pub fn write_part_head<W: Write>(
     alloc: Global,
     spans: &[FileSpan],
@@ -104,7 +99,7 @@ pub fn write_part_head<W: Write>(
     Ok(())
 }
 
-/// A place behind a word.
+/// A place after a word.
 #[derive(Drop)]
 struct PlaceBehind<'w>(&'w [u8]);
 

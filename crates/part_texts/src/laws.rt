@@ -1,4 +1,4 @@
-//! Laws of texts of parts: what right parts are merged into.
+//! Theorems about texts of parts: what they are merged into.
 
 ghost use Rattle.std.specs.Prelude.{◌≡◌, ◌∷◌, ℕ, List, None, Ok, map};
 ghost use Rattle.std.specs.List.{AllByRecursion, AllZip};
@@ -15,8 +15,7 @@ ghost use Rattle.part_texts.specs.LedgerParts.{AreReadable, DoJoinUp, IsPartLedg
 ghost use Rattle.part_texts.specs.Merged.{merge_of};
 ghost use Rattle.part_texts.specs.Shown.{part_text};
 
-/// Parts join from the files' begins to their ends, and rise by token. The texts of their reports
-/// are merged into the report of all parts' history.
+/// The reports of parts that join and rise by token are merged into that of all parts' history.
 pub fn reports_are_merged()
     ensures { (files : ℕ) (part : HistoryPart) (parts : List HistoryPart)
         → AreRight files (part ∷ parts)
@@ -26,9 +25,8 @@ pub fn reports_are_merged()
         (sums_by_token (whole_history (part ∷ parts)))) }
 {}
 
-/// Parts join from the files' begins to their ends, and rise by token. Each text is that of a part
-/// with the ledger of its history. Whatever is merged of these texts is the ledger of all parts'
-/// history. They are merged, if each line of the ledgers has the form of a ledger's line.
+/// What is merged of the ledgers of parts that join and rise by token is that of all parts'
+/// history. They are merged if each line of them has the form of a ledger's line.
 pub fn ledgers_are_merged()
     ensures whole { (fares : Fares) (files : ℕ) (part : HistoryPart) (parts : List HistoryPart)
         (texts : List (List ℕ)) → DoJoinUp files (part ∷ parts)

@@ -42,7 +42,6 @@ pub struct Open<R> {
     part: Totals,
 }
 
-/// The fault of the text at this place.
 fn fault_by(place: usize, stop: Stop<Wrong>) -> MergeFault
     ensures { result ≡ fault_by place stop }
 {
@@ -68,7 +67,6 @@ fn left_at(stage: Stage) -> u64
     }
 }
 
-/// Reads the front of the part at this place. Gives the number of the line that follows.
 fn read_front<R: BufRead>(
     alloc: Global,
     fronts: &mut Fronts,
@@ -95,7 +93,6 @@ fn read_front<R: BufRead>(
     }
 }
 
-/// Reads the fronts of all parts.
 fn read_fronts<R: BufRead + Drop>(
     alloc: Global,
     parts: Vec<R>,
@@ -122,7 +119,6 @@ fn read_fronts<R: BufRead + Drop>(
     Ok(opens)
 }
 
-/// Copies the lines of the part at this place. Gives the last token.
 fn copy_section<R: BufRead, W: Write>(
     alloc: Global,
     part: &mut Open<R>,
@@ -155,7 +151,6 @@ fn copy_section<R: BufRead, W: Write>(
     }
 }
 
-/// Copies the lines of all parts.
 fn copy_sections<R: BufRead + Drop, W: Write>(
     alloc: Global,
     opens: Vec<Open<R>>,
@@ -174,7 +169,6 @@ fn copy_sections<R: BufRead + Drop, W: Write>(
     Ok(())
 }
 
-/// Appends the line of each upload, which was posted with these taps.
 fn write_uploads(text: &mut String, taps: &[u64]) -> Result<(), AllocError>
     ensures { OnOk result (string_bytes text.new
         ≡ string_bytes text.old ++ upload_lines 0 (map Posted taps.now)) }
@@ -185,7 +179,6 @@ fn write_uploads(text: &mut String, taps: &[u64]) -> Result<(), AllocError>
     Ok(())
 }
 
-/// Appends the line of each validator.
 fn write_validators(text: &mut String, validators: &BTreeMap<u32, Totals>) -> Result<(), AllocError>
     ensures { OnOk result (string_bytes text.new ≡ string_bytes text.old
         ++ flat_map validator_line (shown_sums sums_of validators.now.entries)) }
@@ -198,7 +191,6 @@ fn write_validators(text: &mut String, validators: &BTreeMap<u32, Totals>) -> Re
     Ok(())
 }
 
-/// The whole's report up to its lines of tokens.
 fn report_front(alloc: Global, fronts: Fronts) -> Result<Vec<u8>, AllocError>
     ensures { IfOk result (λ text. text.items ≡ report_front (fronts_view fronts)) }
 {
@@ -213,7 +205,6 @@ fn report_front(alloc: Global, fronts: Fronts) -> Result<Vec<u8>, AllocError>
     Ok(text.into_bytes())
 }
 
-/// The header line of a ledger.
 fn header(alloc: Global) -> Result<Vec<u8>, AllocError>
     ensures { IfOk result (λ text. text.items ≡ head_text) }
 {
@@ -222,7 +213,6 @@ fn header(alloc: Global) -> Result<Vec<u8>, AllocError>
     Ok(text)
 }
 
-/// The whole's text up to its lines of tokens or of entries.
 fn whole_front(alloc: Global, fronts: Fronts) -> Result<Vec<u8>, AllocError>
     ensures { IfOk result (λ text. text.items ≡ whole_front (fronts_view fronts)) }
 {
@@ -233,7 +223,6 @@ fn whole_front(alloc: Global, fronts: Fronts) -> Result<Vec<u8>, AllocError>
     }
 }
 
-/// Writes the front of the whole, and copies the lines of all parts.
 fn write_whole<R: BufRead + Drop, W: Write>(
     alloc: Global,
     fronts: Fronts,
@@ -251,8 +240,8 @@ fn write_whole<R: BufRead + Drop, W: Write>(
     }
 }
 
-/// Merges the texts of parts, in their order: all reports, or all ledgers. Writes the report or the
-/// ledger of the whole. All fronts are read before the first byte is written.
+/// Merges the texts of parts, in their order: all reports, or all ledgers. All fronts are read
+/// before the first byte is written.
 pub fn merge<R: BufRead + Drop, W: Write>(
     alloc: Global,
     parts: Vec<R>,

@@ -1,4 +1,4 @@
-//! The lines of a part behind its front: those of tokens, or those of a ledger's entries.
+//! The lines of a part after its front: those of tokens, or those of a ledger's entries.
 
 ghost use Rattle.std.specs.Prelude.{◌≡◌, IfSome, false, option_map};
 ghost use Rattle.line_folds.specs.Folds.{HasWritten, StopsAs, bounded, lines_of, run, written};
@@ -38,7 +38,6 @@ pub(crate) struct Section {
     pub(crate) so_far: Totals,
 }
 
-/// The token in front of the line.
 fn front_token(line: &[u8]) -> Option<Token>
     ensures { result ≡ option_map first_of (token_read line.now) }
 {
@@ -46,7 +45,6 @@ fn front_token(line: &[u8]) -> Option<Token>
     Some(token)
 }
 
-/// The token in front of the line, if the line has the form of a ledger's line.
 fn entry_token_in(line: &[u8]) -> Option<Token>
     ensures { result ≡ entry_token_in line.now }
 {
@@ -65,7 +63,6 @@ fn is_token_above(last: Option<Token>, token: Token) -> bool
     }
 }
 
-/// Whether the token of an entry may follow the last one.
 fn may_follow(is_first: bool, last: Option<Token>, token: Token) -> bool
     ensures { result ≡ may_follow is_first last token }
 {
@@ -82,7 +79,6 @@ fn may_follow(is_first: bool, last: Option<Token>, token: Token) -> bool
 }
 
 impl Section {
-    /// What is left behind the line of an entry, or why the line is wrong.
     fn behind_entry(self, line: &[u8]) -> Result<Section, Wrong>
         ensures { IsNext (entry_step (section_view self) line.now) result }
     {
@@ -102,7 +98,6 @@ impl Section {
         })
     }
 
-    /// What is left behind the line of a token, or why the line is wrong.
     fn behind_token(self, line: &[u8]) -> Result<Section, Wrong>
         ensures { IsNext (token_step (section_view self) line.now) result }
     {
@@ -128,7 +123,6 @@ impl Section {
         })
     }
 
-    /// What is left behind one more line, or why the line is wrong.
     pub(crate) fn behind(self, line: &[u8]) -> Result<Section, Wrong>
         ensures { IsNext (section_step (section_view self) line.now) result }
     {
@@ -139,7 +133,6 @@ impl Section {
         }
     }
 
-    /// What is wrong if the part ends here.
     pub(crate) fn end(&self) -> Option<Wrong>
         ensures { result ≡ section_end (section_view self.now) }
     {
@@ -157,8 +150,6 @@ impl Section {
     }
 }
 
-/// Reads what is left of a part from the line of this number on, and writes each line that may stand
-/// there.
 pub(crate) fn copy_lines<R: BufRead, W: Write>(
     alloc: Global,
     from: &mut R,
