@@ -13,8 +13,7 @@ use std::test::Fail;
 use std::thread::Threads;
 use world::{Loaded, Trace};
 
-/// A disk of files with one content, of which two are not read. It counts reads, and adds up the
-/// bytes that are noted as charged.
+/// A disk of files with one content, two of which are not read. It counts reads and charged bytes.
 #[derive(Drop)]
 struct CountingDisk<'a> {
     content: &'a [u8],
@@ -66,8 +65,7 @@ impl Disk for CountingDisk<'_> {
     }
 }
 
-/// What came of a run: its status, its text and what was said, how often the disk was read and the
-/// source was, and how many bytes were noted as charged.
+/// What came of a run: status, text, what was said, reads of disk and source, and charged bytes.
 #[derive(Drop)]
 struct Came {
     status: u8,
@@ -145,8 +143,7 @@ fn reads_each_file_once(rt: HostRuntime) -> Result<(), Fail> {
     Ok(())
 }
 
-/// Of several files that are not read the first one in the order of the words is reported, and no
-/// text is written, by any number of workers.
+/// The first in the order of the arguments is reported, with no text, by any number of workers.
 #[test]
 fn reports_the_first_unread_file(rt: HostRuntime) -> Result<(), Fail> {
     let alloc = rt.alloc();

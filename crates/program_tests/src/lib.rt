@@ -1,8 +1,5 @@
 //! Tests of the program by its public calls: readers and writers that fail, files that are read
-//! ahead, what is noted of a run, and sorted files. The command lines are in `cases/`, run over the
-//! built program.
-//!
-//! They stand in a crate of their own, so that the program is not proved anew with them.
+//! ahead, notes of a run, sorted files. They are apart, so that the program is not proved again.
 #![tactic(auto)]
 
 #[cfg(test)]

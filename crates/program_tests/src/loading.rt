@@ -1,5 +1,4 @@
-//! Files that are loaded: up to the limit, and before their turns. No contract says what a file of
-//! the system holds.
+//! Files that are loaded: up to the limit, and ahead. No contract says what a system's file holds.
 
 use super::running::{NoDisk, run_over};
 use super::shelf::{Content, Shelf};
@@ -15,7 +14,7 @@ use std::thread::Threads;
 use std::{fs, io};
 use world::{Loaded, Trace};
 
-/// A file for which there is no memory is no file that cannot be read.
+/// A file for which memory ran out is not reported as one that cannot be read.
 #[test]
 fn says_that_a_file_wants_memory(rt: HostRuntime) -> Result<(), Fail> {
     let alloc = rt.alloc();
@@ -75,8 +74,7 @@ fn loads_up_to_the_limit(rt: HostRuntime) -> Result<(), Fail> {
     Ok(())
 }
 
-/// Each file holds its own name. One is named twice, and they are also loaded in another order than
-/// that in which they were read.
+/// Each file holds its own name. One is named twice, and they are loaded in another order too.
 #[test]
 fn loads_each_file_ahead_under_its_name(rt: HostRuntime) -> Result<(), Fail> {
     let [a, b, c] = ["each_a.tap", "each_b.tap", "each_c.tap"];
@@ -99,8 +97,7 @@ fn loads_each_file_ahead_under_its_name(rt: HostRuntime) -> Result<(), Fail> {
     Ok(())
 }
 
-/// What a file holds at first, and when its turn comes, says when it was read: here of files with a
-/// folder between them.
+/// What a file holds at first, and when its turn comes, says when it was read.
 #[test]
 fn reads_files_ahead_by_several_threads_alone(rt: HostRuntime) -> Result<(), Fail> {
     let [a, b, c, folder] = ["early_a.tap", "early_b.tap", "early_c.tap", "early_folder"];

@@ -64,8 +64,7 @@ impl Disk for NotingDisk {
     }
 }
 
-/// What a run with these words over two files of two taps each notes: all taps and those charged,
-/// all bytes and those posted.
+/// What a run over two files of two taps notes: all taps, charged taps, bytes, posted bytes.
 fn noted<R: Threads + Wait + RandomSource + Sync>(
     rt: &R,
     alloc: Global,

@@ -13,8 +13,7 @@ use std::test::Fail;
 use std::thread::Threads;
 use tap_views::{TapFields, encode};
 
-/// The numbers of the 1,400 tokens that tap once each. Their lines are longer than two pieces of 64
-/// KiB.
+/// The first of 1,400 tokens that tap once each: their lines exceed two pieces of 64 KiB.
 const FIRST: u16 = 1_000;
 
 const END: u16 = 2_400;
@@ -29,7 +28,7 @@ tokens 1400
 
 const COUNTS: &str = "taps 1 paid 1 transfers 0 capped 0 stale 0 unknown 0 cents 300";
 
-/// A tap of each token, whose number stands in its last two bytes, at one validator and moment.
+/// A tap of each token, with the number in its last two bytes, at one validator and moment.
 fn upload(alloc: Global) -> Result<Vec<u8>, Fail> {
     let mut taps = Vec::new(alloc);
     for number in FIRST..END {
@@ -52,7 +51,7 @@ fn report(alloc: Global) -> Result<String, Fail> {
     Ok(text)
 }
 
-/// A writer that keeps all bytes, and how many the longest piece of them had.
+/// A writer that stores all bytes, and how many the longest piece of them had.
 #[derive(Drop)]
 struct Pieces {
     text: Vec<u8>,

@@ -1,4 +1,4 @@
-//! A run of the program over words, a disk, a source and a writer.
+//! A run of the program over arguments, a disk, a source and a writer.
 
 use fare_program::{Complaints, Disk, LoadFault, Output, Source, main_over};
 use placed_files::{InMemory, Unopened};
@@ -41,8 +41,7 @@ impl Disk for NoDisk {
     }
 }
 
-/// Runs the program with these words after its name. Returns the status and what was said on the
-/// second writer.
+/// Runs the program with these arguments. Returns the status and what the second writer got.
 pub(crate) fn run_over<
     R: Threads + Wait + RandomSource + Sync,
     D: Disk + Sync,

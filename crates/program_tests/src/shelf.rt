@@ -26,7 +26,7 @@ impl Content<'_> {
     }
 }
 
-/// A source of some named files and an input. It counts the files that it is asked for.
+/// A source of some named files and an input. It counts the requested files.
 #[derive(Drop)]
 pub(crate) struct Shelf<'a> {
     alloc: Global,

@@ -75,7 +75,7 @@ fn first_taps() -> [TapFields; 4] {
     ]
 }
 
-/// More of them: one is a twin.
+/// More of them: one has the token and the moment of another.
 fn other_taps() -> [TapFields; 3] {
     [
         tap_after(0xa1, 1000, 0),
@@ -84,8 +84,7 @@ fn other_taps() -> [TapFields; 3] {
     ]
 }
 
-/// The status, the text and the fault line of a run with these words over the sample table and the
-/// files `a` and `b`, which are loaded or opened.
+/// The status, text and fault line of a run over the sample table and the files `a` and `b`.
 pub(crate) fn run_on<'a, R: Threads + Wait + RandomSource + Sync, D: Disk + Sync>(
     rt: &R,
     alloc: Global,
@@ -145,7 +144,7 @@ fn the_text_is_that_of_a_settled_run(rt: HostRuntime) -> Result<(), Fail> {
     Ok(())
 }
 
-/// The first fault in the order of the words, and no text.
+/// The first fault in the order of the arguments, and no text.
 #[test]
 fn the_first_fault_is_reported(rt: HostRuntime) -> Result<(), Fail> {
     let alloc = rt.alloc();
@@ -253,8 +252,7 @@ impl<'a> Disk for FickleDisk<'a> {
     }
 }
 
-/// The status, the text and the fault line of this upload, which is a ledger or, without that word,
-/// a report. Reads fail from some number on, and stamps differ.
+/// The status, the text and the fault line. Reads fail from some number on, and stamps differ.
 fn run_fickle<R: Threads + Wait + RandomSource + Sync>(
     rt: &R,
     alloc: Global,
@@ -287,8 +285,7 @@ fn run_fickle<R: Threads + Wait + RandomSource + Sync>(
     run_on(rt, alloc, &words, &disk, all, all)
 }
 
-/// The later a read fails, the later is the line that reports it. The text is short, and goes out
-/// only if no read fails.
+/// The later a read fails, the later is the line that reports it. No text is written then.
 #[test]
 fn a_read_that_fails_is_reported_by_its_pass(rt: HostRuntime) -> Result<(), Fail> {
     let alloc = rt.alloc();
@@ -323,7 +320,7 @@ fn a_read_that_fails_is_reported_by_its_pass(rt: HostRuntime) -> Result<(), Fail
     Ok(())
 }
 
-/// A file with another stamp behind the last pass. A ledger was written by then.
+/// A file with another stamp after the last pass. A ledger was written by then.
 #[test]
 fn a_file_that_changes_is_reported(rt: HostRuntime) -> Result<(), Fail> {
     let alloc = rt.alloc();

@@ -82,7 +82,7 @@ fn run_stuck<R: Threads + Wait + RandomSource + Sync>(
     run_first(rt, alloc, words, &mut out)
 }
 
-/// Whether such a run writes this text, ends well, and says nothing.
+/// Whether such a run writes this text, succeeds, and says nothing.
 fn writes<R: Threads + Wait + RandomSource + Sync>(
     rt: &R,
     alloc: Global,
@@ -94,8 +94,7 @@ fn writes<R: Threads + Wait + RandomSource + Sync>(
     Ok(status == 0 && err.is_empty() && out.as_slice() == text)
 }
 
-/// The first room below the length with which such a run does not report, with status 1, that it
-/// cannot write.
+/// The first room below the length with which such a run does not report that it cannot write.
 fn first_unreported<R: Threads + Wait + RandomSource + Sync>(
     rt: &R,
     alloc: Global,
@@ -156,7 +155,7 @@ fn ends_with_its_status_where_the_fault_cannot_be_reported(rt: HostRuntime) -> R
     Ok(())
 }
 
-/// Whether words that cannot be had are reported by this line, with this status.
+/// Whether arguments that cannot be had are reported by this line, with this status.
 fn is_reported(alloc: Global, fault: &WordsFault, line: &[u8], status: u8) -> bool {
     let mut err = Complaints::new(Vec::new(alloc));
     let ended = unread_words(fault, &mut err);
