@@ -22,8 +22,6 @@ use ledger_check::{field, read_moment, read_small_number, read_token};
 use tap_views::Token;
 use tariffs::{FareTable, Terms};
 
-/// The name of the validator's mode at the moment, or nothing if the table does not know the
-/// validator.
 fn mode_field(table: &FareTable, moment: u64, validator: u32) -> &[u8]
     ensures { result.now ≡ mode_field table.now moment validator }
 {
@@ -33,7 +31,6 @@ fn mode_field(table: &FareTable, moment: u64, validator: u32) -> &[u8]
     }
 }
 
-/// The terms of the token for a ride at the moment, at the validator, if the table knows it.
 fn ride_terms_at(table: &FareTable, token: &Token, moment: u64, validator: u32) -> Option<Terms>
     ensures { HasRideTerms table.now token.now moment validator }
 {
@@ -56,7 +53,6 @@ fn answer_by(name: &[u8]) -> Option<Answer>
     }
 }
 
-/// The token of the line, and what stands behind its comma.
 fn token_of(line: &[u8]) -> Option<(Token, &[u8])>
     ensures fits { IfSome result (λ parts. Fits parts.0) }
     ensures found { (token : AToken) (behind : List ℕ) → Fits token
@@ -68,7 +64,6 @@ fn token_of(line: &[u8]) -> Option<(Token, &[u8])>
     Some((token, behind))
 }
 
-/// The moment and the validator, behind the number, and what stands behind the validator's comma.
 fn validator_of(text: &[u8]) -> Option<(u64, u32, &[u8])>
     ensures { (number shown behind : List ℕ) (moment validator : ℕ) → Lacks 44 number
         → Lacks 44 shown → moment < 4_102_444_800_000 → IsMomentText moment shown
@@ -85,7 +80,6 @@ fn validator_of(text: &[u8]) -> Option<(u64, u32, &[u8])>
     Some((moment, validator, rest))
 }
 
-/// What follows the word with which the text begins.
 fn after_word<'a>(text: &'a [u8], word: &[u8]) -> Option<&'a [u8]>
     ensures { MatchOption result ((rest : List ℕ) → ¬ (text.now ≡ word.now ++ rest))
         (λ rest. text.now ≡ word.now ++ rest.now) }
@@ -93,7 +87,6 @@ fn after_word<'a>(text: &'a [u8], word: &[u8]) -> Option<&'a [u8]>
     text.strip_prefix(word)
 }
 
-/// The answer and the cents, behind the mode.
 fn reply_of(text: &[u8], mode: &[u8]) -> Option<(Answer, u32)>
     ensures { (answer : AnAnswer) (cents : ℕ) (behind : List ℕ) → cents < 2 ^ 32
         → text.now ≡ mode.now ++ 44 ∷ (answer_text answer ++ 44 ∷ (decimal cents ++ 44 ∷ behind))
@@ -108,8 +101,6 @@ fn reply_of(text: &[u8], mode: &[u8]) -> Option<(Answer, u32)>
     Some((answer, cents))
 }
 
-/// The entry of the line but for its moment, which is 0. `None` only if no ledger goes on with the
-/// line.
 pub(crate) fn entry_of(table: &FareTable, line: &[u8]) -> Option<Entry>
     ensures fits { IfSome result (λ entry. Fits entry.token) }
     ensures found { (earlier : List AnEntry) (entry : AnEntry)

@@ -2,8 +2,7 @@
 
 ghost use Rattle.report_check.specs.Reports.{ReportVerdictsDecide};
 
-/// A verdict that is true of a text says that it is the report of the ledger exactly if it is. So
-/// no other verdict is true of the ledger's report.
+/// A true verdict says that the text is the report of the ledger exactly if it is.
 pub fn report_verdicts_decide()
     ensures { ReportVerdictsDecide }
 {}

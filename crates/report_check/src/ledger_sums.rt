@@ -30,12 +30,11 @@ struct LineSums {
     has_head: bool,
     /// Whether a ledger may have these lines. Else no more are added.
     may_be: bool,
-    /// The sums of the lines behind the head line.
+    /// The sums of the lines after the header line.
     added: OpenSums,
 }
 
 impl LineSums {
-    /// Reads the next whole line. No ledger may have these lines from then on if `may_be` is false.
     fn add_line(&mut self, alloc: Global, table: &FareTable, line: &[u8]) -> Result<(), NoMemory>
         requires may_be { self.old.may_be ≡ true }
         requires summed { (lines : List (List ℕ)) × AreSummed table.now self.old lines }
@@ -61,17 +60,16 @@ impl LineSums {
     }
 }
 
-/// The sums of a ledger whose text comes in pieces. It keeps no more of the text than the beginning
-/// of a line. It does not check the ledger: its sums are of use only if the text is one.
+/// The sums of a text in pieces, of use if it is a ledger. It stores at most the prefix of a line.
 #[derive(Drop)]
 pub struct LedgerSums {
     lines: LineSums,
-    /// The beginning of the line whose end has not come yet; of no use if no ledger has the lines.
+    /// The prefix of the line that has not ended. Of no use if no ledger has the lines.
     begun: Vec<u8>,
 }
 
 impl LedgerSums {
-    /// Nothing was read. The seed serves to hash the validators' numbers.
+    /// Nothing was read. The seed hashes the validators' numbers.
     pub fn new(alloc: Global, seed: HashSeed) -> LedgerSums
         ensures { (fares : Fares) → HasSummed fares result [] }
     {
@@ -85,12 +83,11 @@ impl LedgerSums {
         }
     }
 
-    /// Reads the next piece of the text. Its one error is want of memory, and after it the sums are
-    /// of no use. The table is the same in all calls.
+    /// Reads the next piece, under one table. After an allocation failure the sums are of no use.
     pub fn feed(&mut self, alloc: Global, table: &FareTable, piece: &[u8]) -> Result<(), NoMemory>
         requires { (text : List ℕ) × HasSummed table.now self.old text }
 
-        // After every text that was read so far.
+        // For every text that was read so far.
         ensures { OnOk result ((text : List ℕ) → HasSummed table.now self.old text
             → HasSummed table.now self.new (text ++ piece.now)) }
     {
@@ -106,7 +103,6 @@ impl LedgerSums {
         Ok(())
     }
 
-    /// Reads the rest of a line, with its newline.
     fn end_line(&mut self, alloc: Global, table: &FareTable, line: &[u8]) -> Result<(), NoMemory>
         requires summed { (text : List ℕ) × HasSummed table.now self.old text }
         requires line { IsLine line.now }
@@ -126,7 +122,6 @@ impl LedgerSums {
         Ok(())
     }
 
-    /// Keeps the beginning of a line, unless it is too long for a ledger's.
     fn keep(&mut self, rest: &[u8]) -> Result<(), NoMemory>
         requires { Lacks 10 rest.now }
         ensures { OnOk result ((fares : Fares) (text : List ℕ) → HasSummed fares self.old text
@@ -143,7 +138,7 @@ impl LedgerSums {
         Ok(())
     }
 
-    /// The sums of the text that was read, which ends here. `None` only if it is no ledger.
+    /// The sums of the text that was read, which ends here. `None` only if it is not a ledger.
     pub fn finish(self, alloc: Global) -> Result<Option<EntrySums>, NoMemory>
         requires { (fares : Fares) × (text : List ℕ) × HasSummed fares self text }
         ensures { IfOk result (λ sums. (fares : Fares) (text : List ℕ)

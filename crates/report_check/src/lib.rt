@@ -1,9 +1,6 @@
-//! Whether a report is that of a ledger.
-//!
-//! The sums of a ledger's entries are made from the text of the ledger, line by line. A report is
-//! not read: what it should be is printed from the sums, and compared. The lines of its uploads are
-//! compared if it is known how the uploads end. Else only their form is looked at, and that their
-//! taps are as many as the ledger's.
+//! Whether a report is that of a ledger. The sums of the ledger's entries are made from its text,
+//! line by line. The report that it should have is printed from them, and compared. If the uploads'
+//! ends are not known, only the form and the taps of their lines are checked.
 #![tactic(auto)]
 
 mod entry_line;

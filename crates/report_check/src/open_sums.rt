@@ -18,9 +18,9 @@ use tap_views::{NoMemory, Token};
 /// The sums of entries: by token, by validator and of all.
 #[derive(Drop)]
 pub struct EntrySums {
-    /// The tokens, rising, each with its sums.
+    /// The tokens in increasing order, each with its sums.
     pub tokens: TokenSums,
-    /// The validators, rising, each with its sums.
+    /// The validators in increasing order, each with its sums.
     pub validators: Vec<ValidatorSum>,
     pub totals: Totals,
 }
@@ -35,7 +35,7 @@ pub(crate) struct OpenToken {
 /// The sums of the entries that were added, which come token by token.
 #[derive(Drop)]
 pub(crate) struct OpenSums {
-    /// The tokens before the last one, rising, each with its sums.
+    /// The tokens before the last one, in increasing order, each with its sums.
     tokens: TokenSums,
     last: Option<OpenToken>,
     /// The sums of all entries by validator.
@@ -45,7 +45,6 @@ pub(crate) struct OpenSums {
     pub(crate) entries: u64,
 }
 
-/// The sums of the tokens, the last one behind the others.
 fn closed_tokens(
     alloc: Global,
     tokens: TokenSums,
@@ -65,7 +64,6 @@ fn closed_tokens(
 }
 
 impl OpenSums {
-    /// The sums of no entries. The seed serves to hash the validators' numbers.
     pub(crate) fn new(alloc: Global, seed: HashSeed) -> OpenSums
         ensures { AreOpenSums [] result }
     {
@@ -78,8 +76,6 @@ impl OpenSums {
         }
     }
 
-    /// The token of the next entry, with the sums of the entries that it has already. `None` if it
-    /// is below the last one. After want of memory the sums are of no use.
     fn next_run(&mut self, alloc: Global, token: Token) -> Result<Option<OpenToken>, NoMemory>
         requires room { HasRoom self.old 1 }
         requires fits { Fits token }
@@ -107,8 +103,6 @@ impl OpenSums {
         }
     }
 
-    /// Adds an entry. Says whether its token is not below the last one: else it is not added, and
-    /// the sums are of no use, nor are they after want of memory.
     pub(crate) fn add(&mut self, alloc: Global, entry: &Entry) -> Result<bool, NoMemory>
         requires room { HasRoom self.old 1 }
         requires fits { Fits entry.now.token }

@@ -26,7 +26,6 @@ pub(crate) enum UploadLines {
     NoLine(u64),
 }
 
-/// The first line of the text, which has a newline if the text has one, and what stands behind it.
 pub(crate) fn first_line(text: &[u8]) -> (&[u8], &[u8])
     ensures lines { 0 < length text.now
         → lines_of text.now ≡ result.0.now ∷ lines_of result.1.now }
@@ -38,7 +37,6 @@ pub(crate) fn first_line(text: &[u8]) -> (&[u8], &[u8])
     }
 }
 
-/// The number behind `upload `, and what follows it.
 fn number_in(line: &[u8]) -> Option<(u64, &[u8])>
     ensures { MatchOption result (count_at (codes "upload ") line.now ≡ None)
         (λ parts. count_at (codes "upload ") line.now ≡ Some (parts.0, parts.1.now)) }
@@ -72,7 +70,6 @@ fn unfinished_in(line: &[u8]) -> Option<(u64, UploadEnd)>
     Some((number, end))
 }
 
-/// The upload's number and its end in the line of an upload, whole or cut.
 fn end_in(line: &[u8]) -> Option<(u64, UploadEnd)>
     ensures { result ≡ end_in line.now }
 {
@@ -82,7 +79,6 @@ fn end_in(line: &[u8]) -> Option<(u64, UploadEnd)>
     }
 }
 
-/// The end in the line, if it is the line of the upload of this number.
 fn end_at(upload: u64, line: &[u8]) -> Option<UploadEnd>
     ensures { result ≡ end_at upload line.now }
 {
@@ -92,7 +88,6 @@ fn end_at(upload: u64, line: &[u8]) -> Option<UploadEnd>
     }
 }
 
-/// What the lines of the uploads say, with which the text begins.
 pub(crate) fn upload_lines(alloc: Global, text: &[u8]) -> Result<UploadLines, NoMemory>
     ensures { IfOk result (λ found. uploads_in (lines_of text.now) ≡ found_of found) }
 {
@@ -119,7 +114,6 @@ pub(crate) fn upload_lines(alloc: Global, text: &[u8]) -> Result<UploadLines, No
     Ok(UploadLines::Reported(ends))
 }
 
-/// How many taps the uploads have.
 pub(crate) fn taps_of(ends: &[UploadEnd]) -> u128
     ensures { result ≡ sum_by taps_of_end ends.now }
 {

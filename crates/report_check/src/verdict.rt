@@ -21,18 +21,14 @@ pub enum ReportVerdict {
     Wants(u64, Vec<u8>),
     /// No report has a line of this number there.
     NoLine(u64),
-    /// Up to the line of this number, the last one of the uploads, these have another number of
-    /// taps than the ledger.
+    /// The uploads, up to the line of this number, have another number of taps than the ledger.
     Taps {
         line: u64,
-        /// How many taps the uploads have.
         uploads: u128,
-        /// How many taps the ledger has.
         ledger: u128,
     },
 }
 
-/// The first line of the text that is not that of the wanted text.
 fn first_difference(alloc: Global, text: &[u8], wanted: &[u8]) -> Result<ReportVerdict, NoMemory>
     ensures { IfOk result (IsDifferenceFrom text.now wanted.now) }
 {
@@ -56,7 +52,6 @@ fn first_difference(alloc: Global, text: &[u8], wanted: &[u8]) -> Result<ReportV
     Ok(ReportVerdict::NoLine(number))
 }
 
-/// The report of the uploads that ended so, and of the sums.
 fn wanted_report(alloc: Global, ends: &[UploadEnd], sums: &EntrySums) -> Result<Vec<u8>, NoMemory>
     ensures { IfOk result (λ text. (entries : List Entry) → AreSumsOf entries sums.now
         → text.items ≡ report_of ends.now entries) }
@@ -75,7 +70,6 @@ fn wanted_report(alloc: Global, ends: &[UploadEnd], sums: &EntrySums) -> Result<
     }
 }
 
-/// The first difference of the text from the report of the uploads that ended so, and of the sums.
 fn check_ends(
     alloc: Global,
     ends: &[UploadEnd],
@@ -89,8 +83,6 @@ fn check_ends(
     first_difference(alloc, text, &wanted)
 }
 
-/// Whether the report is that of the ledger whose entries have these sums, and of some uploads with
-/// as many taps; or the first line that is not.
 fn check_any_uploads(
     alloc: Global,
     sums: &EntrySums,
@@ -115,9 +107,8 @@ fn check_any_uploads(
     }
 }
 
-/// Whether the report is that of the ledger whose entries have these sums, and of the uploads that
-/// ended so, if their ends are known; or the first line that is not. The text of the report that it
-/// should be is held beside the report.
+/// Whether the report is that of the ledger with these sums, and of the uploads that ended so, if
+/// that is known; else the first line that is not. The wanted report is held in memory.
 pub fn check_report(
     alloc: Global,
     ends: Option<&[UploadEnd]>,
