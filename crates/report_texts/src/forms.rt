@@ -14,7 +14,6 @@ use line_forms::forms::{Behind, Then, line_of};
 use line_forms::number::Number64;
 use tap_views::{LayoutFault, Token, UploadEnd};
 
-/// The number behind a word, and what follows it.
 fn count<'a>(text: &'a [u8], word: &[u8]) -> Option<(u64, &'a [u8])>
     ensures { MatchOption result (count_at word.now text.now ≡ None)
         (λ parts. count_at word.now text.now ≡ Some (parts.0, parts.1.now)) }
@@ -29,7 +28,6 @@ pub fn head_in(line: &[u8], word: &[u8]) -> Option<u64>
     line_of(&Behind(word, Number64), line)
 }
 
-/// The totals of these counts, if they can be those of some taps.
 fn totals_by(counts: (u64, (u64, (u64, (u64, (u64, (u64, u64))))))) -> Option<Totals>
     ensures { option_map sums_of result ≡ sums_by counts }
 {
@@ -56,7 +54,6 @@ fn totals_by(counts: (u64, (u64, (u64, (u64, (u64, (u64, u64))))))) -> Option<To
     }
 }
 
-/// The counts at the front of the text, and what follows them.
 fn counted<'a>(
     text: &'a [u8],
     word: &[u8],
@@ -80,7 +77,7 @@ fn counted<'a>(
     ))
 }
 
-/// The counts that end a line. The first of them is behind this word.
+/// The counts that end a line. The first of them is after this word.
 #[derive(Drop)]
 struct Counts<'w>(&'w [u8]);
 
@@ -134,7 +131,6 @@ pub fn validator_in(line: &[u8]) -> Option<ValidatorSum>
     }
 }
 
-/// Whether the digits are those of the bytes, in lower case.
 fn are_digits_of(digits: &[u8], bytes: &[u8; 16]) -> bool
     ensures { IsTrue result ↔ (digits.now ≡ encode_lower bytes.now) }
 {
@@ -203,7 +199,6 @@ pub fn token_line_in(line: &[u8]) -> Option<TokenSum>
     Some(TokenSum { token, totals })
 }
 
-/// The layout fault whose name has this number. What the fault has beside its name is 0.
 fn fault_by(number: u64) -> Option<LayoutFault>
     ensures { result ≡ fault_by number }
 {

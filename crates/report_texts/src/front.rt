@@ -1,5 +1,4 @@
-//! The text of the report but for the lines of the tokens: a function for each line, for each list
-//! and for each part.
+//! The text of the report but for the lines of the tokens: a function a line, list and part.
 
 ghost use Rattle.std.specs.Prelude.{◌≡◌, ◌++◌, IfOk, OnOk, length, map, string_bytes, codes};
 ghost use Rattle.std.specs.Fmt.{decimal};
@@ -16,7 +15,6 @@ use histories::{TokenSums, Totals, ValidatorSum};
 use std::alloc::{AllocError, Global};
 use tap_views::UploadEnd;
 
-/// The report of an outcome up to the lines of the tokens.
 pub(crate) fn report_front(
     alloc: Global,
     ends: &[UploadEnd],
@@ -44,8 +42,7 @@ fn write_uploads(text: &mut String, ends: &[UploadEnd]) -> Result<(), AllocError
     write_upload_lines(text, ends)
 }
 
-/// Appends the head of a section, as `uploads 2` of the word `uploads `. If memory is refused, some
-/// of it may stand there.
+/// Appends the head of a section, as `uploads 2`. If an allocation fails, a part may be there.
 pub fn write_section_head(text: &mut String, word: &str, count: u128) -> Result<(), AllocError>
     ensures { OnOk result
         (string_bytes text.new ≡ string_bytes text.old ++ number_line word.now count) }
@@ -64,8 +61,7 @@ fn write_upload_lines(text: &mut String, ends: &[UploadEnd]) -> Result<(), Alloc
     Ok(())
 }
 
-/// Appends the line `upload 0 posted 4`, of the upload of this number. If memory is refused, some
-/// of it may stand there.
+/// Appends the line `upload 0 posted 4`. If an allocation fails, a part of it may be there.
 #[tactic(auto, unfolding(crate::specs::Report::upload_line))]
 pub fn write_upload(text: &mut String, upload: u64, end: &UploadEnd) -> Result<(), AllocError>
     ensures { OnOk result (string_bytes text.new ≡ string_bytes text.old
@@ -93,8 +89,7 @@ fn write_validator_lines(text: &mut String, sums: &[ValidatorSum]) -> Result<(),
     Ok(())
 }
 
-/// Appends the line `validator 9 taps 1 paid 0 ..`. If memory is refused, some of it may stand
-/// there.
+/// Appends the line `validator 9 taps 1 paid 0 ..`. If an allocation fails, a part may be there.
 pub fn write_validator(text: &mut String, sum: &ValidatorSum) -> Result<(), AllocError>
     ensures { OnOk result (string_bytes text.new ≡ string_bytes text.old
         ++ validator_line (validator_sum sum.now)) }
@@ -103,7 +98,6 @@ pub fn write_validator(text: &mut String, sum: &ValidatorSum) -> Result<(), Allo
     write_counts(text, &sum.totals)
 }
 
-/// The front of that line: `validator 9 `.
 fn write_validator_name(text: &mut String, validator: u32) -> Result<(), AllocError>
     ensures { OnOk result (string_bytes text.new ≡ string_bytes text.old
         ++ (codes "validator " ++ (decimal validator ++ codes " "))) }

@@ -1,4 +1,4 @@
-//! Laws of a report's lines: the line of a value says this value, and no other line does.
+//! Theorems about a report's lines: the line of a value says this value, and no other line does.
 
 ghost use Rattle.std.specs.Prelude.{◌≡◌, ◌<◌, ◌^◌, ℕ, List, Some};
 ghost use Rattle.fare_texts.specs.Counts.{totals_line};

@@ -1,4 +1,4 @@
-//! A line that is made from its end to its beginning.
+//! A line that is made from its end to its start.
 
 ghost use Rattle.std.specs.Prelude.{◌≡◌, ◌+◌, ◌≤◌, [], ◌++◌, length};
 ghost use Rattle.std.specs.Fmt.{decimal};
@@ -10,8 +10,7 @@ use std::marker::Model;
 /// More bytes than the longest line has: seven numbers of at most 40 digits, a token and the words.
 const ROOM_BYTES: usize = 384;
 
-/// The end of a line, as far as it is made: what is put there comes before what stands there, so
-/// that digits are written where they stay, the last one first. Contracts see the bytes.
+/// The end of a line. Text is put before it, so that digits are written where they stay.
 #[derive(Drop)]
 pub(crate) struct Line {
     /// The room, whose end is the line.
@@ -55,7 +54,6 @@ impl Line {
         &self.bytes[self.start..]
     }
 
-    /// Puts a text before what stands there.
     #[inline(always)]
     pub(crate) fn put(&mut self, text: &[u8])
         requires { length text.now + length self.old ≤ 384 }
@@ -66,7 +64,6 @@ impl Line {
         self.start = from;
     }
 
-    /// Puts a number of 64 bits there.
     #[inline(always)]
     fn put_short(&mut self, number: u64)
         requires { length self.old + 40 ≤ 384 }
@@ -76,7 +73,6 @@ impl Line {
         self.start = write_digits(number, &mut self.bytes[..], self.start);
     }
 
-    /// Puts a number there, which takes 40 digits at most.
     #[inline(always)]
     pub(crate) fn put_number(&mut self, number: u128)
         requires { length self.old + 40 ≤ 384 }
@@ -90,7 +86,6 @@ impl Line {
         }
     }
 
-    /// Puts a number there that may not fit 64 bits.
     fn put_wide(&mut self, number: u128)
         requires { length self.old + 40 ≤ 384 }
         ensures put { self.new ≡ decimal number ++ self.old }
@@ -110,7 +105,6 @@ impl Line {
         self.put(word);
     }
 
-    /// Puts 16 bytes there as 32 hexadecimal digits.
     #[inline(always)]
     pub(crate) fn put_digits(&mut self, bytes: &[u8; 16])
         requires { length self.old + 32 ≤ 384 }

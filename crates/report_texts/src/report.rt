@@ -1,5 +1,4 @@
-//! The report: the end of each upload, the totals, the sums of each validator and those of each
-//! token. All memory is taken before the first byte is written.
+//! The report: the end of each upload, the totals, the sums of each validator and of each token.
 
 ghost use Rattle.std.specs.Prelude.{◌≡◌, ◌≤◌, ◌++◌, OnOk, IfOk, IfErr, map, vec_capacity};
 ghost use Rattle.std.specs.Io.KnownBytes.{Appends};
@@ -20,11 +19,9 @@ use std::alloc::Global;
 use std::io::Write;
 use tap_views::{NoMemory, UploadEnd};
 
-/// The least room for lines of a report that wait to be written: enough that a write costs little
-/// beside making them.
+/// The least room for lines that wait to be written: a write then costs little beside them.
 const PIECE_BYTES: usize = 65_536;
 
-/// The text of a report up to the lines of the tokens, with room for one of these at least.
 fn begun(
     alloc: Global,
     ends: &[UploadEnd],
@@ -42,8 +39,7 @@ fn begun(
     Ok(text)
 }
 
-/// Writes a report: the end of each upload, the totals, the sums of each validator and those of
-/// each token, as they are given. On a fault of memory nothing was written.
+/// Writes a report of these ends and sums. All memory is taken before the first byte is written.
 pub fn write_report<W: Write>(
     alloc: Global,
     ends: &[UploadEnd],

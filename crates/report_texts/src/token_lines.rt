@@ -1,4 +1,4 @@
-//! The part of the report that has a line for each token: of many tokens, it is most of the text.
+//! The lines of the report's tokens: of many tokens, most of the text.
 
 ghost use Rattle.std.specs.Prelude.{◌≡◌, ◌+◌, ◌≤◌, [], ◌++◌, OnErr, OnOk, IfErr, length};
 ghost use Rattle.std.specs.Prelude.{codes, vec_capacity, vec_len};
@@ -19,7 +19,6 @@ use histories::{TokenSum, TokenSums, Totals};
 use std::io::Write;
 use tap_views::Token;
 
-/// Writes out what waits in the text if it leaves too little room.
 fn make_room<W: Write>(text: &mut Vec<u8>, needed: usize, out: &mut W) -> Result<(), PrintFault>
     requires { needed ≤ vec_capacity text.old }
     ensures gone { OnOk result (GoesOut (W.contents out.old) text.old.items (W.contents out.new)
@@ -38,7 +37,6 @@ fn make_room<W: Write>(text: &mut Vec<u8>, needed: usize, out: &mut W) -> Result
     Ok(())
 }
 
-/// Appends a line to the text, of which what stood there may go out first. No memory is taken.
 fn push_line<W: Write>(text: &mut Vec<u8>, line: &Line, out: &mut W) -> Result<(), PrintFault>
     requires { 384 ≤ vec_capacity text.old }
     ensures gone { OnOk result (GoesOut (W.contents out.old) text.old.items (W.contents out.new)
@@ -56,8 +54,6 @@ fn push_line<W: Write>(text: &mut Vec<u8>, line: &Line, out: &mut W) -> Result<(
     Ok(())
 }
 
-/// Writes the text and a line for each token, in pieces as large as the text's room. No memory is
-/// taken.
 pub(crate) fn write_lines<W: Write>(
     text: &mut Vec<u8>,
     sums: &TokenSums,
@@ -80,7 +76,6 @@ pub(crate) fn write_lines<W: Write>(
     Ok(())
 }
 
-/// Makes the line of a token in place of the one before.
 #[inline(always)]
 fn make_line(line: &mut Line, sum: &TokenSum)
     ensures { line.new ≡ token_line (token_sum sum.now) }
@@ -118,7 +113,6 @@ fn put_live_counts(line: &mut Line, totals: &Totals)
     line.put_count(b"taps ", totals.taps);
 }
 
-/// Puts the token's name before what the line has.
 #[inline(always)]
 fn put_name(line: &mut Line, token: Token)
     requires { length line.old ≤ 334 }

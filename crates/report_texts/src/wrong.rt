@@ -3,7 +3,7 @@
 /// What is wrong with a line.
 #[derive(Clone, Copy, Debug, PartialEq, Eq)]
 pub enum Wrong {
-    /// It is not the line that stands at its place in such a text.
+    /// It is not the line that such a text has there.
     Form,
     /// The upload of a part was not posted.
     NotPosted,
