@@ -5,14 +5,12 @@ use std::io;
 use std::io::Write;
 use std::sync::Wait;
 
-/// A writer before whose first byte the line is taken away for good, unless it writes to a file. It
-/// counts what it writes. What it holds is what the writer below holds.
+/// It counts, and takes the line away before the first byte, unless it writes to a file.
 #[derive(Drop)]
 pub struct Hushing<'a, R: Wait, W: Write + Drop> {
     rt: &'a R,
     ticker: &'a Ticker,
     to: W,
-    /// Whether the line may stay, or was taken away.
     is_over: bool,
 }
 

@@ -10,7 +10,6 @@ pub(crate) struct Meter {
     all: AtomicU64,
 }
 
-/// What a meter reads.
 #[derive(Clone, Copy, Debug, PartialEq, Eq)]
 pub(crate) struct Reading {
     pub(crate) done: u64,
@@ -26,18 +25,16 @@ impl Meter {
         }
     }
 
-    /// Sets how much there is to do. Nothing of it is done.
+    /// Sets how much there is to do, of which nothing is done.
     pub(crate) fn begin(&self, all: u64) {
         self.done.store(0, Ordering::SeqCst);
         self.all.store(all, Ordering::SeqCst);
     }
 
-    /// Adds to what there is to do.
     pub(crate) fn extend(&self, more: u64) {
         self.all.fetch_add(more, Ordering::SeqCst);
     }
 
-    /// Adds to what is done.
     pub(crate) fn add(&self, more: u64) {
         self.done.fetch_add(more, Ordering::SeqCst);
     }
@@ -51,7 +48,6 @@ impl Meter {
 }
 
 impl Reading {
-    /// Whether something is left to do.
     pub(crate) fn goes_on(&self) -> bool {
         self.done < self.all
     }
@@ -72,13 +68,12 @@ pub(crate) struct Meters {
     pub(crate) taps: Meter,
     /// Bytes of uploads that are posted.
     pub(crate) posted: Meter,
-    /// Bytes of sorted files that are read. Some may be read twice.
+    /// Bytes of sorted files that are read, some twice.
     pub(crate) sorted: Meter,
-    /// Bytes that are written. It is not known how many there are.
+    /// Bytes that are written, of an unknown number.
     pub(crate) written: Meter,
 }
 
-/// What the meters of a run read.
 #[derive(Clone, Copy, Debug, PartialEq, Eq)]
 pub(crate) struct Readings {
     pub(crate) taps: Reading,
@@ -88,7 +83,6 @@ pub(crate) struct Readings {
 }
 
 impl Meters {
-    /// The meter of what is counted so, and how much it is.
     pub(crate) fn of(&self, amount: Amount) -> (&Meter, u64) {
         match amount {
             Amount::Taps(taps) => (&self.taps, taps),

@@ -4,13 +4,13 @@ use crate::meter::Reading;
 use std::fmt;
 use std::fmt::{Display, Formatter, Write};
 
-/// For how many milliseconds work is watched before it is guessed how long it takes still.
+/// For how many milliseconds work is watched before its rest is estimated.
 const WATCHED_MS: u64 = 1_000;
 
 /// What a meter read at a moment.
 #[derive(Clone, Copy, Debug)]
 struct First {
-    /// It is in milliseconds since the run began.
+    /// In milliseconds since the run began.
     at_ms: u64,
     reading: Reading,
 }
@@ -21,8 +21,7 @@ pub(crate) struct Pace {
     first: Option<First>,
 }
 
-/// For how many seconds more work goes on, if that can be guessed. Shown, it follows what is shown
-/// of the work.
+/// For how many seconds more work goes on, if that can be estimated.
 #[derive(Clone, Copy, Debug, PartialEq, Eq)]
 pub(crate) struct Left(Option<u64>);
 
@@ -49,13 +48,11 @@ impl Pace {
     }
 }
 
-/// Whether it is the same work, seen later.
 fn is_later(first: Reading, reading: Reading) -> bool {
     first.all == reading.all && first.done <= reading.done
 }
 
-/// In how many seconds at most the rest is done, if it goes on at the pace of the last `passed_ms`
-/// milliseconds. Before these, `before` was done.
+/// In how many seconds at most the rest is done, at the pace of the last `passed_ms` milliseconds.
 fn seconds_left(passed_ms: u64, before: u64, reading: Reading) -> Option<u64> {
     let more = reading.done.saturating_sub(before);
     if more == 0 || passed_ms < WATCHED_MS || !reading.goes_on() {

@@ -7,21 +7,18 @@ use std::fmt::{Display, Formatter, Write};
 /// What a run does.
 #[derive(Clone, Copy, Debug, PartialEq, Eq)]
 enum Stage {
-    /// It reads the words, or looks which files there are.
+    /// It reads the arguments, or looks which files there are.
     Starting,
-    /// It reads the fare table.
     Table,
-    /// It reads files before their turns. A live run charges each as soon as it is read.
+    /// It reads files ahead. A live run charges each as soon as it is read.
     Ahead,
     /// It reads files in their turns.
     Files,
-    /// It reads the standard input.
     Input,
     /// It has read all that it needs.
     Loaded,
 }
 
-/// A MiB in bytes.
 const MIB: u64 = 1_048_576;
 
 /// From this many taps on millions are shown, and thousands below.
@@ -35,23 +32,21 @@ const MILLION: u64 = 1_000_000;
 #[derive(Clone, Copy, Debug)]
 pub struct Steps {
     stage: Stage,
-    /// Whether the words ask for a listing.
+    /// Whether a listing is requested.
     asks_for_list: bool,
-    /// Whether sorted files are read once to be checked, before they are read to be charged.
+    /// Whether sorted files are read once to be checked, before they are charged.
     checks_first: bool,
     has_table: bool,
-    /// How many files there are, as far as it has looked.
     found: usize,
-    /// Whether it has looked at all files.
     knows_all: bool,
     /// How many files were read before their turns.
     ahead: usize,
-    /// How many files were read when their turns came, or had been before.
+    /// How many files were read when their turns came, or before.
     loaded: usize,
 }
 
 impl Steps {
-    /// A run that begins, for which these words ask.
+    /// A run that begins, with these arguments.
     pub fn of(words: &[String]) -> Steps {
         Steps {
             stage: Stage::Starting,
@@ -65,7 +60,7 @@ impl Steps {
         }
     }
 
-    /// Looked at the next file. It looks no further than the first that may not be read ahead.
+    /// Looked at the next file, up to the first that may not be read ahead.
     pub(crate) fn look(&mut self, may_be_read_ahead: bool) {
         if may_be_read_ahead {
             self.found = self.found.saturating_add(1);
@@ -74,7 +69,6 @@ impl Steps {
         }
     }
 
-    /// Begins to read files before their turns.
     pub(crate) fn begin_ahead(&mut self) {
         self.stage = Stage::Ahead;
     }
@@ -84,12 +78,11 @@ impl Steps {
         self.stage = Stage::Loaded;
     }
 
-    /// Has read one more file before its turn.
     pub(crate) fn end_ahead(&mut self) {
         self.ahead = self.ahead.saturating_add(1);
     }
 
-    /// Has read one more file while taps are settled. Behind the last one they are charged.
+    /// Has read one more file while taps are settled. After the last one they are charged.
     pub(crate) fn end_settled(&mut self) {
         self.end_ahead();
         if self.knows_all && self.ahead >= self.found {
@@ -130,14 +123,12 @@ impl Steps {
         self.stage = Stage::Loaded;
     }
 
-    /// How many files are read.
     fn read(&self) -> usize {
         self.ahead.max(self.loaded)
     }
 }
 
-/// Whether the words ask for this: by the word alone, or by it and a value behind `=`. Words behind
-/// `--` are names of files.
+/// Whether the arguments ask for this, alone or with a value after `=`. Those after `--` are files.
 fn asks_for(words: &[String], option: &str) -> bool {
     for word in words {
         if word.as_str() == "--" {
@@ -161,19 +152,16 @@ pub(crate) struct Sight {
     pub(crate) readings: Readings,
 }
 
-/// Work of which it is known how much there is.
+/// Work whose amount is known.
 #[derive(Clone, Copy, Debug, PartialEq, Eq)]
 enum Work {
-    /// Bytes of sorted files are read and checked.
     Checking(Reading),
     /// Bytes of uploads or of sorted files are charged.
     Bytes(Reading),
-    /// Taps are charged.
     Taps(Reading),
 }
 
 impl Sight {
-    /// The work that goes on, if it is known how much there is.
     fn work(&self) -> Option<Work> {
         let Readings {
             taps,
@@ -201,7 +189,7 @@ impl Sight {
         None
     }
 
-    /// Shows what a run does that has read all that it needs, or goes on to read sorted files.
+    /// What a run does that has read all that it needs, or goes on to read sorted files.
     fn fmt_loaded<W: Write>(&self, f: &mut Formatter<W>) -> fmt::Result {
         if let Some(work) = self.work() {
             return work.fmt(f);

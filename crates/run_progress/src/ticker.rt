@@ -1,5 +1,4 @@
-//! A line on a terminal that says what a long run does: it is shown from the first second on, and
-//! is gone before anything else is written.
+//! A terminal line that says what a long run does, from the first second on, until it writes.
 
 use crate::findings::Findings;
 use crate::meter::Meters;
@@ -10,23 +9,20 @@ use std::io;
 use std::sync::{Condvar, Mutex, Wait};
 use std::time::{Clock, Duration, Instant};
 
-/// The line as it is on the terminal.
 #[derive(Drop)]
 struct Line {
     shown: TerminalLine<io::Stderr>,
-    /// Whether no line may be shown any more.
     is_over: bool,
 }
 
 impl Line {
-    /// Takes the line away for good.
     fn end(&mut self) {
         self.shown.clear();
         self.is_over = true;
     }
 }
 
-/// How many milliseconds have passed, or 2^64 - 1 if there are more.
+/// 2^64 - 1 if there are more.
 fn millis_of(passed: Duration) -> u64 {
     u64::try_from(passed.as_millis()).unwrap_or(u64::MAX)
 }
@@ -44,7 +40,7 @@ pub struct Ticker {
 }
 
 impl Ticker {
-    /// A run that begins, of which no line is shown yet, nor ever if `err` is no terminal.
+    /// A run that begins. No line is shown yet, nor ever if `err` is not a terminal.
     pub fn new(steps: Steps, err: io::Stderr, is_terminal: bool) -> Ticker {
         Ticker {
             steps: Mutex::new(steps),
@@ -61,8 +57,7 @@ impl Ticker {
         }
     }
 
-    /// Shows the line again and again, until it is taken away for good. If the clock cannot be
-    /// read, no line is shown from then on.
+    /// Shows the line again and again, until it is taken away or the clock cannot be read.
     pub fn tick<R: Wait + Clock>(&self, rt: &R) {
         let Ok(begun) = Instant::now(rt) else {
             return;
@@ -83,8 +78,7 @@ impl Ticker {
         }
     }
 
-    /// Waits `pause_ms` milliseconds, or until the line is taken away for good, and says whether it
-    /// is.
+    /// Waits `pause_ms` milliseconds, or until the line is taken away for good: returns which.
     fn is_over_after<R: Wait + Clock>(&self, rt: &R, pause_ms: u64) -> bool {
         let line = self.line.lock(rt);
         if line.is_over {
@@ -95,7 +89,6 @@ impl Ticker {
         line.is_over
     }
 
-    /// Shows the line, unless it was taken away for good.
     fn show<R: Wait>(&self, rt: &R, passed: Duration, pace: &mut Pace) {
         let sight = self.sight(rt);
         let left = pace.see(millis_of(passed), sight.charged());

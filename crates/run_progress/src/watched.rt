@@ -51,7 +51,6 @@ impl<'a, R: Wait, D> WatchedDisk<'a, R, D> {
 /// A file whose reads are counted. It gives what the one below gives.
 #[derive(Drop)]
 pub struct WatchedFile<'a, F: Drop> {
-    /// Counts the bytes that are read.
     meter: &'a Meter,
     from: F,
 }
