@@ -13,13 +13,11 @@ pub fn rides() -> [TapFields; 4] {
     ]
 }
 
-/// The taps of the second upload, of another token: one at a validator that the table does not
-/// know, and then an earlier one (unknown, paid).
+/// The taps of the second upload, of another token: at an unknown validator, and an earlier one.
 pub fn strays() -> [TapFields; 2] {
     [tap_after(0xb2, 9, 10), tap_after(0xb2, SUBWAY, 5)]
 }
 
-/// The report of both uploads.
 pub const REPORT: &str = "uploads 2
 upload 0 posted 4
 upload 1 posted 2
@@ -33,7 +31,6 @@ token 000000000000000000000000000000a1 taps 4 paid 2 transfers 2 capped 0 stale 
 token 000000000000000000000000000000b2 taps 2 paid 1 transfers 0 capped 0 stale 0 unknown 1 cents 300
 ";
 
-/// The statement of the first upload's token, whose window ends at this moment.
 macro_rules! statement {
     ($window_end:literal) => {
         concat!(
@@ -50,8 +47,7 @@ window 2024-03-08T17:00:00.000Z ",
     };
 }
 
-/// The statement under the sample table.
 pub const STATEMENT: &str = statement!("2024-03-15T17:00:00.000Z");
 
-/// The statement under New York's civil time: the window ends at midnight.
+/// Under New York's civil time the window ends at midnight.
 pub const NEW_YORK_STATEMENT: &str = statement!("2024-03-15T04:00:00.000Z");

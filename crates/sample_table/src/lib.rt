@@ -1,8 +1,4 @@
-//! The sample fare table of the tests, its variants, and taps of its day.
-//!
-//! The tests of all libraries read this one text, so that a row of one test can be followed in
-//! another. The example's uploads are here too, with what is written of them. Tests write to one
-//! writer that fails.
+//! The sample fare table of all tests, its variants, taps of its day, the example, and a writer.
 #![tactic(auto)]
 
 mod example;
@@ -12,8 +8,7 @@ pub use example::{NEW_YORK_STATEMENT, REPORT, STATEMENT, rides, strays};
 pub use narrow::Narrow;
 use tap_views::TapFields;
 
-/// The sample after a first line: two modes, three kinds of transfer, the classes `full` and
-/// `reduced`, and one rider.
+/// The sample after a first line: two modes, three kinds of transfer, two classes and a rider.
 macro_rules! sample {
     ($first_line:literal) => {
         concat!(
@@ -70,7 +65,6 @@ pub fn bytes_of(last: u8) -> [u8; 16] {
     token
 }
 
-/// The tap of this token at a validator and a moment.
 pub fn tap(last: u8, validator: u32, moment: u64) -> TapFields {
     TapFields {
         token: bytes_of(last),
@@ -79,7 +73,7 @@ pub fn tap(last: u8, validator: u32, moment: u64) -> TapFields {
     }
 }
 
-/// The tap of this token at a validator, `after` milliseconds behind `START`.
+/// The tap of this token at a validator, `after` milliseconds after `START`.
 pub fn tap_after(last: u8, validator: u32, after: u64) -> TapFields {
     tap(last, validator, START.saturating_add(after))
 }
