@@ -1,4 +1,4 @@
-//! The accounts of a book, by token: the one place that knows in which kind of map they stand.
+//! The accounts of a book, by token: the one place that knows their kind of map.
 
 ghost use Rattle.std.specs.Prelude.{◌≡◌, ◌<◌, ◌≤◌, List, [], ◌∷◌, ◌++◌, length, map, is_some, IfOk};
 ghost use Rattle.std.specs.Prelude.{IfNone, IfSome, OnOk, OnErr, None, Some, true, false, IsTrue};
@@ -26,29 +26,25 @@ use std::alloc::Global;
 use tap_views::{NoMemory, Token};
 use tariffs::{Clock, FareTable};
 
-/// The most accounts that a book keeps, below 2^32: an entry of the history has 32 bits for the
-/// place of its token's account.
+/// The most accounts of a book, below 2^32: a history's entry has 32 bits for the account's index.
 const MAX_ACCOUNTS: usize = 4_294_967_295;
 
-/// What is kept of one token: its account, and the counts of its entries.
+/// What is stored of one token: its account, and the counts of its entries.
 #[derive(Clone, Copy, Debug, PartialEq, Eq)]
 pub(crate) struct KeptAccount {
     pub(crate) account: Account,
     pub(crate) counts: Counts,
 }
 
-/// An account for each token that has taps, with the counts of its entries; also for tokens whose
-/// taps were looked up and not posted.
+/// An account and counts for each token that has taps, or whose taps were looked up.
 #[derive(Drop)]
 pub(crate) struct Accounts {
-    /// What is kept of each token, at the place where it was opened.
     pub(crate) map: IndexMap<Token, KeptAccount, HashSeed>,
-    /// Whether the counts are right: it ends if one of them would be too large.
+    /// False once one of the counts would be too large.
     counting: bool,
 }
 
 impl Accounts {
-    /// No accounts. It takes no memory.
     #[tactic(auto, unfolding(crate::specs::inside::Accounts::kept_at))]
     pub(crate) fn new(alloc: Global, seed: HashSeed) -> Self
         ensures { (token : Token) → kept_at result token ≡ None }
@@ -59,12 +55,10 @@ impl Accounts {
         }
     }
 
-    /// The seed under which the tokens are hashed.
     pub(crate) fn seed(&self) -> HashSeed {
         *self.map.hasher()
     }
 
-    /// The token's account, a fresh one if none is kept.
     #[tactic(auto, unfolding(crate::specs::inside::Accounts::kept_at))]
     pub(crate) fn account_of(&self, token: Token) -> Account
         ensures { (rules : TokenRules) (taps : List TapIn)
@@ -77,9 +71,7 @@ impl Accounts {
         }
     }
 
-    /// The place of the token's account, which is opened if there is none: the one look-up that a
-    /// tap takes. On want of memory all that is kept stays. A book with the most accounts has no
-    /// room for the place of one more, which is reported as want of memory at every look-up.
+    /// The one look-up that a tap takes. With the most accounts it reports an allocation failure.
     #[inline(always)]
     #[tactic(auto, unfolding(crate::specs::inside::Accounts::kept_at))]
     pub(crate) fn open(&mut self, token: Token) -> Result<u32, NoMemory>
@@ -107,7 +99,6 @@ impl Accounts {
         }
     }
 
-    /// Whether the token's account is at this place.
     #[inline(always)]
     #[tactic(auto, unfolding(crate::specs::inside::Accounts::kept_at))]
     pub(crate) fn is_at(&self, place: u32, token: Token) -> bool
@@ -119,7 +110,7 @@ impl Accounts {
         }
     }
 
-    /// What `open` does, out of its callers' way: nearly all known places are right.
+    /// Kept out of its callers: nearly all known indices are right.
     #[cold]
     #[inline(never)]
     fn open_again(&mut self, token: Token) -> Result<u32, NoMemory>
@@ -134,8 +125,6 @@ impl Accounts {
         self.open(token)
     }
 
-    /// The place of the token's account, which is opened if there is none. No look-up is needed if
-    /// it is at `known`.
     #[inline(always)]
     fn place(&mut self, token: Token, known: u32) -> Result<u32, NoMemory>
         ensures made { IfOk result (HasPlaceFor self.old self.new token) }
@@ -153,11 +142,8 @@ impl Accounts {
         }
     }
 
-    /// The account rule's step of the token's account, whose reply is then counted. If the account
-    /// is at the known place no look-up is needed; another place costs time alone. The account's
-    /// place comes with the reply. On want of memory all that is kept stays.
-    ///
-    /// The token comes with its bytes, as the tap has them, so that no step writes them down.
+    /// No look-up is needed if the account is at the known index; another one costs time alone. The
+    /// token comes with its bytes, as the tap has them, so that no step writes them down.
     #[tactic(auto, unfolding(crate::specs::inside::Accounts::kept_at))]
     pub(crate) fn step(
         &mut self,
@@ -202,7 +188,6 @@ impl Accounts {
         Ok((place, reply))
     }
 
-    /// The token whose account is at the place.
     #[inline(always)]
     pub(crate) fn token_at(&self, place: u32) -> Token
         requires { HasToken (tokens_of self.now) place }
@@ -214,14 +199,12 @@ impl Accounts {
         }
     }
 
-    /// Whether the counts are right.
     pub(crate) fn is_counting(&self) -> bool
         ensures { IsTrue result → IsCounting self.now }
     {
         self.counting
     }
 
-    /// Appends each token that has taps with its counts, in no order.
     #[tactic(auto, unfolding(crate::specs::inside::Accounts::pairs_of))]
     pub(crate) fn push_counts(&self, list: &mut Vec<TokenCounts>) -> Result<(), NoMemory>
         ensures list { OnOk result
@@ -244,5 +227,5 @@ impl Accounts {
     }
 }
 
-/// A kept account fills a line of the caches.
+/// A kept account fills a cache line.
 const _: () = prove!(size_of::<KeptAccount>() == 64);

@@ -22,20 +22,15 @@ use std::marker::Model;
 use tap_views::{NoMemory, TapView, Token};
 use tariffs::{Clock, FareTable};
 
-/// The accounts and the history of one shard.
-///
-/// Contracts see the table, the shard, the number of shards and the list of entries. The history is
-/// legal at all times: each entry has the account rule's reply for its token's earlier taps.
+/// The accounts and the history of one shard, which is legal at all times. Contracts see the table,
+/// the shard, the number of shards and the list of entries.
 #[derive(Drop)]
 pub struct ShardBook {
     table: FareTable,
-    /// The number of the shard.
     shard: u32,
-    /// How many shards there are.
     shards: u32,
-    /// The account of each token.
     pub(crate) accounts: Accounts,
-    /// The entries, in the order in which they were posted.
+    /// The entries in posting order.
     history: Vec<PackedEntry>,
 }
 
@@ -57,9 +52,7 @@ impl Model for ShardBook {
 }
 
 impl ShardBook {
-    /// A book without entries. It takes no memory.
-    ///
-    /// The seed is that of the service, made once by `HashSeed::new`.
+    /// A book without entries. It takes no memory. The seed is its service's, of `HashSeed::new`.
     pub fn open(alloc: Global, seed: HashSeed, table: FareTable, shard: u32, shards: u32) -> Self
         requires shard { shard < shards }
         requires shards { shards ≤ 64 }
@@ -80,11 +73,8 @@ impl ShardBook {
         }
     }
 
-    /// Posts one tap: the account rule answers it, and one entry is appended to the history.
-    ///
-    /// The clock is the table's. On want of memory the book stays as it was: all room is taken
-    /// first. A book has room for fewer than 2^32 accounts, and reports want of memory for what is
-    /// beyond.
+    /// Posts one tap: its entry with the account rule's reply is appended. All memory is taken
+    /// first: on an allocation failure, or beyond 2^32 accounts, the book stays as it was.
     pub fn post(&mut self, clock: &Clock, tap: &TapView) -> Result<Reply, NoMemory>
         requires here { shard_of_token tap.now.token self.old.shards ≡ self.old.shard }
         requires clock { clock.now ≡ self.old.table.zone }
@@ -95,8 +85,7 @@ impl ShardBook {
         self.post_at(clock, tap, NO_PLACE)
     }
 
-    /// Posts one tap as `post` does. If its token's account is at the known place, no look-up is
-    /// needed.
+    /// If its token's account is at the known index, no look-up is needed.
     #[inline(always)]
     pub(crate) fn post_at(
         &mut self,
@@ -158,7 +147,7 @@ impl ShardBook {
         self.history.len() as u64
     }
 
-    /// The entry at place `i` of the history, from 0.
+    /// The entry at index `i` of the history.
     #[inline(always)]
     pub fn entry(&self, i: u64) -> Entry
         requires { i < length self.now.entries }
@@ -168,13 +157,11 @@ impl ShardBook {
         packed.entry(self.accounts.token_at(packed.place()))
     }
 
-    /// The seed under which the book hashes tokens.
     pub(crate) fn seed(&self) -> HashSeed {
         self.accounts.seed()
     }
 
-    /// Appends each token of the history with the counts of its entries, in no order. It answers
-    /// `false`, and appends none, if a count has grown too large to be kept.
+    /// `false`, and no counts, if one has grown too large to be stored.
     pub(crate) fn push_counts(&self, list: &mut Vec<TokenCounts>) -> Result<bool, NoMemory>
         ensures sums { IfOk result (λ told. IsTrue told
             → AddsSums self.now.entries (map token_counts list.old.items)
@@ -188,7 +175,6 @@ impl ShardBook {
         Ok(true)
     }
 
-    /// The token's account.
     pub(crate) fn account_of(&self, token: Token) -> Account
         ensures { Stands (rules_of self.now.table (bytes_of token)) result
             (taps_of self.now.table token self.now.entries) }

@@ -1,4 +1,4 @@
-//! The first place where two lists of entries differ.
+//! The first index at which two lists of entries differ.
 
 ghost use Rattle.std.specs.Prelude.{◌≡◌, ◌<◌, ◌↔◌, IsTrue, Some, length, slice_get};
 ghost use Rattle.shard_book.specs.Difference.{IsFirstDifference};
@@ -6,8 +6,7 @@ ghost use Rattle.shard_book.specs.Difference.{IsFirstDifference};
 use crate::book::ShardBook;
 use histories::Entry;
 
-/// The first place at which the book's history and the list differ, the end of the shorter among
-/// them. `None` if they are equal.
+/// The first index at which the history and the list differ, or the shorter ends. `None` if equal.
 pub fn first_difference(book: &ShardBook, list: &[Entry]) -> Option<u64>
     ensures { IsFirstDifference book.now.entries list.now result }
 {
@@ -25,7 +24,6 @@ pub fn first_difference(book: &ShardBook, list: &[Entry]) -> Option<u64>
     }
 }
 
-/// Whether the history and the list have the same entry at the place.
 #[inline(always)]
 fn agree(book: &ShardBook, list: &[Entry], i: u64) -> bool
     requires within { i < length book.now.entries }
@@ -35,7 +33,6 @@ fn agree(book: &ShardBook, list: &[Entry], i: u64) -> bool
     same(&book.entry(i), listed(list, i))
 }
 
-/// The entry of the list at the place.
 #[inline(always)]
 fn listed(list: &[Entry], i: u64) -> &Entry
     requires { i < length list.now }
@@ -44,7 +41,6 @@ fn listed(list: &[Entry], i: u64) -> &Entry
     &list[i as usize]
 }
 
-/// Whether the entries are equal.
 #[inline(always)]
 fn same(left: &Entry, right: &Entry) -> bool
     ensures { IsTrue result ↔ (left.now ≡ right.now) }

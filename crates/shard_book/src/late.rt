@@ -15,7 +15,6 @@ use indexmap::IndexSet;
 use std::alloc::Global;
 use tap_views::{NoMemory, Token};
 
-/// What equal taps share.
 #[derive(Clone, Copy, Debug, PartialEq, Eq, Hash)]
 struct TapKey {
     token: Token,
@@ -35,14 +34,12 @@ impl TapKey {
     }
 }
 
-/// Whether the entry is stale.
 fn is_stale(entry: &Entry) -> bool
     ensures { result ≡ is_stale entry.now.answer }
 {
     matches!(entry.answer, Answer::Stale)
 }
 
-/// Adds the tap of the entry, if that is stale.
 fn add_if_stale(keys: &mut IndexSet<TapKey, HashSeed>, entry: &Entry) -> Result<(), NoMemory>
     ensures { OnOk result ((before : List Entry) → AreStale before keys.old.keys
         → AreStale (before ++ entry.now ∷ []) keys.new.keys) }
@@ -53,7 +50,6 @@ fn add_if_stale(keys: &mut IndexSet<TapKey, HashSeed>, entry: &Entry) -> Result<
     Ok(())
 }
 
-/// Adds the taps of the book's stale entries.
 fn add_stale(keys: &mut IndexSet<TapKey, HashSeed>, book: &ShardBook) -> Result<(), NoMemory>
     ensures { OnOk result ((before : List Entry) → AreStale before keys.old.keys
         → AreStale (before ++ book.now.entries) keys.new.keys) }
@@ -65,7 +61,6 @@ fn add_stale(keys: &mut IndexSet<TapKey, HashSeed>, book: &ShardBook) -> Result<
     Ok(())
 }
 
-/// Takes the tap of the entry from the set. Says whether it was there and the entry is stale.
 fn take_late(keys: &mut IndexSet<TapKey, HashSeed>, entry: &Entry) -> bool
     ensures late { result
         ≡ (list_any (key_eq (key_of entry.now)) keys.old.keys && is_stale entry.now.answer) }
@@ -75,7 +70,7 @@ fn take_late(keys: &mut IndexSet<TapKey, HashSeed>, entry: &Entry) -> bool
     is_first && is_stale(entry)
 }
 
-/// One more, if it is to be counted. More than 2^64 are reported as want of memory.
+/// 2^64 of them count as an allocation failure.
 fn add_one(count: u64, is_late: bool) -> Result<u64, NoMemory>
     ensures { IfOk result (λ sum. sum ≡ count + (if is_late then 1 else 0)) }
 {
@@ -88,8 +83,6 @@ fn add_one(count: u64, is_late: bool) -> Result<u64, NoMemory>
     }
 }
 
-/// Counts the book's stale entries that follow no equal tap, on top of `count`, and takes the taps
-/// of its entries from the set.
 fn count_late(
     keys: &mut IndexSet<TapKey, HashSeed>,
     book: &ShardBook,
@@ -109,8 +102,8 @@ fn count_late(
     Ok(total)
 }
 
-/// How many entries of the books are stale and follow no equal tap: they came after a tap of their
-/// token that is as late or later. It takes memory for the stale ones alone.
+/// How many stale entries of the books follow no equal tap: they came after a tap of their token
+/// that is as late or later. It takes memory for the stale ones alone.
 pub fn late_taps(alloc: Global, books: &[ShardBook]) -> Result<u64, NoMemory>
     ensures { IfOk result (λ count. count ≡ late_taps (all_entries books.now)) }
 {

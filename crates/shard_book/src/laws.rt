@@ -1,4 +1,4 @@
-//! Laws of the definitions, each as the contract of a small function.
+//! Theorems about the definitions, each the contract of a small function.
 
 ghost use Rattle.tap_views.specs.declared.token.Token.{Token};
 ghost use Rattle.shard_book.specs.Windows.{WindowsKeepLimits};
@@ -6,9 +6,9 @@ ghost use Rattle.shard_book.specs.Windows.{WindowsKeepLimits};
 use crate::book::ShardBook;
 pub use histories::laws::{beginnings_are_legal, one_rising_list, sums_add_up};
 
-/// Under one table no window of any token has more paid rides than the ride limit or costs more
-/// than the ceiling (MTA, fare capping). Under several each ride takes its window no further than
-/// it was, or than the ride's own limits. The token's entries were charged what its windows cost.
+/// Under one table no window has more paid rides than the limit or costs more than the ceiling.
+/// Under several, each ride keeps its window within what it was or within the ride's own limits.
+/// The token's entries were charged what its windows cost.
 pub fn book_keeps_limits(book: &ShardBook)
     ensures { (token : Token) → WindowsKeepLimits book.now.table book.now.entries token }
 {

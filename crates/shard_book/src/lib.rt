@@ -1,7 +1,5 @@
-//! The accounts and the whole history of one shard.
-//!
-//! A `ShardBook` posts taps: it answers each by the account rule and appends one entry to its
-//! history, which is legal at all times. Statements and sums are read from the history.
+//! The accounts and the whole history of one shard. A `ShardBook` answers each tap by the account
+//! rule, and appends an entry to its history, from which statements and sums are read.
 #![tactic(auto)]
 
 mod accounts;

@@ -1,4 +1,4 @@
-//! An entry in 16 bytes, as a book keeps it.
+//! An entry in 16 bytes, as a book stores it.
 
 ghost use Rattle.std.specs.Prelude.{◌≡◌, ◌/◌, ◌%◌, ◌<◌, ◌≤◌, ◌^◌, List, Some, slice_get};
 ghost use Rattle.account_rule.specs.declared.reply.Reply.{Reply};
@@ -11,24 +11,21 @@ use account_rule::{Answer, Reply};
 use histories::{Entry, place_of};
 use tap_views::Token;
 
-/// 2^42, above every moment: the moment in bits is what is left when they are divided by it.
+/// 2^42, above every moment.
 const MOMENTS: u64 = 4_398_046_511_104;
 
-/// Room for 8 answers, of which there are five: the bits above count cents.
+/// Room for 8 answers, of which there are five.
 const ANSWERS: u64 = 8;
 
-/// An entry of the history. The accounts know its token, by the place of the token's account.
+/// An entry of the history, with the index of its token's account in place of the token.
 #[derive(Clone, Copy, Debug, PartialEq, Eq)]
 pub(crate) struct PackedEntry {
-    /// The place of the token's account.
     place: u32,
-    /// The number of the validator.
     validator: u32,
     /// The moment in the lowest 42 bits, the answer's number in three, and the cents in 19.
     bits: u64,
 }
 
-/// The bits of a moment and a reply.
 #[inline(always)]
 fn bits_of(moment: u64, reply: Reply) -> u64
     requires early { moment < 2 ^ 42 }
@@ -55,7 +52,6 @@ fn answer_of(number: u64) -> Answer
 }
 
 impl PackedEntry {
-    /// The entry of a tap whose token's account is at the place.
     #[inline(always)]
     pub(crate) fn of(place: u32, validator: u32, moment: u64, reply: Reply) -> Self
         requires early { moment < 2 ^ 42 }
@@ -72,7 +68,6 @@ impl PackedEntry {
         }
     }
 
-    /// The place of its token's account.
     #[inline(always)]
     pub(crate) fn place(&self) -> u32
         ensures { result ≡ self.now.place }
@@ -80,7 +75,6 @@ impl PackedEntry {
         self.place
     }
 
-    /// The entry, of the token whose account is at its place.
     #[inline(always)]
     pub(crate) fn entry(&self, token: Token) -> Entry
         ensures { (tokens : List Token) → slice_get tokens self.now.place ≡ Some token
@@ -97,5 +91,4 @@ impl PackedEntry {
     }
 }
 
-/// A packed entry has 16 bytes.
 const _: () = prove!(size_of::<PackedEntry>() == 16);

@@ -13,10 +13,8 @@ use tap_views::Run;
 use tariffs::Clock;
 
 impl ShardBook {
-    /// Posts the taps of a run in their order and appends their replies to `out`, up to the first
-    /// want of memory.
-    ///
-    /// The clock is the table's, and `out` has room for a reply to each tap.
+    /// Posts the taps of a run in order and appends their replies to `out`, up to the first
+    /// allocation failure. The clock is the table's, and `out` has room.
     #[inline(always)]
     pub fn post_run(&mut self, clock: &Clock, run: &Run, out: &mut Replies) -> RunEnd
         requires shard { run.now.shard ≡ self.old.shard }
@@ -34,7 +32,6 @@ impl ShardBook {
         self.post_taps(clock, run, out)
     }
 
-    /// Posts a run that has taps, as `post_run` does.
     #[inline(never)]
     fn post_taps(&mut self, clock: &Clock, run: &Run, out: &mut Replies) -> RunEnd
         requires shard { run.now.shard ≡ self.old.shard }

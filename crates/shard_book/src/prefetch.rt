@@ -1,7 +1,5 @@
-//! Prefetch: what is read before its time, for the processor's sake. Each tap needs its account
-//! from wherever the caches have it. Sixteen look-ups in a row wait for memory side by side, and
-//! each tap's own would wait alone. No promise rests on what is found here: a place that is not the
-//! token's costs a second look-up.
+//! Prefetch: sixteen accounts are looked up in a row, so that these wait for memory side by side.
+//! No promise rests on what is found: a wrong index costs a second look-up.
 
 ghost use Rattle.std.specs.Prelude.{◌≡◌};
 ghost use Rattle.shard_book.specs.inside.Accounts.{kept_at, StandsOn};
@@ -11,16 +9,14 @@ use crate::accounts::{Accounts, KeptAccount};
 use crate::book::ShardBook;
 use tap_views::{NoMemory, RunTaps, Token};
 
-/// How many accounts are looked up at once.
 pub(crate) const AT_ONCE: usize = 16;
 
-/// A place at which no account is.
+/// An index at which no account is.
 pub(crate) const NO_PLACE: u32 = u32::MAX;
 
 impl KeptAccount {
-    /// Prefetch: reads the account and its counts, so that both cache lines are loaded when the tap
-    /// is posted. True unless no cent more can be counted for an account without a window. False
-    /// only costs a second look-up.
+    /// Prefetch: reads the account and its counts, two cache lines. True unless no cent more can be
+    /// counted for an account without a window. A false only costs a second look-up.
     #[inline(always)]
     fn prefetch(&self) -> bool {
         self.account.window().is_some() | self.counts.prefetch()
@@ -28,9 +24,7 @@ impl KeptAccount {
 }
 
 impl Accounts {
-    /// The place of the token's account, for `step`. If there is none, an account without taps is
-    /// opened. No look-up is needed if it is at `known`. If memory is refused, all that is kept
-    /// stays.
+    /// If there is none, an account without taps is opened.
     #[inline(always)]
     pub(crate) fn open_early(&mut self, token: Token, known: u32) -> Result<u32, NoMemory>
         ensures stays { (other : Token)
@@ -45,7 +39,7 @@ impl Accounts {
         }
     }
 
-    /// Prefetch: reads what is kept at the place, and returns the place, or `NO_PLACE`.
+    /// Prefetch: returns the index, or `NO_PLACE`.
     #[inline(always)]
     pub(crate) fn prefetch(&self, place: u32) -> u32 {
         match self.map.get_index(place as usize) {
@@ -56,8 +50,7 @@ impl Accounts {
 }
 
 impl ShardBook {
-    /// The place of the token's account, for `post_at`. If there is none, an account without taps
-    /// is opened: the book stays as it is. No look-up is needed if it is at `known`.
+    /// If there is none, an account without taps is opened: the book stays as it is.
     #[inline(always)]
     pub(crate) fn open_early(&mut self, token: Token, known: u32) -> Result<u32, NoMemory>
         ensures { self.new ≡ self.old }
@@ -65,7 +58,6 @@ impl ShardBook {
         self.accounts.open_early(token, known)
     }
 
-    /// Looks up the accounts of the next sixteen taps at each sixteenth tap.
     #[inline(always)]
     pub(crate) fn prefetch_every_sixteenth(
         &mut self,
@@ -82,8 +74,6 @@ impl ShardBook {
         }
     }
 
-    /// Looks up the accounts of the next taps, and opens those that are missing. Nothing is posted.
-    ///
     /// Kept out of the posting, so that the registers of either loop are its own.
     #[inline(never)]
     fn prefetch(&mut self, ahead: &mut RunTaps, places: &mut [u32; AT_ONCE]) -> Result<(), NoMemory>
@@ -98,8 +88,7 @@ impl ShardBook {
             before = self.open_early(Token::of(tap.token()), before)?;
             *place = before;
         }
-        // A loop of its own, so short that all its reads wait side by side. A run of fewer taps has
-        // no place behind its last.
+        // A loop of its own, so short that all its reads wait side by side.
         for place in places.iter_mut() {
             if *place == NO_PLACE {
                 break;

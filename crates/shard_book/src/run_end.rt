@@ -5,9 +5,6 @@
 pub enum RunEnd {
     /// All of them.
     Whole,
-    /// Memory was refused: only the first `posted` were, and that is not all of them.
-    Cut {
-        /// How many taps were posted.
-        posted: u32,
-    },
+    /// An allocation failed: only the first `posted` were, and that is not all of them.
+    Cut { posted: u32 },
 }

@@ -9,7 +9,6 @@ use histories::{Entry, Lines, Statement, totals_of_entries};
 use std::alloc::Global;
 use tap_views::{NoMemory, Token};
 
-/// Appends the entry, if it is the token's.
 #[inline(always)]
 #[tactic(auto, unfolding(histories::specs::Entry::own))]
 fn push_if_own(list: &mut Vec<Entry>, entry: Entry, token: Token) -> Result<(), NoMemory>
@@ -21,7 +20,6 @@ fn push_if_own(list: &mut Vec<Entry>, entry: Entry, token: Token) -> Result<(), 
     Ok(())
 }
 
-/// The token's entries, in order.
 fn own_entries(alloc: Global, book: &ShardBook, token: Token) -> Result<Vec<Entry>, NoMemory>
     ensures { IfOk result (λ list. list.items ≡ own token book.now.entries) }
 {
@@ -41,8 +39,7 @@ impl ShardBook {
         Ok(())
     }
 
-    /// The token's statement: its entries in history order, their totals and its last window, in
-    /// one scan of the history. A token without entries has an empty statement.
+    /// The token's statement, in one scan of the history: entries in order, totals, last window.
     pub fn statement(&self, alloc: Global, token: &Token) -> Result<Statement, NoMemory>
         ensures { IfOk result (IsStatement self.now.table self.now.entries token.now) }
     {

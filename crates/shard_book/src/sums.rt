@@ -21,8 +21,8 @@ mod by_key;
 mod by_threads;
 mod by_token;
 
-/// The validators of the books, rising, each with the totals of its entries: one scan a book, and a
-/// sort of the validators. Of many entries, threads go over a quarter of the books each.
+/// The validators of the books, in increasing order, with their totals: one scan a book and a sort.
+/// Of many entries, four threads scan a quarter of the books each.
 #[tactic(auto, unfolding(histories::specs::SumsBy::sums_by, histories::specs::ByKey::with_key, histories::specs::SumsByKey::sums_by_validator, histories::specs::SumsByKey::validators, histories::specs::SumsByKey::entries_of_validator))]
 pub fn sums_by_validator<R: Threads + Sync>(
     rt: &R,
@@ -40,9 +40,7 @@ pub fn sums_by_validator<R: Threads + Sync>(
     listed(alloc, &tallies)
 }
 
-/// The tokens of the books, rising, each with the totals of its entries: one scan of what the books
-/// keep of their tokens, and a sort of the tokens. If two books may share a token, a scan of the
-/// histories.
+/// One scan of what the books store of their tokens; of the histories if two may share a token.
 fn sums_by_token(alloc: Global, books: &[ShardBook]) -> Result<Vec<TokenSum>, NoMemory>
     requires { length books.now ≤ 64 }
     ensures { IfOk result (λ list.
@@ -54,8 +52,7 @@ fn sums_by_token(alloc: Global, books: &[ShardBook]) -> Result<Vec<TokenSum>, No
     }
 }
 
-/// The sums by token of all entries of the books, as `sums_by_token` lists them. Each is made when
-/// it is asked for.
+/// The sums by token of all entries of the books, in increasing order. Each is made when requested.
 pub fn token_sums_of_books(alloc: Global, books: &[ShardBook]) -> Result<TokenSums, NoMemory>
     requires { length books.now ≤ 64 }
     ensures { IfOk result (λ sums. sums ≡ sums_by_token (all_entries books.now)) }
@@ -66,7 +63,6 @@ pub fn token_sums_of_books(alloc: Global, books: &[ShardBook]) -> Result<TokenSu
     }
 }
 
-/// The same, added up entry by entry.
 #[tactic(auto, unfolding(histories::specs::SumsBy::sums_by, histories::specs::ByKey::with_key, histories::specs::SumsByKey::sums_by_token, histories::specs::SumsByKey::tokens, histories::specs::Entry::own))]
 fn added_by_token(alloc: Global, books: &[ShardBook]) -> Result<Vec<TokenSum>, NoMemory>
     requires { length books.now ≤ 64 }
@@ -76,7 +72,6 @@ fn added_by_token(alloc: Global, books: &[ShardBook]) -> Result<Vec<TokenSum>, N
     sums_of_books::<Token>(alloc, books)
 }
 
-/// The tokens of the sums.
 fn tokens_of(alloc: Global, sums: &[TokenSum]) -> Result<Vec<Token>, NoMemory>
     ensures { IfOk result (λ list. list.items ≡ map (λ sum. sum.token) sums.now) }
 {
@@ -97,8 +92,7 @@ impl ShardBook {
         tally.totals()
     }
 
-    /// The validators of the history, rising, each with the totals of its entries: one scan of
-    /// the history, and a sort of the validators.
+    /// The validators of the history, in increasing order, with their totals: one scan and a sort.
     #[tactic(auto, unfolding(histories::specs::SumsBy::sums_by, histories::specs::ByKey::with_key, histories::specs::SumsByKey::sums_by_validator, histories::specs::SumsByKey::validators, histories::specs::SumsByKey::entries_of_validator))]
     pub fn by_validator(&self, alloc: Global) -> Result<Vec<ValidatorSum>, NoMemory>
         ensures { IfOk result (λ list.
@@ -107,15 +101,14 @@ impl ShardBook {
         sums_of_books::<u32>(alloc, std::slice::from_ref(self))
     }
 
-    /// The tokens of the history, rising, each with the totals of its entries: one scan of what
-    /// the book keeps of its tokens, and a sort of them.
+    /// One scan of what the book stores of its tokens, and a sort of them.
     pub(crate) fn by_token(&self, alloc: Global) -> Result<Vec<TokenSum>, NoMemory>
         ensures { IfOk result (λ list. map token_sum list.items ≡ sums_by_token self.now.entries) }
     {
         sums_by_token(alloc, std::slice::from_ref(self))
     }
 
-    /// The tokens of the history, rising, each once.
+    /// The tokens of the history, strictly increasing.
     pub fn tokens(&self, alloc: Global) -> Result<Vec<Token>, NoMemory>
         ensures { IfOk result (λ list. list.items ≡ tokens self.now.entries) }
     {

@@ -12,7 +12,6 @@ use indexmap::IndexMap;
 use std::alloc::Global;
 use tap_views::NoMemory;
 
-/// Adds the entries of a book to the tallies. After want of memory the tallies are of no use.
 fn add_book(tallies: &mut ValidatorTallies, book: &ShardBook) -> Result<(), NoMemory>
     requires { HasRoom ◌==◌ validator_of tallies.old (length book.now.entries) }
     ensures by_key { OnOk result ((before : List Entry)
@@ -27,7 +26,6 @@ fn add_book(tallies: &mut ValidatorTallies, book: &ShardBook) -> Result<(), NoMe
     Ok(())
 }
 
-/// The tallies of all entries of the books by their validators.
 pub(crate) fn tallies_by_hints(
     alloc: Global,
     seed: HashSeed,

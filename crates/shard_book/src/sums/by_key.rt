@@ -12,7 +12,6 @@ use indexmap::IndexMap;
 use std::alloc::Global;
 use tap_views::NoMemory;
 
-/// Adds the entries of a book to the tallies of their keys.
 fn add_entries<K: SumKey>(
     tallies: &mut IndexMap<K, Tally, HashSeed>,
     book: &ShardBook,
@@ -30,7 +29,6 @@ fn add_entries<K: SumKey>(
     Ok(())
 }
 
-/// The tallies of all entries of the books by their keys.
 fn tallies_of<K: SumKey>(
     alloc: Global,
     seed: HashSeed,
@@ -50,7 +48,6 @@ fn tallies_of<K: SumKey>(
     Ok(tallies)
 }
 
-/// The sums of all entries of the books by their keys.
 pub(crate) fn sums_of_books<K: SumKey>(
     alloc: Global,
     books: &[ShardBook],

@@ -15,12 +15,9 @@ use std::thread;
 use std::thread::Threads;
 use tap_views::NoMemory;
 
-/// From how many entries on threads share the work: with fewer, to start them takes longer than
-/// they spare.
+/// From this many entries on threads share the work: with fewer, to start them takes longer.
 const WORTH_THREADS: u64 = 65_536;
 
-/// The tallies of all entries of the books by their validators, a quarter of the books by each of
-/// four threads.
 fn tallies_by_four<R: Threads + Sync>(
     rt: &R,
     alloc: Global,
@@ -51,7 +48,6 @@ fn tallies_by_four<R: Threads + Sync>(
     Ok(tallies)
 }
 
-/// Whether the books have enough entries for threads to share the work.
 fn are_worth_threads(books: &[ShardBook]) -> bool {
     let mut entries = 0u64;
     for book in books {
@@ -60,8 +56,7 @@ fn are_worth_threads(books: &[ShardBook]) -> bool {
     entries >= WORTH_THREADS
 }
 
-/// The tallies of all entries of the books by their validators. Of many entries, threads go over a
-/// quarter of the books each.
+/// Of many entries, threads go over a quarter of the books each.
 pub(crate) fn tallies_by_validator<R: Threads + Sync>(
     rt: &R,
     alloc: Global,

@@ -1,4 +1,4 @@
-//! Counts by token, from what books keep of their tokens.
+//! Counts by token, from what books store of their tokens.
 
 ghost use Rattle.std.specs.Prelude.{◌≡◌, length, map, IfOk, IfSome};
 ghost use Rattle.std.specs.List.Sorted.{IsPermutation, IsSorted};
@@ -14,8 +14,7 @@ use histories::TokenCounts;
 use std::alloc::Global;
 use tap_views::NoMemory;
 
-/// The tokens of the books, in no order, each with its counts. `None` if a book does not keep them,
-/// or if two books may share a token: those of rising shards, of one number of shards, share none.
+/// Books of rising shards, of one number of shards, share no token.
 fn collected(alloc: Global, books: &[ShardBook]) -> Result<Option<Vec<TokenCounts>>, NoMemory>
     ensures { IfOk result (λ found.
         IfSome found (λ list. AreSummed (all_entries books.now) (map token_counts list.items))) }
@@ -47,8 +46,6 @@ fn sort(list: &mut Vec<TokenCounts>)
     list.sort_unstable_by_key(|counts| counts.token);
 }
 
-/// The tokens of the books, rising, each with its counts. `None` if the books' counts do not say
-/// so.
 pub(crate) fn rising_counts(
     alloc: Global,
     books: &[ShardBook],
