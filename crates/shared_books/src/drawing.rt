@@ -8,13 +8,11 @@ use thiserror::Error;
 
 mod rule;
 
-/// The numbers `0, 1, ..` below a number of uploads, which drawers draw from. One number says how
-/// many are drawn.
+/// The numbers below a number of uploads, which drawers draw: one number says how many are drawn.
 #[derive(Drop)]
 pub struct Draw {
     /// The number of drawn numbers, and all drawers' seats.
     table: Table<(), DrawerState, u32, DrawRule, Global>,
-    /// How many numbers there are.
     numbers: u32,
 }
 
@@ -34,9 +32,7 @@ impl Model for Draw {
 /// The numbers that one worker drew.
 #[derive(Drop)]
 pub struct Drawer {
-    /// The drawer's seat, which has what it drew.
     seat: Seat<(), DrawerState>,
-    /// How many numbers it drew.
     held: u32,
     /// Up to which number it has seen the numbers drawn.
     seen: u64,
@@ -73,8 +69,7 @@ impl Draw {
     ghost use Rattle.shared_books.specs.Claims.{all_claims, claims_given, claims_left};
     ghost use Rattle.shared_books.specs.Drawing.{HasAll, IsJoinedDrawer, IsCount};
 
-    /// The numbers below `numbers`, none of them drawn, and a drawer that holds none and has all
-    /// claims.
+    /// The numbers below `numbers`, none drawn, and a drawer that holds none and has all claims.
     pub fn new(alloc: Global, numbers: u32) -> Result<(Draw, Drawer), NoMemory>
         ensures draw { IfOk result (λ r. r.0.numbers ≡ numbers) }
         ensures drawer { IfOk result (λ r. r.1
@@ -123,8 +118,7 @@ impl Draw {
         None
     }
 
-    /// A new drawer, which holds no number and gets half of the claims. The old one keeps all that
-    /// it holds. A single claim is lost.
+    /// A new drawer, with no number and half of the claims of the old one. A single claim is lost.
     pub fn split(&self, drawer: &mut Drawer) -> Result<Drawer, NoMemory>
         requires belongs { drawer.old.drawn_from ≡ self.now }
         ensures new { IsOkAnd result (λ new. new

@@ -1,19 +1,16 @@
-//! The rule under which passes take turns, and what it says of turn word, slot and views between
-//! any two steps.
+//! The rule under which passes take turns, and what it says between any two steps.
 ghost use Rattle.shared_books.specs.Events.{StepsAreEvents, TakesAreEvents, GivesAreEvents};
 
 pub use crate::turns::rule::{Mark, Opening, PassState, TurnRule};
 
-/// Steps are events: whatever states the rule allows, turn word, slot and all passes' views show a
-/// state of the turn machine that some schedule of takes and gives reaches. At an even turn word
-/// the book of all visits is in the slot, at an odd one exactly one pass has the turn. The machine
-/// is this project's choice.
+/// Steps are events: turn word, slot and all passes' views show a state that some schedule of takes
+/// and gives reaches. At an even turn word the book of all visits is in the slot, at an odd one
+/// exactly one pass has the turn. The machine is this project's choice.
 pub fn steps_are_events()
     ensures { StepsAreEvents }
 {}
 
-/// A take is the machine's event of its seat, and a give that of its seat and visit: the schedule
-/// that reaches the state is one event longer afterwards.
+/// A take is the machine's event of its seat, and a give that of its seat and visit.
 pub fn takes_and_gives_are_events()
     ensures takes { TakesAreEvents }
     ensures gives { GivesAreEvents }

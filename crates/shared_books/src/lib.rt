@@ -1,5 +1,4 @@
-//! Books that threads share: uploads are drawn, each once, and the visits to a shard's book take
-//! turns and stand in one legal history.
+//! Books that threads share: uploads are drawn once each, and a shard's book is visited in turns.
 #![tactic(auto)]
 
 mod drawing;

@@ -1,5 +1,4 @@
-//! Turns at a shard's book: a pass takes the turn, changes the book, and gives both back with its
-//! visit.
+//! Turns (a lock) at a shard's book: a pass takes it, changes the book, and gives it back.
 
 use crate::turns::rule::{Opening, PassState, Slot, TurnRule};
 use atomic_table::{Seat, Table};
@@ -15,12 +14,10 @@ mod turn_word;
 mod visits;
 mod waiting;
 
-/// A shard's book that passes take turns at. The turn word is `2k` if `k` visits are counted and
-/// nobody has the turn, and `2k + 1` if a pass has it. The book lies in one slot, which is empty
-/// while a pass has the turn.
+/// A shard's book that passes take turns at. The turn word is `2k` after `k` visits, and `2k + 1`
+/// while a pass has the turn. The slot has the book, or is empty while a pass has the turn.
 #[derive(Drop)]
 pub struct SharedBook {
-    /// The turn word, and the slot with the book.
     table: Table<Slot, PassState, Opening, TurnRule, Global>,
     /// The number of the first visit.
     first: u64,
@@ -47,11 +44,9 @@ impl Model for SharedBook {
 /// What one worker knows of a shared book: the visits that it has seen, and those that it made.
 #[derive(Drop)]
 pub struct Pass {
-    /// The pass's seat at the book's table, which has what the pass saw and did.
     seat: Seat<Slot, PassState>,
-    /// How many visits the pass made.
     held: u64,
-    /// The number of the pass's next visit, if nobody visits in between. Only time rests on it.
+    /// The expected number of the pass's next visit. Only time rests on it.
     next: u64,
 }
 

@@ -17,8 +17,8 @@ impl SharedBook {
     ghost use Rattle.shared_books.specs.Claims.{all_claims};
     ghost use Rattle.shared_books.specs.Passes.{book_of, HasMadeAll, LacksVisits};
 
-    /// The book, if the pass made all visits; otherwise both are dropped. The pass made all if it
-    /// has all claims. A turn that was taken and not given back counts as a visit.
+    /// The book, if the pass made all visits, as it did with all claims: else both are dropped. A
+    /// turn that was not given back counts as a visit.
     pub fn close(self, pass: Pass) -> Result<ShardBook, Missing>
         requires belongs { pass.book ≡ self }
         ensures ok { IfOk result (HasMadeAll pass) }
@@ -56,7 +56,7 @@ impl SharedBook {
     }
 }
 
-/// The turn word and the slot of a closed table. Its memory is given back.
+/// Its memory is given back.
 fn taken_from(mut closed: Closed<Slot, Global>) -> (u64, Slot)
     requires sizes { (slots_len closed.words ≡ 1) × (slots_len closed.slots ≡ 1) }
     requires full { IsFull closed.words × IsFull closed.slots }

@@ -8,8 +8,8 @@ impl SharedBook {
     ghost use Rattle.std.specs.Prelude.{◌≡◌, IsOkAnd};
     ghost use Rattle.shared_books.specs.Passes.{fresh_pass, left_pass, IsJoined};
 
-    /// A new pass, which has seen as much and made no visit, and gets half of the claims. The old
-    /// one keeps all that it has seen and made. A single claim is lost.
+    /// A new pass, which has seen as much, made no visit, and gets half of the claims. A single
+    /// claim is lost.
     pub fn split(&self, pass: &mut Pass) -> Result<Pass, NoMemory>
         requires belongs { pass.old.book ≡ self.now }
         ensures new { IsOkAnd result (λ new. new ≡ fresh_pass pass.old) }

@@ -11,8 +11,7 @@ pub struct Visit {
     pub how: RunEnd,
 }
 
-/// What a read found: the number of its empty visit, and the token's statement over all visits
-/// before it.
+/// What a read found: the number of its empty visit, and the statement over all visits before it.
 #[derive(Drop)]
 pub struct Readout {
     pub number: u64,

@@ -4,15 +4,13 @@ use shard_book::{Entry, ShardBook};
 use std::collections::LinkedList;
 use std::snapshot::Snapshot;
 
-/// What lies in the slot: the book, or nothing while a pass has the turn.
+/// What is in the slot: the book, or nothing while a pass has the turn.
 pub type Slot = Option<Box<ShardBook>>;
 
 /// What a shared book was opened with.
 #[derive(Drop)]
 pub struct Opening {
-    /// The number of the first visit.
     pub first: u64,
-    /// The book as it was then, without entries.
     pub book: Snapshot<ShardBook>,
 }
 
@@ -26,11 +24,9 @@ pub struct Mark {
 
 /// What a pass knows. No value of it is made.
 pub struct PassState {
-    /// Whether the pass was not joined into another.
     pub unjoined: bool,
     pub opened: Opening,
     pub claims: u64,
-    /// Whether the pass has the turn.
     pub turn: bool,
     /// The visits that the pass has seen, by their numbers.
     pub marks: LinkedList<Mark>,
@@ -38,8 +34,7 @@ pub struct PassState {
     pub met: LinkedList<Mark>,
 }
 
-/// The rule over the turn word, the slot and all passes' views. They show a state of the turn
-/// machine.
+/// The rule over the turn word, the slot and all passes' views: a state of the turn machine.
 pub struct TurnRule;
 
 impl TableRule<Slot, PassState, Opening> for TurnRule {

@@ -19,7 +19,6 @@ impl SharedBook {
     ghost use Rattle.shared_books.specs.inside.SeatStates.{BringsVisit, HasBookOut, IsFree};
     ghost use Rattle.shared_books.specs.inside.SeatStates.{SeesMore};
 
-    /// Loads the turn word.
     pub(super) fn look(&self, seat: &mut Seat<Slot, PassState>) -> u64
         requires belongs { seat.old.table_id ≡ self.now.home }
         requires free { IsFree seat.old.me }
@@ -29,7 +28,6 @@ impl SharedBook {
         self.table.shared.load::<Looks>(seat, 0)
     }
 
-    /// Tries to take the turn, if the turn word was even.
     pub(super) fn try_take(&self, seat: &mut Seat<Slot, PassState>, found: u64) -> Slot
         requires belongs { seat.old.table_id ≡ self.now.home }
         requires free { IsFree seat.old.me }
@@ -51,7 +49,7 @@ impl SharedBook {
         }
     }
 
-    /// Tries to take the turn as if the turn word stood at the expected number.
+    /// Tries to take the turn as if the turn word were the expected number.
     pub(super) fn try_expected(&self, seat: &mut Seat<Slot, PassState>, expected: u64) -> Slot
         requires belongs { seat.old.table_id ≡ self.now.home }
         requires free { IsFree seat.old.me }
@@ -66,7 +64,6 @@ impl SharedBook {
         self.try_take(seat, 2 * expected)
     }
 
-    /// Puts the book back and gives the turn back, with the visit that the book has gained.
     pub(super) fn give(&self, seat: &mut Seat<Slot, PassState>, number: u64, book: Box<ShardBook>)
         requires belongs { seat.old.table_id ≡ self.now.home }
         requires brings { BringsVisit seat.old.me number book.value }
@@ -84,7 +81,7 @@ impl SharedBook {
             Some(_) => unreachable!(),
         }
         // Cleared while the turn is held: later, it would lose the wake of a visit that falls
-        // asleep in between.
+        // asleep.
         let slept = self.asleep.load(Ordering::SeqCst);
         if slept {
             self.asleep.store(false, Ordering::SeqCst);

@@ -20,8 +20,8 @@ impl SharedBook {
     ghost use Rattle.shared_books.specs.Passes.{new_pass, seen_by, HasSeenMore, Visits, IsFull};
     ghost use Rattle.shared_books.specs.Results.{MakesVisit, IsOpenedAs, IsReadFault};
 
-    /// Shares a book that has no entries, and gives the first pass to it, which has all claims.
-    /// Visits are numbered from `first`. On want of memory the book is dropped.
+    /// Shares a book without entries, and gives its first pass, which has all claims. Visits are
+    /// numbered from `first`. On an allocation failure the book is dropped.
     pub fn open(alloc: Global, first: u64, book: ShardBook) -> Result<(SharedBook, Pass), NoMemory>
         requires first { first ≤ 2 ^ 62 }
         requires empty { book.entries ≡ [] }
@@ -59,8 +59,7 @@ impl SharedBook {
         ))
     }
 
-    /// Waits for the turn, posts the run, and gives the turn back. The clock is the table's. `Full`
-    /// if `2^62` visits are counted: nothing changes then.
+    /// Waits for the turn, posts the run, and gives the turn back. `Full` after `2^62` visits.
     pub fn visit<R: Wait>(
         &self,
         rt: &R,
@@ -87,8 +86,8 @@ impl SharedBook {
         Ok(Visit { number, how })
     }
 
-    /// Waits for the turn, makes the statement of a token over all visits so far, and gives the
-    /// turn back with an empty visit. The token of another shard has an empty statement.
+    /// Waits for the turn, makes a token's statement over all visits, and gives the turn back with
+    /// an empty visit. The token of another shard has an empty statement.
     pub fn read<R: Wait>(
         &self,
         rt: &R,

@@ -1,5 +1,4 @@
-//! Waiting for the turn at a shared book: a pass looks at the turn word for a while, and then
-//! sleeps.
+//! Waiting for the turn at a shared book: a pass looks at the turn word for a while, then sleeps.
 
 use super::SharedBook;
 use super::results::Full;
@@ -11,16 +10,14 @@ use std::hint;
 use std::sync::Wait;
 use std::sync::atomic::Ordering;
 
-/// How often a waiting visit looks at the turn word before it sleeps. It looks no more if others
-/// sleep already.
+/// How often a visit looks at the turn word before it sleeps; no more if others sleep already.
 const LOOKS_BEFORE_SLEEP: u32 = 100;
 
 impl SharedBook {
     ghost use Rattle.std.specs.Prelude.{◌≡◌, IfOk, IfErr};
     ghost use Rattle.shared_books.specs.inside.SeatStates.{IsFree, HasBookOut, FindsFull};
 
-    /// Takes the turn with the number of the visit and the book. If nobody has visited since the
-    /// pass did, the number is the expected one, and the turn word need not be looked at before.
+    /// If nobody has visited since the pass did, the turn word need not be looked at before.
     pub(super) fn take<R: Wait>(
         &self,
         rt: &R,
@@ -40,7 +37,6 @@ impl SharedBook {
         }
     }
 
-    /// Waits for the turn, and takes it with the number of the visit and the book.
     fn wait_and_take<R: Wait>(
         &self,
         rt: &R,
@@ -65,8 +61,7 @@ impl SharedBook {
                 slept |= self.rest(rt, found);
             } else if let Some(book) = self.try_take(seat, found) {
                 if slept && self.sleepers.load(Ordering::SeqCst) > 0 {
-                    // Others still sleep: who was woken wakes the next with the turn that it gives
-                    // back.
+                    // Others still sleep: who was woken wakes the next when it gives the turn back.
                     self.asleep.store(true, Ordering::SeqCst);
                 }
                 return Ok((found / 2, book));
@@ -75,8 +70,7 @@ impl SharedBook {
         unreachable!()
     }
 
-    /// Waits until the turn word is no longer the one that was found, and says whether it slept. It
-    /// may return sooner.
+    /// Waits, at most while the turn word is the one that was found. Returns whether it slept.
     fn rest<R: Wait>(&self, rt: &R, found: u64) -> bool {
         for _ in 0..LOOKS_BEFORE_SLEEP {
             if self.table.shared.peek(0) != found {
