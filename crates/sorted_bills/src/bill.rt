@@ -26,7 +26,7 @@ use std::marker::Sync;
 use std::thread::Threads;
 use tariffs::FareTable;
 
-/// The bill of the files, in one pass. Its fault need not be the first one of the files.
+/// Its fault need not be the first one of the files.
 fn bill_of<F: Placed>(
     alloc: Global,
     table: &FareTable,
@@ -54,8 +54,7 @@ fn bill_of<F: Placed>(
     Ok(Billed { ends, bill })
 }
 
-/// Why the files are not charged, if one of them was refused on the way: the first fault in the
-/// order of the files.
+/// The first fault in the order of the files.
 pub(crate) fn first_fault<F: Placed>(alloc: Global, files: &[F], met: BillFault) -> BillFault
     requires of_files { (all : List (List ℕ)) → map F.bytes files.now ≡ map Some all
         → IsBillFault all met }
@@ -76,8 +75,7 @@ pub(crate) fn first_fault<F: Placed>(alloc: Global, files: &[F], met: BillFault)
     }
 }
 
-/// The bill of the files, whether they change meanwhile or not. A worker that is refused has all
-/// charged anew by one.
+/// A worker that is refused has all charged again by one.
 fn bill_by_workers<R: Threads + Sync, F: Placed + Sync>(
     rt: &R,
     alloc: Global,
@@ -107,19 +105,14 @@ fn bill_by_workers<R: Threads + Sync, F: Placed + Sync>(
     }
 }
 
-/// The bill of the settled history of sorted files, in one pass: the files are merged, each tap is
-/// posted by its token's account, and the sums are kept. Of each file some batches are in memory,
-/// and of each token its sums: 32 bytes while each count fits 16 bits and the cents 32.
-///
-/// `workers` threads, 64 at most, charge a range of the tokens each, with readers of their own and
-/// copies of these as they began: at most some 32 KiB a worker for each file of `sort`. Where the
-/// ranges begin is a guess that suits long files in batches of 512 taps. Each range must end where
-/// the next one begins, to the tap: if not, or if a worker is refused, all is charged anew by one.
-/// If a file is refused then, all are checked in their order, and the fault is the first one. So
-/// neither the bill nor the fault depends on the workers.
-///
-/// A file that was written meanwhile, or has another length at the end, is reported as changed: one
-/// that was shortened may have looked like its end.
+/// The bill of the settled history of sorted files, in one pass. Of each file some batches are in
+/// memory, and of each token its sums: 32 bytes while each count fits 16 bits and the cents 32.
+/// `workers` threads, 64 at most, charge a range of the tokens each, with at most some 32 KiB a
+/// worker for each file of `sort`. The bounds are a hint that suits batches of 512 taps: if ranges
+/// do not join, or a worker is refused, one charges all again. If a file is refused then, all are
+/// checked in order, and the fault is the first. So neither bill nor fault depends on the workers.
+/// A file that was written meanwhile, or has another length at the end, is reported as changed: its
+/// end may have been a cut.
 pub fn sorted_bill<R: Threads + Sync, F: Placed + Sync>(
     rt: &R,
     alloc: Global,

@@ -24,10 +24,8 @@ use std::thread::Threads;
 use tap_views::Token;
 use tariffs::FareTable;
 
-/// More workers are of no use.
 pub(crate) const MAX_WORKERS: u32 = 64;
 
-/// The part at a place among the ranges between the tokens of the list; none if it is not made.
 fn part_at<F: Placed>(
     alloc: Global,
     table: &FareTable,
@@ -48,8 +46,7 @@ fn part_at<F: Placed>(
     }
 }
 
-/// The parts of all ranges between the tokens of the list, the last one first, each made by a
-/// thread of its own.
+/// The last one first, each by a thread of its own.
 fn parts_of<R: Threads + Sync, F: Placed + Sync>(
     rt: &R,
     alloc: Global,
@@ -94,8 +91,7 @@ fn next_part(parts: &mut Vec<Option<Part>>) -> Option<Part>
     }
 }
 
-/// The parts as one, the last in the list first. None if one was not made, or if one does not begin
-/// where the one before it ends.
+/// None if one was not made, or does not begin where the one before it ends.
 fn join_parts(alloc: Global, parts: Vec<Option<Part>>) -> Option<Part>
     requires { (fares : Fares) × (known : List (Option (List ℕ)))
         × AreParts fares known parts.items }
@@ -122,7 +118,6 @@ fn join_parts(alloc: Global, parts: Vec<Option<Part>>) -> Option<Part>
     None
 }
 
-/// How files end whose readers stand so, with their bill, if all are at their ends.
 fn closed(alloc: Global, readers: &[TapReader], bill: Bill) -> Result<Billed, BillFault>
     ensures at_end { OnOk result (AreAtEnd readers.now) }
     ensures bill { IfOk result (λ made. made.bill ≡ bill) }
@@ -139,7 +134,6 @@ fn closed(alloc: Global, readers: &[TapReader], bill: Bill) -> Result<Billed, Bi
     Ok(Billed { ends, bill })
 }
 
-/// The bill of the files, if the part begins and ends where they do.
 fn billed<F: Placed>(
     alloc: Global,
     files: &[F],
@@ -164,8 +158,7 @@ fn billed<F: Placed>(
     Ok(made)
 }
 
-/// The bill of the files, in one pass by `workers` threads, of which each charges a range of the
-/// tokens. A fault says nothing of the files: the ranges may be ill chosen.
+/// A fault says nothing of the files: the ranges may be ill chosen.
 pub(crate) fn bill_by_threads<R: Threads + Sync, F: Placed + Sync>(
     rt: &R,
     alloc: Global,

@@ -15,8 +15,7 @@ use std::alloc::Global;
 use tap_views::Token;
 use tariffs::FareTable;
 
-/// Takes the taps of the files that have tokens below the bound, or all if there is none, and adds
-/// them to the bill, which has none yet.
+/// The bill has none of the taps yet.
 pub(crate) fn charge<F: Placed>(
     alloc: Global,
     table: &FareTable,

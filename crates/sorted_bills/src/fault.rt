@@ -9,25 +9,22 @@ use thiserror::Error;
 /// Why sorted files are not charged.
 #[derive(Clone, Copy, Debug, PartialEq, Eq, Error)]
 pub enum BillFault {
-    /// A file is not read as taps in canonical order, and each file before it is. Nothing was
-    /// written.
+    /// A file is not read as taps in canonical order, and all before it are. Nothing was written.
     #[error("{0}")]
     File(FileFault),
     /// The files have more than 2^46 taps. Nothing was written.
     #[error("more than 2^46 taps")]
     TooManyTaps,
-    /// Memory was refused. Nothing was written.
+    /// An allocation failed. Nothing was written.
     #[error("out of memory")]
     NoMemory,
-    /// A file has not the taps that it had when it was checked. A beginning of a text may have been
-    /// written.
+    /// A file lacks the taps that it had when checked. A prefix of a text may have been written.
     #[error("a file changed while it was read")]
     Changed,
-    /// A file that was checked cannot be read again: a read failed, or memory was refused. A
-    /// beginning of the text may have been written.
+    /// A checked file cannot be read again, or memory ran out. A prefix may have been written.
     #[error("{0}")]
     Late(SortedFault),
-    /// A write failed. A beginning of the text was written, it is not known how much.
+    /// A write failed. A prefix of the text was written, of unknown length.
     #[error("cannot write")]
     Write,
 }

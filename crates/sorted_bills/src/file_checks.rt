@@ -13,8 +13,7 @@ use std::marker::Sync;
 use std::thread;
 use std::thread::Threads;
 
-/// The number of the taps of the file at the place. None if there is no such file, if it is not
-/// sorted, or if memory is refused.
+/// None if there is no such file, if it is not sorted, or if an allocation fails.
 fn number_at<F: Placed>(alloc: Global, files: &[F], place: usize) -> Option<u64>
     ensures { (known : Option (List ℕ))
         → slice_get (map F.bytes files.now) place ≡ Some known → IfSome result (HasNumber known) }
@@ -32,7 +31,6 @@ fn number_at<F: Placed>(alloc: Global, files: &[F], place: usize) -> Option<u64>
     }
 }
 
-/// Puts the number of each file's taps at its place, by `workers` threads.
 fn number_each<R: Threads + Sync, F: Placed + Sync>(
     rt: &R,
     alloc: Global,
@@ -81,7 +79,7 @@ fn all_of<F: Placed>(
     Ok(Some(all))
 }
 
-/// The numbers of the files' taps, if all are sorted. None says nothing of the files.
+/// None says nothing of the files.
 fn numbers_by_threads<R: Threads + Sync, F: Placed + Sync>(
     rt: &R,
     alloc: Global,
@@ -98,8 +96,7 @@ fn numbers_by_threads<R: Threads + Sync, F: Placed + Sync>(
     Ok(found)
 }
 
-/// Reads each file whole, as `check_files` does. `workers` threads check a share of the files each.
-/// If one of them is refused, this thread checks all anew.
+/// If a thread is refused, this one checks all again.
 pub(crate) fn check_all<R: Threads + Sync, F: Placed + Sync>(
     rt: &R,
     alloc: Global,

@@ -1,4 +1,4 @@
-//! Laws of merged files, each as the contract of a small function.
+//! Theorems about merged files, each the contract of a small function.
 
 ghost use Rattle.std.specs.Prelude.{◌≡◌, ℕ, List, All, flat_map, map};
 ghost use Rattle.std.specs.List.Sorted.{IsSorted};
@@ -23,8 +23,7 @@ ghost use Rattle.sorted_taps.specs.declared.reader.TapReader.{TapReader};
 use settlement::laws::one_canonical_list;
 use sorted_taps::laws::{merged_is_canonical, taken_taps_are_canonical};
 
-/// If the good taps of each file are in canonical order, the merged list is the order of the
-/// settled history of the files.
+/// If the valid taps of each file are in order, the merged list is that of the settled history.
 pub fn merged_files_are_settled()
     ensures { (fares : Fares) (files : List (List ℕ)) (taps : List (List Tap))
         (merged : List TapFields) → AreGoodTapsOfEach files taps
@@ -37,8 +36,7 @@ pub fn merged_files_are_settled()
     one_canonical_list();
 }
 
-/// Taps that are taken from the begin of some files to their ends are the settled taps of the
-/// files.
+/// Taps that are taken from the begin of some files to their ends are the files' settled taps.
 pub fn taken_taps_are_settled()
     ensures { (files : List (List ℕ)) (begun end : List TapReader) (taps : List TapFields)
         → AreBegun files begun → AreTaken files begun taps end → AreAtEnd end → All HasName taps
@@ -47,9 +45,8 @@ pub fn taken_taps_are_settled()
     taken_taps_are_canonical();
 }
 
-/// Parts of the same files that join from the begins of the files to their ends, each with tokens
-/// below those of all later ones: their histories, one behind the other, are the settled history of
-/// the files, and each file ends with as many taps as all parts have of it.
+/// Parts of files that join from begins to ends, each with tokens below all later ones: their
+/// histories in a row are the settled history, and each file ends with the taps of all parts of it.
 pub fn joined_parts_are_settled()
     ensures settled { (fares : Fares) (files : List (List ℕ)) (parts : List PartView)
         → ArePartsOf fares files parts → AreWhole (map (λ part. part.spans) parts)

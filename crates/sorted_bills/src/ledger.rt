@@ -25,22 +25,15 @@ use std::thread::Threads;
 use tap_views::UploadEnd;
 use tariffs::FareTable;
 
-/// Writes the ledger of all tokens over the settled history of sorted files: the head line, and a
-/// line for each tap, with the reply and the reason that the account rule has for it after the
-/// earlier taps of its token. Returns how each file ends.
-///
-/// A first pass checks each file whole: of several workers each takes a share of the files. A fault
-/// is the first one in their order, and nothing is written. A second pass merges the files, posts
-/// each tap and writes its line. Of each file some batches are in memory, and of the taps one
-/// account. A file that has not as many taps as before, or another stamp at the end, is reported as
-/// changed.
-///
-/// Of several workers, 64 at most, each makes the lines of a range of the tokens in memory, and
-/// these go out in order. Then each takes the next range. A worker takes up to 16 MiB for lines,
-/// and some 32 KiB for each file of `sort`. Of more than 256 files this thread makes all lines.
-/// Where the ranges begin is a guess that suits files in batches of 512 taps. Each range must begin
-/// where the one before it ends, to the tap: if not, or if a worker is refused, this thread makes
-/// the lines of that range. So the text does not depend on the workers.
+/// Writes the ledger of all tokens over the settled history of sorted files: the header line, and a
+/// line for each tap with the account rule's reply and reason. Returns how each file ends. A first
+/// pass checks each file whole, and a second merges the files and writes. Memory holds some batches
+/// of each file and one account. A fault of the first pass is the first in the order of the files,
+/// and nothing is written. A file with another number of taps, or another stamp at the end, is
+/// reported as changed. Of several workers, 64 at most, each makes the lines of a range of the
+/// tokens, with up to 16 MiB for lines and some 32 KiB for each file of `sort`; of more than 256
+/// files this thread makes all. The bounds are a hint: a range that does not join, or whose worker
+/// is refused, is made again by this thread, so the text does not depend on the workers.
 pub fn write_sorted_ledger<R: Threads + Sync, F: Placed + Sync, W: Write>(
     rt: &R,
     alloc: Global,
@@ -56,7 +49,7 @@ pub fn write_sorted_ledger<R: Threads + Sync, F: Placed + Sync, W: Write>(
         → map F.bytes files.now ≡ map Some all → ArePlainEnds all ends.items) }
     ensures posted { IfOk result (λ ends. are_posted ends.items ≡ true) }
     ensures kept { IfErr result (λ fault. IsBeforeText fault → out.new ≡ out.old) }
-    // If a write failed, a beginning of the ledger was written.
+    // If a write failed, a prefix of the ledger was written.
     ensures begun { IfErr result (λ fault. fault ≡ AFailedWrite → (text : List ℕ)
         × ((all : List (List ℕ)) → map F.bytes files.now ≡ map Some all → AreBytes all
         → IsLedgerOfFiles table.now all text)

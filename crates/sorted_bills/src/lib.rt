@@ -1,7 +1,6 @@
 //! Files whose taps are in canonical order, charged as a settled run charges them: read in pieces,
-//! merged, and posted tap by tap. No list of the taps is kept, however many there are. Several
-//! workers make a bill or the lines of a ledger, each of a range of the tokens, or check a share of
-//! the files each.
+//! merged and posted tap by tap, without a list of the taps. Several workers take a range of the
+//! tokens or a share of the files each.
 #![tactic(auto)]
 
 mod bill;

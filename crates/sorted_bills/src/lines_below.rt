@@ -18,9 +18,7 @@ use std::io::Write;
 use tap_views::Token;
 use tariffs::{Clock, FareTable};
 
-/// Takes the taps of the files that have tokens below the bound, or all if there is none, posts
-/// them, and appends their lines to `text`. The lines in `text` may go out first. More taps than
-/// are left are refused.
+/// Lines in `text` may go out first. More taps than are left are refused.
 pub(crate) fn explain_below<F: Placed, W: Write>(
     text: &mut String,
     table: &FareTable,

@@ -18,14 +18,11 @@ use std::alloc::Global;
 use tap_views::{NoMemory, TapFields, Token};
 use tariffs::{Clock, FareTable};
 
-/// The bill of the taps that were added, which come token by token. Of the last token its account
-/// is kept, and what its taps come to.
+/// The bill of the taps that were added, token by token, with the account of the last token.
 #[derive(Drop)]
 pub(crate) struct OpenBill {
-    /// The sums of the tokens before the last one, those of all taps by validator, and the totals
-    /// of the tokens before the last one.
+    /// The sums of the tokens before the last one, and those of all taps by validator.
     bill: Bill,
-    /// The last token, with its account.
     replay: Replay,
     /// What the last token's taps come to.
     tally: Tally,
@@ -33,8 +30,7 @@ pub(crate) struct OpenBill {
 }
 
 impl OpenBill {
-    /// The bill of no taps, whose tokens do not fall from this one on. The seed serves to hash the
-    /// validators' numbers.
+    /// The seed hashes the validators' numbers.
     pub(crate) fn new(alloc: Global, seed: HashSeed, from: Token) -> Self
         ensures bill { (fares : Fares) → IsOpenBill fares [] result }
         ensures token { result.replay.token ≡ from }
@@ -57,8 +53,7 @@ impl OpenBill {
         self.replay.token
     }
 
-    /// Adds the last token to the sums of the tokens, and to the totals. After want of memory the
-    /// bill is of no use.
+    /// After an allocation failure the bill is of no use.
     fn close(&mut self, alloc: Global) -> Result<(), NoMemory>
         requires { HasRoomFor self.old 0 }
         ensures { OnOk result ((fares : Fares) (taps : List TapFields)
@@ -74,7 +69,6 @@ impl OpenBill {
         Ok(())
     }
 
-    /// Goes on to the token of the next tap, which is not below the last one.
     fn go_on_to(&mut self, alloc: Global, token: Token) -> Result<(), NoMemory>
         requires up { IsUpTo self.old.replay.token token }
         requires room { HasRoomFor self.old 0 }
@@ -109,8 +103,7 @@ impl OpenBill {
         Ok(())
     }
 
-    /// Adds a tap, whose token is not below the last one. After want of memory the bill is of no
-    /// use.
+    /// After an allocation failure the bill is of no use.
     fn add_tap(
         &mut self,
         alloc: Global,
@@ -132,8 +125,7 @@ impl OpenBill {
         Ok(())
     }
 
-    /// Adds taps, whose tokens do not fall from the last one on. After want of memory the bill is
-    /// of no use.
+    /// After an allocation failure the bill is of no use.
     pub(crate) fn add(
         &mut self,
         alloc: Global,

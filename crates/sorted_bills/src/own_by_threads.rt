@@ -16,14 +16,13 @@ use tap_views::{TapFields, Token};
 
 #[derive(Drop)]
 pub(crate) struct OwnTaps {
-    /// The taps lie one file after the other.
+    /// The taps, one file after the other.
     pub(crate) taps: Vec<TapFields>,
     /// How many taps each file has, of all tokens.
     pub(crate) numbers: Vec<u64>,
 }
 
-/// The token's taps of the file at the place. None if there is no such file, if it is not sorted,
-/// or if memory is refused.
+/// None if there is no such file, if it is not sorted, or if an allocation fails.
 fn own_at<F: Placed>(alloc: Global, token: Token, files: &[F], place: usize) -> Option<OwnTaps>
     ensures { IfSome result (IsOwnAt token (map F.bytes files.now) place) }
 {
@@ -42,7 +41,6 @@ fn own_at<F: Placed>(alloc: Global, token: Token, files: &[F], place: usize) -> 
     }
 }
 
-/// Puts the token's taps of each file at its place, by `workers` threads.
 fn collect_each<R: Threads + Sync, F: Placed + Sync>(
     rt: &R,
     alloc: Global,
@@ -66,7 +64,7 @@ fn collect_each<R: Threads + Sync, F: Placed + Sync>(
     );
 }
 
-/// The token's taps of all files. None if those of one are missing.
+/// None if those of one are missing.
 fn join_all<F: Placed>(
     alloc: Global,
     token: Token,
@@ -105,8 +103,7 @@ fn places(alloc: Global, number: usize) -> Result<Vec<Option<OwnTaps>>, AllocErr
     Ok(owns)
 }
 
-/// The token's taps of all files, if these are sorted. Each of `workers` threads takes a share of
-/// the files. None says nothing of the files.
+/// None says nothing of the files.
 pub(crate) fn own_by_threads<R: Threads + Sync, F: Placed + Sync>(
     rt: &R,
     alloc: Global,

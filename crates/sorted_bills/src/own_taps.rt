@@ -44,7 +44,6 @@ fn push_own(token: Token, tap: &TapFields, taps: &mut Vec<TapFields>) -> Result<
     Ok(())
 }
 
-/// Adds the tap at which the reader stands to the list if it is of the token.
 fn push_head(token: Token, reader: &TapReader, taps: &mut Vec<TapFields>) -> Result<(), SortedFault>
     ensures sound { OnOk result (AreSound token taps.old.items → AreSound token taps.new.items) }
     ensures pushed { OnOk result ((tap : TapFields) (rest : List TapFields)
@@ -61,8 +60,6 @@ fn push_head(token: Token, reader: &TapReader, taps: &mut Vec<TapFields>) -> Res
     }
 }
 
-/// Adds the token's taps of the file to the list, and the number of its taps to the numbers. The
-/// file is checked as `check_file` does it.
 pub(crate) fn add_file<F: Placed>(
     alloc: Global,
     token: Token,
@@ -91,8 +88,7 @@ pub(crate) fn add_file<F: Placed>(
     Err(SortedFault::Unread)
 }
 
-/// The token's taps of all files, one file after the other, and the numbers of the files' taps; or
-/// the first fault of the first file that is not sorted.
+/// The fault is the first one of the first file that is not sorted.
 fn own_taps<F: Placed>(
     alloc: Global,
     token: Token,
@@ -129,8 +125,7 @@ fn in_order(taps: Vec<TapFields>) -> Vec<TapFields>
     list
 }
 
-/// The token's taps of all files. Several workers share the files: if one of them is refused, this
-/// thread reads all.
+/// If a thread is refused, this one reads all.
 fn own_of_files<R: Threads + Sync, F: Placed + Sync>(
     rt: &R,
     alloc: Global,
@@ -157,11 +152,11 @@ fn own_of_files<R: Threads + Sync, F: Placed + Sync>(
     Ok(OwnTaps { taps, numbers })
 }
 
-/// The taps of one token of sorted files, in canonical order: no other tap is kept. One pass checks
-/// each file whole. `workers` threads take a share of the files each. If one of them is refused,
-/// this thread checks all anew, in their order, and its fault is the first one. So neither the taps
-/// nor the fault depend on the workers. A file that was written meanwhile, or has another length at
-/// the end, is reported as changed.
+/// The taps of one token of sorted files, in canonical order: no other tap is stored. One pass
+/// checks each file whole, a share of the files each by `workers` threads. If one is refused, this
+/// thread checks all again, and its fault is the first: neither taps nor fault depend on the
+/// workers. A file that was written meanwhile, or has another length at the end, is reported as
+/// changed.
 pub fn sorted_taps_of<R: Threads + Sync, F: Placed + Sync>(
     rt: &R,
     alloc: Global,

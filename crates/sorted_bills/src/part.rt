@@ -27,7 +27,7 @@ use tariffs::FareTable;
 
 #[derive(Drop)]
 pub(crate) struct Part {
-    /// Where the readers of the files stood before the taps, and where they stood behind them.
+    /// Where the readers of the files were before the taps, and where they were after them.
     pub(crate) span: Span,
     pub(crate) bill: Bill,
     /// A token below which the taps have none.
@@ -36,9 +36,7 @@ pub(crate) struct Part {
     last: Token,
 }
 
-/// The bill of the taps from one token on and below another. `None` is no bound. If the files are
-/// not in order, or have other batches than those of 512 taps, it may be that of other taps: the
-/// part's span says which.
+/// If the files are not in order, or not in batches of 512 taps, the span says which taps it is of.
 pub(crate) fn part_of<F: Placed>(
     alloc: Global,
     table: &FareTable,
@@ -66,8 +64,7 @@ pub(crate) fn part_of<F: Placed>(
     })
 }
 
-/// Adds the bill of other taps, whose tokens are all above those of this one. After want of memory
-/// the bill is of no use.
+/// After an allocation failure the bill is of no use.
 fn add_bill(alloc: Global, bill: &mut Bill, more: Bill) -> Result<(), NoMemory>
     requires { HaveBillRoom bill.old more }
     ensures { OnOk result ((entries others : List Entry) → IsBillOf entries bill.old
@@ -92,8 +89,7 @@ pub(crate) fn is_below(token: Token, other: Token) -> bool
 }
 
 impl Part {
-    /// Adds a part if it begins where this one ends, and its tokens are all above those of this
-    /// one. If not, this part is of no use.
+    /// If the part does not begin where this one ends, with higher tokens, this one is of no use.
     pub(crate) fn append(&mut self, alloc: Global, more: Part) -> Result<(), BillFault>
         requires { HaveBillRoom self.old.bill more.bill }
         ensures { OnOk result ((fares : Fares) (known : List (Option (List ℕ))) (few others : ℕ)

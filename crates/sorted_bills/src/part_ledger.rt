@@ -39,10 +39,9 @@ fn are_spans(made: &[FileSpan], spans: &[FileSpan]) -> bool
     true
 }
 
-/// Writes the ledger of a part of sorted files: the head line, and a line for each of their taps
-/// with tokens from one on and below another, or without a bound if there is none. The part lies in
-/// these spans, as `part_spans` gives them. If it lies elsewhere when its taps are taken, the files
-/// are reported as changed, with a beginning of the ledger written.
+/// Writes the ledger of a part of sorted files: the header line, and a line for each tap with a
+/// token from one on and below another, each bound optional. If the part is not in these spans,
+/// those of `part_spans`, the files are reported as changed, with a prefix of the ledger written.
 pub fn write_part_ledger<F: Placed, W: Write>(
     alloc: Global,
     table: &FareTable,
@@ -59,7 +58,7 @@ pub fn write_part_ledger<F: Placed, W: Write>(
         × IsLedgerOver table.now history None text)
         × Appends (W.contents out.old) (W.contents out.new) text) }
     ensures kept { IfErr result (λ fault. IsBeforeText fault → out.new ≡ out.old) }
-    // If a write failed, a beginning of the head line and of lines of taps was written.
+    // If a write failed, a prefix of the header line and of lines of taps was written.
     ensures begun { IfErr result (λ fault. fault ≡ AFailedWrite → (taps : List TapFields)
         × (lines : List ℕ) × AreLinesAlong table.now [] (posted table.now taps) lines
         × Begins (W.contents out.old) (W.contents out.new) (head_text ++ lines)) }

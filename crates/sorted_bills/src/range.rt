@@ -23,8 +23,8 @@ use tariffs::{Clock, FareTable};
 /// The most taps of a range, so that its lines stay few.
 const MOST_TAPS: u64 = 65_536;
 
-/// The least token but one: a range without a lower bound begins with it, since the explainer of
-/// the whole ledger begins with the least one. If a tap has that one, the range is not made.
+/// A range without a lower bound begins with the least token but one, since the whole ledger's
+/// explainer begins with the least. If a tap has that one, the range is not made.
 fn second_token() -> Token {
     let mut bytes = [0; 16];
     bytes[15] = 1;
@@ -36,10 +36,9 @@ fn second_token() -> Token {
 pub(crate) struct Range {
     /// A token below which the taps have none.
     pub(crate) first: Token,
-    /// Where the readers of the files stood before the taps and behind them. None if the range was
-    /// not made whole.
+    /// Where the files' readers were before and after the taps. None if it was not made whole.
     pub(crate) span: Option<Span>,
-    /// It has come past the taps.
+    /// It has consumed the taps.
     pub(crate) explainer: Explainer,
     /// The number of the taps, at least that of those of the last token.
     pub(crate) number: u64,
@@ -48,9 +47,7 @@ pub(crate) struct Range {
     pub(crate) lines: Vec<u8>,
 }
 
-/// Appends the lines of the taps from one token on and below another to the list, which has none
-/// yet, and returns where the readers of the files stood before these taps and behind them. The
-/// text has room for lines that wait. More taps than are left are refused.
+/// The text has room for lines that wait. More taps than are left are refused.
 fn explain_span<F: Placed>(
     alloc: Global,
     table: &FareTable,
@@ -84,7 +81,6 @@ fn explain_span<F: Placed>(
 }
 
 impl Range {
-    /// A range that was not made.
     pub(crate) fn new(alloc: Global) -> Self
         ensures { result.span ≡ None }
     {
@@ -98,8 +94,7 @@ impl Range {
         }
     }
 
-    /// Makes the lines of the taps from one token on and below another, or without a bound if there
-    /// is none. If they are too many, or something is refused, the range is not made.
+    /// If they are too many, or something is refused, the range is not made.
     fn make<F: Placed>(
         &mut self,
         alloc: Global,
@@ -137,8 +132,6 @@ impl Range {
         self.span = Some(span);
     }
 
-    /// Makes the range at a place among those between the tokens of the list. It is not made if
-    /// there is no such place.
     fn make_at<F: Placed>(
         &mut self,
         alloc: Global,
@@ -163,8 +156,6 @@ impl Range {
     }
 }
 
-/// Makes the ranges from a place on among those between the tokens of the list, each by a thread of
-/// its own.
 pub(crate) fn make_ranges<R: Threads + Sync, F: Placed + Sync>(
     rt: &R,
     alloc: Global,

@@ -39,15 +39,14 @@ const MAX_RANGES: u64 = 1_048_576;
 /// Of more files no ranges are made: each range begins with a batch or two of each file.
 const MAX_FILES: usize = 256;
 
-/// The ranges of the tokens, of which some are made at once.
+/// The ranges of the tokens, some of which are made at once.
 #[derive(Drop)]
 pub(crate) struct Rounds {
     pub(crate) bounds: Vec<Token>,
-    /// The ranges that are made at once, a worker each. None if this thread makes all lines.
+    /// Those made at once, a worker each. None if this thread makes all lines.
     pub(crate) ranges: Vec<Range>,
 }
 
-/// The ranges of about `RANGE_TAPS` taps, and as many at once as there are workers.
 fn rounds_of<F: Placed>(
     alloc: Global,
     files: &[F],
@@ -68,8 +67,7 @@ fn rounds_of<F: Placed>(
 }
 
 impl Rounds {
-    /// The ranges of `counted` taps: one range if there is one worker, if there are many files, or
-    /// if something is refused.
+    /// One range if there is one worker, if there are many files, or if something is refused.
     pub(crate) fn of<F: Placed>(alloc: Global, files: &[F], counted: u64, workers: u32) -> Self
         ensures { (fares : Fares) (known : List (Option (List ℕ)))
             → All (IsRange fares known) result.ranges.items }
@@ -86,8 +84,6 @@ impl Rounds {
     }
 }
 
-/// The merge behind a span of all `files` files. None if the span does not begin where the merge
-/// stands, or if memory is refused.
 fn merge_behind(alloc: Global, merge: &Merge, span: Span, files: usize) -> Option<Merge>
     ensures ranked { IfSome result (λ next. IsRanked next.readers.items next.heads.items) }
     ensures number { IfSome result (λ next. length next.readers.items ≡ files) }
@@ -103,8 +99,7 @@ fn merge_behind(alloc: Global, merge: &Merge, span: Span, files: usize) -> Optio
     }
 }
 
-/// The merge behind a range, if its taps come next: if it was made, its tokens are above this one,
-/// it has no more taps than are left, and it begins where the merge stands.
+/// None unless the range was made, its tokens are above this one, and it begins where the merge is.
 fn next_merge(
     alloc: Global,
     merge: &Merge,
@@ -131,8 +126,7 @@ fn next_merge(
     Some(next)
 }
 
-/// Writes the lines of the taps with tokens below the bound: those of the range, if its taps come
-/// next, and else as this thread makes them.
+/// If the range's taps do not come next, this thread makes the lines.
 fn write_range<F: Placed, W: Write>(
     alloc: Global,
     text: &mut String,
@@ -197,8 +191,7 @@ fn write_range<F: Placed, W: Write>(
     }
 }
 
-/// The index of the range at a place, among those that are made at once. At the first place of a
-/// round its ranges are made.
+/// At the first index of a round its ranges are made.
 fn index_at<R: Threads + Sync, F: Placed + Sync>(
     rt: &R,
     alloc: Global,
@@ -223,7 +216,6 @@ fn index_at<R: Threads + Sync, F: Placed + Sync>(
     index
 }
 
-/// Writes the lines of the range at a place among those between the tokens of the list.
 fn write_place<R: Threads + Sync, F: Placed + Sync, W: Write>(
     rt: &R,
     alloc: Global,
@@ -281,9 +273,7 @@ fn write_place<R: Threads + Sync, F: Placed + Sync, W: Write>(
     )
 }
 
-/// Takes all `counted` taps of the files, posts them, and appends their lines to `text`. The lines
-/// in `text` may go out first. The tokens rise, and lie between the ranges, of which some are made
-/// at once.
+/// Lines in `text` may go out first.
 pub(crate) fn write_ranges<R: Threads + Sync, F: Placed + Sync, W: Write>(
     rt: &R,
     alloc: Global,

@@ -35,7 +35,6 @@ pub(crate) fn name_of(tap: &TapFields) -> Token
     Token::of(&tap.token)
 }
 
-/// Whether the tap is before 2100, as each one of a batch is.
 #[inline(always)]
 pub(crate) fn is_early(tap: &TapFields) -> bool
     ensures { IsTrue result → tap.now.moment < 4_102_444_800_000 }
@@ -43,7 +42,6 @@ pub(crate) fn is_early(tap: &TapFields) -> bool
     tap.moment < MOMENT_LIMIT_MS
 }
 
-/// Whether a tap with this token can come next behind one with the last token.
 #[inline(always)]
 fn may_follow(tap: &TapFields, last: Token, token: Token) -> bool
     ensures early { IsTrue result → tap.now.moment < 4_102_444_800_000 }
@@ -55,8 +53,7 @@ fn may_follow(tap: &TapFields, last: Token, token: Token) -> bool
     is_early(tap)
 }
 
-/// The token of the last of these taps, or of the one before them if there are none. None if a tap
-/// cannot come next after the one before it.
+/// None if a tap cannot come next after the one before it.
 fn last_of(taps: &[TapFields], last: Token) -> Option<Token>
     ensures { IfSome result (AreFollowing last taps.now) }
 {
@@ -71,9 +68,7 @@ fn last_of(taps: &[TapFields], last: Token) -> Option<Token>
     Some(last)
 }
 
-/// Takes the next taps of the files into the list, in place of what was there: 512, or all that are
-/// left, or all with tokens below the bound. The readers see to it that no token is below the one
-/// before, from this one on.
+/// 512 taps, or all that are left, or all with tokens below the bound.
 fn take_some<F: Placed>(
     merge: &mut Merge,
     files: &[F],
@@ -114,8 +109,6 @@ fn take_some<F: Placed>(
     Ok(())
 }
 
-/// Merged files, at about the first tap with this token or a higher one; at the first of all if
-/// there is no token.
 fn merge_from<F: Placed>(
     alloc: Global,
     files: &[F],
@@ -133,7 +126,6 @@ fn merge_from<F: Placed>(
 }
 
 impl Taker {
-    /// At the first tap of each file. The window has `WINDOW_BYTES` at least.
     pub(crate) fn begin<F: Placed>(
         alloc: Global,
         files: &[F],
@@ -149,8 +141,7 @@ impl Taker {
         Ok(Taker::of(alloc, merge, window)?)
     }
 
-    /// At about the first tap with this token or a higher one, or at the first of all if there is
-    /// no token. The window has `WINDOW_BYTES` at least.
+    /// At about the first tap with this token or a higher one, with a window of `WINDOW_BYTES`.
     pub(crate) fn near<F: Placed>(
         alloc: Global,
         files: &[F],
@@ -165,7 +156,6 @@ impl Taker {
         Ok(Taker::of(alloc, merge, window)?)
     }
 
-    /// Goes on from where the merge stands.
     pub(crate) fn of(alloc: Global, merge: Merge, window: Vec<u8>) -> Result<Self, AllocError>
         ensures merge { IfOk result (λ taker. taker.merge ≡ merge) }
         ensures window { IfOk result (λ taker. taker.window ≡ window) }
@@ -178,7 +168,6 @@ impl Taker {
         })
     }
 
-    /// Goes on from where the readers stand. The window has `WINDOW_BYTES` at least.
     pub(crate) fn over(
         alloc: Global,
         readers: Vec<TapReader>,
@@ -204,9 +193,8 @@ impl Taker {
         merge.into_readers()
     }
 
-    /// Takes the next taps, in place of those taken last: only those with tokens below the bound,
-    /// if there is one, and otherwise none only at the ends of all files. Their tokens do not fall
-    /// from this one on.
+    /// The next taps, in place of the last ones: none only at the ends of all files or at the
+    /// bound.
     pub(crate) fn take<F: Placed>(
         &mut self,
         files: &[F],

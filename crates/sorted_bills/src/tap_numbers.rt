@@ -12,7 +12,6 @@ use tap_views::UploadEnd;
 /// The most taps of all files together: 2^46.
 const MAX_TAPS: u64 = 70_368_744_177_664;
 
-/// Refuses more than 2^46 taps.
 pub(crate) fn count(numbers: &[u64]) -> Result<u64, BillFault>
     ensures few { IfOk result (λ count. (count ≡ sum numbers.now) × (count ≤ 2 ^ 46)) }
     ensures many { IfErr result (λ fault. (fault ≡ TooManyTaps) × (2 ^ 46 < sum numbers.now)) }

@@ -1,4 +1,4 @@
-//! A part of sorted files: the taps of a range of tokens, and where they lie in each file.
+//! A part of sorted files: the taps of a range of tokens, and where they are in each file.
 
 ghost use Rattle.std.specs.Prelude.{◌≡◌, ◌≢◌, ◌≤◌, ◌^◌, true, ℕ, List, IfErr, IfOk};
 ghost use Rattle.std.specs.Prelude.{OnOk, Some, length, map};
@@ -31,21 +31,20 @@ use std::alloc::Global;
 use tap_views::Token;
 use tariffs::FareTable;
 
-/// The bill of a part, with how many taps it has of each file, and where it lies in each.
+/// The bill of a part, with how many taps it has of each file, and where it is in each.
 #[derive(Drop)]
 pub struct PartBill {
     pub spans: Vec<FileSpan>,
     pub billed: Billed,
 }
 
-/// Merged files at the places where a part begins.
+/// Merged files at the positions where a part begins.
 #[derive(Drop)]
 pub(crate) struct BegunPart {
     pub(crate) places: Vec<Place>,
     pub(crate) taker: Taker,
 }
 
-/// The files at their first taps with this token or a higher one, or at their first taps of all.
 pub(crate) fn begin_part<F: Placed>(
     alloc: Global,
     files: &[F],
@@ -66,8 +65,7 @@ pub(crate) fn begin_part<F: Placed>(
     Ok(BegunPart { places, taker })
 }
 
-/// Where the part lies that begins at these places and ends where the readers stand. `Changed` if
-/// that is not where a part would begin that goes on from the bound.
+/// `Changed` if the readers are not where a part would begin that goes on from the bound.
 pub(crate) fn end_part<F: Placed>(
     alloc: Global,
     files: &[F],
@@ -93,7 +91,7 @@ pub(crate) fn end_part<F: Placed>(
     }
 }
 
-/// The bill of a part, in one pass. Its fault need not be the first one of the files.
+/// Its fault need not be the first one of the files.
 fn bill_part<F: Placed>(
     alloc: Global,
     table: &FareTable,
@@ -126,17 +124,12 @@ fn bill_part<F: Placed>(
     Ok(PartBill { spans, billed })
 }
 
-/// The bill of a part of sorted files, in one pass by one worker: of their taps with tokens from
-/// one on and below another, or without a bound if there is none. The files are merged, each tap is
-/// posted by its token's account, and the sums are kept.
-///
-/// Each span of the part begins and ends at a place that is found by the same steps from the same
-/// token. So parts of the same files join, whoever charges them, if each goes on from the token
-/// below which the one before it ends. In files of batches of 512 taps, as `sort` writes them, the
-/// places are found at once.
-///
-/// If a file is not sorted, the fault is the first one of all files, also behind the part. A file
-/// that was written meanwhile, or has another length at the end, is reported as changed.
+/// The bill of a part of sorted files, in one pass by one worker: of the taps with tokens from one
+/// on and below another, each bound optional. Each span of the part is found by the same steps from
+/// the same token, at once in batches of 512 taps: so parts of the same files join, if each goes on
+/// from the token below which the one before it ends. If a file is not sorted, the fault is the
+/// first one of all files, also after the part. A file that was written meanwhile, or has another
+/// length at the end, is reported as changed.
 pub fn part_bill<F: Placed>(
     alloc: Global,
     table: &FareTable,
@@ -168,7 +161,6 @@ pub fn part_bill<F: Placed>(
     }
 }
 
-/// Takes the taps of the files that have tokens below the bound, or all if there is none.
 fn pass_taps<F: Placed>(
     files: &[F],
     below: Option<Token>,
@@ -191,7 +183,7 @@ fn pass_taps<F: Placed>(
     Err(BillFault::Changed)
 }
 
-/// Where a part lies, in one pass. Its fault need not be the first one of the files.
+/// Its fault need not be the first one of the files.
 fn spans_of_part<F: Placed>(
     alloc: Global,
     files: &[F],
@@ -213,9 +205,8 @@ fn spans_of_part<F: Placed>(
     Ok(spans)
 }
 
-/// Where a part lies in each file: its taps with tokens from one on and below another, or without a
-/// bound if there is none. They are the spans of `part_bill`. All taps of the part are read once:
-/// so a text that is made of them then meets no fault of a file, if the files stay as they are.
+/// Where a part is in each file: its taps with tokens from one on and below another. All its taps
+/// are read once, so that a text made of them meets no fault of an unchanged file.
 pub fn part_spans<F: Placed>(
     alloc: Global,
     files: &[F],
