@@ -12,9 +12,8 @@ use crate::reader::TapReader;
 use placed_files::Placed;
 use std::alloc::Global;
 
-/// Reads a whole file, and returns the number of its taps if they are in canonical order and there
-/// is no layout fault; else the first fault. It keeps some batches in memory, and the window, of
-/// `WINDOW_BYTES` at least, is for the bytes.
+/// The number of the taps of a file, if all are in canonical order and there is no layout fault;
+/// else the first fault. Memory: some batches, and the window of `WINDOW_BYTES` at least.
 pub fn check_file<F: Placed>(alloc: Global, file: &F, window: &mut [u8]) -> Result<u64, SortedFault>
     requires { window_bytes ≤ length window.old }
     ensures sorted { IfOk result (λ count. IfSome (F.bytes file.now)
@@ -32,7 +31,6 @@ pub fn check_file<F: Placed>(alloc: Global, file: &F, window: &mut [u8]) -> Resu
     Err(SortedFault::Unread)
 }
 
-/// Checks the file, and adds the number of its taps to the list.
 fn check_next<F: Placed>(
     alloc: Global,
     file: &F,
@@ -51,8 +49,8 @@ fn check_next<F: Placed>(
     Ok(())
 }
 
-/// Reads each file whole, one after the other, as `check_file` does, and returns the numbers of
-/// their taps if all are sorted; else the first fault of the first file that is not.
+/// The numbers of the taps of files, each read whole as by `check_file`, or the first fault of the
+/// first file that has one.
 pub fn check_files<F: Placed>(
     alloc: Global,
     files: &[F],

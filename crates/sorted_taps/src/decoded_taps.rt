@@ -12,9 +12,8 @@ const ENOUGH_TAPS: usize = 512;
 
 #[derive(Drop)]
 pub(crate) struct Decoded {
-    /// The bytes of the batches that were decoded.
     pub(crate) used: usize,
-    /// Why the bytes behind them begin with no batch. It is not known if there were enough taps.
+    /// Why the bytes after them begin with no batch. Unknown if there were enough taps.
     pub(crate) fault: Option<LayoutFault>,
 }
 
@@ -27,8 +26,6 @@ fn push_taps(batch: &Batch<'_>, taps: &mut Vec<TapFields>) -> Result<(), AllocEr
     Ok(())
 }
 
-/// Decodes batches from the front of the bytes into the list, in place of what was there, until
-/// there are enough taps or no batch follows.
 pub(crate) fn decode(bytes: &[u8], taps: &mut Vec<TapFields>) -> Result<Decoded, AllocError>
     ensures { IfOk result (IsDecoded bytes.now taps.new.items) }
 {

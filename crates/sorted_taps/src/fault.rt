@@ -11,7 +11,7 @@ pub enum SortedFault {
     /// A tap is before its predecessor in canonical order.
     #[error("tap {tap} is out of order")]
     OutOfOrder {
-        /// The first such tap, counted from 0 at the place where the reader began.
+        /// The first such tap, counted from where the reader began.
         tap: u64,
     },
     /// The bytes begin with no batch.
@@ -106,7 +106,7 @@ pub enum MergeFault {
     /// A file is refused, and no file before it.
     #[error("{0}")]
     File(FileFault),
-    /// A file was refused, and none is when all are checked behind it: one has changed.
+    /// A file was refused, and none is when all are checked after it: one has changed.
     #[error("a file changed while it was read")]
     Changed,
     #[error("the taps cannot be written")]

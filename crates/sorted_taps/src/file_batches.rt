@@ -17,7 +17,7 @@ pub(crate) const FIRST_READ_BYTES: usize = TAP1_HEADER_BYTES + 512 * TAP1_TAP_BY
 /// The room that a reader of taps needs while it reads: the bytes of the longest batch.
 pub const WINDOW_BYTES: usize = TAP1_HEADER_BYTES + MAX_TAPS * TAP1_TAP_BYTES;
 
-/// Fills the buffer from this offset on. No file of the system reaches the offset 2^64.
+/// No file of the system reaches the offset 2^64.
 pub(crate) fn fill_at<F: Placed>(file: &F, buffer: &mut [u8], offset: u64) -> Result<usize, Unread>
     ensures fits { OnOk result (offset + length buffer.new < 2 ^ 64) }
     ensures most { IfOk result (λ count. count ≤ length buffer.new) }
@@ -30,7 +30,6 @@ pub(crate) fn fill_at<F: Placed>(file: &F, buffer: &mut [u8], offset: u64) -> Re
     fill_from(file, buffer, offset)
 }
 
-/// Decodes the batches that begin at this offset into the list, from at most `room` bytes.
 fn decode_at<F: Placed>(
     file: &F,
     window: &mut [u8],
@@ -49,8 +48,7 @@ fn decode_at<F: Placed>(
     Ok(decode(&buffer[..count], taps)?)
 }
 
-/// Decodes batches that begin at this offset into the list, in place of what was there, and returns
-/// the number of their bytes: 0 only at the file's end. The window is for the bytes.
+/// 0 bytes only at the file's end. The window is for the bytes.
 pub(crate) fn read_batches<F: Placed>(
     file: &F,
     window: &mut [u8],

@@ -14,12 +14,11 @@ use std::alloc::{AllocError, Global};
 use tap_parts::compare;
 use tap_views::TapFields;
 
-/// Where a reader stands.
+/// Where a reader is.
 #[derive(Clone, Copy)]
 pub(crate) struct Head {
     /// None at the file's end.
     tap: Option<TapFields>,
-    /// The index of the reader.
     at: usize,
 }
 
@@ -36,7 +35,7 @@ impl Head {
     }
 }
 
-/// Whether the first head is before the second. One at its file's end is before none.
+/// A head at its file's end is before none.
 #[inline(always)]
 fn is_before(head: &Head, other: &Head) -> bool
     ensures yes { result ≡ true → IsNotAfter head.now.tap other.now.tap }
@@ -49,7 +48,6 @@ fn is_before(head: &Head, other: &Head) -> bool
     }
 }
 
-/// The lesser of the heads at two places of the tree, and the first if they are equal.
 #[inline(always)]
 fn lesser(tree: &[Head], left: usize, right: usize) -> Head
     requires left { left < length tree.now }
@@ -70,7 +68,6 @@ fn head_at(tree: &[Head], place: usize) -> Head
     *head
 }
 
-/// Lets a place of the tree have the lesser of the two heads below it.
 #[inline(always)]
 fn choose(tree: &mut [Head], place: usize)
     requires { 2 * place + 1 < length tree.old }
@@ -80,8 +77,6 @@ fn choose(tree: &mut [Head], place: usize)
     tree[place] = chosen;
 }
 
-/// Lets each place of the first half, from 1 on, have the lesser of the two heads below it. The
-/// second half has the heads of the readers.
 fn choose_all(tree: &mut [Head], readers: &[TapReader])
     requires { HasLeaves readers.now tree.old }
     ensures { IsRanked readers.now tree.new }
@@ -107,7 +102,6 @@ pub(crate) fn tree_of(alloc: Global, readers: &[TapReader]) -> Result<Vec<Head>,
     Ok(tree)
 }
 
-/// Puts the head into the tree, which has those of the other readers.
 #[inline(always)]
 fn put(tree: &mut [Head], readers: &[TapReader], head: Head)
     requires within { head.at < length readers.now }
@@ -123,7 +117,6 @@ fn put(tree: &mut [Head], readers: &[TapReader], head: Head)
     }
 }
 
-/// Puts the head of the reader at the index into the tree, which has those of the others.
 pub(crate) fn put_head(tree: &mut [Head], readers: &[TapReader], at: usize)
     requires within { at < length readers.now }
     requires ranked { (was : TapReader) × IsRanked (set readers.now at was) tree.old }
@@ -133,7 +126,6 @@ pub(crate) fn put_head(tree: &mut [Head], readers: &[TapReader], at: usize)
     put(tree, readers, Head::of(reader, at));
 }
 
-/// Lets the reader at the index stand at no tap in the tree, which has the heads of the others.
 pub(crate) fn put_end(tree: &mut [Head], readers: &[TapReader], at: usize)
     requires within { at < length readers.now }
     requires ranked { (was : TapReader) × IsRanked (set readers.now at was) tree.old }
@@ -143,8 +135,6 @@ pub(crate) fn put_end(tree: &mut [Head], readers: &[TapReader], at: usize)
     put(tree, readers, Head { tap: None, at });
 }
 
-/// A least head of the readers of the tree, and the index of its reader; none if all are at the
-/// end.
 pub(crate) fn least_of(tree: &[Head]) -> Option<(usize, TapFields)>
     ensures { (readers : List TapReader) → IsRanked readers tree.now
         → MatchOption result (AreAtEnd readers) (λ least. IsLeastHead readers least.0 least.1) }
@@ -159,7 +149,6 @@ pub(crate) fn least_of(tree: &[Head]) -> Option<(usize, TapFields)>
     }
 }
 
-/// The least tap at which a reader of the tree stands; none if all are at the end.
 pub(crate) fn least_tap(tree: &[Head]) -> Option<TapFields>
     ensures { (readers : List TapReader) → IsRanked readers tree.now → (k : ℕ) (d : TapReader)
         → k < length readers → IsNotAfter result (head_of (get_or readers k d)) }
@@ -171,7 +160,6 @@ pub(crate) fn least_tap(tree: &[Head]) -> Option<TapFields>
     root.tap
 }
 
-/// Whether the other tap, if there is one, is before this one.
 #[inline(always)]
 pub(crate) fn is_after(tap: &TapFields, other: &Option<TapFields>) -> bool
     ensures { result ≡ false → IsNotAfter (Some tap.now) other.now }

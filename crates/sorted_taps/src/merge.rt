@@ -18,18 +18,16 @@ use placed_files::Placed;
 use std::alloc::{AllocError, Global};
 use tap_views::{TapFields, Token};
 
-/// Readers of several sorted files, one each, from which the taps of all are taken in canonical
-/// order. A tap takes as many compares as the number of files has binary digits, at most. Each call
-/// gets the files, always the same ones in the same order.
+/// Readers of several sorted files, from which the taps of all are taken in canonical order: a tap
+/// takes as many compares as the number of files has bits. Each call gets the files, in one order.
 #[derive(Drop)]
 pub struct Merge {
     readers: Vec<TapReader>,
-    /// The tree of their heads.
     heads: Vec<Head>,
 }
 
 impl Merge {
-    /// The merge goes on from where the readers stand.
+    /// The merge goes on from where the readers are.
     pub fn of(alloc: Global, readers: Vec<TapReader>) -> Result<Merge, AllocError>
         ensures readers { IfOk result (λ merge. merge.readers ≡ readers) }
         ensures ranked { IfOk result (λ merge. IsRanked merge.readers.items merge.heads.items) }
@@ -54,9 +52,8 @@ impl Merge {
         Ok(Merge::of(alloc, readers)?)
     }
 
-    /// At the first tap of each file whose token is not below this one, if the files are in order
-    /// and in batches of 512 taps: else at other taps, or there is a fault. How many taps are taken
-    /// is counted from there. The window has `WINDOW_BYTES` at least.
+    /// At the first tap of each file whose token is not below this one, in batches of 512 taps in
+    /// order: else at other taps, or a fault. The window has `WINDOW_BYTES` at least.
     pub fn near<F: Placed>(
         alloc: Global,
         files: &[F],
@@ -81,16 +78,15 @@ impl Merge {
         &self.readers
     }
 
-    /// The readers as they stand, in the order of the files.
+    /// The readers as they are, in the order of the files.
     pub fn into_readers(self) -> Vec<TapReader>
         ensures { result ≡ self.readers }
     {
         self.readers
     }
 
-    /// Takes a tap at which a reader stands and before which no reader stands; its reader goes on.
-    /// None if all files are at their ends. After a fault, which is that of the reader, the merge
-    /// is of no use. The window has `WINDOW_BYTES` at least.
+    /// Takes a least tap, and its reader goes on. None if all files are at their ends. After a
+    /// fault, the reader's, the merge is of no use. The window has `WINDOW_BYTES` at least.
     pub fn next<F: Placed>(
         &mut self,
         files: &[F],
@@ -117,11 +113,10 @@ impl Merge {
         Ok(Some(tap))
     }
 
-    /// Takes the next taps of one file into the list: as many as are there in front of those of the
-    /// other files, until the list has `most`, or a token is not below the bound, if there is one.
-    /// Without a bound it takes none only if all files are at their ends. It compares each tap with
-    /// the least of the other files alone. After a fault, which is that of the reader, the merge is
-    /// of no use. The window has `WINDOW_BYTES` at least.
+    /// Takes the next taps of one file into the list, while no other file's is less, up to `most`
+    /// taps or to the bound. Without a bound it takes none only at the ends of all files. It
+    /// compares each tap with one other alone. After a fault, the reader's, the merge is of no use.
+    /// The window has `WINDOW_BYTES` at least.
     pub fn take_run<F: Placed>(
         &mut self,
         files: &[F],
@@ -156,8 +151,6 @@ impl Merge {
         Ok(())
     }
 
-    /// Takes more taps of the file at the index, whose reader has gone on since its head was put
-    /// into the tree.
     fn go_on<F: Placed>(
         &mut self,
         at: usize,

@@ -56,8 +56,7 @@ impl From<WriteFault> for MergeStop {
     }
 }
 
-/// Merges the files as `merge_sorted` does. If one has another stamp than at the begin, it is
-/// refused before the last taps are written.
+/// A file with another stamp than at the begin is refused before the last taps are written.
 fn write_merged<F: Placed, W: Write>(
     alloc: Global,
     files: &[F],
@@ -97,14 +96,11 @@ fn write_merged<F: Placed, W: Write>(
     Err(MergeStop::Refused)
 }
 
-/// Writes all taps of sorted files as one file: in canonical order, in `TAP1` batches of 512, the
-/// last of fewer if need be. Returns how many taps each file has. Of each file some batches are in
-/// memory.
-///
-/// If a file is refused, all are checked in their order, and the fault is that of the first one
-/// that is not sorted: so it is a function of the files. If none is refused then, or a file has
-/// another stamp at the end than at the begin, the fault is `Changed`. After a fault whole batches
-/// may stand in the output, and after a write that failed anything.
+/// Writes all taps of sorted files as one, in canonical order, in `TAP1` batches of 512, and
+/// returns how many each file has. Memory holds some batches of each file. If one is refused, all
+/// are checked, and the fault is that of the first that is not sorted, else `Changed`, as for
+/// another stamp at the end. After a fault whole batches may have been written, and after a failed
+/// write anything.
 pub fn merge_sorted<F: Placed, W: Write>(
     alloc: Global,
     files: &[F],

@@ -1,4 +1,4 @@
-//! Places in sorted files, at which parts of them begin and end.
+//! Positions in sorted files, at which parts of them begin and end.
 
 ghost use Rattle.std.specs.Prelude.{◌≡◌, ◌≤◌, ℕ, List, length, map, IfOk, IfSome, Some};
 ghost use Rattle.sorted_taps.specs.Places.{ArePlaced, DoSpan, IsAt, IsPlacedAnew};
@@ -11,17 +11,17 @@ use placed_files::Placed;
 use std::alloc::Global;
 use tap_views::Token;
 
-/// A place in a file: behind some taps of the batches that begin at an offset. It is found in the
-/// same way by each run that looks for the same token in the same bytes.
+/// A position in a file: after some taps of the batches from an offset on. Each run finds the same
+/// one for a token in the same bytes.
 #[derive(Clone, Copy, Debug, PartialEq, Eq)]
 pub struct Place {
     /// The offset of the first byte of a batch.
     pub offset: u64,
-    /// How many taps of the batches from there on lie before the place.
+    /// How many taps of the batches from there on are before the position.
     pub skip: u64,
 }
 
-/// The taps of a file between two places.
+/// The taps of a file between two positions.
 #[derive(Clone, Copy, Debug, PartialEq, Eq)]
 pub struct FileSpan {
     pub from: Place,
@@ -29,21 +29,20 @@ pub struct FileSpan {
     pub to: Option<Place>,
 }
 
-/// A reader that stands at a place.
+/// A reader that is at a position.
 #[derive(Drop)]
 pub(crate) struct PlacedReader {
     pub(crate) place: Place,
     pub(crate) reader: TapReader,
 }
 
-/// Readers of files, each at the place of its file.
+/// Readers of files, each at the position of its file.
 #[derive(Drop)]
 pub struct PlacedReaders {
     pub places: Vec<Place>,
     pub readers: Vec<TapReader>,
 }
 
-/// A reader at the first tap with this token or a higher one, or at the file's first tap.
 fn placed_reader<F: Placed>(
     alloc: Global,
     file: &F,
@@ -66,10 +65,9 @@ fn placed_reader<F: Placed>(
     }
 }
 
-/// A reader of each file, at its first tap with this token or a higher one, or at its first tap of
-/// all if there is no token. In files of batches of 512 taps each place is found at once. In others
-/// all taps from the last such batch on are read that is known to begin below the token, or from
-/// the file's begin on. The window has `WINDOW_BYTES` at least.
+/// A reader of each file, at its first tap with this token or a higher one, or at its first tap
+/// without a token. Batches of 512 taps are found at once. In others the taps from the last batch
+/// on that is known to begin below the token are read. The window has `WINDOW_BYTES` at least.
 pub fn readers_from<F: Placed>(
     alloc: Global,
     files: &[F],
@@ -94,8 +92,6 @@ pub fn readers_from<F: Placed>(
     Ok(PlacedReaders { places, readers })
 }
 
-/// The span from a place to where the reader stands, if it stands at the file's first tap with the
-/// token of the bound or a higher one, or at the file's end if there is no bound.
 fn span_to<F: Placed>(
     alloc: Global,
     file: &F,
@@ -127,9 +123,9 @@ fn span_to<F: Placed>(
     }
 }
 
-/// The spans from these places to where the readers stand, if each stands at its file's first tap
-/// with the token of the bound or a higher one, or at the file's end if there is no bound. The
-/// window has `WINDOW_BYTES` at least.
+/// The spans from these positions to the readers, if each is at its file's first tap with the
+/// bound's token or a higher one, or at the file's end without a bound. The window has
+/// `WINDOW_BYTES` at least.
 pub fn spans_to<F: Placed>(
     alloc: Global,
     files: &[F],

@@ -1,7 +1,5 @@
-//! Where ranges of tokens begin in files, guessed.
-//!
-//! The guesses suit files of batches of 512 taps that are in order. Nothing rests on them: whether
-//! ranges lie one behind the other is seen where they are joined.
+//! Hints of where ranges of tokens begin in sorted files of batches of 512 taps. Nothing rests on
+//! them: whether ranges join is checked later.
 
 ghost use Rattle.std.specs.Prelude.{◌≤◌, IfOk, IfSome, length};
 ghost use Rattle.sorted_taps.specs.Places.{IsPlacedAnew};
@@ -22,7 +20,6 @@ const BATCH_BYTES: u64 = FIRST_READ_BYTES as u64;
 /// The header of a `TAP1` batch of 512 taps.
 const FULL_HEADER: [u8; TAP1_HEADER_BYTES] = *b"TAP1\x02\x00\x00\x00";
 
-/// A tap begins with its token.
 const TOKEN_BYTES: usize = 16;
 
 /// Files of fewer batches together are not worth ranges.
@@ -31,7 +28,7 @@ const SHORT_BATCHES: u64 = 64;
 /// How many taps in front of a range are passed at most.
 const PASSED_TAPS: u64 = 1024;
 
-/// The number of batches of the file, if all have 512 taps but for the last.
+/// If all have 512 taps but for the last.
 fn batches_in<F: Placed>(file: &F) -> Result<u64, SortedFault> {
     match file.stamp() {
         Ok(stamp) => Ok(stamp.bytes / BATCH_BYTES + 1),
@@ -39,7 +36,7 @@ fn batches_in<F: Placed>(file: &F) -> Result<u64, SortedFault> {
     }
 }
 
-/// The token of the tap with this number, counted from 0, or none if the file ends before it.
+/// Counted from 0; none if the file ends before it.
 pub(crate) fn token_at<F: Placed>(file: &F, tap: u64) -> Result<Option<Token>, SortedFault> {
     let place = TAP1_HEADER_BYTES as u64 + tap % BATCH_TAPS * TAP1_TAP_BYTES as u64;
     let Some(batch) = (tap / BATCH_TAPS).checked_mul(BATCH_BYTES) else {
@@ -53,8 +50,7 @@ pub(crate) fn token_at<F: Placed>(file: &F, tap: u64) -> Result<Option<Token>, S
     Ok(Some(Token::of(&bytes)))
 }
 
-/// The token of the first tap of the batch with this number, counted from 0, if all before it have
-/// 512 taps and so has this one; none if it has not.
+/// Of the batch with this number, if all before it have 512 taps and so has this one.
 fn first_token<F: Placed>(file: &F, batch: u64) -> Result<Option<Token>, SortedFault> {
     let Some(offset) = batch.checked_mul(BATCH_BYTES) else {
         return Ok(None);
@@ -67,8 +63,8 @@ fn first_token<F: Placed>(file: &F, batch: u64) -> Result<Option<Token>, SortedF
     Ok(Some(Token::of(&bytes[TAP1_HEADER_BYTES..])))
 }
 
-/// The offset of a batch of 512 taps that begins with a token below this one, and if all batches
-/// have 512 taps, is followed by at most one that does; 0 if there is none.
+/// The offset of a batch of 512 taps that begins with a token below this one. If all have 512 taps,
+/// at most one such batch follows. 0 if there is none.
 fn offset_below<F: Placed>(file: &F, token: Token) -> Result<u64, SortedFault> {
     let mut low = 0u64;
     let mut high = batches_in(file)?;
@@ -82,8 +78,7 @@ fn offset_below<F: Placed>(file: &F, token: Token) -> Result<u64, SortedFault> {
     Ok(low.saturating_mul(BATCH_BYTES))
 }
 
-/// A reader at the first tap of the file that has this token or a higher one, and its place. It is
-/// sought among the taps of batches from a place on that serves, at most `most` of them.
+/// It is sought among the taps of batches from a sufficient position on, at most `most` of them.
 pub(crate) fn reader_from<F: Placed>(
     alloc: Global,
     file: &F,
@@ -112,8 +107,7 @@ pub(crate) fn reader_from<F: Placed>(
     Err(SortedFault::Unread)
 }
 
-/// A reader at the first tap of the file that has this token or a higher one, if no more than
-/// `PASSED_TAPS` taps are passed on the way.
+/// None if more than `PASSED_TAPS` taps are passed on the way.
 pub(crate) fn reader_near<F: Placed>(
     alloc: Global,
     file: &F,
@@ -126,7 +120,6 @@ pub(crate) fn reader_near<F: Placed>(
     Ok(reader)
 }
 
-/// The longest of the files, if there is one.
 fn longest<F: Placed>(files: &[F]) -> Result<Option<&F>, SortedFault> {
     let mut most = 0u64;
     let mut longest = None;
@@ -140,7 +133,6 @@ fn longest<F: Placed>(files: &[F]) -> Result<Option<&F>, SortedFault> {
     Ok(longest)
 }
 
-/// The number of batches of all files, about.
 fn all_batches<F: Placed>(files: &[F]) -> Result<u64, SortedFault> {
     let mut batches = 0u64;
     for file in files {
@@ -149,9 +141,8 @@ fn all_batches<F: Placed>(files: &[F]) -> Result<u64, SortedFault> {
     Ok(batches)
 }
 
-/// At most `most` tokens, rising, between which the taps of the files lie in ranges of about the
-/// same number. They are fewer if a token has the taps of several ranges, and none if the files are
-/// short.
+/// At most `most` tokens, increasing, between which the files' taps are in ranges of about equal
+/// size. Fewer if a token has the taps of several ranges, and none if the files are short.
 pub fn bounds_of<F: Placed>(
     alloc: Global,
     files: &[F],

@@ -18,18 +18,15 @@ use std::cmp::Ordering;
 use tap_parts::compare;
 use tap_views::TapFields;
 
-/// A place in a file's taps: it stands at a tap, or at the file's end. It keeps the batches that it
-/// read last, some 600 taps at most, or one batch if that has more. Each call that goes on gets the
-/// file, always the same one, and a window that readers of many files may share.
+/// A position in a file's taps: at a tap, or at the end. It stores the batches that it read last,
+/// some 600 taps or one batch. Each call gets the same file, and readers may share the window.
 #[derive(Drop)]
 pub struct TapReader {
     /// The offset of the first byte that was not decoded.
     offset: u64,
-    /// Taps in front of that byte.
     taps: Vec<TapFields>,
-    /// The index among them of the tap at which it stands: their number at the file's end.
+    /// The index among them of its tap: their number at the file's end.
     next: usize,
-    /// How many taps it has passed since it began.
     passed: u64,
 }
 
@@ -51,8 +48,7 @@ fn are_same(one: &[TapFields], other: &[TapFields]) -> bool
 }
 
 impl TapReader {
-    /// At the first tap of the batches that begin at this offset, or at the file's end if there is
-    /// none. The window has `WINDOW_BYTES` at least.
+    /// At the first tap of the batches at this offset, or at the end. The window: `WINDOW_BYTES`.
     pub fn at<F: Placed>(
         alloc: Global,
         file: &F,
@@ -75,7 +71,7 @@ impl TapReader {
         Ok(reader)
     }
 
-    /// The tap at which it stands, or none at the file's end.
+    /// The tap at which it is, or none at the file's end.
     pub fn head(&self) -> Option<&TapFields>
         ensures { MatchOption result (ahead self.now ≡ [])
             (λ tap. (rest : List TapFields) × (ahead self.now ≡ tap.now ∷ rest)) }
@@ -90,7 +86,6 @@ impl TapReader {
         self.passed
     }
 
-    /// A reader at the same tap, which keeps none of those in front of it.
     pub(crate) fn copy(&self, alloc: Global) -> Result<TapReader, AllocError>
         ensures { IfOk result (λ copy. StandsAs 0 self.now copy) }
     {
@@ -104,21 +99,18 @@ impl TapReader {
         })
     }
 
-    /// The taps in memory from the one on at which it stands.
     fn ahead(&self) -> &[TapFields]
         ensures { result.now ≡ ahead self.now }
     {
         self.taps.get(self.next..).unwrap_or(&[])
     }
 
-    /// Counts the taps that it passes from 0 on.
     pub(crate) fn count_anew(&mut self)
         ensures { self.new ≡ record self.old { passed = 0 } }
     {
         self.passed = 0;
     }
 
-    /// Counts the taps that another has passed as well. No if they are too many.
     pub(crate) fn count_on(&mut self, other: &TapReader) -> bool
         ensures { IsTrue result → StandsAs other.now.passed self.new self.old }
     {
@@ -131,7 +123,6 @@ impl TapReader {
         }
     }
 
-    /// Whether it stands where the other one stands, which has passed no tap.
     pub(crate) fn is_at(&self, other: &TapReader) -> bool
         ensures { IsTrue result → StandsAs self.now.passed self.now other.now }
     {
@@ -143,9 +134,8 @@ impl TapReader {
         are_same(here, there)
     }
 
-    /// Goes on to the next tap, or to the file's end. If that tap is before the one at which it
-    /// stood, or the file goes on with no batch, this is the fault. After a fault the reader is of
-    /// no use. The window has `WINDOW_BYTES` at least.
+    /// Goes on to the next tap, or to the file's end. A tap before the last one, or no batch, is a
+    /// fault: after it the reader is of no use. The window has `WINDOW_BYTES` at least.
     pub fn advance<F: Placed>(&mut self, file: &F, window: &mut [u8]) -> Result<(), SortedFault>
         requires window { window_bytes ≤ length window.old }
         requires head { 0 < length (ahead self.old) }
@@ -166,7 +156,6 @@ impl TapReader {
         Ok(())
     }
 
-    /// Goes on to the next tap, in whatever order, or to the file's end.
     fn move_on<F: Placed>(&mut self, file: &F, window: &mut [u8]) -> Result<(), SortedFault>
         requires window { window_bytes ≤ length window.old }
         requires head { 0 < length (ahead self.old) }
@@ -182,7 +171,6 @@ impl TapReader {
         self.refill(file, window)
     }
 
-    /// Whether the tap at which it stands, if there is one, is before this tap.
     fn is_before(&self, last: &TapFields) -> bool
         ensures no { result ≡ false → BeginsNotBefore last.now (ahead self.now) }
         ensures yes { result ≡ true → BeginsBefore last.now (ahead self.now) }
@@ -193,7 +181,6 @@ impl TapReader {
         }
     }
 
-    /// Reads on behind the taps in memory, none of which is wanted any more.
     fn refill<F: Placed>(&mut self, file: &F, window: &mut [u8]) -> Result<(), SortedFault>
         requires { window_bytes ≤ length window.old }
         ensures kept { OnOk result (IfSome (F.bytes file.now)

@@ -10,7 +10,6 @@ use crate::reader::TapReader;
 use placed_files::Placed;
 use tap_views::{TapFields, Token};
 
-/// Whether the tap's token is below the bound, if there is one.
 #[inline(always)]
 pub(crate) fn is_below(tap: &TapFields, below: Option<Token>) -> bool
     ensures { below ≡ None → result ≡ true }
@@ -21,8 +20,6 @@ pub(crate) fn is_below(tap: &TapFields, below: Option<Token>) -> bool
     }
 }
 
-/// Takes taps of the reader into the list, until it has `most`, or the next one is after the other
-/// tap, or its token is not below the bound.
 pub(crate) fn take_run<F: Placed>(
     reader: &mut TapReader,
     file: &F,

@@ -1,6 +1,5 @@
-//! Bounds of parts of files, from a sample of the files' tokens.
-//!
-//! The sample suits files of batches of 512 taps. Nothing but speed rests on it.
+//! Bounds of parts of files, from a sample of the files' tokens, which suits batches of 512 taps.
+//! Nothing but speed rests on it.
 
 ghost use Rattle.std.specs.Prelude.{◌≡◌, ◌+◌, ◌-◌, ◌<◌, ◌≤◌, IfOk, IsTrue, OnOk, get_or, length};
 ghost use Rattle.std.specs.declared.cmp.Ordering.TheVariants.{Less};
@@ -21,7 +20,7 @@ const PART_TOKENS: u64 = 64;
 /// How many tokens are read of all files at most.
 const MOST_TOKENS: u64 = 65_536;
 
-/// The number of the file's taps, if all batches have 512 but for the last.
+/// If all batches have 512 but for the last.
 fn taps_in<F: Placed>(file: &F) -> Result<u64, SortedFault> {
     let Ok(stamp) = file.stamp() else {
         return Err(SortedFault::Unread);
@@ -32,8 +31,7 @@ fn taps_in<F: Placed>(file: &F) -> Result<u64, SortedFault> {
     Ok(full.saturating_add(last / TAP1_TAP_BYTES as u64))
 }
 
-/// Adds the tokens of the taps at these equal distances from the first one on, and returns how far
-/// behind the file's end the next one would be.
+/// At equal distances. Returns how far after the file's end the next one would be.
 fn push_tokens<F: Placed>(
     file: &F,
     first: u64,
@@ -54,7 +52,7 @@ fn push_tokens<F: Placed>(
     Ok(tap.saturating_sub(taps))
 }
 
-/// Tokens of all files at equal distances, rising.
+/// At equal distances, in increasing order.
 fn sample_of<F: Placed>(alloc: Global, files: &[F], most: u64) -> Result<Vec<Token>, SortedFault>
     requires { 1 ≤ most }
 {
@@ -72,7 +70,6 @@ fn sample_of<F: Placed>(alloc: Global, files: &[F], most: u64) -> Result<Vec<Tok
     Ok(tokens)
 }
 
-/// Whether the token is above the last bound, or above the least token if there is no bound.
 fn is_above(bounds: &[Token], least: Token, token: Token) -> bool
     ensures { IsTrue result → (d : AToken) → 0 < length bounds.now
         → token_cmp (get_or bounds.now (length bounds.now - 1) d) token ≡ Less }
@@ -83,7 +80,6 @@ fn is_above(bounds: &[Token], least: Token, token: Token) -> bool
     }
 }
 
-/// Adds the token if it is above the last bound, or above the least token if there is no bound.
 fn push_above(bounds: &mut Vec<Token>, least: Token, token: Token) -> Result<(), AllocError>
     requires { DoTokensRise bounds.old.items }
     ensures few { OnOk result (length bounds.new.items ≤ length bounds.old.items + 1) }
@@ -95,7 +91,7 @@ fn push_above(bounds: &mut Vec<Token>, least: Token, token: Token) -> Result<(),
     Ok(())
 }
 
-/// At most `most` of the tokens, which rise, at equal distances: each once, and not the first one.
+/// At equal distances: each once, and not the first one.
 fn picked(alloc: Global, tokens: &[Token], most: u32) -> Result<Vec<Token>, AllocError>
     ensures few { IfOk result (λ bounds. length bounds.items ≤ most) }
     ensures rise { IfOk result (λ bounds. DoTokensRise bounds.items) }
@@ -113,8 +109,8 @@ fn picked(alloc: Global, tokens: &[Token], most: u32) -> Result<Vec<Token>, Allo
     Ok(bounds)
 }
 
-/// At most `most` tokens, rising: bounds of parts of about as many taps, by a sample of all files.
-/// They are fewer if a token has the taps of several parts, or if the files are short.
+/// At most `most` tokens, increasing: bounds of parts of about equal size, by a sample of all
+/// files. Fewer if a token has the taps of several parts, or if the files are short.
 pub fn bounds_of_parts<F: Placed>(
     alloc: Global,
     files: &[F],

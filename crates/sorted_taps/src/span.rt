@@ -1,4 +1,4 @@
-//! Taps that were taken between two places of merged files.
+//! Taps that were taken between two positions of merged files.
 
 ghost use Rattle.std.specs.Prelude.{◌≡◌, ◌<◌, ◌≤◌, ◌++◌, ℕ, List, length, map, IfOk, IfSome};
 ghost use Rattle.std.specs.Prelude.{IsTrue};
@@ -15,12 +15,12 @@ use crate::reader::TapReader;
 use placed_files::Placed;
 use std::alloc::{AllocError, Global};
 
-/// Where readers of files stood before some taps were taken, and where they stood behind them.
+/// Where readers of files were before some taps were taken, and where they were after them.
 #[derive(Drop)]
 pub struct Span {
     /// Copies of the readers as they were before.
     pub begin: Vec<TapReader>,
-    /// The readers as they were behind.
+    /// The readers as they were after.
     pub end: Vec<TapReader>,
 }
 
@@ -42,7 +42,7 @@ pub fn begun<F: Placed>(
     Ok(readers)
 }
 
-/// Readers that stand as these do.
+/// Readers that are where these are.
 pub fn copies_of(alloc: Global, readers: &[TapReader]) -> Result<Vec<TapReader>, AllocError>
     ensures { IfOk result (λ copies. StandAs readers.now copies.items) }
 {
@@ -53,7 +53,7 @@ pub fn copies_of(alloc: Global, readers: &[TapReader]) -> Result<Vec<TapReader>,
     Ok(copies)
 }
 
-/// The readers behind the taps of a span that begins where they stand; none if it begins elsewhere.
+/// The readers after the taps of a span that begins where they are; none if it begins elsewhere.
 pub fn joined(readers: &[TapReader], span: Span) -> Option<Vec<TapReader>>
     ensures { IfSome result (λ end. (files : List (List ℕ)) (from : List TapReader)
         (before taps : List TapFields) → HaveCome files from before readers.now

@@ -20,9 +20,8 @@ pub fn stamps_of<F: Placed>(alloc: Global, files: &[F]) -> Result<Vec<FileStamp>
     Ok(stamps)
 }
 
-/// Whether the files have these stamps. So a file whose bytes were written since has not, also if
-/// its time of the last write was set back; nor has one that was renamed or replaced. A file whose
-/// stamp cannot be read has not.
+/// Whether the files have these stamps: false for one that was written since, also if its time was
+/// set back, that was renamed or replaced, or whose stamp cannot be read.
 pub fn have_stamps<F: Placed>(files: &[F], stamps: &[FileStamp]) -> bool {
     for (file, old) in files.iter().zip(stamps) {
         match file.stamp() {

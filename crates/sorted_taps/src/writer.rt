@@ -13,7 +13,7 @@ use std::alloc::Global;
 use std::io::Write;
 use tap_views::{TAP1_HEADER_BYTES, TAP1_TAP_BYTES, TapFields, put_batch};
 
-/// The taps of a batch. A reader of a file keeps one: 16 KiB.
+/// The taps of a batch. A reader of a file stores one: 16 KiB.
 pub(crate) const BATCH_TAPS: usize = 512;
 
 const BATCH_BYTES: usize = TAP1_HEADER_BYTES + BATCH_TAPS * TAP1_TAP_BYTES;
@@ -32,7 +32,6 @@ fn write_batch<W: Write>(alloc: Global, taps: &[TapFields], out: &mut W) -> Resu
     }
 }
 
-/// Adds a tap to those that wait. If a batch of them waits already, it is written first.
 pub(crate) fn put<W: Write>(
     alloc: Global,
     tap: &TapFields,
@@ -75,7 +74,6 @@ pub(crate) fn put_rest<W: Write>(
     write_batch(alloc, waiting, out)
 }
 
-/// Adds the taps to those that wait, and writes the batches that are full meanwhile.
 fn put_all<W: Write>(
     alloc: Global,
     taps: &[TapFields],
@@ -99,9 +97,9 @@ fn put_all<W: Write>(
     Ok(())
 }
 
-/// Writes the taps of the lists, one list behind the other, as a file of `TAP1` batches of 512
-/// taps, the last of fewer if need be. The moments are before 2100. After refused memory whole
-/// batches may stand in the output, and after a write that failed anything.
+/// Writes the taps of the lists, one after the other, as a file of `TAP1` batches of 512 taps, the
+/// last of fewer. Moments are before 2100. After an allocation failure whole batches may have been
+/// written, and after a failed write anything.
 pub fn write_taps<W: Write>(
     alloc: Global,
     lists: &[Vec<TapFields>],
