@@ -1,4 +1,4 @@
-//! The good taps of uploads, written as one sorted file.
+//! The valid taps of uploads, written as one sorted file.
 #![tactic(auto)]
 
 ghost use Rattle.std.specs.Prelude.{◌≡◌, IfErr, IfOk, flat_map, map};
@@ -16,12 +16,10 @@ use std::thread::Threads;
 use tap_views::{NoMemory, UploadEnd};
 use world::Trace;
 
-/// Writes the good taps of the uploads as one file: in canonical order, in `TAP1` batches of 512,
-/// the last of fewer if need be. Returns how each upload ends. All taps are in memory. `workers`
-/// threads, 64 at most, order them: what is written does not depend on their number.
-///
-/// After refused memory whole batches may stand in the output, and after a write that failed
-/// anything.
+/// Writes the valid taps of the uploads as one file, in canonical order, in `TAP1` batches of 512,
+/// the last of fewer, and returns how each upload ends. All taps are in memory. `workers` threads,
+/// 64 at most, order them with the same result. After an allocation failure whole batches may have
+/// been written, and after a failed write anything.
 #[tactic(auto, using(crate::proofs::Unwritten::nothing_begun))]
 pub fn sort_uploads<R: Threads + Sync, W: Write>(
     rt: &R,
