@@ -3,17 +3,13 @@
 use crate::column::Column;
 use std::alloc::{AllocError, AllocFailed};
 
-/// Why a tap table is not turned into an upload, or an upload into a tap table.
+/// Why a tap table is not turned into an upload, or an upload into a tap table. The head is line 1.
 #[derive(Clone, Copy, Debug, PartialEq, Eq)]
 pub enum RowsFault {
     /// The first line is not `token,validator,moment`.
     Head,
-    /// A line is the row of no tap.
-    Row {
-        /// The number of the line; the head is line 1.
-        number: u64,
-        column: Column,
-    },
+    /// A line is not the row of a tap.
+    Row { number: u64, column: Column },
     Unread,
     /// The table was another one when it was read again.
     Changed,

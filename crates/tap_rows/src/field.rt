@@ -1,10 +1,9 @@
-//! The fields of a line, and the values that they stand for.
+//! The fields of a line, and the values that they represent.
 
 ghost use Rattle.std.specs.Prelude.{◌≡◌, ◌++◌, ◌∷◌, ◌↔◌, ℕ, List};
 ghost use Rattle.std.specs.Prelude.{IsTrue, MatchOption};
 ghost use Rattle.tap_rows.specs.Fields.{AreFields, HasNoComma, FieldStandsFor};
 
-/// What stands before the first comma and behind it, or nothing if there is no comma.
 fn split_at_comma(line: &[u8]) -> Option<(&[u8], &[u8])>
     ensures { MatchOption result (HasNoComma line.now)
         (λ (field, rest). HasNoComma field.now × (line.now ≡ field.now ++ 44 ∷ rest.now)) }
@@ -13,7 +12,6 @@ fn split_at_comma(line: &[u8]) -> Option<(&[u8], &[u8])>
     Some((&line[..at], &line[at + 1..]))
 }
 
-/// The texts of a line's three fields, if it has three.
 pub(crate) fn three_fields(line: &[u8]) -> Option<(&[u8], &[u8], &[u8])>
     ensures { MatchOption result ((first second third : List ℕ)
         → ¬ (AreFields line.now first second third))
@@ -31,7 +29,6 @@ pub(crate) fn three_fields(line: &[u8]) -> Option<(&[u8], &[u8], &[u8])>
     Some((first, second, third))
 }
 
-/// The value that a field's text stands for: the text, or what it has between two double quotes.
 pub(crate) fn value_of(field: &[u8]) -> Option<&[u8]>
     ensures { MatchOption result ((value : List ℕ)
         → ¬ (FieldStandsFor field.now value)) (λ value. FieldStandsFor field.now value.now) }

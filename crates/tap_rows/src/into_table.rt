@@ -28,7 +28,6 @@ fn put<W: Write>(out: &mut W, bytes: &[u8]) -> Result<(), RowsFault>
     }
 }
 
-/// Appends a tap's row, with its line feed.
 fn push_row(text: &mut Vec<u8>, tap: &TapView) -> Result<(), RowsFault>
     ensures row { OnOk result (text.new.items ≡ text.old.items ++ row_text (fields_of tap.now)) }
     ensures fault { IfErr result (λ fault. fault ≡ RowsFault.NoMemory) }
@@ -46,7 +45,6 @@ fn push_row(text: &mut Vec<u8>, tap: &TapView) -> Result<(), RowsFault>
     Ok(())
 }
 
-/// Puts the rows of a batch in place of what `text` holds.
 fn fill(text: &mut Vec<u8>, batch: &Batch) -> Result<(), RowsFault>
     ensures rows { OnOk result (text.new.items ≡ rows_text (map fields_of batch.now)) }
     ensures fault { IfErr result (λ fault. fault ≡ RowsFault.NoMemory) }
@@ -58,7 +56,7 @@ fn fill(text: &mut Vec<u8>, batch: &Batch) -> Result<(), RowsFault>
     Ok(())
 }
 
-/// Writes the head line of a table.
+/// Writes the header line of a table.
 pub fn write_head<W: Write>(out: &mut W) -> Result<(), RowsFault>
     ensures head { OnOk result
         (Appends (W.contents out.old) (W.contents out.new) (head ++ 10 ∷ [])) }
@@ -69,9 +67,8 @@ pub fn write_head<W: Write>(out: &mut W) -> Result<(), RowsFault>
     put(out, b"token,validator,moment\n")
 }
 
-/// Writes the rows of an upload's taps, without a head line: of all of them, or of those before its
-/// first layout fault, which is given with the offset of its batch in bytes. After an error a
-/// beginning of these rows is written: a write failed, or memory was refused.
+/// Writes the rows of an upload's taps, without a header line, up to its first layout fault, which
+/// is returned with its batch's offset in bytes. After an error a prefix of them is written.
 pub fn decode<W: Write>(
     alloc: Global,
     file: &[u8],

@@ -17,7 +17,6 @@ use std::alloc::Global;
 use std::io::{BufRead, Write};
 use tap_views::{EncodeFault, MAX_TAPS, TapFields};
 
-/// Why taps that may stand in one batch were not encoded.
 fn why(fault: EncodeFault) -> RowsFault
     requires { fault ≡ EncodeFault.NoMemory }
     ensures { result ≡ RowsFault.NoMemory }
@@ -28,7 +27,6 @@ fn why(fault: EncodeFault) -> RowsFault
     }
 }
 
-/// Writes these taps as one batch; nothing if there are none.
 pub(crate) fn write_batch<W: Write>(
     alloc: Global,
     taps: &[TapFields],
@@ -51,7 +49,6 @@ pub(crate) fn write_batch<W: Write>(
     }
 }
 
-/// Writes the taps of a table as they are read, in full batches but the last. Gives their number.
 fn write_taps<R: BufRead, W: Write>(
     alloc: Global,
     table: &mut R,
@@ -86,7 +83,7 @@ fn write_taps<R: BufRead, W: Write>(
     Err(RowsFault::Unread)
 }
 
-/// The fault of a table that had none when it was read first: then its rows have changed.
+/// The table had no fault when it was read first: its rows have changed.
 fn when_read_again(fault: RowsFault) -> RowsFault
     ensures changed { IsOfTapTable fault → result ≡ RowsFault.Changed }
     ensures other { (¬ (IsOfTapTable fault)) → result ≡ fault }
@@ -98,9 +95,8 @@ fn when_read_again(fault: RowsFault) -> RowsFault
     }
 }
 
-/// Writes the upload of a table: `TAP1` batches of 4,096 taps, the last of fewer. The table is read
-/// twice, from two readers of it, so that nothing is written if a row is bad. After another error a
-/// beginning of an upload of the first of its taps is written.
+/// Writes the upload of a table, in `TAP1` batches of 4,096 taps. The table is read twice, so that
+/// nothing is written if a row is bad, and a prefix after another error.
 pub fn encode<R: BufRead, S: BufRead, W: Write>(
     alloc: Global,
     table: &mut R,

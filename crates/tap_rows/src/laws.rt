@@ -1,5 +1,4 @@
-//! What tables and uploads promise each other. Each law is the contract of a function, which does
-//! nothing at run time.
+//! Theorems about tables and uploads, each the contract of a function that does nothing.
 
 ghost use Rattle.std.specs.Prelude.{◌≡◌, ◌<◌, ℕ, List, None, Option};
 ghost use Rattle.std.specs.List.{AllByRecursion};
@@ -20,7 +19,7 @@ ghost use Rattle.tap_views.specs.Layout.{Tap, moment_limit};
 ghost use Rattle.tap_views.specs.declared.encoder.TapFields.{TapFields};
 ghost use Rattle.tap_views.specs.declared.fault.LayoutFault.{LayoutFault};
 
-/// A line is the row of at most one tap, and then it is no bad row.
+/// A line is the row of at most one tap, and then it is not a bad row.
 pub fn one_row()
     ensures tap { (line : List ℕ) (tap other : TapFields) → IsTapRow line tap → IsTapRow line other
         → tap ≡ other }
@@ -42,8 +41,7 @@ pub fn reads_back()
         → IsTapTable (tap_table_text taps) taps }
 {}
 
-/// The moment's text in UTC is read as this moment: with three places of a second, as ledgers have
-/// it, and without them, if it is a whole number of seconds.
+/// A moment's text in UTC is read as this moment, with milliseconds or without them if they are 0.
 pub fn reads_utc()
     ensures civil { (moment : ℕ) (text : List ℕ) → moment < moment_limit → IsCivilText moment text
         → IsMoment text moment }
@@ -51,8 +49,7 @@ pub fn reads_utc()
         → IsSecondText moment text → IsMoment text moment }
 {}
 
-/// An agency's CSV is read in one way at most: it has one head and one list of rows, and each row
-/// has one reading.
+/// An agency's CSV is read in at most one way: one head, one list of rows, a reading for each row.
 pub fn one_reading_of_rows()
     ensures { (choice : Choice) (text : List ℕ) (head other : List (List ℕ))
         (rows others : List (List (List ℕ))) (readings again : List Reading)
@@ -60,8 +57,7 @@ pub fn one_reading_of_rows()
         → (head ≡ other) × (rows ≡ others) × (readings ≡ again) }
 {}
 
-/// A text is the device table of at most one list of devices, and then only want of memory can keep
-/// it from being read.
+/// A text is the device table of at most one list of devices, and then only memory can be missing.
 pub fn one_device_table()
     ensures devices { (separator : Separator) (text : List ℕ) (devices others : List Device)
         → AreDevices separator text devices → AreDevices separator text others → devices ≡ others }
@@ -70,8 +66,7 @@ pub fn one_device_table()
         → IsDevicesFault separator text fault → fault ≡ DevicesFault.NoMemory }
 {}
 
-/// What an upload of some taps is read as, when it is decoded: these taps, in their order, and no
-/// layout fault.
+/// An upload of some taps is decoded as these taps, in their order, without a layout fault.
 pub fn decodes_back(upload: &[u8])
     ensures { (taps : List TapFields) (batches : List (List Tap)) (fault : Option (ℕ × LayoutFault))
         → IsFileOf upload.now taps → IsReadAs upload.now batches fault → (fields_in batches ≡ taps)

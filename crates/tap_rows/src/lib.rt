@@ -1,5 +1,4 @@
-//! Taps as CSV: a table with a head line and a row for each tap, read into uploads and written from
-//! them.
+//! Taps as CSV: a header line and a row for each tap, read into uploads and written from them.
 #![tactic(auto)]
 
 mod agency;

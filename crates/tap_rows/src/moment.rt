@@ -8,10 +8,8 @@ ghost use Rattle.tap_rows.specs.Moments.{HasUtcPunctuation, IsDecimal, IsMoment,
 use jiff_fmt::temporal::parse_timestamp;
 use tap_views::MOMENT_LIMIT_MS;
 
-/// A millisecond in nanoseconds.
 const MILLISECOND_NANOS: u128 = 1_000_000;
 
-/// The number that decimal digits write, if it has 64 bits at most.
 pub(crate) fn number_of(field: &[u8]) -> Option<u64>
     ensures { MatchOption result ((number : ℕ) → number < 2 ^ 64
         → ¬ (IsDecimal field.now number)) (λ number. IsDecimal field.now number) }
@@ -25,7 +23,6 @@ pub(crate) fn number_of(field: &[u8]) -> Option<u64>
     }
 }
 
-/// Whether a text has the marks of `2024-03-08T17:00:00Z` in their places.
 fn has_utc_marks(text: &[u8]) -> bool
     ensures { IsTrue result ↔ HasUtcPunctuation text.now }
 {
@@ -36,7 +33,6 @@ fn has_utc_marks(text: &[u8]) -> bool
         && text[text.len() - 1] == b'Z'
 }
 
-/// Nanoseconds as milliseconds, if they are a whole number of them.
 fn whole_milliseconds(nanoseconds: i128) -> Option<u64>
     ensures { MatchOption result ((number : ℕ) → number < 2 ^ 64
         → ¬ (nanoseconds ≡ pos (number * 1_000_000)))
@@ -50,7 +46,6 @@ fn whole_milliseconds(nanoseconds: i128) -> Option<u64>
     }
 }
 
-/// The milliseconds of the instant that a text gives, if they are a whole number.
 pub(crate) fn instant_of(text: &[u8]) -> Option<u64>
     ensures { MatchOption result ((number : ℕ) → number < 2 ^ 64
         → ¬ (parse_timestamp text.now ≡ Ok (pos (number * 1_000_000))))
@@ -62,7 +57,6 @@ pub(crate) fn instant_of(text: &[u8]) -> Option<u64>
     }
 }
 
-/// The milliseconds that a field gives in one of the two ways.
 fn time_of(field: &[u8]) -> Option<u64>
     ensures { MatchOption result ((number : ℕ) → number < 2 ^ 64
         → ¬ (IsTime field.now number)) (λ number. IsTime field.now number) }
@@ -74,7 +68,6 @@ fn time_of(field: &[u8]) -> Option<u64>
     }
 }
 
-/// The moment that a field gives, in milliseconds since 1970-01-01T00:00Z.
 pub(crate) fn moment_in(field: &[u8]) -> Option<u64>
     ensures { MatchOption result ((number : ℕ)
         → ¬ (IsMoment field.now number)) (λ number. IsMoment field.now number) }

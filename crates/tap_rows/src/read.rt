@@ -16,7 +16,6 @@ use std::alloc::Global;
 use std::io::{BufRead, ErrorKind};
 use tap_views::TapFields;
 
-/// The bytes without the last one, if that is this byte.
 fn without_last(line: &[u8], byte: u8) -> &[u8]
     ensures { result.now ≡ strip_last byte line.now }
 {
@@ -27,7 +26,6 @@ fn without_last(line: &[u8], byte: u8) -> &[u8]
     }
 }
 
-/// A line without its line feed, and without a carriage return before that.
 fn without_end(line: &[u8]) -> &[u8]
     ensures { result.now ≡ (if ends_with_byte 10 line.now
         then strip_last 13 (strip_last 10 line.now) else strip_last 10 line.now) }
@@ -39,7 +37,6 @@ fn without_end(line: &[u8]) -> &[u8]
     }
 }
 
-/// Reads the next line, with its line feed, in place of what `line` holds. False if there is none.
 fn read_line<R: BufRead>(text: &mut R, line: &mut Vec<u8>) -> Result<bool, RowsFault>
     ensures line { OnOk result
         (IfSome (R.remaining text.old) (λ left. (line.new.items ≡ take_through 10 left)
@@ -58,7 +55,6 @@ fn read_line<R: BufRead>(text: &mut R, line: &mut Vec<u8>) -> Result<bool, RowsF
     }
 }
 
-/// Whether a line, which is given without its end, is a head line.
 fn is_head(line: &[u8]) -> bool
     ensures { IsTrue result ↔ IsHead line.now }
 {
@@ -87,7 +83,6 @@ pub(crate) fn read_head<R: BufRead>(text: &mut R, line: &mut Vec<u8>) -> Result<
     }
 }
 
-/// Reads the next row, which has this number, as its tap. Nothing if the table ends.
 pub(crate) fn next_row<R: BufRead>(
     text: &mut R,
     line: &mut Vec<u8>,
@@ -106,7 +101,6 @@ pub(crate) fn next_row<R: BufRead>(
     }
 }
 
-/// The number of taps of a table.
 pub(crate) fn check<R: BufRead>(alloc: Global, table: &mut R) -> Result<u64, RowsFault>
     ensures table { IfOk result
         (λ count. IfSome (R.remaining table.old) (λ text. IsTapTableOf text count)) }

@@ -8,7 +8,6 @@ use crate::field::{three_fields, value_of};
 use crate::moment::{moment_in, number_of};
 use tap_views::TapFields;
 
-/// The 16 bytes that 32 hexadecimal digits spell.
 fn token_in(value: &[u8]) -> Option<[u8; 16]>
     ensures { MatchOption result ((token : List ℕ)
         → ¬ (IsToken value.now token)) (λ token. IsToken value.now token) }
@@ -20,7 +19,6 @@ fn token_in(value: &[u8]) -> Option<[u8; 16]>
     }
 }
 
-/// The validator's number that a value writes.
 pub(crate) fn validator_in(value: &[u8]) -> Option<u32>
     ensures { MatchOption result ((number : ℕ)
         → ¬ (IsValidator value.now number)) (λ number. IsValidator value.now number) }
@@ -29,7 +27,6 @@ pub(crate) fn validator_in(value: &[u8]) -> Option<u32>
     u32::try_from(number).ok()
 }
 
-/// The tap of a row, which is given without its line feed; else its first column that is wrong.
 pub(crate) fn tap_of(line: &[u8]) -> Result<TapFields, Column>
     ensures row { IfOk result (IsTapRow line.now) }
     ensures wrong { IfErr result (IsNoTapRow line.now) }

@@ -5,7 +5,7 @@ ghost use Rattle.tap_rows.specs.AgencyTexts.{separator_byte};
 
 use crate::devices::DeviceTable;
 
-/// What stands between two fields.
+/// What is between two fields.
 #[derive(Clone, Copy, Debug, PartialEq, Eq)]
 pub enum Separator {
     Comma,
@@ -28,8 +28,7 @@ impl Separator {
 /// What a plain number of the column of moments counts from 1970-01-01T00:00Z.
 #[derive(Clone, Copy, Debug, PartialEq, Eq)]
 pub enum Unit {
-    /// Milliseconds; nobody said so. Then a moment before 2000 may be one of seconds, and is
-    /// refused.
+    /// Milliseconds by default: a moment before 2000 may then be one of seconds, and is refused.
     Unsaid,
     Seconds,
     Milliseconds,
@@ -46,13 +45,10 @@ pub struct Condition<'a> {
 #[derive(Clone, Copy, Debug)]
 pub struct Choice<'a> {
     pub separator: Separator,
-    /// The name of the column of tokens.
     pub token: &'a [u8],
-    /// The name of the column of validators.
     pub validator: &'a [u8],
     /// The devices whose names are in that column; none if it has the validators' numbers.
     pub devices: Option<&'a DeviceTable>,
-    /// The name of the column of moments.
     pub moment: &'a [u8],
     /// What a plain number in that column counts.
     pub unit: Unit,

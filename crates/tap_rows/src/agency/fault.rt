@@ -9,21 +9,17 @@ pub enum Wanted {
     Token,
     Validator,
     Moment,
-    /// That of the condition at this place.
+    /// That of the condition at this index.
     Only(usize),
 }
 
-/// Why an agency's CSV is not turned into an upload.
+/// Why an agency's CSV is not turned into an upload. The head is row 1.
 #[derive(Clone, Copy, Debug, PartialEq, Eq)]
 pub enum AgencyFault {
-    /// The head has not this column, or more than one of its name.
+    /// The head lacks this column, or has it twice.
     Column(Wanted),
-    /// A row that is kept is no tap.
-    Row {
-        /// The number of the row; the head is row 1.
-        number: u64,
-        reason: Reason,
-    },
+    /// A row that is kept is not a tap.
+    Row { number: u64, reason: Reason },
     Unread,
     /// The text was another one when it was read again.
     Changed,

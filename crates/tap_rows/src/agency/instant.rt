@@ -1,5 +1,4 @@
-//! The moment that a field of an agency's row gives: by a plain number, or by RFC 3339 with `Z` or an
-//! offset.
+//! The moment that a field of an agency's row gives: a number, or RFC 3339 with `Z` or an offset.
 
 ghost use Rattle.std.specs.Prelude.{◌≡◌, ◌<◌, ◌^◌, ◌↔◌, ◌*◌, ℕ, Ok, pos, IsTrue, MatchOption};
 ghost use Rattle.tap_rows.specs.AgencyMoments.{HasClock, HasOffset, IsAgencyMoment, IsAgencyTime};
@@ -11,14 +10,12 @@ use crate::agency::choice::Unit;
 use crate::moment::{instant_of, number_of};
 use tap_views::MOMENT_LIMIT_MS;
 
-/// A second in milliseconds.
 const SECOND_MS: u64 = 1_000;
 
 /// 2000-01-01T00:00Z.
 const YEAR_2000_MS: u64 = 946_684_800_000;
 
-/// Whether a text has the marks of `2024-03-08T17:00:00`, or with a blank for the `T`, in their
-/// places.
+/// Also with a blank for the `T`.
 fn has_clock(text: &[u8]) -> bool
     ensures { IsTrue result ↔ HasClock text.now }
 {
@@ -30,7 +27,6 @@ fn has_clock(text: &[u8]) -> bool
         && text[16] == b':'
 }
 
-/// Whether a text ends with a `Z`, or as `+01:00` does.
 fn has_offset(text: &[u8]) -> bool
     ensures { IsTrue result ↔ HasOffset text.now }
 {
@@ -40,14 +36,12 @@ fn has_offset(text: &[u8]) -> bool
             && text[text.len() - 3] == b':'
 }
 
-/// Whether a text is a time of a clock, and does not say of which.
 pub(crate) fn is_local_time(text: &[u8]) -> bool
     ensures { IsTrue result ↔ IsLocalTime text.now }
 {
     has_clock(text) && !has_offset(text)
 }
 
-/// Whether a time with an offset has no comma before its fraction, and an offset below 24 hours.
 fn keeps_to_rfc(text: &[u8]) -> bool
     ensures { IsTrue result ↔ KeepsToRfc text.now }
 {
@@ -58,7 +52,6 @@ fn keeps_to_rfc(text: &[u8]) -> bool
             || text[text.len() - 5] == b'2' && text[text.len() - 4] < b'4')
 }
 
-/// The milliseconds that a plain number gives.
 fn plain_time_of(unit: Unit, field: &[u8]) -> Option<u64>
     ensures { MatchOption result ((number : ℕ) → number < 2 ^ 64
         → ¬ (IsPlainTime unit field.now number)) (λ number. IsPlainTime unit field.now number) }
@@ -72,7 +65,6 @@ fn plain_time_of(unit: Unit, field: &[u8]) -> Option<u64>
     }
 }
 
-/// The milliseconds that a field gives in one of the two ways.
 fn time_of(unit: Unit, field: &[u8]) -> Option<u64>
     ensures { MatchOption result ((number : ℕ) → number < 2 ^ 64
         → ¬ (IsAgencyTime unit field.now number)) (λ number. IsAgencyTime unit field.now number) }
@@ -88,7 +80,7 @@ fn time_of(unit: Unit, field: &[u8]) -> Option<u64>
     }
 }
 
-/// The earliest moment that is read, in milliseconds since 1970-01-01T00:00Z.
+/// In milliseconds since 1970-01-01T00:00Z.
 fn earliest_ms(unit: Unit) -> u64
     ensures { result ≡ earliest_ms unit }
 {
@@ -98,7 +90,6 @@ fn earliest_ms(unit: Unit) -> u64
     }
 }
 
-/// Whether a field gives a time before the earliest moment that is read.
 pub(crate) fn is_early(unit: Unit, field: &[u8]) -> bool
     ensures { IsTrue result ↔ IsEarly unit field.now }
 {
@@ -111,7 +102,6 @@ pub(crate) fn is_early(unit: Unit, field: &[u8]) -> bool
     false
 }
 
-/// The moment that a field gives, in milliseconds since 1970-01-01T00:00Z.
 pub(crate) fn agency_moment_in(unit: Unit, field: &[u8]) -> Option<u64>
     ensures { MatchOption result ((number : ℕ) → ¬ (IsAgencyMoment unit field.now number))
         (λ number. IsAgencyMoment unit field.now number) }

@@ -11,7 +11,7 @@ use crate::agency::fault::{AgencyFault, Wanted};
 use csv::ByteRecord;
 use std::alloc::Global;
 
-/// Where the columns of a choice are, from 0.
+/// The indices of the columns of a choice.
 #[derive(Drop)]
 pub(crate) struct Places {
     /// How many fields the head has.
@@ -32,7 +32,6 @@ pub(crate) fn has_at(row: &ByteRecord, place: usize, text: &[u8]) -> bool
     }
 }
 
-/// The place of the one field of a head that is this name.
 fn place_of(head: &ByteRecord, name: &[u8]) -> Option<usize>
     ensures { MatchOption result ((place : ℕ) → ¬ (IsColumn (fields_of head.now) name.now place))
         (λ place. IsColumn (fields_of head.now) name.now place) }

@@ -23,14 +23,14 @@ use csv::ByteRecord;
 use tap_views::TapFields;
 use uuid::Uuid;
 
-/// Why a row that is kept is no tap: its first field that is wrong.
+/// Why a row that is kept is not a tap: its first field that is wrong.
 #[derive(Clone, Copy, Debug, PartialEq, Eq)]
 pub enum Reason {
-    /// The row has not as many fields as the head.
+    /// The row and the head have different numbers of fields.
     Fields,
     /// The token's field is neither 32 hexadecimal digits nor a UUID.
     Token,
-    /// The validator's field is no decimal number below 2^32.
+    /// The validator's field is not a decimal number below 2^32.
     Validator,
     /// Devices are named, and none has the validator's field as its name.
     Device,
@@ -49,11 +49,10 @@ pub enum Reading {
     Tap(TapFields),
     /// It is not kept.
     LeftOut,
-    /// It is no tap, for this reason.
+    /// It is not a tap, for this reason.
     Refused(Reason),
 }
 
-/// The 16 bytes that 32 hexadecimal digits or a UUID spell.
 fn token_text_in(value: &[u8]) -> Option<[u8; 16]>
     ensures { MatchOption result ((token : List ℕ)
         → ¬ (IsTokenText value.now token)) (λ token. IsTokenText value.now token) }
@@ -77,7 +76,6 @@ fn is_kept(only: &[Condition<'_>], places: &[usize], row: &ByteRecord) -> bool
     true
 }
 
-/// The field at a place; empty if there is none.
 pub(crate) fn field_in(row: &ByteRecord, place: usize) -> &[u8]
     ensures { place < length (fields_of row.now)
         → field_at (fields_of row.now) place ≡ Some result.now }
@@ -88,7 +86,6 @@ pub(crate) fn field_in(row: &ByteRecord, place: usize) -> &[u8]
     }
 }
 
-/// The validator whose number a field writes.
 fn number_in(field: &[u8]) -> Result<u32, Reason>
     ensures number { IfOk result (IsValidator field.now) }
     ensures wrong { IfErr result
@@ -100,7 +97,6 @@ fn number_in(field: &[u8]) -> Result<u32, Reason>
     }
 }
 
-/// The validator of the device whose name a field is.
 fn device_in(devices: &DeviceTable, field: &[u8]) -> Result<u32, Reason>
     ensures number { IfOk result
         (λ number. validator_of (devices_of devices.now) field.now ≡ Some number) }
@@ -113,8 +109,6 @@ fn device_in(devices: &DeviceTable, field: &[u8]) -> Result<u32, Reason>
     }
 }
 
-/// The validator that a field stands for, by its number or by its device's name; or why it stands
-/// for none.
 fn validator_for(choice: &Choice<'_>, field: &[u8]) -> Result<u32, Reason>
     ensures validator { IfOk result (StandsForValidator choice.now.devices field.now) }
     ensures wrong { IfErr result (IsWrongValidator choice.now.devices field.now) }
@@ -125,7 +119,6 @@ fn validator_for(choice: &Choice<'_>, field: &[u8]) -> Result<u32, Reason>
     }
 }
 
-/// What the moment's field of a row is, if it gives no moment.
 fn moment_reason(unit: Unit, field: &[u8]) -> Reason
     ensures { IsMomentReason unit field.now result }
 {
@@ -138,7 +131,6 @@ fn moment_reason(unit: Unit, field: &[u8]) -> Reason
     }
 }
 
-/// The tap of a row that is kept and has as many fields as the head, or why it is none.
 fn tap_of(choice: &Choice<'_>, places: &Places, row: &ByteRecord) -> Result<TapFields, Reason>
     ensures tap { (head : List (List ℕ)) → ArePlaces choice.now head places.now
         → IsAsLong head (fields_of row.now)
@@ -166,7 +158,6 @@ fn tap_of(choice: &Choice<'_>, places: &Places, row: &ByteRecord) -> Result<TapF
     })
 }
 
-/// What a row is read as, under a head whose columns have these places.
 pub(crate) fn reading_of(choice: &Choice<'_>, places: &Places, row: &ByteRecord) -> Reading
     ensures reading { (head : List (List ℕ)) → ArePlaces choice.now head places.now
         → IsReadingOf choice.now head (fields_of row.now) result }

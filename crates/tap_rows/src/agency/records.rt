@@ -12,7 +12,6 @@ use csv::{ByteRecord, ErrorKind, Reader, ReaderBuilder};
 use std::alloc::Global;
 use std::io::Read;
 
-/// A reader at the first record of a text.
 pub(crate) fn records_of<R: Read>(alloc: Global, separator: Separator, text: R) -> Reader<R>
     ensures { (bytes : List ℕ) → R.remaining text ≡ Some bytes
         → HasCome R.remaining separator bytes [] result }
@@ -24,7 +23,6 @@ pub(crate) fn records_of<R: Read>(alloc: Global, separator: Separator, text: R) 
         .from_reader(alloc, text)
 }
 
-/// Reads the next record in place of what `row` holds. False if there is none.
 pub(crate) fn next_record<R: Read>(
     reader: &mut Reader<R>,
     row: &mut ByteRecord,

@@ -1,4 +1,4 @@
-//! The rows that are no taps, as they are written.
+//! The rows that are not taps, as they are written.
 
 ghost use Rattle.std.specs.Prelude.{◌≡◌, ◌∷◌, ◌++◌, IfErr, IfOk, OnOk};
 ghost use Rattle.csv.specs.Records.{fields_of};
@@ -45,7 +45,6 @@ fn text_of(alloc: Global, separator: Separator, row: &ByteRecord) -> Result<Vec<
     }
 }
 
-/// Writes two words and a record, as one record.
 fn put<X: Write>(
     alloc: Global,
     separator: Separator,

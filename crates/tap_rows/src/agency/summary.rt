@@ -14,9 +14,9 @@ pub struct Summary {
     pub taps: u64,
     /// How many rows are not kept.
     pub left_out: u64,
-    /// How many rows are no taps.
+    /// How many rows are not taps.
     pub refused: u64,
-    /// The number of the first row that is no tap, and why it is none. The head is row 1.
+    /// The number of the first row that is not a tap, and why. The head is row 1.
     pub first_refused: Option<(u64, Reason)>,
     /// The first and the last moment; none if there is no tap.
     pub span: Option<MomentSpan>,
@@ -43,7 +43,6 @@ impl Summary {
     }
 }
 
-/// The span of one moment more.
 fn widened(span: Option<MomentSpan>, moment: u64) -> Option<MomentSpan>
     ensures { (moments : List ℕ) → IsSpan moments span → IsSpan (moments ++ moment ∷ []) result }
 {
@@ -59,7 +58,6 @@ fn widened(span: Option<MomentSpan>, moment: u64) -> Option<MomentSpan>
     }
 }
 
-/// The first of some refused rows and a later one.
 fn first_of(first: Option<(u64, Reason)>, number: u64, reason: Reason) -> Option<(u64, Reason)>
     ensures none { first ≡ None → result ≡ Some (number, reason) }
     ensures some { ¬ (first ≡ None) → result ≡ first }
@@ -70,7 +68,6 @@ fn first_of(first: Option<(u64, Reason)>, number: u64, reason: Reason) -> Option
     }
 }
 
-/// The summary of one row more, which has this number.
 pub(crate) fn with_row(summary: Summary, number: u64, reading: &Reading) -> Summary
     requires { summary.taps + summary.left_out + summary.refused < 2 ^ 64 - 1 }
     ensures { (rows : List (List (List ℕ))) (row : List (List ℕ)) (readings : List Reading)

@@ -15,7 +15,6 @@ use std::alloc::Global;
 use std::io::Write;
 use tap_views::{MAX_TAPS, TapFields};
 
-/// Writes the taps that wait, as one batch.
 pub(crate) fn write_waiting<W: Write>(
     alloc: Global,
     waiting: &mut Vec<TapFields>,
@@ -41,7 +40,6 @@ pub(crate) fn write_waiting<W: Write>(
     }
 }
 
-/// Lets a tap wait; if a batch is full, it is written first.
 pub(crate) fn add_tap<W: Write>(
     alloc: Global,
     waiting: &mut Vec<TapFields>,

@@ -27,7 +27,6 @@ use std::alloc::Global;
 use std::io::{Read, Write, sink};
 use tap_views::{MAX_TAPS, TapFields};
 
-/// Puts a tap to the taps that wait, and writes a row that is refused to `refused`.
 fn put_row<W: Write, X: Write>(
     alloc: Global,
     separator: Separator,
@@ -62,9 +61,9 @@ fn put_row<W: Write, X: Write>(
     }
 }
 
-/// Writes the upload of the rows that a choice keeps, `TAP1` batches of 4,096 taps, the last of
-/// fewer, and the rows that are no taps to `refused`. If the head lacks a column of the choice,
-/// nothing is written. After another error a beginning of an upload of the first taps is written.
+/// Writes the upload of the rows that a choice keeps, in `TAP1` batches of 4,096 taps, and the rows
+/// that are not taps to `refused`. Nothing is written if the head lacks a column, and a prefix
+/// after another error.
 pub fn encode_some_rows<R: Read + Drop, W: Write, X: Write>(
     alloc: Global,
     choice: &Choice<'_>,
@@ -123,7 +122,7 @@ fn is_same(summary: &Summary, found: &Summary) -> bool
     *summary == *found
 }
 
-/// The fault of a text that had none when it was read first: then its rows have changed.
+/// The text had no fault when it was read first: its rows have changed.
 fn when_read_again(fault: AgencyFault) -> AgencyFault
     ensures changed { IsOfRows fault → result ≡ AgencyFault.Changed }
     ensures other { (¬ (IsOfRows fault)) → result ≡ fault }
@@ -135,9 +134,8 @@ fn when_read_again(fault: AgencyFault) -> AgencyFault
     }
 }
 
-/// Writes the upload of the rows that a choice keeps, if each of them is a tap. The text is read
-/// twice, from two readers of it, so that nothing is written if a row is refused. After another
-/// error a beginning of an upload of the first taps is written.
+/// Writes the upload of the rows that a choice keeps, if each is a tap. The text is read twice, so
+/// that nothing is written if a row is refused, and a prefix after another error.
 pub fn encode_rows<R: Read + Drop, S: Read + Drop, W: Write>(
     alloc: Global,
     choice: &Choice<'_>,

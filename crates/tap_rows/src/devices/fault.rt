@@ -1,31 +1,27 @@
-//! Why a text is no device table.
+//! Why a text is not a device table.
 
 use std::alloc::{AllocError, AllocFailed};
 
 /// What is wrong with a row of a device table: the first of these that holds.
 #[derive(Clone, Copy, Debug, PartialEq, Eq)]
 pub enum WrongDevice {
-    /// It has not two fields.
+    /// It does not have two fields.
     Fields,
     /// The device's field is empty.
     NoName,
-    /// The validator's field is no decimal number below 2^32.
+    /// The validator's field is not a decimal number below 2^32.
     Validator,
-    /// An earlier row has the device, with whatever validator.
+    /// An earlier row has the device, with any validator.
     Again,
 }
 
-/// Why a text is no device table.
+/// Why a text is not a device table. The head is row 1.
 #[derive(Clone, Copy, Debug, PartialEq, Eq)]
 pub enum DevicesFault {
     /// The head is not `device,validator`.
     Head,
     /// A row is wrong: the first that is.
-    Row {
-        /// The number of the row; the head is row 1.
-        number: u64,
-        wrong: WrongDevice,
-    },
+    Row { number: u64, wrong: WrongDevice },
     NoMemory,
 }
 

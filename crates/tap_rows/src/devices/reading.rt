@@ -18,7 +18,6 @@ fn is_head(row: &ByteRecord) -> bool
     row.len() == 2 && has_at(row, 0, b"device") && has_at(row, 1, b"validator")
 }
 
-/// The device table of a text with this separator.
 fn read_by(
     alloc: Global,
     seed: RandomState,
@@ -30,7 +29,7 @@ fn read_by(
 {
     let mut reader = records_of(alloc, separator, text);
     let mut row = ByteRecord::new(alloc);
-    // A slice is read without a fault, so that only memory can be wanting.
+    // A slice is read without a fault, so that only an allocation can fail.
     let Ok(has_head) = next_record(&mut reader, &mut row) else {
         return Err(DevicesFault::NoMemory);
     };
@@ -53,12 +52,9 @@ fn read_by(
     Err(DevicesFault::NoMemory)
 }
 
-/// The device table of a text: CSV with the head `device,validator`, and a row for each device. If
-/// the head has these two names by `separator`, which stands between the fields of the agency's
-/// rows, it stands between those of the table, too; if not, a comma does. A byte order mark before
-/// the head is passed over.
-///
-/// An error is the first row that is wrong, or that the head is, or want of memory.
+/// The device table of a text: CSV with the head `device,validator`, and a row for each device.
+/// `separator`, of the agency's rows, is also tried on the head; else fields are between commas. A
+/// byte order mark is skipped. An error is the first wrong row, the head, or an allocation failure.
 pub fn read_devices(
     alloc: Global,
     seed: RandomState,

@@ -16,11 +16,9 @@ use std::hash::RandomState;
 /// Devices by their names, each with the number of its validator.
 #[derive(Debug, Drop)]
 pub struct DeviceTable {
-    /// The number of each device's validator, in the order of the rows.
     numbers: IndexMap<Vec<u8>, u32, RandomState>,
 }
 
-/// The device of a row, and its validator; or what is wrong with the row by itself.
 fn device_in(row: &ByteRecord) -> Result<(&[u8], u32), WrongDevice>
     ensures device { IfOk result
         (λ device. IsDeviceRow (fields_of row.now) (device.0.now, device.1)) }
@@ -40,8 +38,7 @@ fn device_in(row: &ByteRecord) -> Result<(&[u8], u32), WrongDevice>
 }
 
 impl DeviceTable {
-    /// A table of no devices. `seed` is random, so that no file can choose names that are found
-    /// slowly.
+    /// `seed` is random, so that no file can choose names that are found slowly.
     pub(crate) fn new(alloc: Global, seed: RandomState) -> DeviceTable
         ensures { devices_of result ≡ [] }
     {
@@ -57,8 +54,6 @@ impl DeviceTable {
         self.numbers.get(name).copied()
     }
 
-    /// Adds the device of a row, which has this number in the file. After a fault the table is as
-    /// it was.
     pub(crate) fn add(
         &mut self,
         alloc: Global,
