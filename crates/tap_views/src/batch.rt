@@ -26,9 +26,7 @@ use std::marker::Model;
 pub struct Batch<'a> {
     /// The validator that all taps share, if the layout has one.
     shared: Option<&'a [u8]>,
-    /// The bytes of the taps.
     records: &'a [u8],
-    /// The number of taps.
     count: u32,
 }
 
@@ -48,7 +46,7 @@ impl<'a> Model for Batch<'a> {
 impl<'a> Batch<'a> {
     /// The first batch of these bytes, and the bytes after it; else the first layout fault.
     pub fn first(bytes: &'a [u8]) -> Result<(Batch<'a>, &'a [u8]), LayoutFault>
-        // What is answered is a batch that the bytes begin with, and the bytes after it.
+        // The answer is a batch that the bytes begin with, and the bytes after it.
         ensures found { IfOk result (λ (taps, rest). (front : List ℕ) × IsBatch front taps
             × (bytes.now ≡ front ++ rest.now)) }
 
@@ -57,8 +55,7 @@ impl<'a> Batch<'a> {
             → bytes.now ≡ front ++ rest
             → MatchResult result (λ answer. (answer.0 ≡ taps) × (answer.1.now ≡ rest)) (λ _. ⊥) }
 
-        // The fault is the first row of the table that holds, and wherever a row holds it is
-        // answered.
+        // The fault is that of the first row of the table that holds, and comes if one holds.
         ensures fault { IfErr result (IsFault bytes.now) }
         ensures refused { (fault : LayoutFault) → IsFault bytes.now fault → IsErrOf result fault }
     {
@@ -83,7 +80,7 @@ impl<'a> Batch<'a> {
         self.count
     }
 
-    /// The tap at a place, counted from 0.
+    /// The tap at an index.
     pub fn tap(&self, i: u32) -> TapView<'a>
         requires { i < length self.now }
         ensures { slice_get self.now i ≡ Some result }
@@ -118,7 +115,6 @@ impl<'a> Batch<'a> {
         }
     }
 
-    /// The same, if the places of the shard's taps are known.
     pub(crate) fn run_at<'b>(&'b self, places: &'b [u16], of_shard: u32, shards: u32) -> Run<'b>
         requires below { of_shard < shards }
         requires most { shards ≤ 64 }
@@ -140,7 +136,6 @@ impl<'a> Batch<'a> {
     }
 }
 
-/// The count of a sound header.
 pub(crate) fn count_of(bytes: &[u8]) -> Result<u32, LayoutFault>
     ensures count { IfOk result (λ count. IsHeader bytes.now count) }
     ensures fault { IfErr result (IsFault bytes.now) }
@@ -163,7 +158,6 @@ pub(crate) fn count_of(bytes: &[u8]) -> Result<u32, LayoutFault>
     Ok(count as u32)
 }
 
-/// The first of the batch's taps with a moment past the limit.
 fn first_late(bytes: &[u8], count: u32) -> Option<u32>
     requires { header (layout_in bytes.now) + width (layout_in bytes.now) * count
         ≤ length bytes.now }
@@ -180,7 +174,6 @@ fn first_late(bytes: &[u8], count: u32) -> Option<u32>
     None
 }
 
-/// The count of the batch that the bytes begin with.
 fn measured(bytes: &[u8]) -> Result<u32, LayoutFault>
     ensures count { IfOk result (λ count. IsMeasured bytes.now count) }
     ensures fault { IfErr result (IsFault bytes.now) }

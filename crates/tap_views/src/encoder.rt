@@ -16,8 +16,7 @@ use crate::view::TapView;
 use std::alloc::{AllocError, Global};
 use thiserror::Error;
 
-/// What a tap is encoded from in a `TAP1` batch. Its order is the canonical one: by token, then by
-/// moment, then by validator.
+/// What a tap is encoded from in a `TAP1` batch, ordered by token, moment and validator.
 #[derive(Clone, Copy, Debug, PartialEq, Eq, PartialOrd, Ord)]
 pub struct TapFields {
     /// The 16 bytes of the token.
@@ -58,13 +57,10 @@ pub enum EncodeFault {
     /// There are more than 4,096 taps.
     #[error("more than 4096 taps")]
     TooMany,
-    /// A moment is not below the limit, 2100-01-01T00:00Z.
+    /// A moment is not below the limit, 2100-01-01T00:00Z: the first is that of the tap at `index`.
     #[error("tap {index} has a moment past the limit")]
-    Moment {
-        /// The first such tap, counted from 0.
-        index: u64,
-    },
-    /// Memory was refused.
+    Moment { index: u64 },
+    /// An allocation failed.
     #[error("out of memory")]
     NoMemory,
 }
@@ -80,8 +76,7 @@ impl From<AllocError> for EncodeFault {
     }
 }
 
-/// The `TAP1` batch of these taps. With any bytes behind it, `Batch::first` reads these taps again
-/// and leaves those bytes: `laws::round_trip`.
+/// The `TAP1` batch of these taps, which `Batch::first` reads back: `laws::round_trip`.
 pub fn encode(alloc: Global, taps: &[TapFields]) -> Result<Vec<u8>, EncodeFault>
     ensures batch { IfOk result (λ bytes. Encodes bytes.items taps.now) }
     ensures sound { OnOk result (AreEncodable (λ tap. tap.moment) taps.now) }
@@ -93,8 +88,7 @@ pub fn encode(alloc: Global, taps: &[TapFields]) -> Result<Vec<u8>, EncodeFault>
     Ok(bytes)
 }
 
-/// The `TAP2` batch of these taps, which share this validator. With any bytes behind it,
-/// `Batch::first` reads these taps again and leaves those bytes: `laws::round_trip`.
+/// The `TAP2` batch of these taps, which share this validator: `laws::round_trip`.
 pub fn encode_tap2(
     alloc: Global,
     validator: u32,
@@ -108,7 +102,6 @@ pub fn encode_tap2(
     Ok(write_tap2(alloc, validator, taps)?)
 }
 
-/// What the taps of both layouts are asked.
 trait Timed {
     ghost moment_of: { Self → ℕ };
 
@@ -133,7 +126,6 @@ impl Timed for Tap2Fields {
     }
 }
 
-/// Whether the taps may stand in one batch.
 fn check<T: Timed>(taps: &[T]) -> Result<(), EncodeFault>
     ensures ok { OnOk result (AreEncodable T.moment_of taps.now) }
     ensures fault { IfErr result (IsRefused T.moment_of taps.now) }
@@ -149,8 +141,7 @@ fn check<T: Timed>(taps: &[T]) -> Result<(), EncodeFault>
     Ok(())
 }
 
-/// Adds the `TAP1` batch of these taps, which may stand in one. After an error the bytes are of no
-/// use.
+/// Adds the `TAP1` batch of these taps. After an error the bytes are of no use.
 pub fn put_batch(bytes: &mut Vec<u8>, taps: &[TapFields]) -> Result<(), AllocError>
     requires most { length taps.now ≤ 4096 }
     requires early { AreEarly (λ tap. tap.moment) taps.now }
@@ -166,7 +157,6 @@ pub fn put_batch(bytes: &mut Vec<u8>, taps: &[TapFields]) -> Result<(), AllocErr
     Ok(())
 }
 
-/// Adds one tap with its validator.
 fn put_tap(bytes: &mut Vec<u8>, tap: &TapFields) -> Result<(), AllocError>
     ensures bytes { OnOk result
         (bytes.new.items ≡ bytes.old.items ++ spelling Tap1 (written tap.now)) }
@@ -178,7 +168,6 @@ fn put_tap(bytes: &mut Vec<u8>, tap: &TapFields) -> Result<(), AllocError>
     Ok(())
 }
 
-/// The bytes of a `TAP2` batch, of taps that may stand in one.
 fn write_tap2(alloc: Global, validator: u32, taps: &[Tap2Fields]) -> Result<Vec<u8>, AllocError>
     requires { length taps.now ≤ 4096 }
     ensures fields { OnOk result (All IsFields2 taps.now) }
@@ -198,7 +187,6 @@ fn write_tap2(alloc: Global, validator: u32, taps: &[Tap2Fields]) -> Result<Vec<
     Ok(bytes)
 }
 
-/// Adds one tap without its validator.
 fn put_tap2(bytes: &mut Vec<u8>, bare: &Tap2Fields) -> Result<(), AllocError>
     ensures bytes { OnOk result ((validator : ℕ)
         → bytes.new.items ≡ bytes.old.items ++ spelling (Tap2 []) (written_2 validator bare.now)) }

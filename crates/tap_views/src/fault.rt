@@ -1,17 +1,13 @@
-//! Why bytes begin with no batch.
+//! Why bytes do not begin with a batch.
 
 use thiserror::Error;
 
-/// Why bytes do not begin with a batch: the first of these that holds, in this order. Lengths are
-/// in bytes, from the batch's start on.
+/// Why bytes do not begin with a batch: the first of these that holds. Lengths are in bytes.
 #[derive(Clone, Copy, Debug, PartialEq, Eq, Error)]
 pub enum LayoutFault {
     /// The header is not whole: 8 bytes, or 12 after `TAP2`.
     #[error("a header is cut off: {have} bytes are there")]
-    Short {
-        /// The bytes that are there.
-        have: u64,
-    },
+    Short { have: u64 },
     /// The first four bytes are neither `TAP1` nor `TAP2`.
     #[error("neither TAP1 nor TAP2")]
     Magic,
@@ -20,24 +16,13 @@ pub enum LayoutFault {
     Flags,
     /// The count is above 4,096.
     #[error("{count} taps in one batch")]
-    TooMany {
-        /// The count of the header.
-        count: u64,
-    },
+    TooMany { count: u64 },
     /// The batch is cut off.
     #[error("a batch of {want} bytes is cut off: {have} are there")]
-    Length {
-        /// The bytes of the whole batch.
-        want: u64,
-        /// The bytes that are there.
-        have: u64,
-    },
-    /// A moment is not below the limit, 2100-01-01T00:00Z.
+    Length { want: u64, have: u64 },
+    /// A moment is not below the limit, 2100-01-01T00:00Z: the first is that of the tap at `index`.
     #[error("tap {index} has a moment past the limit")]
-    Moment {
-        /// The first such tap, counted from 0.
-        index: u64,
-    },
+    Moment { index: u64 },
 }
 
 impl LayoutFault {

@@ -7,21 +7,17 @@ use crate::batch::Batch;
 use crate::fault::LayoutFault;
 use std::marker::Model;
 
-/// The batches of a file, and at its first layout fault that fault with the offset of its batch. An
-/// empty file gives nothing.
+/// The batches of a file, and its first layout fault with the offset of its batch.
 pub fn batches(file: &[u8]) -> FileBatches<'_>
     ensures { IsReading file.now result }
 {
     FileBatches { rest: file, at: 0 }
 }
 
-/// The batches of a file in their order; at the first layout fault that fault, with the offset of
-/// its batch, and then nothing.
+/// The batches of a file in order, and its first layout fault with the offset of its batch.
 #[derive(Drop)]
 pub struct FileBatches<'a> {
-    /// The bytes that are left.
     rest: &'a [u8],
-    /// The offset of these bytes in the file.
     at: u64,
 }
 

@@ -1,11 +1,10 @@
-//! What stands before a layout fault.
+//! What is before a layout fault.
 
 ghost use Rattle.tap_views.specs.Facts.{IsGoodPart};
 
 use crate::upload::good_batches;
 
-/// The bytes before the upload's first layout fault: an upload without a fault. All bytes if
-/// there is none.
+/// The bytes before the upload's first layout fault, or all: an upload without a fault.
 pub fn good_part(upload: &[u8]) -> &[u8]
     ensures { IsGoodPart upload.now result.now }
 {

@@ -1,6 +1,5 @@
-//! What the grammar promises whoever reads bytes by it, and laws of tokens. Each law is the
-//! contract of a function that does nothing, but for `round_trip`. Call it if a proof needs its
-//! law.
+//! What the grammar promises, and theorems about tokens, each the contract of a function that does
+//! nothing, but for `round_trip`. Call it if a proof needs its theorem.
 
 ghost use Rattle.std.specs.Prelude.{◌≡◌, ◌++◌, ℕ, List, map, All, MatchResult};
 ghost use Rattle.std.specs.Cmp.Lexicographic.{slice_cmp};
@@ -20,7 +19,7 @@ use crate::fault::LayoutFault;
 use crate::token::Token;
 use std::cmp::Ordering;
 
-/// Bytes begin with at most one batch, so that no batch is the beginning of another.
+/// Bytes begin with at most one batch, so that no batch is the prefix of another.
 pub fn one_batch(bytes: &[u8])
     ensures { (front front' rest rest' : List ℕ) (taps taps' : List Tap) → IsBatch front taps
         → bytes.now ≡ front ++ rest → IsBatch front' taps' → bytes.now ≡ front' ++ rest'
@@ -40,7 +39,7 @@ pub fn one_reading(file: &[u8])
         × (rest ≡ rest') }
 {}
 
-/// Each upload is read as batches in one way at most.
+/// Each upload is read as batches in at most one way.
 pub fn one_reading_each(uploads: &[Vec<u8>])
     ensures { All HasOneReading (map (λ upload. upload.items) uploads.now) }
 {
@@ -50,8 +49,7 @@ pub fn one_reading_each(uploads: &[Vec<u8>])
 }
 
 /// The round trip: of the bytes that `encode` or `encode_tap2` gave for some taps, and any bytes
-/// behind them, the first batch is these taps, and the bytes left are those behind them. It calls
-/// `Batch::first`.
+/// after them, the first batch is these taps, and those bytes are left. It calls `Batch::first`.
 pub fn round_trip<'a>(bytes: &'a [u8]) -> Result<(Batch<'a>, &'a [u8]), LayoutFault>
     ensures tap1 { (encoded behind : List ℕ) (taps : List TapFields) → Encodes encoded taps
         → bytes.now ≡ encoded ++ behind

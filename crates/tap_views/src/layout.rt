@@ -1,4 +1,4 @@
-//! The numbers of the two layouts, and which of the two some bytes ask for.
+//! The numbers of the two layouts, and which of the two some bytes request.
 
 ghost use Rattle.std.specs.Prelude.{◌≡◌, ◌≤◌, ◌⊎◌, ◌↔◌, IsTrue, codes, length, nat_eq, take};
 ghost use Rattle.std.specs.List.{starts_with};
@@ -32,7 +32,6 @@ pub const MAX_TAPS: usize = 4_096;
 /// 2100-01-01T00:00Z in milliseconds since 1970-01-01T00:00Z: every moment is below it.
 pub const MOMENT_LIMIT_MS: u64 = 4_102_444_800_000;
 
-/// Whether the bytes begin with the magic of a layout.
 pub(crate) fn has_magic(bytes: &[u8]) -> bool
     ensures { IsTrue result
         ↔ ((take 4 bytes.now ≡ codes "TAP1") ⊎ (take 4 bytes.now ≡ codes "TAP2")) }
@@ -40,14 +39,12 @@ pub(crate) fn has_magic(bytes: &[u8]) -> bool
     bytes.starts_with(&TAP1) || bytes.starts_with(&TAP2)
 }
 
-/// Whether the bytes ask for the layout `TAP2`; all others ask for `TAP1`.
 pub(crate) fn is_tap2(bytes: &[u8]) -> bool
     ensures { result ≡ starts_with nat_eq bytes.now (codes "TAP2") }
 {
     bytes.starts_with(&TAP2)
 }
 
-/// The bytes of the header that these bytes ask for.
 pub(crate) fn header_in(bytes: &[u8]) -> usize
     ensures { result ≡ header (layout_in bytes.now) }
 {
@@ -58,7 +55,6 @@ pub(crate) fn header_in(bytes: &[u8]) -> usize
     }
 }
 
-/// The bytes of one tap that these bytes ask for.
 pub(crate) fn width_in(bytes: &[u8]) -> usize
     ensures { result ≡ width (layout_in bytes.now) }
 {
@@ -69,7 +65,6 @@ pub(crate) fn width_in(bytes: &[u8]) -> usize
     }
 }
 
-/// The validator that all taps of these bytes share, if their layout has one.
 pub(crate) fn shared_in(bytes: &[u8]) -> Option<&[u8]>
     requires { header (layout_in bytes.now) ≤ length bytes.now }
     ensures { layout_of result ≡ layout_in bytes.now }
@@ -81,7 +76,6 @@ pub(crate) fn shared_in(bytes: &[u8]) -> Option<&[u8]>
     }
 }
 
-/// The bytes of one tap, of a batch whose taps share this validator, if they do.
 pub(crate) fn width_of(shared: Option<&[u8]>) -> usize
     ensures { result ≡ width (layout_of shared.entry) }
 {

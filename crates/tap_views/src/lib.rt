@@ -1,10 +1,7 @@
-//! Batches of taps, read where they lie: lent views over the bytes of an upload, the taps of one
-//! shard, files of many batches and what they have, and the encoders. Tokens, which name accounts.
-//! How the uploads of a run ended.
-//!
-//! A batch begins with a header of 8 bytes (`TAP1`, count, flags) or of 12 (`TAP2`, count, flags,
-//! validator), then come its taps, of 28 or 24 bytes. All numbers are big-endian. The layouts are
-//! this project's own.
+//! Batches of taps, read where they lie: views that copy nothing, the taps of one shard, files of
+//! many batches, and the encoders; tokens; how the uploads of a run ended. A batch has a header of
+//! 8 bytes (`TAP1`, count, flags) or 12 (`TAP2`, count, flags, validator), then taps of 28 or 24
+//! bytes. All numbers are big-endian. The layouts are this project's own.
 #![tactic(auto)]
 
 mod batch;

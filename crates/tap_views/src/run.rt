@@ -10,21 +10,16 @@ use crate::taps::Taps;
 use crate::view::TapView;
 use std::marker::Model;
 
-/// The taps of one shard of a batch, in the batch's order. It takes no memory: a run of `run_of`
-/// scans the batch anew at each call, and one of `Runs` over its own taps alone.
+/// The taps of one shard of a batch, in order. It takes no memory: a run of `run_of` scans the
+/// batch at each call, and one of `Runs` its own taps alone.
 #[derive(Drop)]
 pub struct Run<'a> {
-    /// The validator that all taps of the batch share, if its layout has one.
     pub(crate) shared: Option<&'a [u8]>,
-    /// The bytes of the batch's taps.
     pub(crate) records: &'a [u8],
-    /// The number of the batch's taps.
     pub(crate) count: u32,
-    /// The shard whose taps these are.
     pub(crate) shard: u32,
-    /// The number of shards.
     pub(crate) shards: u32,
-    /// The places of the shard's taps in the batch, if `Runs` has them.
+    /// The indices of the shard's taps in the batch, if `Runs` has them.
     pub(crate) places: Option<&'a [u16]>,
 }
 
@@ -50,7 +45,7 @@ impl<'a> Model for Run<'a> {
 }
 
 impl<'a> Run<'a> {
-    /// The number of taps. It scans the batch if the places of the taps are not known.
+    /// The number of taps. It scans the batch if their indices are not known.
     pub fn len(&self) -> u32
         ensures number { result ≡ length (run_taps self.now) }
         ensures most { result ≤ 4096 }
@@ -61,8 +56,7 @@ impl<'a> Run<'a> {
         }
     }
 
-    /// Whether there are no taps. It scans the batch up to the first one if their places are not
-    /// known.
+    /// Whether there are no taps. It scans the batch up to the first one if indices are not known.
     #[inline(always)]
     pub fn is_empty(&self) -> bool
         ensures { IsTrue result ↔ (run_taps self.now ≡ []) }
@@ -108,13 +102,11 @@ impl<'a> Run<'a> {
 /// The taps of a run in their order.
 #[derive(Drop)]
 pub struct RunTaps<'a> {
-    /// What is left of the batch, or the whole batch if the places of the taps are known.
+    /// What is left of the batch, or the whole batch if the indices of the taps are known.
     taps: Taps<'a>,
-    /// The places that are left, if `Runs` has them.
+    /// The indices that are left, if `Runs` has them.
     places: Option<&'a [u16]>,
-    /// The shard whose taps these are.
     shard: u32,
-    /// The number of shards.
     shards: u32,
 }
 
@@ -151,7 +143,6 @@ impl<'a> Iterator for RunTaps<'a> {
     }
 }
 
-/// The next tap of the shard.
 fn next_of<'a>(taps: &mut Taps<'a>, shard: u32, shards: u32) -> Option<TapView<'a>>
     requires below { shard < shards }
     requires most { shards ≤ 64 }

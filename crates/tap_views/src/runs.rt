@@ -12,10 +12,9 @@ use crate::shard::shard_of;
 use std::alloc::{AllocError, Global};
 use std::marker::Model;
 
-/// The places of one shard's taps, with room for those of any batch.
+/// The indices of one shard's taps, with room for those of any batch.
 #[derive(Drop)]
 pub(crate) struct Places {
-    /// The places, rising.
     list: Vec<u16>,
 }
 
@@ -30,7 +29,6 @@ impl Model for Places {
 }
 
 impl Places {
-    /// No places, and room for those of any batch.
     fn new(alloc: Global) -> Result<Self, AllocError>
         ensures { IfOk result (λ places. places ≡ []) }
     {
@@ -39,14 +37,12 @@ impl Places {
         })
     }
 
-    /// Leaves no place.
     fn clear(&mut self)
         ensures { self.new ≡ [] }
     {
         self.list.clear();
     }
 
-    /// Adds a place behind the others. It takes no memory.
     fn push(&mut self, place: u16)
         requires { length self.old < 4096 }
         ensures { self.new ≡ self.old ++ place ∷ [] }
@@ -54,7 +50,6 @@ impl Places {
         self.list.push_reserved(place);
     }
 
-    /// The places.
     fn as_slice(&self) -> &[u16]
         ensures { result.now ≡ self.now }
     {
@@ -62,7 +57,6 @@ impl Places {
     }
 }
 
-/// Empties all lists.
 fn clear_all(lists: &mut [Places])
     ensures empty { (shard : ℕ) → shard < length lists.new
         → slice_index_or lists.new shard [] ≡ [] }
@@ -73,7 +67,6 @@ fn clear_all(lists: &mut [Places])
     }
 }
 
-/// Puts the place of each tap into the list of its shard.
 fn sort_in(lists: &mut [Places], batch: &Batch<'_>)
     requires least { 1 ≤ length lists.old }
     requires most { length lists.old ≤ 64 }
@@ -83,7 +76,7 @@ fn sort_in(lists: &mut [Places], batch: &Batch<'_>)
     ensures number { length lists.new ≡ length lists.old }
 {
     let shards = lists.len() as u32;
-    // proof: at most 4,096 taps, so each list has room for all places
+    // proof: at most 4,096 taps, so each list has room for all indices
     let _count = batch.len();
     let mut place = 0u16;
     for tap in batch.taps() {
@@ -93,14 +86,10 @@ fn sort_in(lists: &mut [Places], batch: &Batch<'_>)
     }
 }
 
-/// The places of a batch's taps, shard by shard, found by one scan of the batch.
-///
-/// If all runs of a batch are wanted, `Batch::run_of` scans the batch once a shard and use; `fill`
-/// scans it once for all of them. A worker keeps one `Runs`, with room for any batch (8 KiB a
-/// shard), and fills it anew for each batch; what an earlier batch left is gone.
+/// A batch's taps by shard, found by one scan in place of one a shard and use. A worker has one
+/// `Runs`, with room for any batch (8 KiB a shard), and fills it again for each batch.
 #[derive(Drop)]
 pub struct Runs {
-    /// The places of each shard.
     lists: Vec<Places>,
 }
 
@@ -115,8 +104,7 @@ impl Model for Runs {
 }
 
 impl Runs {
-    /// No places, of 1 to 64 shards, with room for those of any batch. It fails only if that
-    /// memory is refused.
+    /// Empty runs of 1 to 64 shards, with room for any batch. It fails only if an allocation fails.
     pub fn new(alloc: Global, shards: u32) -> Result<Self, AllocError>
         requires least { 1 ≤ shards }
         requires most { shards ≤ 64 }
@@ -138,8 +126,7 @@ impl Runs {
         sort_in(&mut self.lists, batch);
     }
 
-    /// How many taps of the batch that was filled in last are of one shard. It scans nothing, so
-    /// that a shard without a tap costs little.
+    /// How many taps of the last filled batch are of one shard. It scans nothing.
     pub fn len_of(&self, batch: &Batch<'_>, shard: u32) -> u32
         requires runs { AreRuns batch.now self.now }
         requires below { shard < length self.now }
@@ -151,8 +138,7 @@ impl Runs {
         self.lists[shard as usize].as_slice().len() as u32
     }
 
-    /// The taps of one shard, as `run_of` gives them, of the batch that was filled in last. The run
-    /// knows its places: its length takes no scan, and its taps none but over themselves.
+    /// The taps of one shard of the last filled batch, without a scan of the batch.
     pub fn run<'b>(&'b self, batch: &'b Batch<'_>, shard: u32) -> Run<'b>
         requires runs { AreRuns batch.now self.now }
         requires below { shard < length self.now }

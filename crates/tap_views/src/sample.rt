@@ -7,14 +7,13 @@ use crate::layout::{MAX_TAPS, header_in, width_in};
 use byteorder::{BigEndian, ByteOrder};
 use std::alloc::AllocError;
 
-/// How many taps lie between two of a sample.
+/// How many taps are between two of a sample.
 const TAPS_APART: usize = 512;
 
-/// How many taps of one batch are in a sample, at most.
+/// At most how many taps of one batch are in a sample.
 const MOST_OF_BATCH: usize = MAX_TAPS / TAPS_APART + 1;
 
-/// Adds the numbers of the tokens of some taps of a batch, of which the bytes have the taps. The
-/// first of them is the tap at `first`, if there is one. Returns where the next one is.
+/// The first of them is the tap at `first`, if there is one. Returns where the next one is.
 fn push_tokens(
     taps: &[u8],
     width: usize,
@@ -39,9 +38,8 @@ fn push_tokens(
     Ok(at)
 }
 
-/// Adds the tokens of some taps of the upload to a sample, one of 512 taps, as big-endian numbers.
-/// No tap is checked, and batches are passed over by their headers alone: it says nothing of the
-/// upload, and costs little beside reading it.
+/// Adds the tokens of one of 512 taps of the upload to a sample, as big-endian numbers. Batches are
+/// passed over by their headers: it says nothing of the upload, and costs little beside reading it.
 pub fn push_sample(upload: &[u8], sample: &mut Vec<u128>) -> Result<(), AllocError> {
     let mut rest = upload;
     let mut next = 0usize;

@@ -14,7 +14,6 @@ pub struct MomentSpan {
     pub last: u64,
 }
 
-/// The span of one moment more.
 pub(crate) fn widened(span: Option<MomentSpan>, moment: u64) -> Option<MomentSpan>
     ensures { (moments : List ℕ) → IsSpan moments span → IsSpan (moments ++ moment ∷ []) result }
 {
@@ -30,7 +29,6 @@ pub(crate) fn widened(span: Option<MomentSpan>, moment: u64) -> Option<MomentSpa
     }
 }
 
-/// The span of the moments of a batch more.
 pub(crate) fn over_batch(span: Option<MomentSpan>, batch: &Batch) -> Option<MomentSpan>
     ensures { (moments : List ℕ) → IsSpan moments span
         → IsSpan (moments ++ map moment_of batch.now) result }

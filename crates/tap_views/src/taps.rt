@@ -10,11 +10,8 @@ use std::marker::Model;
 /// The taps of a batch in their order, from the front and from the back.
 #[derive(Drop)]
 pub struct Taps<'a> {
-    /// The validator that all taps share, if the layout has one.
     pub(crate) shared: Option<&'a [u8]>,
-    /// The bytes of the taps that are left.
     pub(crate) records: &'a [u8],
-    /// The number of taps that are left.
     pub(crate) left: u32,
 }
 
@@ -31,7 +28,6 @@ impl<'a> Model for Taps<'a> {
 }
 
 impl<'a> Taps<'a> {
-    /// The tap at a place of those that are left, counted from 0.
     pub(crate) fn at(&self, i: u32) -> TapView<'a>
         requires { i < length self.now }
         ensures { slice_get self.now i ≡ Some result }
@@ -76,7 +72,6 @@ impl<'a> DoubleEndedIterator for Taps<'a> {
     }
 }
 
-/// The bytes of the tap at a place.
 pub(crate) fn record_at(records: &[u8], width: usize, i: usize) -> &[u8]
     requires { width * i + width ≤ length records.now }
     ensures bytes { result.now ≡ take width (drop (width * i) records.now) }

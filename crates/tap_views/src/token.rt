@@ -3,15 +3,11 @@
 ghost use Rattle.std.specs.Prelude.{◌≡◌, length};
 ghost use Rattle.tap_views.specs.Token.{Fits, bytes_of};
 
-/// The 16 bytes that name an account, ordered by these bytes.
-///
-/// Kept as two big-endian numbers, so that order, equality and hash are two machine words each,
-/// also if two tokens begin alike.
+/// The 16 bytes that name an account, ordered by these bytes: two big-endian numbers, so that
+/// order, equality and hash are two machine words each, also if two tokens begin alike.
 #[derive(Clone, Copy, Debug, PartialEq, Eq, PartialOrd, Ord, Hash)]
 pub struct Token {
-    /// The first eight bytes.
     high: u64,
-    /// The last eight bytes.
     low: u64,
 }
 

@@ -1,4 +1,4 @@
-//! The good batches of an upload, and the layout fault behind them.
+//! The valid batches of an upload, and the layout fault after them.
 
 ghost use Rattle.std.specs.Iterator.{item_count};
 ghost use Rattle.tap_views.specs.Files.{GivesBatch, IsReadAs};
@@ -7,8 +7,7 @@ use crate::batch::Batch;
 use crate::fault::LayoutFault;
 use std::marker::Model;
 
-/// The good batches of an upload, those before its first layout fault, in their order. `fault` has
-/// that fault once all of them are read.
+/// The valid batches of an upload, before its first layout fault, which `fault` has at the end.
 pub fn good_batches(upload: &[u8]) -> GoodBatches<'_>
     ensures { IsReadAs upload.now result.batches result.fault }
 {
@@ -18,13 +17,10 @@ pub fn good_batches(upload: &[u8]) -> GoodBatches<'_>
     }
 }
 
-/// What is left to read of an upload: good batches, and behind them its layout fault, if it has
-/// one. It takes no memory.
+/// What is left to read of an upload: valid batches, then its layout fault. It takes no memory.
 #[derive(Drop)]
 pub struct GoodBatches<'a> {
-    /// The bytes that are left.
     rest: &'a [u8],
-    /// The offset of these bytes in the upload.
     at: u64,
 }
 
@@ -43,8 +39,7 @@ impl<'a> Model for GoodBatches<'a> {
 impl<'a> GoodBatches<'a> {
     ghost use Rattle.std.specs.Prelude.{◌≡◌, []};
 
-    /// The layout fault behind the batches, and the offset of its batch in bytes. It is asked for
-    /// when no batch is left. An upload with no fault has none.
+    /// The layout fault after the batches, with its batch's offset in bytes, once no batch is left.
     pub fn fault(&self) -> Option<(u64, LayoutFault)>
         requires { self.now.batches ≡ [] }
         ensures { result ≡ self.now.fault }

@@ -13,16 +13,13 @@ pub enum UploadEnd {
     Posted {
         taps: u64,
     },
-    /// All batches before the upload's first layout fault were posted whole. The fault's batch
-    /// begins `offset` bytes into the upload.
+    /// All batches before its first layout fault, `offset` bytes into it, were posted whole.
     Refused {
         taps: u64,
-        /// The offset of the batch with the fault, in bytes.
         offset: u64,
         fault: LayoutFault,
     },
-    /// Want of memory, or a shard that takes no more visits, ended it: a beginning of the taps
-    /// before its first layout fault was posted, and not all of them.
+    /// An allocation failed, or a shard is full: a proper prefix of the valid taps was posted.
     Cut {
         taps: u64,
     },
@@ -31,8 +28,7 @@ pub enum UploadEnd {
 }
 
 impl UploadEnd {
-    /// The end of an upload of which all taps before its layout fault, if it has one, were posted,
-    /// which are `taps` taps. A fault comes with the offset of its batch, in bytes.
+    /// The end of an upload whose `taps` valid taps were posted, and of which this is the fault.
     pub fn by_fault(taps: u64, found: Option<(u64, LayoutFault)>) -> UploadEnd
         ensures { result ≡ end_by taps found }
     {

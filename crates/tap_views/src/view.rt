@@ -12,11 +12,8 @@ use std::marker::Model;
 /// One tap of an upload. It lends the upload's own bytes and copies nothing.
 #[derive(Drop)]
 pub struct TapView<'a> {
-    /// The 16 bytes of the token.
     token: &'a [u8],
-    /// The 4 bytes of the validator.
     validator: &'a [u8],
-    /// The 8 bytes of the moment.
     moment: &'a [u8],
 }
 
@@ -39,7 +36,6 @@ impl<'a> Model for TapView<'a> {
 }
 
 impl<'a> TapView<'a> {
-    /// The tap in a record, of a batch whose taps share this validator, if they do.
     pub(crate) fn of(shared: Option<&'a [u8]>, bytes: &'a [u8]) -> TapView<'a>
         requires whole { length bytes.now ≡ width (layout_of shared) }
         requires tap { IsTap (tap_at (layout_of shared) bytes.now) }
@@ -67,8 +63,7 @@ impl<'a> TapView<'a> {
         self.token
     }
 
-    /// The 4 bytes of the validator, lent from the upload: all taps of a `TAP2` batch lend the one
-    /// validator of its header.
+    /// The 4 bytes of the validator, lent: all taps of a `TAP2` batch lend that of its header.
     pub fn validator(&self) -> &'a [u8]
         ensures bytes { result.now ≡ self.now.validator }
         ensures wide { length result.now ≡ 4 }
