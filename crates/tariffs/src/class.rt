@@ -9,7 +9,7 @@ use crate::transfer_terms::TransferTerms;
 pub struct Class {
     /// What it pays for the rides of one window, if their modes have no fare of their own.
     pub terms: Terms,
-    /// The price of one ride in cents by the place of its mode, at most 100,000.
+    /// The price of one ride in cents by the index of its mode, at most 100,000.
     pub fares: [u32; MAX_MODES],
     /// What its rides give.
     pub transfers: TransferTerms,

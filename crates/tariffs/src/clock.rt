@@ -14,13 +14,11 @@ use jiff::tz::{Offset, TimeZone};
 use jiff::{Timestamp, ToSpan};
 use std::marker::Model;
 
-/// A day in milliseconds.
 const DAY_MS: u64 = 86_400_000;
 
 /// Says where the windows of one fare table end. A worker makes its own from the table.
 #[derive(Drop)]
 pub struct Clock {
-    /// The rule of the table's zone, if it names one.
     zone: Option<TimeZone<'static>>,
 }
 
@@ -45,7 +43,6 @@ impl Clock {
     ghost use Rattle.tariffs.specs.Until.{IsWindowEnd, midnight_by, moment_nanos, seconds_ahead};
     ghost use Rattle.tariffs.specs.Until.{window_end_in};
 
-    /// A clock of this zone or of none.
     pub(crate) fn new(zone: Option<TimeZone<'static>>) -> Clock
         requires { HasRule zone }
         ensures { result ≡ record { rule = rule_of zone.entry } }
@@ -53,14 +50,12 @@ impl Clock {
         Clock { zone }
     }
 
-    /// The end of a window of this length that starts at the moment, both in milliseconds since
-    /// 1970-01-01T00:00Z; the moment lies before 2100-01-01T00:00Z. Without a zone a window of `n`
-    /// days ends `n * 24` hours later. One of a calendar day, week or month ends at the next 00:00
-    /// in UTC of a day, a Monday or the first of a month. With a zone each ends at 00:00 by its
-    /// clocks, and one of `n` days on the `n`th date after the start's (seven days are the MTA's
-    /// window; when it ends is this project's choice). A midnight that clocks skip takes the offset
-    /// before the gap, one that comes twice is the earlier. Each ends at least a millisecond after
-    /// its start. It takes no memory.
+    /// The end of a window of this length that starts at the moment, before 2100-01-01T00:00Z.
+    /// Without a zone `n` days are `n * 24` hours, and a calendar span (a week from Monday) ends at
+    /// 00:00 in UTC. With a zone each ends at 00:00 by its clocks, and `n` days on the `n`th date
+    /// after the start's (seven days are the MTA's, the end is this project's choice). A midnight
+    /// that clocks skip takes the offset before the gap, and of two the earlier counts. Takes no
+    /// memory.
     #[inline]
     pub fn window_end(&self, span: WindowSpan, moment: u64) -> u64
         requires span { IsBoundedSpan span }
@@ -75,10 +70,8 @@ impl Clock {
         }
     }
 
-    /// The moment of 00:00 of a date, by the zone's clocks or in UTC without a zone, in
-    /// milliseconds since 1970-01-01T00:00Z. A midnight that clocks skip takes the offset before
-    /// the gap, one that comes twice is the earlier. `None` for a date before 1970 or after 2099,
-    /// and for one that begins before 1970-01-01T00:00Z.
+    /// The moment of 00:00 of a date, by the rules of `window_end`. `None` for a date before 1970
+    /// or after 2099, or if the moment is before 1970-01-01T00:00Z.
     pub fn midnight(&self, date: Date) -> Option<u64>
         ensures moment { IfSome result (λ moment. moment_nanos moment
             ≡ midnight_by self.now.rule (epoch_day date)) }
@@ -98,7 +91,6 @@ impl Clock {
         }
     }
 
-    /// The milliseconds of 00:00 of a date of 1970 to 2099.
     fn midnight_millis(&self, date: Date) -> i64
         requires low { pos 1970 ≤ℤ date.year }
         requires high { date.year ≤ℤ pos 2099 }
@@ -110,9 +102,7 @@ impl Clock {
         }
     }
 
-    /// How far the zone's clocks are ahead of UTC at the moment, in milliseconds since
-    /// 1970-01-01T00:00Z; the moment lies before 9999-12-30T22:00Z. `None` if the table names no
-    /// zone.
+    /// How far the zone's clocks are ahead of UTC at the moment, or `None` without a zone.
     pub fn offset_at(&self, moment: u64) -> Option<Offset>
         requires { moment < 253_402_207_200_000 }
         ensures { option_map (λ offset. offset.seconds) result
@@ -125,7 +115,6 @@ impl Clock {
     }
 }
 
-/// The window end of a table without a zone.
 #[inline]
 fn plain_window_end(span: WindowSpan, moment: u64) -> u64
     requires span { IsBoundedSpan span }
@@ -139,8 +128,7 @@ fn plain_window_end(span: WindowSpan, moment: u64) -> u64
     }
 }
 
-/// The window end under a zone. Kept out of `window_end`, so that the few instructions of a table
-/// without a zone stand where it is called.
+/// Kept out of `window_end`, which stays a few instructions where a table has no zone.
 #[inline(never)]
 fn civil_window_end(zone: &TimeZone<'static>, span: WindowSpan, moment: u64) -> u64
     requires span { IsBoundedSpan span }
@@ -155,7 +143,6 @@ fn civil_window_end(zone: &TimeZone<'static>, span: WindowSpan, moment: u64) -> 
     end_after(moment, window_end.as_millisecond())
 }
 
-/// The milliseconds of 00:00 of a date by the clocks of a zone.
 fn midnight_millis(zone: &TimeZone<'static>, date: Date) -> i64
     requires low { pos 1970 ≤ℤ date.year }
     requires high { date.year ≤ℤ pos 2099 }
@@ -168,7 +155,6 @@ fn midnight_millis(zone: &TimeZone<'static>, date: Date) -> i64
     instant.as_millisecond()
 }
 
-/// The later of an instant and of the millisecond after a moment.
 fn end_after(moment: u64, instant: i64) -> u64
     requires { moment < 4_102_444_800_000 }
     ensures { pos result ≡ int_max (pos (moment + 1)) instant }
@@ -181,7 +167,6 @@ fn end_after(moment: u64, instant: i64) -> u64
     }
 }
 
-/// The moment as an instant of the zone's library.
 fn instant(moment: u64) -> Timestamp
     requires { moment < 253_402_207_200_000 }
     ensures { result.nanosecond ≡ moment_nanos moment }
@@ -189,7 +174,6 @@ fn instant(moment: u64) -> Timestamp
     Timestamp::from_millisecond(moment as i64).unwrap()
 }
 
-/// The date at whose 00:00 a window ends that starts on this one.
 fn end_date(span: WindowSpan, shown: Date) -> Date
     requires span { IsBoundedSpan span }
     requires low { neg_ℤ (pos 10) ≤ℤ epoch_day shown }
@@ -209,7 +193,6 @@ fn end_date(span: WindowSpan, shown: Date) -> Date
     }
 }
 
-/// The date this number of days after this one.
 fn days_later(date: Date, days: i64) -> Date
     requires low { neg_ℤ (pos 10) ≤ℤ epoch_day date }
     requires high { epoch_day date ≤ℤ pos 50_100 }

@@ -5,8 +5,7 @@ use thiserror::Error;
 /// Why a table cannot follow others from a moment on: the first of these that holds.
 #[derive(Clone, Copy, Debug, Error, PartialEq, Eq)]
 pub enum FollowFault {
-    /// A table before it is valid from the same moment or a later one. The first table is valid
-    /// from 1970-01-01T00:00Z on.
+    /// A table before it is valid from the same moment or a later one; the first from 1970 on.
     #[error("a table before it is valid from the same date or a later one")]
     Date,
     /// The text of its zone is another one, or only one of both names a zone.
@@ -18,7 +17,7 @@ pub enum FollowFault {
     /// A table follows it already.
     #[error("a table follows it already")]
     Followed,
-    /// A growth of memory was refused.
+    /// A growth of an allocation failed.
     #[error("out of memory")]
     NoMemory,
 }

@@ -1,4 +1,4 @@
-//! Laws of fare tables. Each function's contract is the law; it has nothing to do.
+//! Theorems about fare tables, each the contract of a function that does nothing.
 ghost use Rattle.std.specs.Prelude.{◌≡◌, ℕ, ◌<◌, ◌≤◌, ◌+ℤ◌, pos};
 ghost use Rattle.tariffs.specs.Fares.{Fares, meaning_at};
 ghost use Rattle.tariffs.specs.Until.{IsWindowEnd, civil_window_end, day_at, midnight_instant};
@@ -11,16 +11,14 @@ pub fn windows_end_later()
     ensures { (fares : Fares) (start : ℕ) → start < until fares start }
 {}
 
-/// A window has one end: what is its days after its start, or the midnight of its end date, is that
-/// of the table.
+/// A window has one end: its days after its start, or the midnight of its end date.
 pub fn windows_have_one_end()
     ensures { (fares : Fares) (start window_end : ℕ)
         → IsWindowEnd fares.zone (meaning_at fares start).window start window_end
         → window_end ≡ until fares start }
 {}
 
-/// In a zone a window of four days or more ends at the midnight itself, which is after its start by
-/// any zone's rule.
+/// In a zone a window of four days or more ends at the midnight itself, by any zone's rule.
 pub fn long_windows_end_at_midnight()
     ensures { (zone : PosixRule) (count start : ℕ) → 4 ≤ count
         → moment_nanos (civil_window_end zone (Days count) start)

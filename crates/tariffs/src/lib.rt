@@ -1,8 +1,6 @@
-//! What a fare table means: modes, permitted transfers, terms of rider classes, validators, the zone
-//! of its days, and tables that follow one another, looked up at every tap.
-//!
-//! That a ride may include one transfer and that paid rides are capped is the rule of the MTA's
-//! OMNY; every number, name, pair and class is data. `fare_table` reads them from a text.
+//! What a fare table means, looked up at every tap. Transfers and caps are the rule of the MTA's
+//! OMNY. Every number, name, pair and class is data, which `fare_table` reads from a text. A moment
+//! is in milliseconds since 1970-01-01T00:00Z.
 #![tactic(auto)]
 
 mod class;

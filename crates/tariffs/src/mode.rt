@@ -3,9 +3,9 @@
 /// The most modes of one table.
 pub const MAX_MODES: usize = 32;
 
-/// A mode of travel, as subway or bus: its place in one table's list of modes.
+/// A mode of travel, as subway or bus: its index in one table's list of modes.
 #[derive(Clone, Copy, Debug, PartialEq, Eq)]
 pub struct Mode {
-    /// The place, from 0; at most 31.
+    /// The index, at most 31.
     pub place: u8,
 }

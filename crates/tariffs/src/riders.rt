@@ -12,12 +12,11 @@ use tap_views::{NoMemory, Token};
 
 mod marks;
 
-/// The places of riders' classes, by the bytes of their tokens.
+/// The indices of riders' classes, by the bytes of their tokens.
 #[derive(Drop)]
 pub struct Riders {
-    /// The place of each rider's class.
     classes: BTreeMap<Token, u32>,
-    /// Most tokens are no rider's. That they have no mark says so at once, without a search.
+    /// A filter: most tokens are no rider's, and it says so without a search.
     marks: RiderMarks,
 }
 
@@ -42,7 +41,7 @@ impl Riders {
     ghost use Rattle.tap_views.specs.Token.{Fits};
     ghost use Rattle.tariffs.specs.Riders.{by_bytes};
 
-    /// The riders of a map by their tokens. `NoMemory` is returned if a growth is refused.
+    /// The riders of a map by their tokens, or `NoMemory`.
     pub fn new(alloc: Global, classes: BTreeMap<Token, u32>) -> Result<Riders, NoMemory>
         requires { All Fits (keys_of classes.entries) }
         ensures { IfOk result (λ r. r ≡ by_bytes classes.entries) }
@@ -51,14 +50,12 @@ impl Riders {
         Ok(Riders { classes, marks })
     }
 
-    /// All riders.
     pub(crate) fn all(&self) -> &BTreeMap<Token, u32>
         ensures { by_bytes result.now.entries ≡ self.now }
     {
         &self.classes
     }
 
-    /// The place of the class of the rider with this token, if there is one.
     pub(crate) fn class_of(&self, token: &[u8]) -> Option<u32>
         requires { length token.now ≡ 16 }
         ensures { result ≡ lookup (is_at (slice_cmp nat_cmp token.now)) self.now }

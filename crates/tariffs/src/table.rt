@@ -24,15 +24,12 @@ use std::marker::Model;
 use std::sync::Arc;
 use tap_views::{NoMemory, Token};
 
-/// An agency's fare table: the tariff of one text, and those of texts that follow it, each from a
-/// date on.
+/// An agency's fare table: the tariff of one text, and those that follow, each from a date on.
 #[derive(Drop)]
 pub struct FareTable {
-    /// The tariff that is valid first. One for all clones, since each book has a clone and none
-    /// changes it.
+    /// One for all clones: each book has a clone, and none changes it.
     first: Arc<Tariff>,
-    /// The moment from which the next tariff is valid, so that a look-up before it compares once;
-    /// `u64::MAX` if none follows.
+    /// The moment from which the next tariff is valid, for one compare. `u64::MAX` if none follows.
     until: u64,
     /// The tariffs that follow, in the order of their dates.
     later: Vec<DatedTariff>,
@@ -53,16 +50,14 @@ impl Model for FareTable {
         (map dated_meaning t.later.items) };
 }
 
-/// A tariff that follows others.
 #[derive(Drop)]
 struct DatedTariff {
-    /// The moment from which it is valid, in milliseconds since 1970-01-01T00:00Z.
     from: u64,
     tariff: Arc<Tariff>,
 }
 
 impl FareTable {
-    /// A table of one tariff, which no other follows. `NoMemory` is returned if a growth is refused.
+    /// A table of one tariff, which no other follows, or `NoMemory`.
     pub fn new(alloc: Global, tariff: Tariff) -> Result<FareTable, NoMemory>
         ensures meaning { IfOk result (λ t. t.meaning ≡ tariff.meaning) }
         ensures zone { IfOk result (λ t. t.zone ≡ tariff.zone) }
@@ -75,8 +70,7 @@ impl FareTable {
         })
     }
 
-    /// These tables, and one that is valid from the moment on, in milliseconds since
-    /// 1970-01-01T00:00Z. If it cannot follow, the error says why.
+    /// These tables, and one that is valid from the moment on, or why it cannot follow.
     pub fn followed_by(mut self, from: u64, next: FareTable) -> Result<FareTable, FollowFault>
         ensures follows { IfOk result (λ _. CanFollow self from next) }
         ensures tables { IfOk result (λ t. t ≡ with_next self from next.meaning) }
@@ -91,8 +85,7 @@ impl FareTable {
         }
     }
 
-    /// A clock of the zone of all its tariffs, which says where windows end. It always returns,
-    /// since a rule of a zone takes no memory.
+    /// A clock of the zone of all its tariffs. It takes no memory.
     pub fn clock(&self, _alloc: Global) -> Result<Clock, NoMemory>
         ensures answers { IsOk result }
         ensures zone { IfOk result (λ c. c ≡ self.now.zone) }
@@ -100,8 +93,7 @@ impl FareTable {
         Ok(self.first.clock())
     }
 
-    /// An equal table, which shares this one's tariffs. `NoMemory` is returned if a growth is
-    /// refused, or if a tariff is shared too often to be counted.
+    /// An equal table that shares this one's tariffs. `NoMemory` also if one is shared too often.
     pub fn try_clone(&self, alloc: Global) -> Result<FareTable, NoMemory>
         ensures { IfOk result (λ t. t ≡ self.now) }
     {
@@ -119,7 +111,7 @@ impl FareTable {
         })
     }
 
-    /// The tariff that is valid at the moment, in milliseconds since 1970-01-01T00:00Z.
+    /// The tariff that is valid at the moment.
     #[inline]
     pub fn at(&self, moment: u64) -> &Tariff
         ensures meaning { result.now.meaning ≡ meaning_at self.now moment }
@@ -131,8 +123,7 @@ impl FareTable {
         self.later_at(moment)
     }
 
-    /// Whether the first tariff is valid at the moment and at each before it. That it says no costs
-    /// its caller a look-up and no more.
+    /// Whether the first tariff is valid up to the moment. A wrong no costs a look-up and no more.
     #[inline(always)]
     pub fn is_first_at(&self, moment: u64) -> bool
         ensures { IsTrue result → (earlier : ℕ) → earlier ≤ moment
@@ -155,8 +146,7 @@ impl FareTable {
         self.later.len()
     }
 
-    /// The tariff at the place among those that follow the first one, in the order of their dates,
-    /// behind the moment from which it is valid, in milliseconds since 1970-01-01T00:00Z.
+    /// The tariff at the index among those that follow, after the moment from which it is valid.
     pub fn later(&self, place: usize) -> (u64, &Tariff)
         requires { place < length self.now.later }
         ensures { slice_get self.now.later place ≡ Some (result.0, result.1.now.meaning) }
@@ -165,8 +155,7 @@ impl FareTable {
         (dated.from, &dated.tariff)
     }
 
-    /// Whether one tariff is valid at both moments: none comes after the earlier one up to the
-    /// later one. That it says no costs its caller a look-up and no more.
+    /// Whether one tariff is valid at both moments. A wrong no costs a look-up and no more.
     #[inline]
     pub fn is_one_tariff(&self, earlier: u64, moment: u64) -> bool
         requires { earlier ≤ moment }
@@ -175,8 +164,7 @@ impl FareTable {
         self.is_first_at(moment) || self.none_between(earlier, moment)
     }
 
-    /// The mode of a validator at the moment, or `None` if no range of the tariff has it that is
-    /// valid then.
+    /// The mode of a validator at the moment, or `None` if no range of that tariff has it.
     #[inline(always)]
     pub fn mode_of(&self, moment: u64, validator: u32) -> Option<Mode>
         ensures mode { option_map (λ m. m.place) result ≡ mode_at self.now moment validator }
@@ -197,7 +185,7 @@ impl FareTable {
         self.first.mode_name(mode)
     }
 
-    /// The names of the modes by their places.
+    /// The names of the modes by index.
     pub fn mode_names(&self) -> &[String]
         ensures names { map string_bytes result.now ≡ self.now.meaning.modes }
         ensures few { length result.now ≤ 32 }
@@ -205,7 +193,7 @@ impl FareTable {
         self.first.mode_names()
     }
 
-    /// The classes by their places.
+    /// The classes by index.
     pub fn classes(&self) -> &[Class]
         ensures classes { result.now ≡ self.now.meaning.classes }
         ensures bounds { All IsBoundedClass result.now }
@@ -213,7 +201,7 @@ impl FareTable {
         self.first.classes()
     }
 
-    /// The names of the classes by their places, in their byte order.
+    /// The names of the classes by index, in their byte order.
     pub fn class_names(&self) -> &[String]
         ensures names { map string_bytes result.now ≡ self.now.meaning.names }
         ensures each { length result.now ≡ length self.now.meaning.classes }
@@ -221,7 +209,7 @@ impl FareTable {
         self.first.class_names()
     }
 
-    /// The place of the class of all riders that have none of their own.
+    /// The index of the class of all riders that have none of their own.
     pub fn default_class(&self) -> u32
         ensures class { result ≡ self.now.meaning.standard }
         ensures there { result < length self.now.meaning.classes }
@@ -229,21 +217,21 @@ impl FareTable {
         self.first.default_class()
     }
 
-    /// The pairs of places of modes with a transfer, each once, in the order of the text.
+    /// The pairs of indices of modes with a transfer, each once, in the order of the text.
     pub fn pairs(&self) -> &[(u8, u8)]
         ensures { result.now ≡ self.now.meaning.transfers }
     {
         self.first.pairs()
     }
 
-    /// The ranges of validators, each by its first number, rising.
+    /// The ranges of validators, each by its first number, strictly increasing.
     pub fn ranges(&self) -> &[(u32, RangeRest)]
         ensures { result.now ≡ self.now.meaning.ranges }
     {
         self.first.ranges()
     }
 
-    /// The places of the classes of riders that have their own, by their tokens, rising.
+    /// The indices of the classes of riders that have their own, by their tokens, increasing.
     pub fn riders(&self) -> &BTreeMap<Token, u32>
         ensures { by_bytes result.now.entries ≡ self.now.meaning.riders }
     {
@@ -265,8 +253,7 @@ impl FareTable {
         self.first.window_span()
     }
 
-    /// What the rider of a token pays under the first table, in cents, on a mode of which the
-    /// rider's class, else the default class, names no fare. A later one is asked by `later`.
+    /// What a token's rider pays under the first table, in cents, on a mode without its own fare.
     pub fn terms_of(&self, token: &[u8]) -> Terms
         requires { length token.now ≡ 16 }
         ensures terms { result ≡ terms_at self.now.meaning token.now }
@@ -275,8 +262,7 @@ impl FareTable {
         self.first.terms_of(token)
     }
 
-    /// What `mode_of` answers. Kept out of it, so that a run with one tariff has a compare where it
-    /// is called and no more.
+    /// Kept out of `mode_of`, so that a run with one tariff has a compare there and no more.
     #[cold]
     #[inline(never)]
     fn later_mode_of(&self, moment: u64, validator: u32) -> Option<Mode>
@@ -288,8 +274,7 @@ impl FareTable {
         tariff.mode_of(validator)
     }
 
-    /// The tariff that is valid at the moment, of those that follow and the first. Kept out of
-    /// `at`, as `later_mode_of` out of `mode_of`.
+    /// Kept out of `at`, as `later_mode_of` out of `mode_of`.
     #[cold]
     #[inline(never)]
     fn later_at(&self, moment: u64) -> &Tariff
@@ -304,7 +289,6 @@ impl FareTable {
         }
     }
 
-    /// Whether no tariff is valid from a moment after the earlier one up to the later one.
     #[cold]
     #[inline(never)]
     fn none_between(&self, earlier: u64, moment: u64) -> bool
@@ -314,7 +298,6 @@ impl FareTable {
         begun(&self.later, earlier) == begun(&self.later, moment)
     }
 
-    /// Why the next table cannot follow from the moment on, if it cannot.
     fn follow_fault(&self, from: u64, next: &FareTable) -> Option<FollowFault>
         ensures fault { IfSome result (IsFollowFault self.now from next.now) }
         ensures none { result ≡ None → CanFollow self.now from next.now }
@@ -334,7 +317,6 @@ impl FareTable {
         None
     }
 
-    /// Adds a tariff that is valid from the moment on. Unchanged if memory is refused.
     fn push(&mut self, from: u64, tariff: Arc<Tariff>) -> Result<(), NoMemory>
         requires { (arc_value tariff).meaning.modes ≡ self.old.meaning.modes }
         ensures { IfOk result (λ _. self.new ≡ with_next self.old from (arc_value tariff).meaning) }
@@ -345,7 +327,6 @@ impl FareTable {
     }
 }
 
-/// How many of the tariffs are valid at the moment or were before, up to the first that is not yet.
 fn begun(later: &[DatedTariff], moment: u64) -> usize
     ensures count { result ≡ begun moment (map dated_meaning later.now) }
     ensures bound { result ≤ length later.now }
@@ -360,7 +341,6 @@ fn begun(later: &[DatedTariff], moment: u64) -> usize
     count
 }
 
-/// The moment from which the last of the tariffs is valid, and 0 if there is none.
 fn last_from(later: &[DatedTariff]) -> u64
     ensures { result ≡ spec.last_from 0 (map dated_meaning later.now) }
 {
@@ -371,7 +351,6 @@ fn last_from(later: &[DatedTariff]) -> u64
     last
 }
 
-/// Whether both name one zone, or none.
 fn same_zone(text: Option<&str>, other: Option<&str>) -> bool
     ensures { result ≡ same_zone (option_map (λ t. t.now) text.entry)
         (option_map (λ t. t.now) other.entry) }
@@ -383,7 +362,6 @@ fn same_zone(text: Option<&str>, other: Option<&str>) -> bool
     }
 }
 
-/// Whether both have the same names in the same order.
 fn same_names(names: &[String], others: &[String]) -> bool
     ensures { result ≡ same_names (map string_bytes names.now) (map string_bytes others.now) }
 {

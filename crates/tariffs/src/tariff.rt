@@ -26,11 +26,9 @@ use std::marker::Model;
 use tap_views::Token;
 
 /// What one text of a fare table says: the fares that are valid at a moment. Look-ups take no
-/// memory; those of validators and riders are searches by halves, which a guess or a mark mostly
-/// saves, that of a transfer reads one bit.
+/// memory. Those of validators and riders are binary searches, which a hint or a mark mostly saves.
 #[derive(Drop)]
 pub struct Tariff {
-    /// What the text says.
     parts: TariffParts,
 }
 
@@ -49,15 +47,15 @@ impl Model for Tariff {
 /// The parts of a tariff.
 #[derive(Drop)]
 pub struct TariffParts {
-    /// The names of the modes by their places.
+    /// The names of the modes by index.
     pub modes: Vec<String>,
     /// The permitted transfers.
     pub transfers: Transfers,
-    /// The classes by their places.
+    /// The classes by index.
     pub classes: Vec<Class>,
-    /// The names of the classes by their places.
+    /// The names of the classes by index.
     pub names: Vec<String>,
-    /// The place of the default class.
+    /// The index of the default class.
     pub standard: u32,
     /// The ranges of validators and their modes.
     pub ranges: Ranges,
@@ -78,7 +76,6 @@ impl Tariff {
         Tariff { parts }
     }
 
-    /// A clock of the tariff's zone.
     pub(crate) fn clock(&self) -> Clock
         ensures { result ≡ self.now.zone }
     {
@@ -95,8 +92,7 @@ impl Tariff {
         Some(Mode { place: rest.mode })
     }
 
-    /// Whether a ride of the one mode includes a transfer to the other: whether the pair stands in
-    /// `transfers`.
+    /// Whether a ride of the first mode includes a transfer to the second. It reads one bit.
     pub fn permits(&self, from: Mode, to: Mode) -> bool
         requires from { from.place < length self.now.meaning.modes }
         requires to { to.place < length self.now.meaning.modes }
@@ -113,9 +109,7 @@ impl Tariff {
         self.parts.modes[mode.place as usize].as_str()
     }
 
-    /// The place of the class of a token's rider: of the rider's own class, else of the default
-    /// one. `ride_terms` and `transfer_terms` say what the class pays and gives, so that the token
-    /// is looked up once.
+    /// The index of the token's own class, else of the default one, for the look-ups below.
     pub fn class_of(&self, token: &[u8]) -> u32
         requires { length token.now ≡ 16 }
         ensures class { result ≡ class_of self.now.meaning token.now }
@@ -127,7 +121,7 @@ impl Tariff {
         }
     }
 
-    /// What the class at the place pays for a ride on the mode, in cents.
+    /// What the class at the index pays for a ride on the mode, in cents.
     pub fn ride_terms(&self, class: u32, mode: Mode) -> Terms
         requires class { class < length self.now.meaning.classes }
         requires mode { mode.place < length self.now.meaning.modes }
@@ -142,7 +136,7 @@ impl Tariff {
         }
     }
 
-    /// What the rides of the class at the place give: a number of taps, and a time in milliseconds.
+    /// What the rides of the class at the index give: a number of taps, and a time.
     pub fn transfer_terms(&self, class: u32) -> TransferTerms
         requires { class < length self.now.meaning.classes }
         ensures terms { result ≡ transfer_terms self.now.meaning class }
@@ -152,7 +146,7 @@ impl Tariff {
         self.parts.classes[class as usize].transfers
     }
 
-    /// The names of the modes by their places.
+    /// The names of the modes by index.
     pub fn mode_names(&self) -> &[String]
         ensures names { map string_bytes result.now ≡ self.now.meaning.modes }
         ensures few { length result.now ≤ 32 }
@@ -160,7 +154,7 @@ impl Tariff {
         self.parts.modes.as_slice()
     }
 
-    /// The classes by their places.
+    /// The classes by index.
     pub fn classes(&self) -> &[Class]
         ensures classes { result.now ≡ self.now.meaning.classes }
         ensures bounds { All IsBoundedClass result.now }
@@ -168,7 +162,7 @@ impl Tariff {
         self.parts.classes.as_slice()
     }
 
-    /// The names of the classes by their places, in their byte order.
+    /// The names of the classes by index, in their byte order.
     pub fn class_names(&self) -> &[String]
         ensures names { map string_bytes result.now ≡ self.now.meaning.names }
         ensures each { length result.now ≡ length self.now.meaning.classes }
@@ -176,7 +170,7 @@ impl Tariff {
         self.parts.names.as_slice()
     }
 
-    /// The place of the class of all riders that have none of their own.
+    /// The index of the class of all riders that have none of their own.
     pub fn default_class(&self) -> u32
         ensures class { result ≡ self.now.meaning.standard }
         ensures there { result < length self.now.meaning.classes }
@@ -184,21 +178,21 @@ impl Tariff {
         self.parts.standard
     }
 
-    /// The pairs of places of modes with a transfer, each once, in the order of the text.
+    /// The pairs of indices of modes with a transfer, each once, in the order of the text.
     pub fn pairs(&self) -> &[(u8, u8)]
         ensures { result.now ≡ self.now.meaning.transfers }
     {
         self.parts.transfers.all()
     }
 
-    /// The ranges of validators, each by its first number, rising.
+    /// The ranges of validators, each by its first number, strictly increasing.
     pub fn ranges(&self) -> &[(u32, RangeRest)]
         ensures { result.now ≡ self.now.meaning.ranges }
     {
         self.parts.ranges.all()
     }
 
-    /// The places of the classes of riders that have their own, by their tokens, rising.
+    /// The indices of the classes of riders that have their own, by their tokens, increasing.
     pub fn riders(&self) -> &BTreeMap<Token, u32>
         ensures { by_bytes result.now.entries ≡ self.now.meaning.riders }
     {
@@ -220,8 +214,7 @@ impl Tariff {
         self.parts.window
     }
 
-    /// What the rider of a token pays, in cents, on a mode of which the rider's class, else the
-    /// default class, names no fare.
+    /// What a token's rider pays, in cents, on a mode without its own fare.
     pub fn terms_of(&self, token: &[u8]) -> Terms
         requires { length token.now ≡ 16 }
         ensures terms { result ≡ terms_at self.now.meaning token.now }
@@ -231,7 +224,6 @@ impl Tariff {
     }
 }
 
-/// The text of a zone, if there is one.
 fn text_of(zone: &Option<Zone>) -> Option<&str>
     ensures { option_map (λ text. text.now) result ≡ zone_text zone.now }
 {
@@ -241,7 +233,6 @@ fn text_of(zone: &Option<Zone>) -> Option<&str>
     }
 }
 
-/// The rule of a zone, if there is one.
 fn rule(zone: &Option<Zone>) -> Option<TimeZone<'static>>
     ensures rule { rule_of result ≡ zone_rule zone.now }
     ensures has_rule { HasRule result }

@@ -1,7 +1,6 @@
 //! What a rider class pays.
 
-/// What a rider class pays in one window. That paid rides are capped is the MTA's rule (OMNY fare
-/// capping); the ceiling on what they cost together is this project's.
+/// What a rider class pays in one window. The cap is the MTA's rule, the ceiling this project's.
 #[derive(Clone, Copy, Debug, PartialEq, Eq)]
 pub struct Terms {
     /// The price of one ride in cents, at most 100,000.

@@ -1,7 +1,6 @@
 //! What a ride gives.
 
-/// How many taps a ride gives for nothing, and for how long. That a ride includes one transfer
-/// within two hours is the MTA's rule (free transfers).
+/// How many taps a ride gives for nothing, and for how long. One within two hours is the MTA's.
 #[derive(Clone, Copy, Debug, PartialEq, Eq)]
 pub struct TransferTerms {
     /// How many taps a ride gives, 0 to 9.

@@ -7,11 +7,11 @@ use std::alloc::Global;
 use std::marker::Model;
 use tap_views::NoMemory;
 
-/// Pairs of places of modes, each once, in the order in which they were added.
+/// Pairs of indices of modes, each once, in the order in which they were added.
 #[derive(Drop)]
 pub struct Transfers {
     pairs: Vec<(u8, u8)>,
-    /// Bit `to` of the mask at `from` stands for the pair, so that a look-up reads one mask.
+    /// Bit `to` of the mask at `from` represents the pair, so that a look-up reads one mask.
     masks: [u32; MAX_MODES],
 }
 
@@ -37,14 +37,12 @@ impl Transfers {
         }
     }
 
-    /// All pairs.
     pub(crate) fn all(&self) -> &[(u8, u8)]
         ensures { result.now ≡ self.now }
     {
         self.pairs.as_slice()
     }
 
-    /// Whether the pair is among them.
     pub(crate) fn permits(&self, from: u8, to: u8) -> bool
         requires from { from < 32 }
         requires to { to < 32 }
@@ -53,7 +51,7 @@ impl Transfers {
         (self.masks[from as usize] >> to) & 1 == 1
     }
 
-    /// Adds a pair that is not yet among them. Unchanged if memory is refused.
+    /// Adds a pair that is not yet among them. Unchanged if an allocation fails.
     pub fn add(&mut self, from: u8, to: u8) -> Result<(), NoMemory>
         requires from { from < 32 }
         requires to { to < 32 }

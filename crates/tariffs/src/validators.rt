@@ -15,7 +15,7 @@ use tap_views::NoMemory;
 
 mod guesses;
 
-/// The most ranges that are searched without a guess.
+/// The most ranges that are searched without a hint.
 const MAX_RANGES_UNGUESSED: usize = 4;
 
 /// What a range of validators has beside its first number.
@@ -23,18 +23,17 @@ const MAX_RANGES_UNGUESSED: usize = 4;
 pub struct RangeRest {
     /// The last validator of the range.
     pub last: u32,
-    /// The place of its mode.
+    /// The index of its mode.
     pub mode: u8,
 }
 
-/// Ranges that rise and stand apart.
+/// Disjoint ranges in increasing order.
 #[derive(Drop)]
 pub struct Ranges {
-    /// Each range: its first number, and the rest of it.
     ranges: Vec<(u32, RangeRest)>,
-    /// The first numbers again, side by side, so that a search touches little memory.
+    /// The first numbers again, side by side, so that a search touches few cache lines.
     firsts: Vec<u32>,
-    /// Where to look first. A table has hundreds of ranges, and a search by halves takes ten steps.
+    /// Where to look first: of hundreds of ranges a binary search takes ten steps.
     guesses: Guesses,
 }
 
@@ -56,7 +55,7 @@ impl Ranges {
     ghost use Rattle.tariffs.specs.Fares.{range_at};
     ghost use Rattle.tariffs.specs.Validators.{stand_apart};
 
-    /// The ranges of a map by their first numbers. `NoMemory` is returned if a growth is refused.
+    /// The ranges of a map by their first numbers, or `NoMemory`.
     pub fn new(alloc: Global, ranges: BTreeMap<u32, RangeRest>) -> Result<Ranges, NoMemory>
         requires { stand_apart ranges.entries ≡ true }
         ensures { IfOk result (λ r. r ≡ ranges.entries) }
@@ -71,14 +70,12 @@ impl Ranges {
         })
     }
 
-    /// All ranges.
     pub(crate) fn all(&self) -> &[(u32, RangeRest)]
         ensures { result.now ≡ self.now }
     {
         self.ranges.as_slice()
     }
 
-    /// The rest of the range of a number.
     pub(crate) fn at(&self, number: u32) -> Option<RangeRest>
         ensures { result ≡ option_map (λ range. range.1) (range_at self.now number) }
     {
@@ -87,8 +84,7 @@ impl Ranges {
     }
 }
 
-/// The range of the number. Of few ranges none is guessed, since two or three halves are found
-/// sooner.
+/// Of few ranges none is hinted, since two or three halves are faster.
 fn range_at<'a>(
     ranges: &'a [(u32, RangeRest)],
     firsts: &[u32],
@@ -106,10 +102,8 @@ fn range_at<'a>(
     range_by_halves(ranges, firsts, number)
 }
 
-/// The range of the number, or that none has it, if the range at the guessed place or the next one
-/// says so; else `None`. At most one of these ranges has the number, so a wrong guess cannot give
-/// a wrong range. The choice between the two is a sum and no branch, since numbers come in no order
-/// that a processor could guess.
+/// At most one of the hinted range and the next has the number, so a wrong hint gives no wrong
+/// range. The choice is a sum and no branch: numbers come in no order that a processor predicts.
 fn range_near<'a>(
     ranges: &'a [(u32, RangeRest)],
     guess: usize,
@@ -131,7 +125,6 @@ fn range_near<'a>(
     }
 }
 
-/// Whether the number lies before the range at the place, and behind the one before that.
 fn is_just_before(ranges: &[(u32, RangeRest)], place: usize, number: u32) -> bool
     requires apart { stand_apart ranges.now ≡ true }
     requires inside { place < length ranges.now }
@@ -143,7 +136,6 @@ fn is_just_before(ranges: &[(u32, RangeRest)], place: usize, number: u32) -> boo
     ranges[place - 1].1.last < number && number < ranges[place].0
 }
 
-/// The range of the number, found by halves.
 #[tactic(auto, using(crate::proofs::ApartLemmas::found))]
 fn range_by_halves<'a>(
     ranges: &'a [(u32, RangeRest)],
@@ -161,7 +153,6 @@ fn range_by_halves<'a>(
     }
 }
 
-/// The last range that begins at the number or before it.
 fn last_begun<'a>(
     ranges: &'a [(u32, RangeRest)],
     firsts: &[u32],
@@ -173,9 +164,7 @@ fn last_begun<'a>(
     ranges[..begun_by_halves(firsts, number)].last()
 }
 
-/// How many of the first numbers are not above the number. Each half is taken or left by a mask and
-/// not by a branch: a processor that guesses wrongly at every second step makes the search three
-/// times as slow.
+/// Each half is taken by a mask: mispredicted branches make the search three times as slow.
 fn begun_by_halves(firsts: &[u32], number: u32) -> usize
     requires { is_rising firsts.now ≡ true }
     ensures bound { result ≤ length firsts.now }
@@ -194,8 +183,7 @@ fn begun_by_halves(firsts: &[u32], number: u32) -> usize
     base + taken_if_begun(1, firsts[base], number)
 }
 
-/// The places, if the first number is not above the number, else 0. The upper half of the
-/// difference is the mask: a comparison would be compiled to a branch again.
+/// The upper half of the difference is the mask: a comparison would become a branch again.
 fn taken_if_begun(places: usize, first: u32, number: u32) -> usize
     requires { places < 0x1_0000_0000 }
     ensures { result ≡ (if nat_le first number then places else 0) }

@@ -19,8 +19,7 @@ impl WindowSpan {
     ghost use Rattle.std.specs.Prelude.{◌≡◌, IfSome};
     ghost use Rattle.tariffs.specs.WindowSpan.{IsBoundedSpan, span_named};
 
-    /// The span that a text names: `1 days` to `31 days`, `calendar day`, `calendar week` or
-    /// `calendar month`. `None` if it is another text.
+    /// The span named `1 days` to `31 days`, `calendar day`, `calendar week` or `calendar month`.
     pub fn named(text: &str) -> Option<WindowSpan>
         ensures span { result ≡ span_named text.now }
         ensures bounds { IfSome result IsBoundedSpan }
@@ -39,7 +38,6 @@ impl WindowSpan {
     }
 }
 
-/// The number of days that a text names, 1 to 31.
 fn days_named(text: &[u8]) -> Option<u32>
     ensures days { result ≡ spec.days_named text.now }
     ensures bounds { IfSome result (λ count. (1 ≤ count) × (count ≤ 31)) }
@@ -52,7 +50,6 @@ fn days_named(text: &[u8]) -> Option<u32>
     }
 }
 
-/// The number that one digit shows, or two of which the first is not 0.
 fn shown_number(digits: &[u8]) -> Option<u32>
     ensures number { result ≡ spec.shown_number digits.now }
 {
@@ -68,7 +65,6 @@ fn shown_number(digits: &[u8]) -> Option<u32>
     }
 }
 
-/// The value of a digit.
 fn digit(byte: u8) -> Option<u32>
     ensures digit { result ≡ spec.digit byte }
     ensures bound { IfSome result (λ value. value < 10) }

@@ -1,5 +1,4 @@
-//! Marks: a quick test that is false for most tokens that `riders` does not name, so that few
-//! tokens are searched for.
+//! A one-hash Bloom filter of the tokens that `riders` names, so that few others are searched for.
 
 ghost use Rattle.std.specs.Prelude.{◌≡◌, ◌<◌, ◌≤◌, ◌*◌, true, All, IfOk, length};
 ghost use Rattle.std.specs.Map.{keys_of};
@@ -10,18 +9,14 @@ use std::collections::BTreeMap;
 use std::marker::Model;
 use tap_views::{NoMemory, Token};
 
-/// The least number of marks for each token. With this number, most other tokens have none at their
-/// place.
+/// The least number of marks for each token: most other tokens then have none.
 const MARKS_FOR_EACH: usize = 8;
 
-/// A mark for each of some tokens, at the place that its last bits give.
-///
-/// A token without a mark at its place is none of them. One with a mark may be, since tokens share
-/// places: who asks looks further then. So places that many tokens share cost time alone.
+/// A one-hash Bloom filter of tokens: a mark at the index that a token's last bits give. A token
+/// without a mark is none of them. One with a mark may be, since tokens share marks.
 #[derive(Drop)]
 pub(crate) struct RiderMarks {
-    /// A power of two of them, so that a place is found without a division. None if there is no
-    /// token.
+    /// A power of two of them, so that an index needs no division. None if there is no token.
     marks: Vec<bool>,
 }
 
@@ -34,7 +29,6 @@ impl Model for RiderMarks {
 }
 
 impl RiderMarks {
-    /// The marks of a map's tokens. `NoMemory` is returned if a growth is refused.
     pub(crate) fn new(alloc: Global, riders: &BTreeMap<Token, u32>) -> Result<RiderMarks, NoMemory>
         ensures marked { IfOk result
             (λ marks. All (λ token. is_marked marks token ≡ true) (keys_of riders.now.entries)) }
@@ -48,7 +42,6 @@ impl RiderMarks {
         Ok(RiderMarks { marks })
     }
 
-    /// Whether there is a mark at the token's place.
     pub(crate) fn has(&self, token: Token) -> bool
         ensures { result ≡ is_marked self.now token }
     {
@@ -56,8 +49,7 @@ impl RiderMarks {
     }
 }
 
-/// The place of the token's mark among this number of marks, a power of two: its last bits, which
-/// spread well, since most tokens are random.
+/// The last bits spread well, since most tokens are random.
 fn mark_place(token: Token, marks: usize) -> usize
     requires { 0 < marks }
     ensures place { result ≡ mark_place token marks }
@@ -66,8 +58,7 @@ fn mark_place(token: Token, marks: usize) -> usize
     token.low() as usize & (marks - 1)
 }
 
-/// How many marks this number of tokens has. A number that `usize` does not hold is also more than
-/// memory holds, so it is returned as refused memory.
+/// A number that `usize` does not hold is more than memory holds: it is returned as `NoMemory`.
 fn marks_for(tokens: usize) -> Result<usize, NoMemory>
     ensures some { IfOk result (λ marks. 0 < tokens → 0 < marks) }
     ensures few { IfOk result (λ marks. marks ≤ 16 * tokens) }

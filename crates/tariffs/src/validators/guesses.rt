@@ -1,4 +1,4 @@
-//! Guesses of which range has a number.
+//! Hints of which range has a number.
 
 ghost use Rattle.std.specs.Prelude.{◌+◌, ◌*◌, ◌≤◌, IfOk, length, vec_len};
 
@@ -6,23 +6,16 @@ use crate::validators::RangeRest;
 use std::alloc::Global;
 use tap_views::NoMemory;
 
-/// The steps for each range. With this number, two ranges rarely end in one step.
+/// The steps for each range: two ranges then rarely end in one step.
 const STEPS_FOR_EACH: u64 = 4;
 
-/// Guesses which of some ranges, which rise and stand apart, has a number.
-///
-/// The numbers from the lowest last number of a range to the highest are divided into steps of one
-/// width, a power of two. For each step the place of the first range is kept that ends in it or
-/// behind it. That range has the numbers of the step, or the next one has those behind its end. An
-/// answer is a guess: the caller checks it, and searches if it is wrong. It may be wrong if many
-/// ranges end in one step.
+/// Hints of which of some disjoint ranges has a number, which the caller checks. The numbers from
+/// the lowest last number to the highest are divided into steps of one width. For each step the
+/// first range that ends in it or after it is stored: it has the step's numbers, or the next one.
 #[derive(Drop)]
 pub(crate) struct Guesses {
-    /// The lowest last number of a range.
     lowest: u32,
-    /// The width of a step, as a power of two.
     width_bits: u32,
-    /// The step beyond the highest last number.
     last_step: usize,
     /// For each step, how many ranges end before it.
     places: Vec<u32>,
@@ -30,7 +23,7 @@ pub(crate) struct Guesses {
 }
 
 impl Guesses {
-    /// Guesses for the ranges. Their memory grows with the ranges, whatever numbers these have.
+    /// Memory grows with the ranges, whatever numbers they have.
     pub(crate) fn new(alloc: Global, ranges: &[(u32, RangeRest)]) -> Result<Guesses, NoMemory>
         ensures few { IfOk result (λ g. vec_len g.places ≤ 4 * length ranges.now + 2) }
     {
@@ -46,8 +39,7 @@ impl Guesses {
         })
     }
 
-    /// The place of the range that may have the number, or of the one before it. No branch depends
-    /// on the number, since numbers come in no order that a processor could guess.
+    /// The index of the range that may have the number, or of the one before it. No branch.
     pub(crate) fn at(&self, number: u32) -> usize {
         let step = step_of(number.saturating_sub(self.lowest), self.width_bits);
         match self.places.get(step.min(self.last_step)) {
@@ -57,7 +49,6 @@ impl Guesses {
     }
 }
 
-/// The last number of the range, or 0 if there is none.
 fn end_of(range: Option<&(u32, RangeRest)>) -> u32 {
     match range {
         Some((_first, rest)) => rest.last,
@@ -65,7 +56,6 @@ fn end_of(range: Option<&(u32, RangeRest)>) -> u32 {
     }
 }
 
-/// The step of a number that lies so far above the lowest.
 fn step_of(above: u32, width_bits: u32) -> usize
     requires { width_bits ≤ 32 }
     ensures { result ≤ 4_294_967_295 }
@@ -73,8 +63,6 @@ fn step_of(above: u32, width_bits: u32) -> usize
     (u64::from(above) >> width_bits) as usize
 }
 
-/// For each step, up to that of the highest last number, how many ranges end before it, and last
-/// the number of ranges.
 fn places_of(
     alloc: Global,
     ranges: &[(u32, RangeRest)],
@@ -95,8 +83,6 @@ fn places_of(
     Ok(places)
 }
 
-/// The width of a step, as a power of two, if the highest last number lies this far above the
-/// lowest.
 fn width_bits(height: u32, ranges: usize) -> u32
     ensures { result ≤ 32 }
 {
