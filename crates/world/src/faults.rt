@@ -14,7 +14,7 @@ pub enum LoadFault {
     Unread,
     /// It has more than 67,108,864 bytes.
     TooLong,
-    /// A growth of memory was refused.
+    /// A growth of an allocation failed.
     NoMemory,
 }
 
@@ -38,7 +38,6 @@ pub enum WriteFault {
 }
 
 impl WriteFault {
-    /// Why a write failed with this error.
     pub(crate) fn of(error: &io::Error) -> WriteFault
         ensures { (error_kind error.now ≡ ErrorKind.BrokenPipe)
             ↔ (Some result ≡ Some WriteFault.Closed) }
@@ -56,7 +55,7 @@ impl WriteFault {
 pub enum MakeFault {
     /// The system refuses it, or a write to it failed.
     Unmade,
-    /// A growth of memory was refused.
+    /// A growth of an allocation failed.
     NoMemory,
 }
 
@@ -81,7 +80,7 @@ pub enum Fault<'a> {
     Output(WriteFault),
     /// The file of this name was not made.
     Made(&'a str, MakeFault),
-    /// A growth of memory was refused.
+    /// A growth of an allocation failed.
     NoMemory,
 }
 

@@ -14,7 +14,7 @@ use std::{fs, io};
 /// The most bytes of a file that is loaded: 64 MiB.
 pub const LOAD_LIMIT_BYTES: usize = 67_108_864;
 
-/// How many bytes more are asked for if the room is full.
+/// How many bytes more are requested if the room is full.
 const MORE_BYTES: usize = 65_536;
 
 /// All bytes of the file of this name, read to its end.
@@ -32,8 +32,7 @@ pub fn load_file<R: Files>(
     load_into(rt, name, Vec::new(alloc), trace)
 }
 
-/// All bytes of the file of this name, read to its end into the memory of `room`, which is used
-/// again: what is in it is overwritten.
+/// All bytes of the file of this name, read into the memory of `room`, which is overwritten.
 pub fn load_into<R: Files>(
     rt: &R,
     name: &str,
@@ -73,7 +72,6 @@ pub fn load_input<I: Read>(
     read_all(input, Vec::new(alloc), trace)
 }
 
-/// Makes room behind the first `end` bytes, if there is none.
 fn make_room(bytes: &mut Vec<u8>, end: usize) -> Result<(), AllocError>
     requires len { end ≤ vec_len bytes.old }
     requires short { end ≤ LOAD_LIMIT_BYTES }
@@ -86,7 +84,6 @@ fn make_room(bytes: &mut Vec<u8>, end: usize) -> Result<(), AllocError>
     Ok(())
 }
 
-/// Reads behind the first `end` bytes.
 fn read_behind<F: Read>(file: &mut F, bytes: &mut Vec<u8>, end: usize) -> io::Result<usize>
     requires { end ≤ vec_len bytes.old }
     ensures kept { take end bytes.new.items ≡ take end bytes.old.items }
@@ -96,7 +93,6 @@ fn read_behind<F: Read>(file: &mut F, bytes: &mut Vec<u8>, end: usize) -> io::Re
     file.read(&mut bytes[end..])
 }
 
-/// Records a read behind the first `end` bytes.
 fn note_read(trace: &mut Trace, bytes: &Vec<u8>, end: usize, count: usize)
     requires { count ≢ 0 }
     ensures run { trace.new.run ≡ trace.old.run }
@@ -108,7 +104,6 @@ fn note_read(trace: &mut Trace, bytes: &Vec<u8>, end: usize, count: usize)
     trace.read(bytes, end, count)
 }
 
-/// Records that what is read is too long: its reads gave the first `end` bytes so far.
 fn note_too_long(trace: &mut Trace, bytes: &Vec<u8>, end: usize) -> LoadFault
     requires len { end ≤ vec_len bytes.now }
     requires longer { LOAD_LIMIT_BYTES < end }
@@ -122,8 +117,7 @@ fn note_too_long(trace: &mut Trace, bytes: &Vec<u8>, end: usize) -> LoadFault
     LoadFault::TooLong
 }
 
-/// All bytes of what was opened last, from there on. Reading stops at the first read that fails
-/// (and is not interrupted by a signal), and at the first read that gives a byte past the limit.
+/// Stops at the first read that fails, unless by a signal, or that passes the limit.
 fn read_all<F: Read>(file: &mut F, room: Vec<u8>, trace: &mut Trace) -> Result<Vec<u8>, LoadFault>
     requires { trace.old.reading.bytes ≡ [] }
     ensures loaded { IfOk result (λ bytes.

@@ -14,9 +14,7 @@ pub struct GhostBytes {
 #[cycle(ghost_bytes)]
 #[derive(Drop)]
 enum Copying {
-    /// None yet.
     Start,
-    /// One more byte.
     Byte(Snapshot<GhostBytes>, Snapshot<u8>),
 }
 

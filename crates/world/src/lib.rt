@@ -1,9 +1,8 @@
-//! What a program reads and writes over the files and streams of the system, each system call
-//! recorded for clauses alone.
+//! What a program reads and writes over the files and streams of the system.
 //!
-//! No proof knows what a system call gives or takes. So a recorder beside each call notes it in a
-//! `Trace`, which has no byte at run time, and the contracts speak of the trace. The recorders are
-//! trusted: they are the private functions of `trace`. All else is proved over them.
+//! No proof knows what a system call does, so a recorder beside each call notes it in a `Trace`, which
+//! has no byte at run time, and the contracts speak of the trace. The recorders are trusted: they are
+//! the private functions of `trace`. All else is proved over them.
 //!
 //! | module | what it does |
 //! |---|---|

@@ -8,8 +8,7 @@ use crate::trace::Trace;
 use std::alloc::Global;
 use std::fs::Files;
 
-/// A file that was read to its end, and the system calls by which it was. Any thread may load one,
-/// and its ghost field holds wherever it is sent.
+/// A file that any thread read to its end, and the system calls by which it was.
 #[derive(Drop)]
 pub struct Loaded {
     name: String,
@@ -47,8 +46,7 @@ impl Loaded {
     }
 }
 
-/// All bytes of the file of this name, read to its end. It needs no more of the system than a
-/// shared reference. The calls of a load that fails are dropped.
+/// All bytes of the file of this name, by a shared reference. A failed load's calls are dropped.
 pub fn load_apart<R: Files>(rt: &R, alloc: Global, name: String) -> Result<Loaded, LoadFault>
     ensures name { IfOk result (λ file. string_bytes file.name ≡ string_bytes name) }
     ensures short { IfOk result (λ file. length file.bytes.items ≤ LOAD_LIMIT_BYTES) }

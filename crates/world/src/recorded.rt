@@ -7,8 +7,7 @@ use crate::trace::Trace;
 use std::io;
 use std::io::{ErrorKind, Write};
 
-/// A writer to the output, each of whose writes is recorded, for code that writes to any `Write`.
-/// Its ghost field says that its calls write, and do nothing else.
+/// A writer to the output whose ghost field says that its calls write and do nothing else.
 #[derive(Drop)]
 pub struct Recorded<W> {
     writer: W,

@@ -10,7 +10,7 @@ use std::fmt::Display;
 use std::io;
 use std::io::Write;
 
-/// Gives the text to the standard error. If it cannot be written, nothing can be reported.
+/// If it cannot be written, nothing can be reported.
 pub(crate) fn give<E: Write>(err: &mut E, text: &[u8], trace: &mut Trace)
     ensures { trace.new.run ≡ with_said trace.old.run text.now }
 {
@@ -18,8 +18,7 @@ pub(crate) fn give<E: Write>(err: &mut E, text: &[u8], trace: &mut Trace)
     trace.said(text);
 }
 
-/// The standard error as a writer, all of whose writes are given. Its ghost field says that its
-/// calls say something, and do nothing else.
+/// The standard error as a writer. Its ghost field says that its calls say texts alone.
 #[derive(Drop)]
 struct Saying<'a, E> {
     err: &'a mut E,
@@ -59,8 +58,7 @@ impl<E: Write> Write for Saying<'_, E> {
     }
 }
 
-/// Gives the line and a line feed to the standard error. An error is that the line's `Display` gave
-/// up.
+/// An error is that the line's `Display` failed.
 pub(crate) fn give_line<E: Write, D: Display + Drop>(
     err: &mut E,
     line: D,
@@ -76,7 +74,7 @@ pub(crate) fn give_line<E: Write, D: Display + Drop>(
     result
 }
 
-/// Gives a text in two parts to the standard error, without memory for the whole.
+/// In two parts, without memory for the whole.
 fn give_both<E: Write>(err: &mut E, front: &str, back: &str, trace: &mut Trace)
     ensures { trace.new.run ≡ with_said trace.old.run (front.now ++ back.now) }
 {
@@ -84,7 +82,6 @@ fn give_both<E: Write>(err: &mut E, front: &str, back: &str, trace: &mut Trace)
     give(err, back.as_bytes(), trace);
 }
 
-/// Gives why the file of this name was not loaded.
 fn give_load<E: Write>(err: &mut E, name: &str, why: LoadFault, trace: &mut Trace)
     ensures { trace.new.run ≡ with_said trace.old.run (load_text name.now why) }
 {
@@ -98,7 +95,6 @@ fn give_load<E: Write>(err: &mut E, name: &str, why: LoadFault, trace: &mut Trac
     }
 }
 
-/// Gives why standard input was not loaded.
 fn give_input<E: Write>(err: &mut E, why: LoadFault, trace: &mut Trace)
     ensures { trace.new.run ≡ with_said trace.old.run (input_text why) }
 {
@@ -109,7 +105,6 @@ fn give_input<E: Write>(err: &mut E, why: LoadFault, trace: &mut Trace)
     }
 }
 
-/// Gives why the file of this name was not made.
 fn give_make<E: Write>(err: &mut E, name: &str, why: MakeFault, trace: &mut Trace)
     ensures { trace.new.run ≡ with_said trace.old.run (make_text name.now why) }
 {
@@ -119,7 +114,6 @@ fn give_make<E: Write>(err: &mut E, name: &str, why: MakeFault, trace: &mut Trac
     }
 }
 
-/// Gives the fault line, without its line feed.
 fn give_text<E: Write>(err: &mut E, why: Fault<'_>, trace: &mut Trace)
     ensures { trace.new.run ≡ with_said trace.old.run (fault_text why.entry) }
 {
@@ -132,7 +126,6 @@ fn give_text<E: Write>(err: &mut E, why: Fault<'_>, trace: &mut Trace)
     }
 }
 
-/// Gives the fault line to the standard error.
 pub(crate) fn give_fault<E: Write>(err: &mut E, why: Fault<'_>, trace: &mut Trace)
     ensures { trace.new.run ≡ with_said trace.old.run (fault_text why.entry ++ codes "\n") }
 {

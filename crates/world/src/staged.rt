@@ -6,11 +6,9 @@ use std::marker::Model;
 /// A file that was written whole and synced under another name. Only this crate makes one.
 #[derive(Drop)]
 pub struct Staged {
-    /// Its name, once it is made.
     name: String,
-    /// The name that it has until then.
+    /// The name that it has until it is made.
     begun: String,
-    /// What was written to it.
     bytes: GhostBytes,
 }
 
@@ -27,7 +25,6 @@ impl Model for Staged {
 impl Staged {
     ghost use Rattle.std.specs.Prelude.{◌≡◌, string_bytes};
 
-    /// A file of this name, which has the name `begun` until it is made.
     pub(crate) fn new(name: String, begun: String, bytes: &[u8]) -> Staged
         ensures { result ≡ record { name = string_bytes name; bytes = bytes.now } }
     {
@@ -38,14 +35,12 @@ impl Staged {
         }
     }
 
-    /// Its name, once it is made.
     pub(crate) fn name(&self) -> &str
         ensures { result.now ≡ self.now.name }
     {
         self.name.as_str()
     }
 
-    /// The name that it has until then.
     pub(crate) fn begun(&self) -> &str {
         self.begun.as_str()
     }

@@ -13,11 +13,9 @@ use std::fs::{Files, OpenFile};
 use std::io::{Input, Write};
 use std::{fs, io};
 
-/// The files of the system, its standard input, and the two streams that a program writes to. It
-/// records each call.
+/// The files of the system, its standard input and its two output streams, each call recorded.
 #[derive(Drop)]
 pub struct System<'a, R, W, E> {
-    /// What reaches the files.
     rt: &'a R,
     out: W,
     err: E,

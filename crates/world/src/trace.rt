@@ -6,10 +6,8 @@ use crate::staged::Staged;
 use std::marker::Model;
 use std::snapshot::Snapshot;
 
-/// The system calls in order. It has no bytes at run time.
-///
-/// Each recorder is private and is called beside its system call alone. A reviewer reads these
-/// calls: no proof checks that what is recorded is what the system did.
+/// The system calls in order. It has no bytes at run time. Each recorder is private and called
+/// beside its system call alone. A reviewer reads these calls: no proof checks them.
 #[cycle(trace)]
 #[derive(Drop)]
 pub struct Trace {
@@ -22,7 +20,7 @@ pub struct Trace {
 enum Call {
     /// None yet.
     Start,
-    /// The file of this name was opened, to be read from its beginning.
+    /// The file of this name was opened, to be read from its start.
     Opened(Snapshot<Trace>, Snapshot<GhostBytes>),
     /// Standard input is read from here on.
     Input(Snapshot<Trace>),
@@ -38,7 +36,6 @@ enum Call {
     Wrote(Snapshot<Trace>, Snapshot<GhostBytes>),
     /// A write to the output, or its flush, failed.
     Cut(Snapshot<Trace>, Snapshot<WriteFault>),
-    /// The output was flushed.
     Flushed(Snapshot<Trace>),
     /// These bytes were given to the standard error.
     Said(Snapshot<Trace>, Snapshot<GhostBytes>),
@@ -99,7 +96,6 @@ impl Trace {
         self.last = Snapshot::of(&Call::Input(Snapshot::of(self)));
     }
 
-    /// A read gave `count` bytes, which are in the buffer from the offset `from` on.
     pub(crate) fn read(&mut self, buffer: &Vec<u8>, from: usize, count: usize)
         ensures { self.new ≡ after_read self.old (drop from buffer.now.items) count }
     {
@@ -131,7 +127,6 @@ impl Trace {
         self.last = Snapshot::of(&Call::Unopened(Snapshot::of(self), Snapshot::of(&name)));
     }
 
-    /// A write took `count` bytes of the piece, from the offset `from` on.
     pub(crate) fn wrote(&mut self, piece: &[u8], from: usize, count: usize)
         requires { from + count ≤ length piece.now }
         ensures { self.new

@@ -77,15 +77,13 @@ pub trait World: Inputs {
         ensures { Self.run self.new
             ≡ with_said (Self.run self.old) (fault_text why.entry ++ codes "\n") };
 
-    /// Gives the line and a line feed to the standard error. An error is that the line's `Display`
-    /// gave up.
+    /// Gives the line and a line feed to the standard error, or the error of its `Display`.
     fn report_line<D: Display + Drop>(&mut self, line: D) -> Result<(), io::Error>
         ensures line { OnOk result (IfSome (D.output line)
             (λ text. Self.run self.new ≡ with_said (Self.run self.old) (text ++ codes "\n"))) }
         ensures said { IsSaid (Self.run self.old) (Self.run self.new) };
 
-    /// Writes a file whole, under the name `begun`, and syncs it. `publish` makes it a file of this
-    /// name.
+    /// Writes and syncs a whole file under the name `begun`. `publish` gives it this name.
     fn stage(&mut self, name: &str, begun: &str, bytes: &[u8]) -> Result<Staged, MakeFault>
         ensures staged { IfOk result (λ file.
             file ≡ record { name = name.now; bytes = bytes.now }) }

@@ -7,7 +7,6 @@ use crate::faults::WriteFault;
 use crate::trace::Trace;
 use std::io::{ErrorKind, Write};
 
-/// Records a write behind the first `at` bytes of the piece, which were written before.
 fn note_more(trace: &mut Trace, piece: &[u8], at: usize, count: usize)
     requires { at + count ≤ length piece.now }
     ensures { (r : Run) → trace.old.run ≡ with_written r (take at piece.now)
@@ -16,7 +15,6 @@ fn note_more(trace: &mut Trace, piece: &[u8], at: usize, count: usize)
     trace.wrote(piece, at, count)
 }
 
-/// Records that no more of the piece could be written.
 fn note_cut(trace: &mut Trace, piece: &[u8], at: usize, fault: WriteFault) -> WriteFault
     ensures cut { (r : Run) → trace.old.run ≡ with_written r (take at piece.now)
         → IsCut r trace.new.run piece.now result }
@@ -28,7 +26,6 @@ fn note_cut(trace: &mut Trace, piece: &[u8], at: usize, fault: WriteFault) -> Wr
     fault
 }
 
-/// Writes the piece, whole if the writer takes it.
 pub(crate) fn write_piece<W: Write>(
     out: &mut W,
     piece: &[u8],
