@@ -18,7 +18,7 @@ pub trait Disk {
     /// A file that was opened to be read at any offset.
     type File: Placed + Sync + Drop;
 
-    // What the file of a name has, if that is known. It does not change.
+    // The contents of the file of a name, if known. They do not change.
     ghost bytes_under: { Self → List ℕ → Option (List ℕ) } = { λ _ _. None };
 
     // Where the bytes of a name come from, if they are read whole.
@@ -31,8 +31,7 @@ pub trait Disk {
     /// The size in bytes of the file of this name, if it may be read before it is due.
     fn size_ahead(&self, name: &str) -> Option<u64>;
 
-    /// Adds some tokens of the file of this name to a sample, as big-endian numbers. Any serve, and
-    /// none do, as for a file that cannot be read.
+    /// Adds any tokens of the file to a sample, as big-endian numbers; none if it is unreadable.
     fn push_sample(
         &self,
         alloc: Global,
@@ -44,38 +43,34 @@ pub trait Disk {
     fn read(&self, alloc: Global, name: String) -> Result<Loaded, LoadFault>
         ensures { IfOk result (λ file. string_bytes file.name ≡ string_bytes name) };
 
-    /// All bytes of the file of this name, read into the memory of `room`. What is in it is
-    /// overwritten, and more room is asked for if the file is no shorter. An error says nothing of
-    /// the calls.
+    /// All bytes of the file of this name, read into the memory of `room`, which is overwritten.
     fn read_into(&self, name: &str, room: Vec<u8>, calls: &mut Trace) -> Result<Vec<u8>, LoadFault>
         ensures { IfOk result (λ bytes. IsLent (origin self.now name.now) calls.old.run
             calls.new.run bytes.items) };
 
-    /// Notes how much is to be charged, before anything is. It serves whoever watches the run:
-    /// nothing else depends on it.
+    /// Notes how much is to be charged, before anything is: only for whoever watches the run.
     fn note_all(&self, _all: Amount) {}
 
     /// Notes that so much more of it is charged.
     fn note_charged(&self, _more: Amount) {}
 
     /// Notes that several uploads are charged as they are drawn, and how many of their taps came
-    /// after a tap of their token that is as late or later; none if memory is refused to count them.
+    /// after one of their token as late or later; none if an allocation fails to count them.
     fn note_live(&self, _late: Option<u64>) {}
 
-    /// Notes that no upload has the token that is asked for.
+    /// Notes that no upload has the requested token.
     fn note_absent(&self) {}
 }
 
 /// How much of what was uploaded.
 #[derive(Clone, Copy, Debug, PartialEq, Eq)]
 pub enum Amount {
-    /// So many taps.
+    /// This number of taps.
     Taps(u64),
     /// Uploads of this number of bytes.
     Bytes(u64),
 }
 
-/// Takes the next file of the list, which is the last one there, if it has this name.
 pub(crate) fn take_next(ahead: &mut Vec<Loaded>, name: &str) -> Option<Loaded>
     ensures taken { IfSome result (λ next. (ahead.old.items ≡ ahead.new.items ++ next ∷ [])
         × (string_bytes next.name ≡ name.now)) }
@@ -89,8 +84,7 @@ pub(crate) fn take_next(ahead: &mut Vec<Loaded>, name: &str) -> Option<Loaded>
     Some(next)
 }
 
-/// How many files may be read before they are due. The first that may not keeps all behind it
-/// waiting: they may be made while it is read.
+/// The first that may not be read keeps all after it waiting: they may be made while it is read.
 fn count_ahead<D: Disk>(disk: &D, names: &[&str]) -> usize
     ensures { result ≤ length names.now }
 {
@@ -102,7 +96,6 @@ fn count_ahead<D: Disk>(disk: &D, names: &[&str]) -> usize
     names.len()
 }
 
-/// Reads one more file and keeps it. Returns whether it did.
 fn read_one<D: Disk>(
     alloc: Global,
     disk: &D,
@@ -128,7 +121,6 @@ fn read_some<D: Disk>(alloc: Global, disk: &D, names: &[&str]) -> Vec<Loaded> {
     part
 }
 
-/// Reads these files by this number of threads at most, each some of them.
 fn read_by_threads<R: Threads + Sync, D: Disk + Sync>(
     rt: &R,
     alloc: Global,
@@ -154,9 +146,8 @@ fn read_by_threads<R: Threads + Sync, D: Disk + Sync>(
     Ok(ahead)
 }
 
-/// Reads files before they are due, by this number of threads at most, and returns what was read,
-/// the first one last. One thread reads none: it would gain nothing. If memory is refused, fewer
-/// are read or none; if a thread is, another reads its part.
+/// Reads files before they are due, by at most this number of threads, and returns them, the first
+/// one last: fewer or none for one thread, or if memory or a thread is refused.
 pub fn read_ahead<R: Threads + Sync, D: Disk + Sync>(
     rt: &R,
     alloc: Global,

@@ -21,7 +21,7 @@ impl Disk for HostRuntime {
         open_regular(self, name)
     }
 
-    // What is no regular file, as a pipe, may give other bytes before it is due, or none for long.
+    // What is not a regular file, as a pipe, may give other bytes before it is due.
     fn size_ahead(&self, name: &str) -> Option<u64> {
         match fs::metadata(self, name) {
             Ok(about) if about.is_file() && about.len() <= LOAD_LIMIT_BYTES as u64 => {
@@ -60,7 +60,6 @@ impl Disk for HostRuntime {
 /// Loads from the system's files and standard input, each call recorded.
 #[derive(Drop)]
 pub struct Host<'a, R> {
-    /// The runtime that reaches the files.
     rt: &'a R,
     /// The files that were read before they are due, the next one last.
     ahead: Vec<Loaded>,

@@ -1,12 +1,4 @@
-//! Where the program's bytes come from: the system's files and standard input, whole files that
-//! threads read before they are due, and samples of files' tokens.
-//!
-//! | module | what it does |
-//! |---|---|
-//! | `source` | whole files and standard input from a source |
-//! | `files_ahead` | files that are read before their turns |
-//! | `host` | the system's files and standard input |
-//! | `sampling` | a sample of a file's tokens |
+//! The program's bytes: the system's files, standard input, files read ahead, samples of tokens.
 #![tactic(auto)]
 
 mod files_ahead;

@@ -8,19 +8,16 @@ use program_manners::LOAD_LIMIT_BYTES;
 use std::alloc::{AllocError, Global};
 use tap_views::{TAP1_HEADER_BYTES, TAP1_TAP_BYTES, TAP2_TAP_BYTES};
 
-/// Of how many batches of a file tokens are sampled, at most.
+/// At most of how many batches of a file tokens are sampled.
 const MAX_FRONTS: usize = 256;
 
-/// How many bytes are read of a batch: one read of the system that costs little.
+/// How many bytes are read of a batch: one cheap read.
 const FRONT_BYTES: usize = 4_096;
 
-/// How many taps lie between two of a sample.
 const TAPS_APART: usize = 16;
 
-/// The header's bytes of a batch of the second layout, which names its validator.
 const TAP2_HEADER_BYTES: usize = 12;
 
-/// The bytes of a batch's header and of each of its taps, as the header's magic asks for them.
 fn layout_of(header: &[u8]) -> (usize, usize)
     ensures { (result.0 ≤ 12) × (result.1 ≤ 28) }
 {
@@ -31,8 +28,7 @@ fn layout_of(header: &[u8]) -> (usize, usize)
     }
 }
 
-/// Adds some tokens of a batch to the sample, of which the first bytes are given. Returns how many
-/// bytes the batch has, if there is one.
+/// Returns how many bytes the batch has.
 fn push_front(front: &[u8], sample: &mut Vec<u128>) -> Result<Option<u64>, AllocError>
     ensures { IfOk result (λ size. IfSome size (λ bytes. bytes < 2 ^ 21)) }
 {
@@ -52,9 +48,8 @@ fn push_front(front: &[u8], sample: &mut Vec<u128>) -> Result<Option<u64>, Alloc
     Ok(Some((header + width * count) as u64))
 }
 
-/// Adds some tokens of the file to the sample, as big-endian numbers: of each of its first batches
-/// a few. No tap is checked, and batches are passed over by their headers alone. It says nothing of
-/// the file, which may be read otherwise later.
+/// Adds a few tokens of each of the file's first batches to the sample, as big-endian numbers. No
+/// tap is checked, and the file may be read otherwise later.
 pub(crate) fn push_file_sample<F: Placed>(
     alloc: Global,
     file: &F,

@@ -9,8 +9,7 @@ pub trait Source: FileSource {
     ghost use Rattle.program_manners.specs.Loads.{LoadsOne};
     ghost use Rattle.program_manners.specs.Refusals.{Refuses};
 
-    /// Takes what was read of the next files before they are due, the first one last. None is
-    /// loaded by it: each is given when it is loaded by its name.
+    /// Takes what was read of the next files, the first one last. Each is loaded by name later.
     fn keep_ahead(&mut self, ahead: Vec<Loaded>)
         ensures { Self.loaded self.new ≡ Self.loaded self.old };
 
