@@ -1,5 +1,5 @@
 -- A list divided into blocks of consecutive elements, by a test that says whether an element joins
--- the block that stands before it. An element that does not join opens the next block.
+-- the block before it. An element that does not join opens the next block.
 use Rattle.std.specs.Prelude.{◌≡◌, Bool, false, if◌then◌else◌, IsTrue, List, [], ◌∷◌, ◌++◌, ⊤}
 use Rattle.std.specs.List.{flat_map}
 

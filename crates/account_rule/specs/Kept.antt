@@ -20,7 +20,7 @@ pub record Kept : Type 0 where
   pub class : ℕ
   pub window : Window
 
--- what stands in the account's fields
+-- what the account's fields contain
 abbrev pub kept_numbers : Account → Kept
 kept_numbers account =
     record {

@@ -1,4 +1,4 @@
--- Why a ride is no transfer, over the whole list of its token's earlier taps.
+-- Why a ride is not a transfer, over the whole list of its token's earlier taps.
 use Rattle.std.specs.Prelude.{◌≡◌, ℕ, ◌-◌, ◌<◌, ◌≤◌, false, if◌then◌else◌, List, []}
 use Rattle.std.specs.Prelude.{Option, Some, None, nat_eq, nat_le, nat_lt}
 use Rattle.tariffs.specs.declared.mode.Mode.{Mode}
@@ -30,7 +30,7 @@ no_transfer_from rules (Some trip) ride =
     then RideTooLate trip.ride.moment
     else NotPermitted trip.last.mode ride.mode))
 
--- why a ride at the moment, on the mode, is no transfer after its token's earlier taps
+-- why a ride at the moment, on the mode, is not a transfer after its token's earlier taps
 unfoldable pub no_transfer : TokenRules → List TapIn → ℕ → Mode → NoTransfer
 no_transfer rules earlier moment mode =
     no_transfer_from rules.transfers (last_trip rules earlier) (live_at moment mode)

@@ -1,4 +1,4 @@
--- For which lists of taps an account stands.
+-- Which lists of taps an account represents.
 use Rattle.std.specs.Prelude.{◌≡◌, ℕ, ◌<◌, ◌≤◌, List, [], ◌∷◌, length, min, Option, Some, None}
 use Rattle.std.specs.Option.{ForSome}
 use Rattle.account_rule.specs.declared.account.Account.{Account}
@@ -23,7 +23,7 @@ window_of rules (first ∷ window) = Some (record {
   cents = window_cents rules.terms (first ∷ window);
 })
 
--- what is kept stands for the list: it is what decides every later reply
+-- what is kept represents the list: it is what decides every later reply
 pub record KeepsOf (rules : TokenRules) (kept : Option Kept) (taps : List TapIn) : Type 0 where
   -- its last moment says which moments are later than all known taps
   pub last : (moment : ℕ) → is_after kept moment ≡ is_later taps moment
@@ -41,10 +41,10 @@ pub record KeepsOf (rules : TokenRules) (kept : Option Kept) (taps : List TapIn)
   -- its window leaves room for one more ride
   pub room : ForSome (kept_window kept) IsRoomy
 
--- the account stands for the list: what it keeps decides each later reply as the list does
+-- the account represents the list: what it keeps decides each later reply as the list does
 unfoldable pub Stands : TokenRules → Account → List TapIn → Type 0
 Stands rules account taps = KeepsOf rules (kept_of account) taps
 
--- there is a list of taps for which the account stands
+-- there is a list of taps that the account represents
 unfoldable pub StandsForSome : TokenRules → Account → Type 0
 StandsForSome rules account = (taps : List TapIn) × Stands rules account taps
