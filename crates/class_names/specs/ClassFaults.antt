@@ -7,8 +7,8 @@ use Rattle.class_names.specs.declared.names.ClassFault.{ClassFault}
 use Rattle.class_names.specs.declared.names.ClassFault.TheVariants.{Name, NoMemory, Text}
 use Rattle.class_names.specs.declared.names.WrongNames.{WrongNames}
 
--- The fault is one of the text: it names a class that no ledger can have, or it is no TOML or names
--- no default class. Memory may be refused at any time.
+-- The fault is one of the text: it names a class that no ledger can have, or it is not TOML or
+-- names no default class. An allocation may fail at any time.
 abbrev pub IsFaultOf : List ℕ → ClassFault → Type 0
 IsFaultOf text Name =
     (tree : Members) × (parse_document text ≡ Some tree) × (has_plain_classes tree ≡ false)
@@ -16,7 +16,7 @@ IsFaultOf text Text =
     IsUtf8 text → (tree : Members) → parse_document text ≡ Some tree → default_in tree ≡ None
 IsFaultOf text NoMemory = Unit {0}
 
--- each class that the text names can stand in a ledger
+-- each class that the text names can be in a ledger
 abbrev pub HasPlainClasses : List ℕ → Type 0
 HasPlainClasses text =
     (tree : Members) → parse_document text ≡ Some tree → has_plain_classes tree ≡ true

@@ -51,13 +51,13 @@ abbrev pub class_of_token : Members → List ℕ → Option (List ℕ)
 class_of_token tree token = first_class (class_among (riders_in tree) token) (default_in tree)
 
 -- The tree that is valid at the moment, of texts that follow one another: the first one until a
--- later one is valid, and so on. Before each later one stands the moment from which it is valid.
+-- later one is valid, and so on. Before each later one is the moment from which it is valid.
 abbrev pub tree_at : Members → List (ℕ × Members) → ℕ → Members
 tree_at tree [] moment = tree
 tree_at tree (next ∷ later) moment =
     if nat_le next.0 moment then tree_at next.1 later moment else tree
 
--- the trees of the texts of tables that follow, each behind the moment from which its table is
+-- the trees of the texts of tables that follow, each after the moment from which its table is
 -- valid
 abbrev pub AreLaterTrees : List (ℕ × TableMeaning) → List (List ℕ) → List (ℕ × Members) → Type 0
 AreLaterTrees [] [] [] = Unit {0}
@@ -77,21 +77,21 @@ is_bare byte =
     (nat_le 97 byte && nat_le byte 122) || ((nat_le 65 byte && nat_le byte 90)
     || ((nat_le 48 byte && nat_le byte 57) || (byte == 45 || byte == 95)))
 
--- The name can stand in a ledger: it is one of TOML's bare keys, and has at most 64 bytes.
+-- The name can be in a ledger: it is one of TOML's bare keys, and has at most 64 bytes.
 abbrev pub is_plain_name : List ℕ → Bool
 is_plain_name name =
     nat_le 1 (length name) && (nat_le (length name) 64 && list_all is_bare name)
 
--- the class that a value names, if it names one, can stand in a ledger
+-- the class that a value names, if it names one, can be in a ledger
 abbrev pub is_plain_or_none : Option (List ℕ) → Bool
 is_plain_or_none None = true
 is_plain_or_none (Some name) = is_plain_name name
 
--- the classes that these keys name can stand in a ledger
+-- the classes that these keys name can be in a ledger
 abbrev pub are_plain : Members → Bool
 are_plain no_members = true
 are_plain (member key value more) = is_plain_or_none (as_str value) && are_plain more
 
--- the classes that the text names for riders, and the default one, can stand in a ledger
+-- the classes that the text names for riders, and the default one, can be in a ledger
 abbrev pub has_plain_classes : Members → Bool
 has_plain_classes tree = is_plain_or_none (default_in tree) && are_plain (riders_in tree)
