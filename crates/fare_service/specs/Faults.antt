@@ -9,7 +9,7 @@ use Rattle.fare_service.specs.declared.faults.RunFault.TheVariants as run
 use Rattle.fare_service.specs.ShareView.{ShareView}
 use Rattle.fare_service.specs.Shares.{made_visits_at}
 
--- the number of shards is refused first, and then the number of uploads; memory is asked for last
+-- the number of shards is refused first, and then the number of uploads; memory is taken last
 abbrev pub IsOpenFault : ℕ → ℕ → OpenFault → Type 0
 IsOpenFault shards uploads Shards = (shards ≡ 0) ⊎ (64 < shards)
 IsOpenFault shards uploads Uploads = (0 < shards) × (shards ≤ 64) × (65535 < uploads)

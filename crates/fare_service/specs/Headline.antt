@@ -28,7 +28,7 @@ pub record Signed : Type 0 where
   pub worker : ℕ
   pub entries : List Entry
 
--- the visits that a worker made, in the order in which they stand in the book
+-- the visits that a worker made, in the order in which they are in the book
 abbrev pub by_worker : ℕ → List Signed → List (List Entry)
 by_worker worker visits = map (λ v. v.entries) (filter (λ v. v.worker == worker) visits)
 
@@ -67,7 +67,7 @@ pub record Headline (fares : Fares) (shards : ℕ) (files : List (List ℕ))
       × (book.shards ≡ shards)) outcome.books
   -- whose history is one thread's, each worker's visits in its own order:
   pub one_thread : EachBook (λ shard book. IsOneThread shard works book.entries) outcome.books
-  -- every posted tap stands in it once (follows from `worked`, `drawn_once` and `one_thread`),
+  -- every posted tap is in it once (follows from `worked`, `drawn_once` and `one_thread`),
   pub stand_once : EachBook
       (λ shard book. StandOnce shard shards (all_works works) book.entries) outcome.books
   -- and each answer and charge is the account rule's for the earlier taps of the token.

@@ -1,4 +1,4 @@
--- Where the posted taps stand: each in one entry of its shard's book, and the books have no other
+-- Where the posted taps are: each in one entry of its shard's book, and the books have no other
 -- entries.
 use Rattle.std.specs.Prelude.{◌≡◌, ℕ, ◌<◌, ◌==◌, Bool, List, [], length, map, filter, take, All}
 use Rattle.std.specs.Prelude.{count_by}
@@ -14,7 +14,7 @@ use Rattle.fare_service.specs.Runs.{runs_of}
 use Rattle.fare_service.specs.Shares.{Worked, all_visits}
 
 -- the taps of an upload's batches in the order in which they are posted: batch by batch, and each
--- batch by rising shard
+-- batch by increasing shard
 abbrev pub in_posting_order : ℕ → List (List Tap) → List Tap
 in_posting_order shards batches = flat_map (λ run. run.taps) (runs_of shards batches)
 
@@ -48,7 +48,7 @@ abbrev pub posted_of : ℕ → List Worked → List Tap
 posted_of upload works =
     flat_map (λ v. v.taps) (all_visits (filter (λ w. w.upload == upload) works))
 
--- Each entry of a shard's book stands for a tap of an upload, and has the fields of its bytes. Of
+-- Each entry of a shard's book represents a tap of an upload, and has the fields of its bytes. Of
 -- each upload these are exactly its posted taps of the shard, each once, in the order of the
 -- upload.
 pub record StandOnce (shard shards : ℕ) (works : List Worked) (entries : List Entry) : Type 0 where
@@ -57,7 +57,7 @@ pub record StandOnce (shard shards : ℕ) (works : List Worked) (entries : List 
   pub exactly : (upload : ℕ)
       → of_upload upload origins ≡ run_of shard shards (posted_of upload works)
 
--- The same taps in another order: those of each shard stand in the same order, and of each kind
+-- The same taps in another order: those of each shard are in the same order, and of each kind
 -- there are as many.
 pub record IsReordered (shards : ℕ) (taps ordered : List Tap) : Type 0 where
   pub same : (shard : ℕ) → shard < shards

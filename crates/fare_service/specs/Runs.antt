@@ -22,7 +22,7 @@ abbrev pub if_any : ℕ → List Tap → List PostedRun
 if_any shard [] = []
 if_any shard (tap ∷ taps) = posted_run shard (tap ∷ taps) ∷ []
 
--- the runs of a batch for the first shards, by rising shard
+-- the runs of a batch for the first shards, by increasing shard
 abbrev pub runs_below : ℕ → ℕ → List Tap → List PostedRun
 runs_below shards zero taps = []
 runs_below shards (suc shard) taps =

@@ -1,4 +1,4 @@
--- When a worker stops: with no upload left to draw, or at one that was cut for want of memory.
+-- When a worker stops: with no upload left to draw, or at one that was cut because memory ran out.
 use Rattle.std.specs.Prelude.{◌≡◌, ◌⊎◌, ℕ, ◌+◌, ◌^◌, ◌≤◌, nat_lt, List, ◌++◌, length, All, Any}
 use Rattle.std.specs.Prelude.{Bool, true, false, count_by, slice_get, Option, Some, MatchOption}
 use Rattle.std.specs.Option.{option_to_list}

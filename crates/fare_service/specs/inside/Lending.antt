@@ -16,7 +16,7 @@ pub record IsAnswer (service : ServiceView) (old : ShareView) (answer : Result S
   pub worked : IfOk answer (WorkedOn service old)
   pub unlent : IfErr answer (λ u. IsUnlent service.uploads u.upload)
 
--- why there are not all shares: memory was refused, or a worker named an upload that was not lent
+-- why there are not all shares: an allocation failed, or a worker named an upload that was not lent
 abbrev pub IsFaultOf : List (Result ShareView Unlent) → RunFault → Type 0
 IsFaultOf answers run.Workers = ⊥
 IsFaultOf answers run.NoMemory = Unit {0}

@@ -1,4 +1,4 @@
--- What stands at the spots of several books. Private functions alone cite this.
+-- What is at the spots of several books. Private functions alone cite this.
 use Rattle.std.specs.Prelude.{ℕ, ◌/◌, ◌%◌, List, Option, map, option_and_then, slice_get}
 use Rattle.std.specs.Prelude.{unwrap_or}
 use Rattle.account_rule.specs.declared.reply.Answer.TheVariants.{Unknown}

@@ -13,8 +13,8 @@ use Rattle.fare_service.specs.Stopping.{SomeFull, StoppedWell}
 abbrev pub ReportsFull : {A : Type 0} → Result A Stop → List PassView → List PassView → Type 0
 ReportsFull answer old new = SomeFull old ⊎ IsErrOf answer Full → SomeFull new
 
--- if want of memory stopped a run, no full shard did: the passes are as they were, or a visit to
--- the shard was made
+-- if an allocation failure stopped a run, no full shard did: the passes are as they were, or a
+-- visit to the shard was made
 abbrev pub ReportsMemory : ℕ → Result (Unit {0}) Stop → List PassView → List PassView → Type 0
 ReportsMemory shard answer old new =
     IsErrOf answer Memory → (new ≡ old)
