@@ -1,5 +1,5 @@
--- When a text is no fare table: the rows of the table of faults, in their order. The first row that
--- holds gives the fault.
+-- When a text is not a fare table: the rows of the table of faults, in their order. The first row
+-- that holds gives the fault.
 use Rattle.std.specs.Prelude.{ℕ, zero, suc, pos, ◌&&◌, ◌||◌, ◌++◌, ◌∷◌, [], Bool, true, false, not}
 use Rattle.std.specs.Prelude.{List, Option, Some, None, codes, int_le, nat_le, option_map, position}
 use Rattle.std.specs.Prelude.{unsigned_abs}
@@ -40,7 +40,7 @@ abbrev pub holds_of_some : {A : Type 0} → (A → Bool) → Option A → Bool
 holds_of_some test None = false
 holds_of_some test (Some value) = test value
 
--- ---- what stands in the text
+-- ---- what is in the text
 -- the word that the text has for a key
 abbrev pub key_word : Key → List ℕ
 key_word the_key.Modes = codes "modes"
@@ -249,8 +249,8 @@ is_again tree place =
 abbrev pub is_no_class : Members → List ℕ → Bool
 is_no_class tree name = is_none (get_member name (classes_in tree))
 
--- the default class, or the class of a key of `riders`, is none of the text's; or the key is no
--- token, or the token of an earlier key
+-- the default class, or the class of a key of `riders`, is none of the text's; or the key is not
+-- a token, or is the token of an earlier key
 abbrev pub names_no_rider : Where → Members → Bool
 names_no_rider top tree = is_no_class tree (string_of (get_member (codes "default_class") tree))
 names_no_rider (class place) tree = false
@@ -402,7 +402,7 @@ abbrev pub first_row : Members → List FaultRow → Option TableFault
 first_row tree listed = option_map (λ one. one.1) (find (holds tree) listed)
 
 -- The fault of a table's text: the first row that holds of its TOML tree, if one does. A text that
--- is no TOML has the text fault.
+-- is not TOML has the text fault.
 abbrev pub first_fault : Option Members → Option TableFault
 first_fault None = Some Text
 first_fault (Some tree) = first_row tree (rows tree)

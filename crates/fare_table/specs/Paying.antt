@@ -47,7 +47,7 @@ pub record IsElementOf (tree : Members) (class : List ℕ) (element : Members) :
   pub listed : get_member (codes "classes") tree ≡ Some (table classes)
   pub stands : get_member class classes ≡ Some (table element)
 
--- the number that stands there, else the one that holds if none stands
+-- the number that is there, else the one that holds if none is
 abbrev pub IsNumberOr : ℕ → Option Data → ℕ → Type 0
 IsNumberOr default None number = number ≡ default
 IsNumberOr default (Some value) number = value ≡ integer (pos number)

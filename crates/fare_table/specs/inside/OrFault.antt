@@ -8,6 +8,6 @@ abbrev pub seen_through : {A B : Type 0} → (A → B) → Result A TableFault �
 seen_through f (Ok x) = Ok (f x)
 seen_through f (Err e) = Err e
 
--- the result, seen through f, is the outcome, unless memory was refused
+-- the result, seen through f, is the outcome, unless an allocation failed
 abbrev pub Answers : {A B : Type 0} → (A → B) → Result A TableFault → Result B TableFault → Type 0
 Answers f r outcome = MatchResult r (λ a. outcome ≡ Ok (f a)) (λ e. e ≢ NoMemory → outcome ≡ Err e)
