@@ -1,4 +1,4 @@
--- What small counts stand for.
+-- What small counts represent.
 use Rattle.std.specs.Prelude.{◌+◌}
 use Rattle.histories.specs.declared.sums.counts.Counts.{Counts}
 use Rattle.histories.specs.declared.sums.counts.TokenCounts.{TokenCounts}

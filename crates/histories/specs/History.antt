@@ -13,7 +13,7 @@ IsReplied table before entry =
     reply_of entry ≡ reply (rules_of table (bytes_of entry.token))
     (taps_of table entry.token before) (tap_of table entry)
 
--- each entry, wherever it stands, has the reply that the account rule gives after those before it
+-- each entry, wherever it is, has the reply that the account rule gives after those before it
 pub record IsLegal (table : Fares) (entries : List Entry) : Type 0 where
   pub each : (before : List Entry) (entry : Entry) (after : List Entry)
       → entries ≡ before ++ entry ∷ after → IsReplied table before entry

@@ -1,5 +1,5 @@
--- The plain history of taps: each posted after those before it, with the account rule's reply. It
--- has no shards, no visits and no workers.
+-- The sequential history of taps: each posted after those before it, with the account rule's reply.
+-- It has no shards, no visits and no workers.
 use Rattle.std.specs.List.{flat_map}
 use Rattle.std.specs.Int.{from_be_bytes, w64}
 use Rattle.std.specs.Prelude.{◌≡◌, ℕ, List, [], ◌∷◌, ◌++◌, take, drop}

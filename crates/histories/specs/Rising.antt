@@ -1,4 +1,4 @@
--- The keys of a list, each once and rising.
+-- The keys of a list, each once and increasing.
 use Rattle.std.specs.Prelude.{◌≡◌, List, [], ◌∷◌}
 use Rattle.std.specs.BTreeSet.{insert_key}
 use Rattle.std.specs.List.Sorted.{IsStrictlySortedBy}

@@ -6,7 +6,7 @@ use Rattle.histories.specs.ByKey.{with_key}
 use Rattle.histories.specs.Rising.{rising}
 use Rattle.histories.specs.Sums.{Sums, sums}
 
--- the keys of the entries, rising, each with the sums of its entries
+-- the keys of the entries, increasing, each with the sums of its entries
 unfoldable pub sums_by : {K : Type 0} → (K → K → Ordering) → (K → K → Bool) → (Entry → K)
     → List Entry → List (K × Sums)
 sums_by cmp eq key_of entries =

@@ -16,11 +16,11 @@ validator_of entry = entry.validator
 abbrev pub token_of : Entry → Token
 token_of entry = entry.token
 
--- the validators of a history, rising, each once
+-- the validators of a history, increasing, each once
 unfoldable pub validators : List Entry → List ℕ
 validators entries = rising nat_cmp (map validator_of entries)
 
--- the tokens of a history, rising, each once
+-- the tokens of a history, increasing, each once
 unfoldable pub tokens : List Entry → List Token
 tokens entries = rising token_cmp (map token_of entries)
 
@@ -28,12 +28,12 @@ tokens entries = rising token_cmp (map token_of entries)
 unfoldable pub entries_of_validator : ℕ → List Entry → List Entry
 entries_of_validator validator entries = filter (is_at validator) entries
 
--- the validators, rising, each with the sums of its entries
+-- the validators, increasing, each with the sums of its entries
 unfoldable pub sums_by_validator : List Entry → List (ℕ × Sums)
 sums_by_validator entries =
     map (λ validator. (validator, sums (entries_of_validator validator entries)))
     (validators entries)
 
--- the tokens, rising, each with the sums of its own entries
+-- the tokens, increasing, each with the sums of its own entries
 unfoldable pub sums_by_token : List Entry → List (Token × Sums)
 sums_by_token entries = map (λ token. (token, sums (own token entries))) (tokens entries)

@@ -20,12 +20,12 @@ pub record AreByKey {K : Type 0} (eq : K → K → Bool) (key_of : Entry → K) 
   pub sums : (key : K) → kept_sums (lookup (eq key) tallies) ≡ sums (with_key eq key_of key entries)
   pub keys : (key : K) → is_some (lookup (eq key) tallies) ≡ is_member eq (map key_of entries) key
 
--- it stands for some entries, and there is room for this number more
+-- it represents some entries, and there is room for this number more
 unfoldable pub HasRoom : {K : Type 0} → (K → K → Bool) → (Entry → K) → List (K × Tally) → ℕ → Type 0
 HasRoom eq key_of tallies more =
     (entries : List Entry) × AreByKey eq key_of entries tallies × (length entries + more ≤ 2 ^ 95)
 
--- both stand for some entries, and there is room for all of them together
+-- both represent some entries, and there is room for all of them together
 unfoldable pub HaveRoom : {K : Type 0} → (K → K → Bool) → (Entry → K) → List (K × Tally)
     → List (K × Tally) → Type 0
 HaveRoom eq key_of tallies more =

@@ -1,4 +1,4 @@
--- What a tally stands for.
+-- What a tally represents.
 use Rattle.std.specs.Prelude.{ℕ, List, slice_index}
 use Rattle.histories.specs.declared.sums.tally.Tally.{Tally}
 use Rattle.histories.specs.Places.{all_of}
@@ -16,6 +16,6 @@ sums_of_places counts cents = record {
   cents = cents;
 }
 
--- the sums that a tally stands for
+-- the sums that a tally represents
 abbrev pub sums_of_tally : Tally → Sums
 sums_of_tally tally = sums_of_places tally.counts tally.cents
