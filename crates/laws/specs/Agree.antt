@@ -15,7 +15,7 @@ pub record DifferInUploads (uploads others : List (List ℕ)) (text other : List
   pub text_is : text ≡ uploads_section ends ++ rest
   pub other_is : other ≡ uploads_section other_ends ++ rest
 
--- The two texts are the same: ledgers, if they are asked for, else statements of this token.
+-- The two texts are the same: ledgers, if requested, else statements of this token.
 -- Without a token they are reports, and the same after the lines of their uploads.
 abbrev pub TextsAgree : Bool → Option Token → List (List ℕ) → List (List ℕ) → List ℕ → List ℕ
     → Type 0

@@ -16,8 +16,8 @@ use Rattle.tap_parts.specs.Parts.{taps_of_uploads}
 abbrev pub fields_of_uploads : List (List Tap) → List TapFields
 fields_of_uploads taps = map fields_of (taps_of_uploads taps)
 
--- Each good tap of the uploads is one of the others, with the same token, validator and moment, and
--- each of the others is one of the uploads. How often a tap comes, in which upload and at which
+-- Each valid tap of the uploads is one of the others, with the same token, validator and moment,
+-- and each of the others is one of the uploads. How often a tap comes, in which upload and at which
 -- place, is not asked.
 pub record HaveSameSetOfTaps (uploads others : List (List ℕ)) : Type 0 where
   pub taps : List (List Tap)
@@ -27,7 +27,7 @@ pub record HaveSameSetOfTaps (uploads others : List (List ℕ)) : Type 0 where
   pub there : All (Contains (fields_of_uploads other_taps)) (fields_of_uploads taps)
   pub back : All (Contains (fields_of_uploads taps)) (fields_of_uploads other_taps)
 
--- each good tap of the further uploads is one of these uploads
+-- each valid tap of the further uploads is one of these uploads
 pub record AreSentAgain (uploads more : List (List ℕ)) : Type 0 where
   pub taps : List (List Tap)
   pub more_taps : List (List Tap)
@@ -40,8 +40,8 @@ abbrev pub is_before : Token → ℕ → TapFields → Bool
 is_before token moment tap =
     token_eq (token_of_bytes tap.token) token && nat_lt tap.moment moment
 
--- Of the token's good taps before the moment, each one of the uploads is one of the others, and the
--- other way round. From the moment on either may have taps that the other lacks.
+-- Of the token's valid taps before the moment, each one of the uploads is one of the others, and
+-- vice versa. From the moment on either may have taps that the other lacks.
 pub record HaveSameTapsBefore (token : Token) (moment : ℕ) (uploads others : List (List ℕ))
     : Type 0 where
   pub taps : List (List Tap)
@@ -65,9 +65,9 @@ own_taps token taps = filter (is_tap_of token) (fields_of_uploads taps)
 abbrev pub with_token : List ℕ → TapFields → TapFields
 with_token bytes tap = record tap { token = bytes }
 
--- The good taps of the one token in the uploads are those of the other token in the others, but for
--- the token: they have the same moments and validators, each as often. What other tokens do is not
--- asked.
+-- The valid taps of the one token in the uploads are those of the other token in the others, but
+-- for the token: they have the same moments and validators, each as often. What other tokens do is
+-- not asked.
 pub record HaveTapsAlike (token other : Token) (uploads others : List (List ℕ)) : Type 0 where
   pub taps : List (List Tap)
   pub other_taps : List (List Tap)
@@ -80,7 +80,7 @@ pub record HaveTapsAlike (token other : Token) (uploads others : List (List ℕ)
 abbrev pub is_tap_before : ℕ → TapFields → Bool
 is_tap_before moment tap = nat_lt tap.moment moment
 
--- The good taps before the moment are the same, of all tokens, each as often. From the moment on
+-- The valid taps before the moment are the same, of all tokens, each as often. From the moment on
 -- either may have taps that the other lacks.
 pub record HaveTapsAlikeBefore (moment : ℕ) (uploads others : List (List ℕ)) : Type 0 where
   pub taps : List (List Tap)
@@ -94,7 +94,7 @@ pub record HaveTapsAlikeBefore (moment : ℕ) (uploads others : List (List ℕ))
 abbrev pub is_known_tap : Fares → TapFields → Bool
 is_known_tap fares tap = is_some (mode_at fares tap.moment tap.validator)
 
--- The others have the token's good taps of the uploads and one more, at a moment at which none of
+-- The others have the token's valid taps of the uploads and one more, at a moment at which none of
 -- these is known.
 pub record HaveOneMoreTap (fares : Fares) (token : Token) (uploads others : List (List ℕ))
     : Type 0 where

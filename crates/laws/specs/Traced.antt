@@ -14,7 +14,7 @@ line_of fields class traced = record {
   place = traced.place;
 }
 
--- Where the columns of a tap are put behind the fields of a line, the line that is written is read
+-- Where the columns of a tap are put after the fields of a line, the line that is written is read
 -- back as these fields, this class, and the same place of the same upload.
 abbrev pub TracedLinesAreReadBack : Type 0
 TracedLinesAreReadBack =
