@@ -16,7 +16,7 @@ use Rattle.ledger_check.specs.declared.balance.Balance.{Balance}
 use Rattle.ledger_check.specs.declared.balance.Difference.{Difference}
 use Rattle.ledger_check.specs.declared.balance.Difference.TheVariants.{Missing, Surplus}
 
--- the fields of the good taps of an upload, in their order
+-- the fields of the valid taps of an upload, in their order
 abbrev pub AreGoodFields : List ℕ → List TapFields → Type 0
 AreGoodFields upload fields =
     (taps : List Tap) × AreGoodTaps upload taps × (fields ≡ map fields_of taps)
@@ -33,8 +33,8 @@ copies_among tap taps = count_by (λ other. is_same other tap) taps
 abbrev pub left_at : BTreeMap TapFields ℕ → TapFields → ℕ
 left_at left tap = unwrap_or (tree.get tap_cmp left tap) 0
 
--- The tap stands at the first place among the others at which a tap is there more often than among
--- the good taps.
+-- The tap is at the first place among the others at which a tap is there more often than among
+-- the valid taps.
 pub record IsFirstSurplus (good others : List TapFields) (tap : TapFields) : Type 0 where
   pub before : List TapFields
   pub after : List TapFields
@@ -42,7 +42,7 @@ pub record IsFirstSurplus (good others : List TapFields) (tap : TapFields) : Typ
   pub none_before : (other : TapFields) → copies_among other before ≤ copies_among other good
   pub more : copies_among tap good < copies_among tap (before ++ tap ∷ [])
 
--- The tap is more often among the good taps. It is the first such tap by token, moment and
+-- The tap is more often among the valid taps. It is the first such tap by token, moment and
 -- validator, and no tap is more often among the others.
 pub record IsFirstMissing (good others : List TapFields) (tap : TapFields) : Type 0 where
   pub fewer : copies_among tap others < copies_among tap good
@@ -50,8 +50,8 @@ pub record IsFirstMissing (good others : List TapFields) (tap : TapFields) : Typ
       → is_lt (tap_cmp other tap) ≡ false
   pub no_surplus : (other : TapFields) → copies_among other others ≤ copies_among other good
 
--- of each good tap some were struck out, and the rest are left; or the first tap is known that was
--- struck out more often than the uploads have it
+-- of each valid tap some were subtracted, and the rest are left; or the first tap is known that was
+-- subtracted more often than the uploads have it
 abbrev pub IsBalance : Balance → List TapFields → List TapFields → Type 0
 IsBalance balance good struck =
     MatchOption balance.surplus
@@ -59,7 +59,7 @@ IsBalance balance good struck =
     ≡ left_at balance.left tap + copies_among tap struck)
     (IsFirstSurplus good struck)
 
--- the others are the good taps in some order; or the reported tap is the first that they lack, if
+-- the others are the valid taps in some order; or the reported tap is the first that they lack, if
 -- none is surplus; or it is the first that is surplus among them
 abbrev pub IsDifference : List TapFields → List TapFields → Option Difference → Type 0
 IsDifference good others None = IsPermutation good others

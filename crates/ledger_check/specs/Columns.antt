@@ -11,7 +11,7 @@ use Rattle.line_forms.specs.Numbers.{number_at, number_in}
 use Rattle.ledger_check.specs.Lines.{lines_of}
 use Rattle.ledger_check.specs.declared.columns.CutLine.{CutLine}
 
--- the head line of a traced ledger
+-- the header line of a traced ledger
 unfoldable pub traced_head : List ℕ
 traced_head = codes
     "token,line,moment,validator,mode,answer,cents,window_start,window_end,ride,reason,points_at,class,upload,place\n"
@@ -20,20 +20,20 @@ traced_head = codes
 abbrev pub has_traced_head : List ℕ → Bool
 has_traced_head text = bytes_eq (take (length traced_head) text) traced_head
 
--- whether the text begins with the head line of a ledger that is not traced
+-- whether the text begins with the header line of a ledger that is not traced
 abbrev pub has_plain_head : List ℕ → Bool
 has_plain_head text = bytes_eq head_text (take (length head_text) text)
 
--- whether the text begins with the head line of a ledger, traced or not
+-- whether the text begins with the header line of a ledger, traced or not
 abbrev pub has_ledger_head : List ℕ → Bool
 has_ledger_head text = has_plain_head text || has_traced_head text
 
--- what stands before the last comma of a text and behind it, if it has one behind this byte
+-- what is before the last comma of a text and after it, if it has one after this byte
 abbrev pub with_byte : ℕ → List ℕ → Option (List ℕ × List ℕ) → Option (List ℕ × List ℕ)
 with_byte byte text None = if byte == 44 then Some ([], text) else None
 with_byte byte text (Some parts) = Some (byte ∷ parts.0, parts.1)
 
--- what stands before the last comma of a text, and what stands behind it
+-- what is before the last comma of a text, and what is after it
 unfoldable pub last_field : List ℕ → Option (List ℕ × List ℕ)
 last_field [] = None
 last_field (byte ∷ text) = with_byte byte text (last_field text)
@@ -86,11 +86,11 @@ abbrev pub upload_in : ℕ → List ℕ → Option TracedLine
 upload_in place text = on (last_field text) (λ parts.
     on (number_in (2 ^ 32) parts.1) (λ upload. class_in upload place parts.0))
 
--- the number with a line feed behind it
+-- the number with a line feed after it
 abbrev pub number_line : List ℕ → Option ℕ
 number_line text = said_by (number_at (2 ^ 64)) text
 
--- the place that ends a line, and what stands before it
+-- the place that ends a line, and what is before it
 abbrev pub columns_in : List ℕ → Option TracedLine
 columns_in line =
     on (last_field line) (λ parts. on (number_line parts.1) (λ place. upload_in place parts.0))
@@ -100,8 +100,8 @@ columns_in line =
 unfoldable pub cut_line : List ℕ → Option TracedLine
 cut_line line = if nat_lt 352 (length line) then None else columns_in line
 
--- what is read in place of a line: its fields, the head line of a ledger for that of a traced one,
--- or an empty line, which stands in no ledger
+-- what is read in place of a line: its fields, the header line of a ledger for that of a traced
+-- one, or an empty line, which is in no ledger
 abbrev pub untraced_by : List ℕ → Option TracedLine → List ℕ
 untraced_by line None = if bytes_eq line traced_head then head_text else 10 ∷ []
 untraced_by line (Some cut) = cut.fields ++ 10 ∷ []
@@ -125,7 +125,7 @@ pub record IsTraced (cut : TracedLine) : Type 0 where
   pub upload : cut.upload < 2 ^ 32
   pub place : cut.place < 2 ^ 64
 
--- the fields, and the columns behind them: `..,adult,0,1`
+-- the fields, and the columns after them: `..,adult,0,1`
 abbrev pub traced_text : TracedLine → List ℕ
 traced_text cut = cut.fields ++ (codes "," ++ (cut.class ++ (codes "," ++ (decimal cut.upload
     ++ (codes "," ++ (decimal cut.place ++ codes "\n"))))))

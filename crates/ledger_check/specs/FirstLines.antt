@@ -11,7 +11,7 @@ pub record AreFirstTaken (fares : Fares) (text : List ℕ) (taken : List TakenLi
   pub rest : List (List ℕ)
   pub split : lines_of text ≡ lines_from taken ++ rest
 
--- the remarks on the first lines of a text are a beginning of the text of each of its recounts
+-- the remarks on the first lines of a text are a prefix of the text of each of its full checks
 abbrev pub RecountsGoOn : Type 0
 RecountsGoOn = (fares : Fares) (text : List ℕ) (first taken : List TakenLine)
     → AreFirstTaken fares text first → IsRecount fares text taken

@@ -6,15 +6,15 @@ use Rattle.tap_views.specs.TapOrder.{tap_cmp}
 use Rattle.ledger_check.specs.Balances.{copies_among, left_at}
 use Rattle.ledger_check.specs.declared.full_balance.FullBalance.{FullBalance}
 
--- The taps that are more often among the good taps than among the others, each as often as it is
+-- The taps that are more often among the valid taps than among the others, each as often as it is
 -- there more often, by token, moment and validator.
 pub record AreLacking (good others taps : List TapFields) : Type 0 where
   pub copies : (tap : TapFields)
       → copies_among tap taps ≡ copies_among tap good - copies_among tap others
   pub sorted : IsSorted tap_cmp taps
 
--- of each good tap some were struck out and this number is left, or this number more was struck out
--- than the uploads have
+-- of each valid tap some were subtracted and this number is left, or this number more was
+-- subtracted than the uploads have
 pub record IsFullBalance (full : FullBalance) (good struck : List TapFields) : Type 0 where
   pub sums : (tap : TapFields)
       → copies_among tap good + left_at full.surplus tap

@@ -45,7 +45,7 @@ AreNext fares earlier (entry ∷ entries) [] = ⊥
 AreNext fares earlier (entry ∷ entries) (line ∷ lines) =
     IsNext fares earlier entry line × AreNext fares (earlier ++ entry ∷ []) entries lines
 
--- the lines of the text are the head line and those of the entries
+-- the lines of the text are the header line and those of the entries
 pub record IsLedgerOf (fares : Fares) (entries : List Entry) (text : List ℕ) : Type 0 where
   pub lines : List (List ℕ)
   pub split : lines_of text ≡ head_text ∷ lines

@@ -1,7 +1,7 @@
 -- A text split into lines.
 use Rattle.std.specs.Prelude.{◌≡◌, ◌≢◌, ℕ, ◌==◌, if◌then◌else◌, List, [], ◌∷◌, ◌++◌}
 
--- the byte stands nowhere in the text
+-- the byte is nowhere in the text
 abbrev pub Lacks : ℕ → List ℕ → Type 0
 Lacks byte [] = Unit {0}
 Lacks byte (other ∷ text) = (other ≢ byte) × Lacks byte text
@@ -12,12 +12,12 @@ pub record IsLine (text : List ℕ) : Type 0 where
   pub lacks : Lacks 10 front
   pub shown : text ≡ front ++ 10 ∷ []
 
--- the lines, if the byte stands before the first of them
+-- the lines, if the byte is before the first of them
 unfoldable pub begun_with : ℕ → List (List ℕ) → List (List ℕ)
 begun_with byte [] = (byte ∷ []) ∷ []
 begun_with byte (line ∷ lines) = (byte ∷ line) ∷ lines
 
--- the lines of a text: each but the last ends with the newline, which stands nowhere else in it
+-- the lines of a text: each but the last ends with the newline, which is nowhere else in it
 unfoldable pub lines_of : List ℕ → List (List ℕ)
 lines_of [] = []
 lines_of (byte ∷ text) =

@@ -27,7 +27,7 @@ first_early number last (tap ∷ taps) =
     if comes_before tap last then Some number else first_early (number + 1) (Some tap) taps
 
 -- The number of the first line of a ledger of these taps that is earlier than the line before it.
--- Line 1 is the head line.
+-- Line 1 is the header line.
 abbrev pub early_line : List TapFields → Option ℕ
 early_line taps = first_early 2 None taps
 

@@ -1,4 +1,4 @@
--- Where the taps of uploads stand: uploads count from 0, and the places of their taps from 1.
+-- Where the taps of uploads are: uploads count from 0, and the places of their taps from 1.
 use Rattle.std.specs.Prelude.{◌≡◌, ◌⊎◌, ℕ, ◌<◌, ◌-◌, ◌==◌, ◌&&◌, Bool, true, false, List, map}
 use Rattle.std.specs.Prelude.{if◌then◌else◌, is_some, Option, None, Some}
 use Rattle.std.specs.List.{slice_get}
@@ -10,11 +10,11 @@ use Rattle.ledger_check.specs.declared.places.PlaceFinding.TheVariants.{Right, A
 use Rattle.ledger_check.specs.declared.places.PlacedTap.{PlacedTap}
 use Rattle.ledger_check.specs.declared.places.Places.{Places}
 
--- what stands at a place of a list, if anything does
+-- what is at a place of a list, if anything is
 abbrev pub at_place : {A : Type 0} → List A → ℕ → Option A
 at_place xs place = if place == 0 then None else slice_get xs (place - 1)
 
--- the tap that stands at a place of an upload
+-- the tap that is at a place of an upload
 abbrev pub tap_at : List (List TapFields) → ℕ → ℕ → Option TapFields
 tap_at uploads upload place =
     option_and_then (λ taps. at_place taps place) (slice_get uploads upload)
@@ -24,7 +24,7 @@ abbrev pub is_there : TapFields → Option TapFields → Bool
 is_there tap None = false
 is_there tap (Some there) = is_same there tap
 
--- What is found of a tap that is said to stand where this one does, if one does: it is another, or
+-- What is found of a tap that is said to be where this one is, if one is: it is another, or
 -- its place was named before, or it is right.
 abbrev pub place_finding : Option TapFields → Bool → TapFields → PlaceFinding
 place_finding there named tap =
@@ -39,7 +39,7 @@ abbrev pub IsBefore : ℕ → ℕ → ℕ → ℕ → Type 0
 IsBefore upload place upload' place' =
     (upload < upload') ⊎ ((upload ≡ upload') × (place < place'))
 
--- a tap stands at this place, which was not named
+-- a tap is at this place, which was not named
 pub record IsUnnamed (uploads : List (List TapFields)) (named : ℕ → ℕ → Bool) (upload place : ℕ)
     : Type 0 where
   pub some : is_some (tap_at uploads upload place) ≡ true

@@ -1,4 +1,4 @@
--- What a recount knows of the lines that it has read.
+-- What a full check knows of the lines that it has read.
 use Rattle.std.specs.Prelude.{◌≡◌, ◌⊎◌, ℕ, ◌+◌, ◌^◌, ◌<◌, ◌≤◌, Bool, true, List, [], ◌∷◌, ◌++◌}
 use Rattle.std.specs.Prelude.{length}
 use Rattle.std.specs.Prelude.{All, Option, None, Some}
@@ -19,14 +19,14 @@ use Rattle.ledger_check.specs.declared.recount.Recount.{Recount}
 use Rattle.ledger_check.specs.declared.recount.LinesTaken.{LinesTaken}
 use Rattle.ledger_check.specs.declared.recount_sums.RecountSums.{RecountSums}
 
--- the explainer stands for the entries, which are its token's, and has taken some
+-- the explainer represents the entries, which are its token's, and has taken some
 pub record StandsForRun (fares : Fares) (explainer : Explainer) (run : List Entry) : Type 0 where
   pub fits : Fits explainer.token
   pub explained : HasExplained fares explainer run
   pub of_token : All (λ entry. entry.token ≡ explainer.token) run
   pub some : 0 < length run
 
--- the last explainer, if there were entries, stands for them
+-- the last explainer, if there were entries, represents them
 abbrev pub HasRunExplainer : Fares → Option Explainer → List Entry → Type 0
 HasRunExplainer fares None run = run ≡ []
 HasRunExplainer fares (Some explainer) run = StandsForRun fares explainer run
@@ -56,8 +56,8 @@ pub record HasTakenLines (fares : Fares) (so_far : LinesTaken) (taken : List Tak
 abbrev pub IsKept : List ℕ → List ℕ → Type 0
 IsKept kept text = (kept ≡ text) ⊎ ((255 < length kept) × (255 < length text))
 
--- The recount has read this text: these whole lines, and some of the next one. It has reported what
--- is written of them, and struck their taps out of the balance, if it strikes.
+-- The full check has read this text: these whole lines, and some of the next one. It has reported
+-- what is written of them, and subtracted their taps from the balance, if it is to.
 pub record HasRecounted (fares : Fares) (recount : Recount) (strikes : Bool) (full : FullBalance)
     (text written : List ℕ) (good : List TapFields) : Type 0 where
   pub taken : List TakenLine

@@ -1,6 +1,6 @@
--- A ledger's lines, recounted: each is held against the line that the rules give its tap after the
--- taps of the lines before it, whatever those lines say of their replies. Taken lines stand last
--- first.
+-- A ledger's lines in a full check: each is compared with the line that the rules give its tap
+-- after the taps of the lines before it, whatever those lines say of their replies. Taken lines are
+-- listed last first.
 use Rattle.std.specs.Prelude.{◌≡◌, ◌⊎◌, ℕ, ◌+◌, ◌-◌, ◌*◌, ◌^◌, ◌<◌, ◌≤◌, Bool, true, false, List}
 use Rattle.std.specs.Prelude.{[], ◌∷◌, ◌++◌, length, Option, None, Some, codes, if◌then◌else◌}
 use Rattle.std.specs.Prelude.{nat_eq}
@@ -30,7 +30,7 @@ abbrev pub EndsField : List ℕ → Type 0
 EndsField rest = ((more : List ℕ) × (rest ≡ 44 ∷ more)) ⊎ (rest ≡ 10 ∷ [])
 
 -- The line names this tap: its first four fields are the token, any text, the moment and the
--- validator. Nothing is said of what stands behind them.
+-- validator. Nothing is said of what is after them.
 pub record IsLineOfTap (line : List ℕ) (token : Token) (validator moment : ℕ) (rest : List ℕ)
     : Type 0 where
   pub fits : Fits token
@@ -48,7 +48,7 @@ pub record IsLineOfTap (line : List ℕ) (token : Token) (validator moment : ℕ
   pub ends : line ≡ front ++ 10 ∷ []
   pub short : length line ≤ 255
 
--- the third field behind the validator is this number
+-- the third field after the validator is this number
 pub record IsCentsField (rest : List ℕ) (cents : ℕ) : Type 0 where
   pub mode : List ℕ
   pub mode_field : Lacks 44 mode
@@ -58,13 +58,13 @@ pub record IsCentsField (rest : List ℕ) (cents : ℕ) : Type 0 where
   pub small : cents < 2 ^ 32
   pub shown : rest ≡ 44 ∷ (mode ++ 44 ∷ (answer ++ 44 ∷ (decimal cents ++ 44 ∷ behind)))
 
--- the cents that the line asks for, or 0 if its cents are no number
+-- the cents that the line asks for, or 0 if its cents are not a number
 abbrev pub AreCents : List ℕ → ℕ → Type 0
 AreCents rest cents =
     IsCentsField rest cents ⊎ ((cents ≡ 0) × ((other : ℕ) → ¬ (IsCentsField rest other)))
 
--- A line as a recount takes it: what is found of it, and the line that its tap should have, if it
--- names one.
+-- A line as a full check takes it: what is found of it, and the line that its tap should have, if
+-- it names one.
 pub record TakenLine : Type 0 where
   pub line : List ℕ
   pub finding : LineFinding
@@ -85,15 +85,15 @@ abbrev pub falls_after : List Entry → Token → Bool
 falls_after [] token = false
 falls_after (before ∷ run) token = nat_lt (token_number token) (token_number before.token)
 
--- the remark on a line: that it is no ledger line, if its token falls, or the wanted line, if it is
--- another
+-- the remark on a line: that it is not a ledger line, if its token falls, or the wanted line, if it
+-- is another
 abbrev pub remark_for : Bool → Bool → Remark
 remark_for true same = NoLine
 remark_for false true = Nothing
 remark_for false false = Wants
 
--- the line names a tap, and is held against the line that the rules give this tap after the entries
--- of its token
+-- the line names a tap, and is compared with the line that the rules give this tap after the
+-- entries of its token
 pub record IsCounted (fares : Fares) (run : List Entry) (line : List ℕ) (tap : CountedTap)
     (remark : Remark) (wanted : List ℕ) : Type 0 where
   pub rest : List ℕ
@@ -104,14 +104,14 @@ pub record IsCounted (fares : Fares) (run : List Entry) (line : List ℕ) (tap :
   pub cents : AreCents rest tap.cents
   pub is_remark : remark ≡ remark_for (falls_after run tap.entry.token) (bytes_eq line wanted)
 
--- a line that names no tap is no ledger line
+-- a line that names no tap is not a ledger line
 abbrev pub IsJudged : Fares → List Entry → List ℕ → Option CountedTap → Remark → List ℕ → Type 0
 IsJudged fares run line None remark wanted =
     ((token : Token) (validator moment : ℕ) (rest : List ℕ)
     → ¬ (IsLineOfTap line token validator moment rest)) × (remark ≡ NoLine)
 IsJudged fares run line (Some tap) remark wanted = IsCounted fares run line tap remark wanted
 
--- the first line should be the head line
+-- the first line should be the header line
 abbrev pub IsTaken : Fares → List TakenLine → TakenLine → Type 0
 IsTaken fares [] taken = (taken.finding.tap ≡ None)
     × (taken.finding.remark ≡ (if bytes_eq taken.line head_text then Nothing else NoLine))
@@ -230,7 +230,7 @@ wrong_text wrong entries tokens cents wanted =
     ++ (codes " lines, of " ++ (decimal tokens ++ (codes " tokens; cents " ++ (decimal cents
     ++ (codes ", wanted " ++ (decimal wanted ++ codes "\n")))))))))
 
--- the line behind the remarks; the head line is not counted among them
+-- the line after the remarks; the header line is not counted among them
 abbrev pub end_text : List TakenLine → List ℕ
 end_text taken =
     if nat_eq (wrong_count taken) 0
@@ -249,7 +249,7 @@ pub record IsRecount (fares : Fares) (text : List ℕ) (taken : List TakenLine) 
   pub are : AreTaken fares taken
   pub few : length taken ≤ 2 ^ 62
 
--- the whole text of a recount: the wrong lines, and its end
+-- the whole text of a full check: the wrong lines, and its end
 abbrev pub recount_text : List TakenLine → List ℕ
 recount_text taken = remark_lines taken ++ end_text taken
 
@@ -261,7 +261,7 @@ pub record RecountDecides (fares : Fares) (text : List ℕ) (taken : List TakenL
   pub taps : (entries : List Entry) → IsLedgerOf fares entries text
       → taps_from taken ≡ map tap_of_entry entries
 
--- what a recount finds decides
+-- what a full check finds decides
 abbrev pub RecountsDecide : Type 0
 RecountsDecide = (fares : Fares) (text : List ℕ) (taken : List TakenLine)
     → IsRecount fares text taken → RecountDecides fares text taken

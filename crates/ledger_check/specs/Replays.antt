@@ -11,14 +11,14 @@ use Rattle.ledger_check.specs.Ledger.{AreNext, IsNext, token_number}
 use Rattle.ledger_check.specs.Orders.{IsOrderOf, tap_of_entry}
 use Rattle.ledger_check.specs.declared.replay.Replay.{Replay}
 
--- the explainer stands for its token's entries among these, which are of no greater token
+-- the explainer represents its token's entries among these, which are of no greater token
 pub record StandsForOwn (fares : Fares) (explainer : Explainer)
     (entries : List Entry) : Type 0 where
   pub fits : Fits explainer.token
   pub explained : HasExplained fares explainer (own explainer.token entries)
   pub up_to : All (λ entry. token_number entry.token ≤ token_number explainer.token) entries
 
--- the last explainer, if there were entries, stands for them and has taken some
+-- the last explainer, if there were entries, represents them and has taken some
 abbrev pub HasExplainer : Fares → Option Explainer → List Entry → Type 0
 HasExplainer fares None entries = entries ≡ []
 HasExplainer fares (Some explainer) entries = StandsForOwn fares explainer entries

@@ -1,4 +1,4 @@
--- The taps of a ledger, struck out of a balance.
+-- The taps of a ledger, subtracted from a balance.
 use Rattle.std.specs.Prelude.{◌≡◌, ℕ, false, List, [], ◌∷◌, map, Option, None, Some}
 use Rattle.ledger_check.specs.Balances.{IsBalance}
 use Rattle.ledger_check.specs.declared.balance.Balance.{Balance}
@@ -11,13 +11,13 @@ use Rattle.ledger_check.specs.Verdicts.{HasFed, is_legal}
 use Rattle.ledger_check.specs.declared.checker.Checker.{Checker}
 use Rattle.ledger_check.specs.declared.checker.Verdict.{Verdict}
 
--- whatever ledger begins with these lines, the head line first, these are the taps of their entries
+-- whatever ledger begins with these lines, header line first, these are the taps of their entries
 abbrev pub AreTapsOfLines : Fares → List (List ℕ) → List TapFields → Type 0
 AreTapsOfLines fares [] taps = taps ≡ []
 AreTapsOfLines fares (head ∷ lines) taps =
     (entries : List Entry) → AreNext fares [] entries lines → map tap_of_entry entries ≡ taps
 
--- the taps of these lines were struck out of the good taps
+-- the taps of these lines were subtracted from the valid taps
 pub record AreStruck (fares : Fares) (lines : List (List ℕ)) (balance : Balance)
     (good : List TapFields) : Type 0 where
   pub taps : List TapFields
@@ -25,7 +25,7 @@ pub record AreStruck (fares : Fares) (lines : List (List ℕ)) (balance : Balanc
   pub is : IsBalance balance good taps
 
 -- the checker has read this text and found no wrong line, and the taps of the whole lines were
--- struck out
+-- subtracted
 pub record HasStruck (fares : Fares) (checker : Checker) (balance : Balance) (text : List ℕ)
     (good : List TapFields) : Type 0 where
   pub fed : HasFed fares checker text

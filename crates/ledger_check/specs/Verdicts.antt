@@ -13,8 +13,8 @@ use Rattle.ledger_check.specs.declared.checker.LinesSoFar.{LinesSoFar}
 use Rattle.ledger_check.specs.declared.checker.Verdict.{Verdict}
 use Rattle.ledger_check.specs.declared.checker.Verdict.TheVariants.{Legal, Wants, NoLine}
 
--- the lines begin with those of a ledger's beginning, and the next one, which has this number,
--- stands in no ledger there
+-- the lines begin with those of a prefix of a ledger, and the next one, which has this number,
+-- is in no ledger there
 pub record IsFirstWrong (fares : Fares) (lines : List (List ℕ)) (number : ℕ) : Type 0 where
   pub before : List (List ℕ)
   pub line : List ℕ
@@ -25,7 +25,7 @@ pub record IsFirstWrong (fares : Fares) (lines : List (List ℕ)) (number : ℕ)
   pub counted : number ≡ length entries + 2
   pub wrong : IsWrongAfter fares before line
 
--- the first line is not the head line
+-- the first line is not the header line
 abbrev pub IsHeadless : List (List ℕ) → Type 0
 IsHeadless lines = (others : List (List ℕ)) → lines ≡ head_text ∷ others → ⊥
 
@@ -76,7 +76,7 @@ VerdictsDecide =
     (fares : Fares) (text : List ℕ) (verdict : Verdict) → IsVerdict fares text verdict
     → IsTrue (is_legal verdict) ↔ IsLedger fares text
 
--- these lines were read, the head line first
+-- these lines were read, the header line first
 abbrev pub HasTaken : Fares → LinesSoFar → List (List ℕ) → Type 0
 HasTaken fares so_far [] = (so_far.has_head ≡ false) × HasRead fares so_far.replay []
 HasTaken fares so_far (line ∷ lines) =

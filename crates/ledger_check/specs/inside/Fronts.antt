@@ -4,7 +4,7 @@ use Rattle.ledger_check.specs.Lines.{Lacks}
 use Rattle.ledger_check.specs.Recounts.{EndsField}
 use Rattle.ledger_check.specs.declared.exact.Front.{Front}
 
--- these are the first four fields, and this stands behind them
+-- these are the first four fields, and this is after them
 pub record HasFront (line token number moment validator rest : List ℕ) : Type 0 where
   pub token_field : Lacks 44 token
   pub number_field : Lacks 44 number

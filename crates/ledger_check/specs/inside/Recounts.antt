@@ -1,4 +1,4 @@
--- Recounts: what private functions alone cite.
+-- Full checks: what private functions alone cite.
 use Rattle.std.specs.Prelude.{◌≡◌, ℕ, ◌+◌, Bool, true, List, [], ◌∷◌, ◌++◌, length}
 use Rattle.tariffs.specs.Fares.{Fares}
 use Rattle.histories.specs.Entry.{own}
@@ -31,7 +31,7 @@ pub record TookTap (fares : Fares) (run : List Entry) (tap : Tap) (walk : Walk) 
   pub falling : falls ≡ falls_after run tap.token
   pub explainer : HasRunExplainer fares walk.explainer (own tap.token run ++ entry ∷ [])
 
--- the line was judged after the entries, and the walk stands behind it
+-- the line was judged after the entries, and the walk is after it
 pub record HasJudged (fares : Fares) (run : List Entry) (line : List ℕ) (walk : Walk)
     (finding : LineFinding) : Type 0 where
   pub is : IsJudged fares run line finding.tap finding.remark (string_bytes walk.wanted)
@@ -42,14 +42,14 @@ abbrev pub IsFirstFinding : List ℕ → LineFinding → Type 0
 IsFirstFinding line finding = (finding.tap ≡ None)
     × (finding.remark ≡ (if bytes_eq line head_text then Nothing else NoLine))
 
--- the line was taken after these, and the walk stands behind it
+-- the line was taken after these, and the walk is after it
 pub record HasFound (fares : Fares) (taken : List TakenLine) (line : List ℕ) (walk : Walk)
     (finding : LineFinding) : Type 0 where
   pub is : IsTaken fares taken
       (record { line = line; finding = finding; wanted = string_bytes walk.wanted })
   pub explainer : HasRunExplainer fares walk.explainer (run_with (run_of taken) finding.tap)
 
--- one line more was taken, its remark was written, and its tap struck out, if taps are struck out
+-- one line more was taken, its remark was written, and its tap subtracted, if taps are subtracted
 pub record TookLine (fares : Fares) (taken : List TakenLine) (line : List ℕ) (after : LinesTaken)
     (strikes : Bool) (full full' : FullBalance) (reported reported' : List ℕ) : Type 0 where
   pub next : TakenLine
