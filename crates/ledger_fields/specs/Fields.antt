@@ -1,4 +1,4 @@
--- The fields of a ledger's line that are no plain numbers.
+-- The fields of a ledger's line that are not plain numbers.
 use Rattle.std.specs.Prelude.{◌==◌, ◌&&◌, ◌||◌, ◌^◌, ℕ, Bool, List, is_some, length, nat_le}
 use Rattle.std.specs.List.{list_all}
 use Rattle.line_forms.specs.Numbers.{number_in}

@@ -42,7 +42,7 @@ has_date limit text =
     (slice_index text 4 == 45) && ((slice_index text 7 == 45)
     && (nat_lt (century * 100 + year) limit && is_date (century * 100 + year) month day))))))
 
--- behind it, a letter `T` and the time of day, as `17:00:00.000Z`
+-- after it, a letter `T` and the time of day, as `17:00:00.000Z`
 abbrev pub has_clock : List ℕ → Bool
 has_clock text =
     is_such (number_of_two (slice_index text 11) (slice_index text 12)) (λ hour.
