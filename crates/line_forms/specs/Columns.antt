@@ -1,4 +1,4 @@
--- Columns: what stands up to a comma or a line feed.
+-- Columns: what comes before a comma or a line feed.
 use Rattle.std.specs.Prelude.{◌≡◌, ◌==◌, ◌&&◌, ◌||◌, ℕ, Bool, true, List, [], ◌∷◌, not, take, drop}
 use Rattle.std.specs.List.{position_or_len}
 use Rattle.line_forms.specs.Forms.{Reader, value_if}

@@ -15,21 +15,21 @@ after [] text = Some text
 after (b ∷ bs) [] = None
 after (b ∷ bs) (c ∷ cs) = after_if (b == c) (after bs cs)
 
--- the second value, behind the first one
+-- the second value, after the first one
 abbrev pub with_second : {A B : Type 0} → A → Option (B × List ℕ) → Option ((A × B) × List ℕ)
 with_second a None = None
 with_second a (Some parts) = Some ((a, parts.0), parts.1)
 
--- the rest of a read, behind the first value
+-- the rest of a read, after the first value
 abbrev pub go_on : {A B : Type 0} → Reader B → Option (A × List ℕ) → Option ((A × B) × List ℕ)
 go_on second None = None
 go_on second (Some parts) = with_second parts.0 (second parts.1)
 
--- one value behind another
+-- one value after another
 abbrev pub then_read : {A B : Type 0} → Reader A → Reader B → Reader (A × B)
 then_read first second text = go_on second (first text)
 
--- a value behind a word
+-- a value after a word
 abbrev pub read_if : {A : Type 0} → Reader A → Option (List ℕ) → Option (A × List ℕ)
 read_if reads None = None
 read_if reads (Some text) = reads text
@@ -45,7 +45,7 @@ pub record IsForm {A : Type 0} (says : A → List ℕ → Type 0) (ends : List �
   pub complete : (value : A) (text rest : List ℕ) → says value text → ends rest
       → reads (text ++ rest) ≡ Some (value, rest)
 
--- the text says the value behind the word
+-- the text says the value after the word
 abbrev pub IsBehind : {A : Type 0} → List ℕ → (A → List ℕ → Type 0) → A → List ℕ → Type 0
 IsBehind word says value text = (rest : List ℕ) × says value rest × (text ≡ word ++ rest)
 

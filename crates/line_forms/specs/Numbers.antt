@@ -11,7 +11,7 @@ use Rattle.line_forms.specs.Forms.{Reader}
 abbrev pub digits_in : List ℕ → ℕ
 digits_in text = position_or_len (λ byte. not (is_ascii_digit byte)) text
 
--- no digit stands first
+-- no digit comes first
 abbrev pub BeginsWithNoDigit : List ℕ → Type 0
 BeginsWithNoDigit [] = Unit {0}
 BeginsWithNoDigit (byte ∷ more) = is_ascii_digit byte ≡ false
