@@ -8,7 +8,7 @@ pub record IsReadAt (all : List ℕ) (offset : ℕ) (buffer : List ℕ) (count :
   pub end : count ≡ 0 → 0 < length buffer → drop offset all ≡ []
 
 -- the buffer begins with `count` bytes of the file from this offset on; if it is not full, the file
--- ends behind them
+-- ends after them
 pub record IsFilledFrom (all : List ℕ) (offset : ℕ) (buffer : List ℕ) (count : ℕ) : Type 0 where
   pub within : count ≤ length (drop offset all)
   pub same : take count buffer ≡ take count (drop offset all)
