@@ -29,14 +29,14 @@ abbrev pub found_or : {A S : Type 0} → Wrong → Option A → (A → Result S 
 found_or why None next = Err why
 found_or why (Some value) next = next value
 
--- behind `part files 2`
+-- after `part files 2`
 abbrev pub head_step : FrontsView → List ℕ → Result FrontsView Wrong
 head_step s line =
     said (head_in (codes "part files ") line) (λ files.
     where_holds (s.is_first || nat_eq files (length s.ends)) Form
     (Ok (record s { stage = Files files files })))
 
--- behind `file 0 from 0 skip 0 to 14344 skip 25`, of a part with so many files, with so many left
+-- after `file 0 from 0 skip 0 to 14344 skip 25`, of a part with this many files, this many left
 abbrev pub span_step : ℕ → ℕ → FrontsView → List ℕ → Result FrontsView Wrong
 span_step files left s line =
     said (span_in line) (λ span.
@@ -45,23 +45,23 @@ span_step files left s line =
     where_holds (place_eq start.0 span.1.from && may_end s.is_last span.1.to) Order
     (Ok (record s { stage = Files files (left - 1); ends = start.1 ++ span.1.to ∷ [] })))))
 
--- behind the header line of a ledger
+-- after the header line of a ledger
 abbrev pub ledger_step : FrontsView → Result FrontsView Wrong
 ledger_step s =
     where_holds (s.is_first || s.is_ledger) Form (Ok (record s { stage = Entries; is_ledger = true }))
 
--- behind `uploads 2`
+-- after `uploads 2`
 abbrev pub uploads_step : ℕ → FrontsView → List ℕ → Result FrontsView Wrong
 uploads_step files s line =
     said (head_in (codes "uploads ") line) (λ uploads.
     where_holds (nat_eq uploads files && (s.is_first || not s.is_ledger)) Form
     (Ok (record s { stage = Uploads uploads uploads 0; is_ledger = false })))
 
--- behind the line that follows the spans
+-- after the line that follows the spans
 abbrev pub kind_step : ℕ → FrontsView → List ℕ → Result FrontsView Wrong
 kind_step files s line = cond (bytes_eq line head_text) (ledger_step s) (uploads_step files s line)
 
--- behind `upload 0 posted 4`
+-- after `upload 0 posted 4`
 abbrev pub upload_step : ℕ → ℕ → ℕ → FrontsView → List ℕ → Result FrontsView Wrong
 upload_step uploads left posted s line =
     said (upload_in line) (λ upload.
@@ -72,7 +72,7 @@ upload_step uploads left posted s line =
     found_or OtherTotals (plus posted taps) (λ sum.
     Ok (record s { stage = Uploads uploads (left - 1) sum; taps = before.1 ++ all ∷ [] })))))))
 
--- behind `totals taps 6 paid 3 ..`
+-- after `totals taps 6 paid 3 ..`
 abbrev pub totals_step : ℕ → FrontsView → List ℕ → Result FrontsView Wrong
 totals_step posted s line =
     said (totals_in line) (λ part.
@@ -80,12 +80,12 @@ totals_step posted s line =
     (found_or OtherTotals (sums_within s.totals part) (λ all.
     Ok (record s { stage = AfterTotals; part = part; so_far = no_sums; totals = all }))))
 
--- behind `validators 3`
+-- after `validators 3`
 abbrev pub validators_step : FrontsView → List ℕ → Result FrontsView Wrong
 validators_step s line =
     said (head_in (codes "validators ") line) (λ left. Ok (record s { stage = Validators left None }))
 
--- behind `validator 9 taps 1 paid 0 ..`
+-- after `validator 9 taps 1 paid 0 ..`
 abbrev pub validator_step : ℕ → Option ℕ → FrontsView → List ℕ → Result FrontsView Wrong
 validator_step left last s line =
     said (validator_in line) (λ sum.
@@ -94,7 +94,7 @@ validator_step left last s line =
     found_or OtherTotals (with_validator s.validators sum) (λ all.
     Ok (record s { stage = Validators (left - 1) (Some sum.0); so_far = so_far; validators = all })))))
 
--- behind `tokens 5`
+-- after `tokens 5`
 abbrev pub tokens_step : FrontsView → List ℕ → Result FrontsView Wrong
 tokens_step s line =
     said (head_in (codes "tokens ") line) (λ left.
@@ -114,7 +114,7 @@ step_at (Validators (suc left) last) s line = validator_step (suc left) last s l
 step_at (Tokens left) s line = Err Form
 step_at Entries s line = Err Form
 
--- behind one more line of a part's front
+-- after one more line of a part's front
 abbrev pub front_step : FrontsView → List ℕ → Result FrontsView Wrong
 front_step s line = step_at s.stage s line
 

@@ -8,7 +8,7 @@ use Rattle.sorted_taps.specs.declared.places.FileSpan.{FileSpan}
 abbrev pub place_by : ℕ × ℕ → Option Place
 place_by numbers = Some (record { offset = numbers.0; skip = numbers.1 })
 
--- the place in `14344 skip 25`, behind a word
+-- the place in `14344 skip 25`, after a word
 abbrev pub place_read : List ℕ → Reader Place
 place_read word text =
     chosen place_by (then_read (count_at word) (count_at (codes " skip ")) text)

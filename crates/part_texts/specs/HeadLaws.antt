@@ -9,7 +9,7 @@ use Rattle.report_texts.specs.FormLaws.{IsChosen, IsCount, begins, chosen_law, c
 use Rattle.part_texts.specs.HeadForms.{end_if, place_by, place_read, to_or, to_read}
 use Rattle.sorted_taps.specs.declared.places.Place.{Place}
 
--- the text says the place, behind the word
+-- the text says the place, after the word
 abbrev pub IsPlaceText : List ℕ → Place → List ℕ → Type 0
 IsPlaceText word = IsChosen place_by (IsThen (IsCount word) (IsCount (codes " skip ")))
 
@@ -38,7 +38,7 @@ to_sound whole None (Some behind) to rest is ends e =
     both (codes " to end", refl, after_sound (codes " to end") whole behind ends)
 to_sound whole None None to rest is ends e = absurd (cc)
 
--- no place is read where the end stands
+-- no place is read where the end is
 no_number : number_in (2 ^ 64) [] ≡ None
 no_number =
     is_none (number_in (2 ^ 64) []) (λ n e.

@@ -28,8 +28,8 @@ pub record DoJoinUp (files : ℕ) (parts : List HistoryPart) : Type 0 where
   pub whole : AreWhole (map (λ p. p.spans) parts)
   pub rise : DoRise (histories_of parts)
 
--- The line is one: at most 1,000 bytes that are no line feed, and a line feed. It has the form of a
--- ledger's line.
+-- The line is one: at most 1,000 bytes that are not line feeds, and a line feed. It has the form of
+-- a ledger's line.
 pub record IsReadableLine (line : List ℕ) : Type 0 where
   pub front : List ℕ
   pub no_feed : All (λ byte. ¬ (byte ≡ 10)) front

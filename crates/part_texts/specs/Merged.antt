@@ -52,7 +52,7 @@ opened read = record {
   lines = read.2;
 }
 
--- a part ends behind its front, or later
+-- a part ends after its front, or later
 abbrev pub front_end : ℕ → Result (ℕ × FrontsView × List (List ℕ)) (ℕ × Wrong)
     → Result (FrontsView × OpenView) WrongLine
 front_end place (Ok read) =
@@ -63,7 +63,7 @@ abbrev pub is_none_left : List (List ℕ) → Bool
 is_none_left [] = true
 is_none_left (text ∷ texts) = false
 
--- at the begin of the part at this place, behind which these parts follow
+-- at the begin of the part at this place, after which these parts follow
 abbrev pub at_part : ℕ → List (List ℕ) → FrontsView → FrontsView
 at_part place texts s =
     record s { stage = Head; is_first = nat_eq place 0; is_last = is_none_left texts }
@@ -73,7 +73,7 @@ abbrev pub front_of : ℕ → FrontsView → List ℕ → Result (FrontsView × 
 front_of place s text =
     front_end place (run front_done (bounded Form front_step) 1 s (lines_of text))
 
--- the fronts of all parts, behind those that were opened
+-- the fronts of all parts, after those that were opened
 abbrev pub fronts_of : FrontsView → List OpenView → List (List ℕ)
     → Result (FrontsView × List OpenView) WrongLine
 fronts_of s opens [] = Ok (s, opens)
@@ -91,7 +91,7 @@ abbrev pub section_ended : ℕ → Result (ℕ × SectionView × List (List ℕ)
 section_ended place (Ok read) = end_or (place, (read.0, Form)) read.1 (section_end read.1)
 section_ended place (Err wrong) = Err (place, wrong)
 
--- behind the front of a part, and the last token of the parts before it
+-- after the front of a part, and the last token of the parts before it
 abbrev pub section_at : OpenView → Option Token → SectionView
 section_at opening last = record {
   is_ledger = opening.is_ledger;
@@ -108,7 +108,7 @@ section_of place last opening =
     section_ended place
     (run (λ s. false) (bounded Form section_step) opening.number (section_at opening last) opening.lines)
 
--- the lines of all parts, from the part at this place on, behind the last token
+-- the lines of all parts, from the part at this place on, after the last token
 abbrev pub sections_of : ℕ → Option Token → List OpenView → Result (Option Token) WrongLine
 sections_of place last [] = Ok last
 sections_of place last (opening ∷ opens) =
@@ -133,7 +133,7 @@ merged read =
     and_then (sections_of 0 None read.1) (λ last. Ok (whole_front read.0 ++ lines_left read.1))
 
 -- THE text into which the texts of parts, in their order, are merged: a report or a ledger. Or the
--- first line that is wrong, and why: the fronts of all parts come before the lines behind them.
+-- first line that is wrong, and why: the fronts of all parts come before the lines after them.
 abbrev pub merge_of : List (List ℕ) → Result (List ℕ) WrongLine
 merge_of [] = Err (0, (1, Form))
 merge_of (text ∷ texts) = and_then (fronts_of no_fronts [] (text ∷ texts)) merged

@@ -1,4 +1,4 @@
--- The lines of a part behind its front: those of tokens, or those of a ledger's entries.
+-- The lines of a part after its front: those of tokens, or those of a ledger's entries.
 use Rattle.std.specs.Prelude.{◌-◌, ℕ, Bool, true, false, cond, List, Option, Some, None, not}
 use Rattle.std.specs.Prelude.{Result, Ok, nat_eq, nat_lt}
 use Rattle.std.specs.Ordering.{is_lt}
@@ -37,14 +37,14 @@ may_follow is_first None token = true
 may_follow true (Some last) token = is_lt (token_cmp last token)
 may_follow false (Some last) token = not (is_lt (token_cmp token last))
 
--- behind the line of a ledger's entry
+-- after the line of a ledger's entry
 abbrev pub entry_step : SectionView → List ℕ → Result SectionView Wrong
 entry_step s line =
     said (entry_token_in line) (λ token.
     where_holds (may_follow s.is_first s.last token) Order
     (Ok (record s { is_first = false; last = Some token })))
 
--- behind the line of a token
+-- after the line of a token
 abbrev pub token_step : SectionView → List ℕ → Result SectionView Wrong
 token_step s line =
     where_holds (nat_lt 0 s.left) Form

@@ -10,7 +10,7 @@ abbrev pub IsWith : List (ℕ × Sums) → List (ℕ × Sums) → ℕ × Sums �
 IsWith old new sum true = with_validator old sum ≡ Some new
 IsWith old new sum false = with_validator old sum ≡ None
 
--- at the begin of the part at this place, of so many parts
+-- at the begin of the part at this place, of this many parts
 abbrev pub begun : ℕ → ℕ → FrontsView → FrontsView
 begun place count s =
     record s { stage = Head; is_first = nat_eq place 0; is_last = nat_le count (place + 1) }

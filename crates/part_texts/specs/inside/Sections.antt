@@ -1,4 +1,4 @@
--- What private functions say of the lines behind a front.
+-- What private functions say of the lines after a front.
 use Rattle.std.specs.Prelude.{◌≡◌}
 use Rattle.std.specs.Prelude.{Result, Ok, Err}
 use Rattle.histories.specs.Sums.{sums_of}
@@ -17,7 +17,7 @@ section_view section = record {
   so_far = sums_of section.so_far;
 }
 
--- what is behind the line is what the step says
+-- what is after the line is what the step says
 abbrev pub IsNext : Result SectionView Wrong → Result Section Wrong → Type 0
 IsNext said (Ok section) = said ≡ Ok (section_view section)
 IsNext said (Err why) = said ≡ Err why

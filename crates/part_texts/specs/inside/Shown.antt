@@ -14,7 +14,7 @@ use Rattle.sorted_taps.specs.declared.places.FileSpan.{FileSpan}
 use Rattle.sorted_taps.specs.declared.places.Place.{Place}
 use Rattle.part_texts.specs.Shown.{PartReport, SpanFits, sum_up}
 
--- the spans, one after the other, join the ends of the parts before: these are the ends behind them
+-- the spans, one after the other, join the ends of the parts before: these are the ends after them
 abbrev pub are_joined : Bool → Bool → List (Option Place) → List FileSpan → List (Option Place)
     → Type 0
 are_joined first last ends [] all = ends ≡ all
@@ -26,7 +26,7 @@ abbrev pub is_none_behind : {A : Type 0} → List A → Bool
 is_none_behind [] = true
 is_none_behind (x ∷ xs) = false
 
--- the sums of keys, one after the other, behind some: no more taps than any run has
+-- the sums of keys, one after the other, after some: no more taps than any run has
 abbrev pub adds_to : {K : Type 0} → Sums → List (K × Sums) → Sums → Type 0
 adds_to sum [] all = sum ≡ all
 adds_to sum (one ∷ more) all =

@@ -12,7 +12,7 @@ use Rattle.part_texts.specs.inside.Shown.{are_joined, is_none_behind}
 use Rattle.sorted_taps.specs.declared.places.Place.{Place}
 use Rattle.sorted_taps.specs.declared.places.FileSpan.{FileSpan}
 
--- where a part lies in each file, and the lines of its ledger behind the head line
+-- where a part lies in each file, and the lines of its ledger after the header line
 pub record PartLedger : Type 0 where
   pub spans : List FileSpan
   pub lines : List ℕ
@@ -25,7 +25,7 @@ ledger_text p = part_head p.spans ++ (head_text ++ p.lines)
 abbrev pub all_lines : List PartLedger → List ℕ
 all_lines parts = flat_map (λ part. part.lines) parts
 
--- the parts' fronts follow, one after the other, behind these ends of files
+-- the parts' fronts follow, one after the other, after these ends of files
 abbrev pub are_next_ledgers : Bool → List (Option Place) → List PartLedger → Type 0
 are_next_ledgers first ends [] = Unit {0}
 are_next_ledgers first ends (p ∷ ps) =
@@ -38,8 +38,8 @@ pub record EntryLine : Type 0 where
   pub token : Token
   pub line : List ℕ
 
--- The line is one: at most 1,000 bytes that are no line feed, and a line feed. It has the form of a
--- ledger's line, and the token stands in front.
+-- The line is one: at most 1,000 bytes that are not line feeds, and a line feed. It has the form of
+-- a ledger's line, and the token is in front.
 pub record IsEntryLine (entry : EntryLine) : Type 0 where
   pub front : List ℕ
   pub no_feed : All (λ byte. ¬ (byte ≡ 10)) front
@@ -61,7 +61,7 @@ abbrev pub last_entry : Option Token → List EntryLine → Option Token
 last_entry last [] = last
 last_entry last (entry ∷ more) = last_entry (Some entry.token) more
 
--- the parts' lines are those of entries, which follow one after the other behind this token
+-- the parts' lines are those of entries, which follow one after the other after this token
 abbrev pub are_read : Option Token → List PartLedger → Type 0
 are_read last [] = Unit {0}
 are_read last (p ∷ ps) =
