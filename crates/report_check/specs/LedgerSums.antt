@@ -10,7 +10,7 @@ use Rattle.report_check.specs.declared.ledger_sums.LineSums.{LineSums}
 use Rattle.report_check.specs.EntryLines.{without_moment}
 use Rattle.report_check.specs.OpenSums.{AreOpenSums}
 
--- whatever entries have the lines behind the head line, these are they, but for their moments
+-- whatever entries have the lines after the header line, these are they, but for their moments
 abbrev pub AreBehindHead : Fares → LineSums → List Entry → List (List ℕ) → Type 0
 AreBehindHead fares sums seen [] = (sums.has_head ≡ false) × (seen ≡ [])
 AreBehindHead fares sums seen (head ∷ lines) = (sums.has_head ≡ true)

@@ -47,8 +47,8 @@ abbrev pub rest_or : ℕ → List ℕ → (List ℕ → Option (ℕ × Option (L
 rest_or number line next None = Some (number, Some line)
 rest_or number line next (Some rest) = next rest
 
--- The first difference of a text from the lines that are wanted, of which the first has this number:
--- the number of a line, and the line that is wanted there, or none if all stand before it.
+-- The first difference of a text from the lines that are wanted, of which the first has this
+-- number: the number of a line, and the line that is wanted there, or none if all are before it.
 abbrev pub difference : ℕ → List (List ℕ) → List ℕ → Option (ℕ × Option (List ℕ))
 difference number [] [] = None
 difference number [] (byte ∷ text) = Some (number, None)

@@ -44,7 +44,7 @@ abbrev pub found_or : {A B : Type 0} → ℕ → Option A → (A → Result B �
 found_or number None next = Err number
 found_or number (Some value) next = next value
 
--- The ends that this many lines say, behind those of earlier lines; or the number of the first line
+-- The ends that this many lines say, after those of earlier lines; or the number of the first line
 -- that says none. Line 1 says how many uploads there are.
 abbrev pub ends_from : ℕ → List UploadEnd → List (List ℕ) → Result (List UploadEnd) ℕ
 ends_from zero ends lines = Ok ends
