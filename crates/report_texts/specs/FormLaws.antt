@@ -77,7 +77,7 @@ begins_then says word first value text rest is =
     (subst BeginsWithNoDigit (sym (append_assoc is.0 is.1 rest))
     (first value.0 is.0 (is.1 ++ rest) is.2))
 
--- the text says the counts behind that of the taps
+-- the text says the counts after that of the taps
 abbrev pub IsOtherCounts : ℕ × (ℕ × (ℕ × (ℕ × (ℕ × ℕ)))) → List ℕ → Type 0
 IsOtherCounts =
     IsThen (IsCount (codes " paid ")) (IsThen (IsCount (codes " transfers "))
@@ -102,7 +102,7 @@ counted_law word =
     (begins_then _ (codes " transfers ") (begins (codes " transfers ") (λ rest. refl))))
     (begins_then _ (codes " paid ") (begins (codes " paid ") (λ rest. refl)))
 
--- the text says these sums, behind the word
+-- the text says these sums, after the word
 abbrev pub IsCountsText : List ℕ → Sums → List ℕ → Type 0
 IsCountsText word = IsChosen sums_by (IsCountedText word)
 

@@ -15,7 +15,7 @@ use Rattle.tap_views.specs.declared.upload_end.UploadEnd.TheVariants.{Posted, Re
 use Rattle.line_forms.specs.Forms.{Reader, behind_read, said_by, then_read, value_if}
 use Rattle.line_forms.specs.Numbers.{number_at, with_rest}
 
--- the number of 64 bits behind a word
+-- the number of 64 bits after a word
 abbrev pub count_at : List ℕ → Reader ℕ
 count_at word = behind_read word (number_at (2 ^ 64))
 
@@ -90,7 +90,7 @@ again digits (Err e) = None
 abbrev pub token_in : List ℕ → Option Token
 token_in digits = again digits (decode_sized digits 16)
 
--- the token whose digits stand in front
+-- the token whose digits are in front
 abbrev pub token_read : Reader Token
 token_read text =
     cond (nat_lt (length text) 32) None (with_rest (token_in (take 32 text)) (drop 32 text))

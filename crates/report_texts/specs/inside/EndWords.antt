@@ -1,4 +1,4 @@
--- The line of an upload's end behind the upload's number, and the numbers in it.
+-- The line of an upload's end after the upload's number, and the numbers in it.
 use Rattle.std.specs.Prelude.{ℕ, List, ◌++◌, codes}
 use Rattle.std.specs.Fmt.{decimal}
 use Rattle.tap_views.specs.declared.fault.LayoutFault.{LayoutFault}
