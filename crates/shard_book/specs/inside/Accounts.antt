@@ -21,7 +21,7 @@ kept_at accounts token = get token_eq accounts.map token
 abbrev pub IsCounting : Accounts → Type 0
 IsCounting accounts = IsTrue accounts.counting
 
--- the kept account stands for the taps; if none is kept there are none
+-- the kept account represents the taps; if none is kept there are none
 abbrev pub IsKept : TokenRules → Option KeptAccount → List TapIn → Type 0
 IsKept rules None taps = taps ≡ []
 IsKept rules (Some kept) taps = Stands rules kept.account taps
@@ -33,13 +33,13 @@ IsKeptOrFresh None kept =
     × (sums_of_counts kept.counts ≡ sums_of_replies [])
 IsKeptOrFresh (Some old) kept = kept ≡ old
 
--- the token and what is kept of it stand at the place
+-- the token and what is kept of it are at the place
 pub record IsPlace (accounts : Accounts) (token : Token) (place : ℕ) : Type 0 where
   pub kept : KeptAccount
   pub at : slice_get accounts.map.entries place ≡ Some (token, kept)
   pub is : kept_at accounts token ≡ Some kept
 
--- what is kept of the token, or was put there for it, stands at the place
+-- what is kept of the token, or was put there for it, is at the place
 pub record HasPlaceFor (old new : Accounts) (token : Token) (place : ℕ) : Type 0 where
   pub kept : KeptAccount
   pub at : slice_get new.map.entries place ≡ Some (token, kept)
@@ -51,7 +51,7 @@ abbrev pub counted : Option KeptAccount → Sums
 counted None = sums_of_replies []
 counted (Some kept) = sums_of_counts kept.counts
 
--- what is kept now stands for the taps for which that before it stood, and counts the same: it
+-- what is stored now represents the taps that were represented before, and counts the same: it
 -- stayed, or is fresh
 pub record StandsOn (old new : Option KeptAccount) : Type 0 where
   pub kept : (rules : TokenRules) (taps : List TapIn)

@@ -1,4 +1,4 @@
--- What a book's entries of 16 bytes stand for.
+-- What a book's entries of 16 bytes represent.
 use Rattle.std.specs.Prelude.{◌≡◌, ℕ, ◌/◌, ◌%◌, ◌^◌, ◌==◌, if◌then◌else◌, List, Some, map, All}
 use Rattle.std.specs.Prelude.{slice_get, unwrap_or}
 use Rattle.std.specs.Map.{keys_of}
@@ -47,7 +47,7 @@ entry_with token validator moment reply = record {
   cents = reply.cents;
 }
 
--- the entry for which a packed one stands, if the accounts have these tokens
+-- the entry that a packed one represents, if the accounts have these tokens
 unfoldable pub entry_of : List Token → PackedEntry → Entry
 entry_of tokens packed = record {
   token = unwrap_or (slice_get tokens packed.place) no_token;
@@ -57,7 +57,7 @@ entry_of tokens packed = record {
   cents = bits_cents packed.bits;
 }
 
--- the entries for which a packed history stands
+-- the entries that a packed history represents
 abbrev pub history_of : List Token → List PackedEntry → List Entry
 history_of tokens packed = map (entry_of tokens) packed
 

@@ -14,13 +14,13 @@ use Rattle.histories.specs.History.{IsLegal}
 use Rattle.shard_book.specs.inside.Packed.{ArePlaced, history_of, tokens_of}
 use Rattle.tap_views.specs.Token.{bytes_of}
 
--- the accounts stand for the taps of their tokens
+-- the accounts represent the taps of their tokens
 unfoldable pub AreKept : Fares → Accounts → List Entry → Type 0
 AreKept table accounts entries =
     (token : Token) → IsKept (rules_of table (bytes_of token)) (kept_at accounts token)
     (taps_of table token entries)
 
--- the history is legal, of tokens of 16 bytes and of the shard alone, and the accounts stand for it
+-- the history is legal, of tokens of 16 bytes and of the shard alone, and the accounts represent it
 -- and, while they count, count it
 pub record IsSound (table : Fares) (shard shards : ℕ) (accounts : Accounts) (entries : List Entry)
     : Type 0 where
@@ -32,7 +32,7 @@ pub record IsSound (table : Fares) (shard shards : ℕ) (accounts : Accounts) (e
   pub kept : AreKept table accounts entries
   pub counted : IsCounting accounts → AreCounted accounts entries
 
--- the packed history stands for a sound one, and each of its entries has the place of an account
+-- the packed history represents a sound one, and each of its entries has the place of an account
 pub record IsBook (table : Fares) (shard shards : ℕ) (accounts : Accounts)
     (packed : List PackedEntry) : Type 0 where
   pub sound : IsSound table shard shards accounts (history_of (tokens_of accounts) packed)
