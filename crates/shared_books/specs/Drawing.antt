@@ -2,11 +2,11 @@
 use Rattle.std.specs.Prelude.{◌≡◌, ℕ, ◌+◌, ◌≤◌, ◌<◌, ◌==◌, List, ◌++◌, count_by}
 use Rattle.atomic_table.specs.Seated.{TableId}
 
--- how often a number stands in a list
+-- how often a number is in a list
 abbrev pub times : ℕ → List ℕ → ℕ
 times x xs = count_by (λ y. y == x) xs
 
--- no number stands there twice
+-- no number is there twice
 abbrev pub NoneTwice : List ℕ → Type 0
 NoneTwice xs = (x : ℕ) → times x xs ≤ 1
 
@@ -14,7 +14,7 @@ NoneTwice xs = (x : ℕ) → times x xs ≤ 1
 abbrev pub AllBelow : ℕ → List ℕ → Type 0
 AllBelow k xs = (x : ℕ) → k ≤ x → times x xs ≡ 0
 
--- each number below k stands there, once
+-- each number below k is there, once
 abbrev pub HasAll : ℕ → List ℕ → Type 0
 HasAll k xs = (x : ℕ) → x < k → times x xs ≡ 1
 

@@ -31,7 +31,7 @@ pub record ShowsHeld (m : Machine) (s : State (Option Boxed) PassState) (count :
   pub alone : (other : ℕ) → HoldsTurn s other → other ≡ seat
   pub empty : get_elem? s.homes 0 ≡ some none
 
--- turn word, slot and views show this state of the machine; each pass has seen a beginning of its
+-- turn word, slot and views show this state of the machine; each pass has seen a prefix of its
 -- visits, and their history is legal
 pub record IsShown (k : Opening) (m : Machine) (s : State (Option Boxed) PassState) : Type 0 where
   pub even : (n : ℕ) → slice_index s.words 0 ≡ 2 * n → ShowsFree k m s n

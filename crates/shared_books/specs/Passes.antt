@@ -71,7 +71,7 @@ pub record HasSeenMore (old new : PassView) : Type 0 where
   pub made : made_by new ≡ made_by old
   pub legal : IsLegal new.book.table (history_of_visits (seen_by new))
 
--- the pass made a visit, which stands at its number: before it stand all visits that the pass had
+-- the pass made a visit, which is at its number: before it are all visits that the pass had
 -- seen, and then others', and the history with it is legal
 pub record Visits (old new : PassView) (number : ℕ) (visit : List Entry) : Type 0 where
   pub between : List (List Entry)

@@ -27,7 +27,7 @@ pub record MakesVisit (run : ShardRun) (old new : PassView) (replies replied : R
   pub items : replied.items ≡ replies.items ++ map reply_of visit
   pub spare : replied.spare + length visit ≡ replies.spare
 
--- full: the pass made no visit; for want of memory: it made an empty one, and the history is as it
+-- full: the pass made no visit; out of memory: it made an empty one, and the history is as it
 -- was
 abbrev pub IsReadFault : PassView → PassView → ReadFault → Type 0
 IsReadFault old new Full = HasSeenMore old new × IsFull new

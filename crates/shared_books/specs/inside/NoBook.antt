@@ -1,4 +1,4 @@
--- A book that stands for none: what is left of a pass that was joined into another speaks of some
+-- A book in place of none: what is left of a pass that was joined into another speaks of some
 -- book.
 use Rattle.std.specs.Prelude.{[], None}
 use Rattle.tariffs.specs.Fares.{Fares}
