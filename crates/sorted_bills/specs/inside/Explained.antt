@@ -14,8 +14,8 @@ use Rattle.sorted_taps.specs.Spans.{HaveCome}
 use Rattle.sorted_taps.specs.declared.reader.TapReader.{TapReader}
 
 -- Since the readers were at some places, taps were taken whose tokens do not fall from this one on.
--- They follow some entries: the explainer has come past all of these and them. The lines of the
--- taps were written behind what waited then, and the rest of both waits.
+-- They follow some entries: the explainer has consumed all of these and them. The lines of the
+-- taps were written after what waited then, and the rest of both waits.
 pub record AreExplainedSoFar (fares : Fares) (known : List (Option (List ℕ))) (earlier : List Entry)
     (begun : List TapReader) (from : Token) (start : Option (List ℕ)) (waited : List ℕ)
     (readers : List TapReader) (explainer : Explainer) (after : Option (List ℕ)) (waits : List ℕ)

@@ -10,8 +10,8 @@ use Rattle.sorted_taps.specs.declared.span.Span.{Span}
 use Rattle.sorted_bills.specs.declared.range.Range.{Range}
 use Rattle.sorted_bills.specs.inside.Ranges.{AreLinesAnywhere, IsBehind}
 
--- the range's tokens are above this one, it has no more taps than are left, and the merge stands
--- behind them
+-- the range's tokens are above this one, it has no more taps than are left, and the merge is
+-- after them
 pub record DoesFollow (fares : Fares) (known : List (Option (List ℕ))) (readers : List TapReader)
     (token : Token) (left : ℕ) (range : Range) (next : Merge) : Type 0 where
   pub span : Span

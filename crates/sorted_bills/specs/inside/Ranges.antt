@@ -17,7 +17,7 @@ use Rattle.sorted_taps.specs.declared.span.Span.{Span}
 use Rattle.sorted_bills.specs.declared.range.Range.{Range}
 
 -- these are the lines of taps that follow some entries, whose tokens do not fall from this one on;
--- the explainer has come past all of them
+-- the explainer has consumed all of them
 pub record AreLinesFrom (fares : Fares) (earlier : List Entry) (first : Token)
     (taps : List TapFields) (explainer : Explainer) (lines : List ℕ) : Type 0 where
   pub named : All HasName taps
@@ -44,7 +44,7 @@ abbrev pub IsRange : Fares → List (Option (List ℕ)) → Range → Type 0
 IsRange fares known range = IfSome range.span (λ span. (range.explainer.number ≤ range.number)
     × AreLinesAnywhere fares known range.first span range.explainer range.lines.items)
 
--- who has come to where the readers stand, has come to where the merge stands, after the taps of
+-- who has come to where the readers are, has come to where the merge is, after the taps of
 -- the span
 abbrev pub IsBehind : List TapReader → Span → Merge → Type 0
 IsBehind readers span next = (files : List (List ℕ)) (begun : List TapReader)
