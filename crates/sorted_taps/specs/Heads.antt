@@ -6,7 +6,7 @@ use Rattle.sorted_taps.specs.Readers.{head_of}
 use Rattle.sorted_taps.specs.declared.heads.Head.{Head}
 use Rattle.sorted_taps.specs.declared.reader.TapReader.{TapReader}
 
--- the other tap is not before this one; an end is behind all taps
+-- the other tap is not before this one; an end is after all taps
 abbrev pub IsNotAfter : Option TapFields → Option TapFields → Type 0
 IsNotAfter tap None = Unit {0}
 IsNotAfter None (Some other) = ⊥
@@ -18,7 +18,7 @@ pub record IsChosen (left right chosen : Head) : Type 0 where
   pub left_not_before : IsNotAfter chosen.tap left.tap
   pub right_not_before : IsNotAfter chosen.tap right.tap
 
--- at this place of the tree is the one chosen of those at twice the place and behind that
+-- at this place of the tree is the one chosen of those at twice the place and after that
 abbrev pub IsChosenAt : List Head → ℕ → Type 0
 IsChosenAt tree place =
     (d : Head) → IsChosen (get_or tree (2 * place) d) (get_or tree (2 * place + 1) d)

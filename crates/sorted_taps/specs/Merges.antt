@@ -7,18 +7,18 @@ use Rattle.sorted_taps.specs.Readers.{ahead, StandsIn, IsAdvanced}
 use Rattle.sorted_taps.specs.Sorted.{IsSortedFile}
 use Rattle.sorted_taps.specs.declared.reader.TapReader.{TapReader}
 
--- a tap at which a reader stands, before which no reader stands
+-- a tap at which a reader is, before which no reader is
 pub record IsLeastHead (readers : List TapReader) (at : ℕ) (tap : TapFields) : Type 0 where
   pub within : at < length readers
   pub head : (d : TapReader) → (rest : List TapFields) × (ahead (get_or readers at d) ≡ tap ∷ rest)
   pub least : (k : ℕ) (d : TapReader) → k < length readers
       → BeginsNotBefore tap (ahead (get_or readers k d))
 
--- no reader stands at a tap
+-- no reader is at a tap
 abbrev pub AreAtEnd : List TapReader → Type 0
 AreAtEnd readers = (k : ℕ) (d : TapReader) → k < length readers → ahead (get_or readers k d) ≡ []
 
--- each file has a reader, which stands at the file's first tap, or at its end if it has none
+-- each file has a reader, which is at the file's first tap, or at its end if it has none
 pub record AreBegun (files : List (List ℕ)) (readers : List TapReader) : Type 0 where
   pub number : length readers ≡ length files
   pub each : (k : ℕ) (d : TapReader) → k < length readers

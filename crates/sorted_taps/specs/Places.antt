@@ -15,19 +15,19 @@ use Rattle.sorted_taps.specs.declared.reader.TapReader.{TapReader}
 abbrev pub first_place : Place
 first_place = record { offset = 0; skip = 0 }
 
--- these taps lie behind the place, up to the file's end
+-- these taps lie after the place, up to the file's end
 pub record IsLeftAt (all : List ℕ) (place : Place) (rest : List TapFields) : Type 0 where
   pub taps : List TapFields
   pub between : AreTapsBetween all place.offset (length all) taps
   pub skip : place.skip ≤ length taps
   pub rest_is : rest ≡ drop place.skip taps
 
--- these taps lie behind the place, or behind the file's end if there is none
+-- these taps lie after the place, or after the file's end if there is none
 abbrev pub IsLeftBehind : List ℕ → Option Place → List TapFields → Type 0
 IsLeftBehind all None rest = rest ≡ []
 IsLeftBehind all (Some place) rest = IsLeftAt all place rest
 
--- the taps lie between the two places, in canonical order, the first tap behind them included
+-- the taps lie between the two places, in canonical order, the first tap after them included
 pub record IsSpanned (all : List ℕ) (span : FileSpan) (taps : List TapFields) : Type 0 where
   pub goes : (rest : List TapFields) → IsLeftBehind all span.to rest
       → IsLeftAt all span.from (taps ++ rest)
@@ -55,14 +55,14 @@ AreWhole [] = ⊥
 AreWhole (spans ∷ parts) =
     DoJoin (map (λ (span : FileSpan). Some first_place) spans) (spans ∷ parts)
 
--- the reader stands behind as many taps of the batches that begin at the place's offset as it says,
--- and they are in canonical order up to the tap at which it stands
+-- the reader is after as many taps of the batches that begin at the place's offset as it says,
+-- and they are in canonical order up to the tap at which it is
 pub record IsPlaced (all : List ℕ) (place : Place) (reader : TapReader) : Type 0 where
   pub passed : List TapFields
   pub skip : place.skip ≡ length passed
   pub stands : StandsIn all place.offset passed (record reader { passed = length passed })
 
--- the reader stands at the place, and counts the taps that it passes from there on
+-- the reader is at the place, and counts the taps that it passes from there on
 abbrev pub IsPlacedAnew : List ℕ → Place → TapReader → Type 0
 IsPlacedAnew all place reader = IsPlaced all place reader × (reader.passed ≡ 0)
 
@@ -72,12 +72,12 @@ pub record ArePlaced (files : List (List ℕ)) (places : List Place) (readers : 
   pub each : (k : ℕ) (p : Place) (d : TapReader) → k < length readers
       → IsPlacedAnew (get_or files k []) (get_or places k p) (get_or readers k d)
 
--- the reader stands at the place, or at no tap if there is none
+-- the reader is at the place, or at no tap if there is none
 abbrev pub IsAt : List ℕ → Option Place → TapReader → Type 0
 IsAt all None reader = ahead reader ≡ []
 IsAt all (Some place) reader = IsPlaced all place reader
 
--- the spans begin at these places, and end where the readers stand
+-- the spans begin at these places, and end where the readers are
 pub record DoSpan (files : List (List ℕ)) (places : List Place) (readers : List TapReader)
     (spans : List FileSpan) : Type 0 where
   pub each : (k : ℕ) (p : Place) (d : TapReader) (s : FileSpan) → k < length spans

@@ -1,4 +1,4 @@
--- Readers of a file's taps: where one stands, and how it goes on.
+-- Readers of a file's taps: where one is, and how it goes on.
 use Rattle.std.specs.Prelude.{◌≡◌, ℕ, ◌+◌, ◌<◌, List, [], ◌∷◌, ◌++◌, length, take, drop, true}
 use Rattle.std.specs.Prelude.{Option}
 use Rattle.std.specs.Prelude.{None, Some}
@@ -19,17 +19,17 @@ abbrev pub first_of : List TapFields → Option TapFields
 first_of [] = None
 first_of (tap ∷ rest) = Some tap
 
--- the taps in memory from the one on at which the reader stands
+-- the taps in memory from the one on at which the reader is
 abbrev pub ahead : TapReader → List TapFields
 ahead reader = drop reader.next reader.taps.items
 
--- the tap at which the reader stands, or none at the file's end
+-- the tap at which the reader is, or none at the file's end
 abbrev pub head_of : TapReader → Option TapFields
 head_of reader = first_of (ahead reader)
 
 -- the reader began at an offset and has passed these taps: they and those in memory are the taps of
 -- the file up to the reader's offset, and none is before its predecessor up to the one at which it
--- stands; it stands at none only at the file's end
+-- is; it is at none only at the file's end
 pub record StandsIn (all : List ℕ) (from : ℕ) (passed : List TapFields) (reader : TapReader)
     : Type 0 where
   pub between : AreTapsBetween all from reader.offset (passed ++ ahead reader)
@@ -37,7 +37,7 @@ pub record StandsIn (all : List ℕ) (from : ℕ) (passed : List TapFields) (rea
   pub end : ahead reader ≡ [] → drop reader.offset all ≡ []
   pub number : reader.passed ≡ length passed
 
--- the reader has passed the tap at which it stood, which is in order with the next one; behind the
+-- the reader has passed the tap at which it was, which is in order with the next one; after the
 -- taps in memory come those of the file
 pub record IsAdvanced (all : List ℕ) (old new : TapReader) : Type 0 where
   pub tap : TapFields
@@ -50,7 +50,7 @@ pub record IsAdvanced (all : List ℕ) (old new : TapReader) : Type 0 where
   pub end : ahead new ≡ [] → drop new.offset all ≡ []
   pub number : new.passed ≡ old.passed + 1
 
--- the file goes on behind the tap at which the reader stood with one that is before it, and which
+-- the file goes on after the tap at which the reader was with one that is before it, and which
 -- has this number
 pub record IsNextBefore (all : List ℕ) (old : TapReader) (number : ℕ) : Type 0 where
   pub to : ℕ
@@ -65,19 +65,19 @@ pub record IsNextBefore (all : List ℕ) (old : TapReader) (number : ℕ) : Type
   pub before : is_lt (tap_cmp next tap) ≡ true
   pub counted : number ≡ old.passed + 1
 
--- behind the offset are batches of no taps, and then bytes with this layout fault
+-- after the offset are batches of no taps, and then bytes with this layout fault
 pub record IsDamagedBehind (all : List ℕ) (from at : ℕ) (fault : LayoutFault) : Type 0 where
   pub between : AreTapsBetween all from at []
   pub some : 0 < length (drop at all)
   pub is_fault : IsFault (drop at all) fault
 
--- why a reader does not come to a tap behind this offset
+-- why a reader does not come to a tap after this offset
 abbrev pub IsBehindFault : List ℕ → ℕ → SortedFault → Type 0
 IsBehindFault all from (OutOfOrder tap) = ⊥
 IsBehindFault all from (Layout at fault) = IsDamagedBehind all from at fault
 IsBehindFault all from fault = Unit {0}
 
--- why a reader does not go on: the next tap is before the one at which it stands, or it stands at
+-- why a reader does not go on: the next tap is before the one at which it is, or it is at
 -- the last tap in front of a layout fault
 abbrev pub IsStepFault : List ℕ → TapReader → SortedFault → Type 0
 IsStepFault all old (OutOfOrder number) = IsNextBefore all old number

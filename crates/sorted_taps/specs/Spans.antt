@@ -6,7 +6,7 @@ use Rattle.sorted_taps.specs.Stands.{StandAs}
 use Rattle.sorted_taps.specs.declared.reader.TapReader.{TapReader}
 use Rattle.sorted_taps.specs.declared.span.Span.{Span}
 
--- after these taps the readers that began at some places stand at the others
+-- after these taps the readers that began at some places are at the others
 pub record HaveCome (files : List (List ℕ)) (from : List TapReader) (taps : List TapFields)
     (readers : List TapReader) : Type 0 where
   pub to : List TapReader

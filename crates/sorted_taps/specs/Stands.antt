@@ -1,4 +1,4 @@
--- Readers that stand for one another.
+-- Readers that can replace one another.
 use Rattle.std.specs.Prelude.{◌≡◌, ℕ, ◌+◌, ◌<◌, List, length, get_or}
 use Rattle.sorted_taps.specs.Readers.{ahead}
 use Rattle.sorted_taps.specs.declared.reader.TapReader.{TapReader}

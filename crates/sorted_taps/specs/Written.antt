@@ -1,4 +1,4 @@
--- Files that are written of taps, and what stands in the output meanwhile.
+-- Files that are written of taps, and what is in the output meanwhile.
 use Rattle.std.specs.Prelude.{◌≡◌, ℕ, ◌<◌, ◌≤◌, List, [], ◌∷◌, length, map, flat_map, Option}
 use Rattle.std.specs.List.{AllByRecursion, AllZip}
 use Rattle.std.specs.Io.KnownBytes.{Appends}
@@ -30,13 +30,13 @@ pub record IsInBatchesOf512 (file : List ℕ) (taps : List TapFields) : Type 0 w
   pub all_taps : taps ≡ flat_map (λ batch. batch) batches
   pub filled : AreFilled batches
 
--- behind the old bytes stands a file of these taps, in batches of 512
+-- after the old bytes is a file of these taps, in batches of 512
 pub record IsWritten (old new : Option (List ℕ)) (taps : List TapFields) : Type 0 where
   pub file : List ℕ
   pub is_file : IsInBatchesOf512 file taps
   pub appended : Appends old new file
 
--- behind the old bytes stand whole batches of 512 taps
+-- after the old bytes are whole batches of 512 taps
 pub record IsBegun (old new : Option (List ℕ)) : Type 0 where
   pub text : List ℕ
   pub batches : List (List TapFields)
@@ -44,7 +44,7 @@ pub record IsBegun (old new : Option (List ℕ)) : Type 0 where
   pub full : AllByRecursion (λ batch. length batch ≡ 512) batches
   pub appended : Appends old new text
 
--- Each file is sorted, and the numbers are those of their taps. Behind the old bytes stands a file
+-- Each file is sorted, and the numbers are those of their taps. After the old bytes is a file
 -- of all their taps in canonical order, in batches of 512.
 pub record IsMergedFile (files : List (List ℕ)) (numbers : List ℕ) (old new : Option (List ℕ))
     : Type 0 where

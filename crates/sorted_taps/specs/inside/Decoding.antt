@@ -43,7 +43,7 @@ pub record IsReadOn (all : List ℕ) (offset : ℕ) (taps : List TapFields) (use
   pub between : AreTapsBetween all offset (offset + used) taps
   pub end : used ≡ 0 → drop offset all ≡ []
 
--- a read failed, or memory was refused
+-- a read failed, or an allocation failed
 abbrev pub IsNoLayoutFault : SortedFault → Type 0
 IsNoLayoutFault (OutOfOrder tap) = ⊥
 IsNoLayoutFault (Layout offset fault) = ⊥

@@ -20,7 +20,7 @@ pub record IsRefilled (all : List ℕ) (old new : TapReader) : Type 0 where
   pub end : new.taps.items ≡ [] → drop new.offset all ≡ []
   pub number : new.passed ≡ old.passed
 
--- the reader goes on behind the tap at which it stood, with taps of the file from its old offset on
+-- the reader goes on after the tap at which it was, with taps of the file from its old offset on
 pub record IsMovedOn (all : List ℕ) (old new : TapReader) : Type 0 where
   pub read : List TapFields
   pub between : AreTapsBetween all old.offset new.offset read

@@ -12,11 +12,11 @@ pub record MayWait (waiting : List TapFields) : Type 0 where
   pub most : length waiting ≤ 512
   pub early : AreEarly (λ (tap : TapFields). tap.moment) waiting
 
--- behind the old bytes stands a batch of these taps
+-- after the old bytes is a batch of these taps
 abbrev pub IsBatchWritten : Option (List ℕ) → Option (List ℕ) → List TapFields → Type 0
 IsBatchWritten old new taps = (batch : List ℕ) × Encodes batch taps × Appends old new batch
 
--- of these taps the first stand behind the old bytes, in whole batches of 512, and the others wait
+-- of these taps the first are after the old bytes, in whole batches of 512, and the others wait
 pub record HasPut (old new : Option (List ℕ)) (taps waiting : List TapFields) : Type 0 where
   pub text : List ℕ
   pub batches : List (List TapFields)
