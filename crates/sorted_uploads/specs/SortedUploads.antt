@@ -4,7 +4,7 @@ use Rattle.tap_views.specs.declared.encoder.TapFields.{TapFields}
 use Rattle.settlement.specs.SettledTaps.{AreSettledTaps}
 use Rattle.sorted_taps.specs.Written.{IsWritten}
 
--- behind the old bytes stands a file of all good taps of the uploads, in canonical order and in
+-- after the old bytes is a file of all valid taps of the uploads, in canonical order and in
 -- batches of 512
 pub record IsSortedFileOf (uploads : List (List ℕ)) (old new : Option (List ℕ)) : Type 0 where
   pub order : List TapFields
