@@ -110,7 +110,7 @@ refusals_head separator head =
     codes "row" ++ separator_byte separator
     ∷ (codes "reason" ++ separator_byte separator ∷ record_text separator head)
 
--- the refused rows as they are written, behind the head
+-- the refused rows as they are written, after the head
 abbrev pub refusals_text : Separator → List (List ℕ) → List Refusal → List ℕ
 refusals_text separator head refused =
     refusals_head separator head ++ flat_map (refusal_text separator) refused
@@ -130,8 +130,8 @@ pub record IsSummary (rows : List (List (List ℕ))) (readings : List Reading) (
   pub first_refused : summary.first_refused ≡ first_refusal (refusals rows readings)
   pub moments : IsSpan (map (λ tap. tap.moment) (taps_in readings)) summary.span
 
--- the text is read whole. Behind the old bytes an upload was written with no fault, of exactly the
--- taps of the rows that are kept, in their order; and behind other old bytes the refused rows
+-- the text is read whole. After the old bytes an upload was written with no fault, of exactly the
+-- taps of the rows that are kept, in their order; and after other old bytes the refused rows
 pub record IsRowsEncoded (choice : Choice) (text : List ℕ)
     (old new old_refused new_refused : Option (List ℕ)) (summary : Summary) : Type 0 where
   pub head : List (List ℕ)
@@ -145,7 +145,7 @@ pub record IsRowsEncoded (choice : Choice) (text : List ℕ)
       (refusals_text choice.separator head (refusals rows readings))
   pub summary_is : IsSummary rows readings summary
 
--- what was written behind the old bytes is a beginning of an upload with no fault, of the first of
+-- what was written after the old bytes is a prefix of an upload with no fault, of the first of
 -- these taps
 pub record AreBegun (taps : List TapFields) (old new : Option (List ℕ)) : Type 0 where
   pub done : List TapFields
@@ -155,7 +155,7 @@ pub record AreBegun (taps : List TapFields) (old new : Option (List ℕ)) : Type
   pub upload : IsFileOf file done
   pub begun : Begins old new file
 
--- the text begins with a head and these rows, and a beginning of an upload was written, of the
+-- the text begins with a head and these rows, and a prefix of an upload was written, of the
 -- first taps of the rows that are kept
 pub record BeginsUpload (choice : Choice) (text : List ℕ) (old new : Option (List ℕ))
     : Type 0 where
@@ -166,7 +166,7 @@ pub record BeginsUpload (choice : Choice) (text : List ℕ) (old new : Option (L
   pub each : AllZip (IsReadingOf choice head) rows readings
   pub begun : AreBegun (taps_in readings) old new
 
--- behind the old bytes nothing was written, or a beginning of an upload of the text's first taps
+-- after the old bytes nothing was written, or a prefix of an upload of the text's first taps
 abbrev pub IsUploadBegun : Choice → List ℕ → Option (List ℕ) → Option (List ℕ) → Type 0
 IsUploadBegun choice text old new = Keeps old new ⊎ BeginsUpload choice text old new
 

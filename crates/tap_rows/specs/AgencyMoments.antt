@@ -15,7 +15,7 @@ HasClock text =
     × ((slice_index text 10 ≡ 84) ⊎ (slice_index text 10 ≡ 32)) × (slice_index text 13 ≡ 58)
     × (slice_index text 16 ≡ 58)
 
--- the text ends with `Z`, behind as many bytes as a date and a time have
+-- the text ends with `Z`, after as many bytes as a date and a time have
 abbrev pub EndsWithZulu : List ℕ → Type 0
 EndsWithZulu text = (20 ≤ length text) × (slice_index text (length text - 1) ≡ 90)
 

@@ -44,7 +44,7 @@ IsTokenText text token = parsed text ≡ Some token
 abbrev pub HasSome : List (List ℕ) → List (List ℕ) → List ℕ → (List ℕ → Type 0) → Type 0
 HasSome head row name IsOne = (value : List ℕ) × HasValue head row name value × IsOne value
 
--- the text stands for this validator: it writes the number or, if there are devices, is the name of
+-- the text represents this validator: it writes the number or, if there are devices, is the name of
 -- the device to which the table gives it
 abbrev pub StandsForValidator : Option (Bor DeviceTable) → List ℕ → ℕ → Type 0
 StandsForValidator None text number = IsValidator text number
@@ -59,7 +59,7 @@ pub record IsTapOf (choice : Choice) (head row : List (List ℕ)) (tap : TapFiel
   pub moment : HasSome head row choice.moment.now
       (λ text. IsAgencyMoment choice.unit text tap.moment)
 
--- the text is no token
+-- the text is not a token
 abbrev pub IsNoToken : List ℕ → Type 0
 IsNoToken text = (token : List ℕ) → ¬ (IsTokenText text token)
 
@@ -73,11 +73,11 @@ abbrev pub IsNoDevice : Option (Bor DeviceTable) → List ℕ → Type 0
 IsNoDevice None text = ⊥
 IsNoDevice (Some devices) text = validator_of (devices_of devices.now) text ≡ None
 
--- the text is no moment
+-- the text is not a moment
 abbrev pub IsNoMoment : Unit → List ℕ → Type 0
 IsNoMoment counted text = (number : ℕ) → ¬ (IsAgencyMoment counted text number)
 
--- why a text that is no moment is none: a local time, or a time that is too early, or neither
+-- why a text is not a moment: a local time, or a time that is too early, or neither
 abbrev pub IsMomentReason : Unit → List ℕ → Reason → Type 0
 IsMomentReason counted text why.Fields = ⊥
 IsMomentReason counted text why.Token = ⊥
@@ -109,7 +109,7 @@ pub record HasNoMoment (choice : Choice) (head row : List (List ℕ)) (IsWrong :
   pub wrong : HasSome head row choice.moment.now
       (λ text. IsNoMoment choice.unit text × IsWrong text)
 
--- why a row that is kept, and has as many fields as the head, is no tap
+-- why a row that is kept, and has as many fields as the head, is not a tap
 abbrev pub IsNoTap : Choice → List (List ℕ) → List (List ℕ) → Reason → Type 0
 IsNoTap choice head row why.Fields = ⊥
 IsNoTap choice head row why.Token = HasNoToken choice head row
@@ -142,8 +142,8 @@ IsRefused choice head row why.Early =
 IsRefused choice head row why.Moment =
     IsAsLong head row × IsKept choice head row × IsNoTap choice head row why.Moment
 
--- what a row is read as, under this head: a tap that is kept, a row that is not, or one that is no
--- tap
+-- what a row is read as, under this head: a tap that is kept, a row that is not, or one that is not
+-- a tap
 abbrev pub IsReadingOf : Choice → List (List ℕ) → List (List ℕ) → Reading → Type 0
 IsReadingOf choice head row (read.Tap tap) =
     IsAsLong head row × IsKept choice head row × IsTapOf choice head row tap

@@ -63,7 +63,7 @@ pub record AreDevices (separator : Separator) (text : List ℕ) (devices : List 
   pub is_its : IsItsSeparator separator text its
   pub are : AreDevicesBy its text devices
 
--- what is wrong with a row behind those of these devices
+-- what is wrong with a row after those of these devices
 abbrev pub IsWrongDevice : List Device → List (List ℕ) → WrongDevice → Type 0
 IsWrongDevice devices row wrong.Fields = ¬ (length row ≡ 2)
 IsWrongDevice devices row wrong.NoName = (digits : List ℕ) × (row ≡ [] ∷ digits ∷ [])

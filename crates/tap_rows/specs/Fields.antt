@@ -1,4 +1,4 @@
--- The fields of a line of CSV, and the values that their texts stand for. A field stands as it is,
+-- The fields of a line of CSV, and the values that their texts represent. A field is as it is,
 -- or between two double quotes; no value that a table has needs more of RFC 4180.
 use Rattle.std.specs.Prelude.{◌≡◌, ◌⊎◌, ℕ, List, [], ◌∷◌, ◌++◌, All}
 
@@ -13,7 +13,7 @@ pub record AreFields (line first second third : List ℕ) : Type 0 where
   pub no_comma_second : HasNoComma second
   pub no_comma_third : HasNoComma third
 
--- the text is the value as it is, and its first byte is no double quote
+-- the text is the value as it is, and its first byte is not a double quote
 pub record IsBare (text value : List ℕ) : Type 0 where
   pub same : text ≡ value
   pub unquoted : (rest : List ℕ) → ¬ (text ≡ 34 ∷ rest)
@@ -22,10 +22,10 @@ pub record IsBare (text value : List ℕ) : Type 0 where
 abbrev pub IsQuoted : List ℕ → List ℕ → Type 0
 IsQuoted text value = text ≡ 34 ∷ (value ++ 34 ∷ [])
 
--- the text of a field stands for the value in one of the two ways
+-- the text of a field represents the value in one of the two ways
 abbrev pub FieldStandsFor : List ℕ → List ℕ → Type 0
 FieldStandsFor text value = IsBare text value ⊎ IsQuoted text value
 
--- the text of a field stands for a value of this kind
+-- the text of a field represents a value of this kind
 abbrev pub FieldStandsForSome : (List ℕ → Type 0) → List ℕ → Type 0
 FieldStandsForSome IsOne text = (value : List ℕ) × FieldStandsFor text value × IsOne value

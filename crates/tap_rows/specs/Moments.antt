@@ -14,7 +14,7 @@ pub record IsDecimal (text : List ℕ) (number : ℕ) : Type 0 where
   pub value : number ≡ digits_value 10 text
 
 -- at the places at which `2024-03-08T17:00:00Z` has its `T`, its colons and its `Z`, this text has
--- them too; what stands before the `Z` may be longer, as a fraction makes it
+-- them too; what is before the `Z` may be longer, as a fraction makes it
 abbrev pub HasUtcPunctuation : List ℕ → Type 0
 HasUtcPunctuation text =
     (20 ≤ length text) × (slice_index text 10 ≡ 84) × (slice_index text 13 ≡ 58)

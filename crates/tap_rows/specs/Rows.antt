@@ -21,15 +21,15 @@ IsValidator text number = IsDecimal text number × (number < 2 ^ 32)
 abbrev pub IsNoValidator : List ℕ → Type 0
 IsNoValidator text = (number : ℕ) → ¬ (IsValidator text number)
 
--- the text of a field stands for such a value, as it is or in quotes
+-- the text of a field represents such a value, as it is or in quotes
 abbrev pub IsTokenField : List ℕ → List ℕ → Type 0
 IsTokenField text token = FieldStandsForSome (λ value. IsToken value token) text
 
--- it stands for a validator's number
+-- it represents a validator's number
 abbrev pub IsValidatorField : List ℕ → ℕ → Type 0
 IsValidatorField text number = FieldStandsForSome (λ value. IsValidator value number) text
 
--- it stands for a moment
+-- it represents a moment
 abbrev pub IsMomentField : List ℕ → ℕ → Type 0
 IsMomentField text number = FieldStandsForSome (λ value. IsMoment value number) text
 

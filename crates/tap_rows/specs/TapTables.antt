@@ -1,4 +1,4 @@
--- A tap table as CSV: a head line, and then a line for each tap. A line ends with a line feed,
+-- A tap table as CSV: a header line, and then a line for each tap. A line ends with a line feed,
 -- or with carriage return and line feed; the last may lack its end.
 use Rattle.std.specs.Prelude.{◌≡◌, ℕ, ◌+◌, List, [], ◌∷◌, ◌++◌, length, codes, Option}
 use Rattle.std.specs.Io.BufRead.{first_line, drop_through}
@@ -13,7 +13,7 @@ use Rattle.tap_rows.specs.declared.fault.RowsFault.{RowsFault}
 use Rattle.tap_rows.specs.declared.fault.RowsFault.TheVariants.{Head, Row, Unread, Changed, Write}
 use Rattle.tap_rows.specs.declared.fault.RowsFault.TheVariants.{NoMemory}
 
--- the line is a head line: its three fields stand for the names of the columns
+-- the line is a header line: its three fields represent the names of the columns
 pub record IsHead (line : List ℕ) : Type 0 where
   pub token_text : List ℕ
   pub validator_text : List ℕ
@@ -23,7 +23,7 @@ pub record IsHead (line : List ℕ) : Type 0 where
   pub validator : FieldStandsFor validator_text (codes "validator")
   pub moment : FieldStandsFor moment_text (codes "moment")
 
--- the head line as it is written
+-- the header line as it is written
 abbrev pub head : List ℕ
 head = codes "token,validator,moment"
 
@@ -67,7 +67,7 @@ IsOfTapTable Unread = ⊥
 IsOfTapTable Write = ⊥
 IsOfTapTable NoMemory = ⊥
 
--- the fault is that a write failed, or that memory was refused
+-- the fault is that a write failed, or that an allocation failed
 abbrev pub IsOfOutput : RowsFault → Type 0
 IsOfOutput Head = ⊥
 IsOfOutput (Row number column) = ⊥
@@ -76,7 +76,7 @@ IsOfOutput Unread = ⊥
 IsOfOutput Write = Unit {0}
 IsOfOutput NoMemory = Unit {0}
 
--- what was written behind the old bytes is an upload with no fault, of exactly the taps of the tap
+-- what was written after the old bytes is an upload with no fault, of exactly the taps of the tap
 -- table, in their order
 pub record IsEncoded (text : List ℕ) (old new : Option (List ℕ)) (count : ℕ) : Type 0 where
   pub taps : List TapFields
@@ -86,7 +86,7 @@ pub record IsEncoded (text : List ℕ) (old new : Option (List ℕ)) (count : �
   pub upload : IsFileOf file taps
   pub written : Appends old new file
 
--- what was written behind the old bytes is a beginning of an upload with no fault, of the taps of
+-- what was written after the old bytes is a prefix of an upload with no fault, of the taps of
 -- the first rows of the text, in their order
 pub record IsBegun (text : List ℕ) (old new : Option (List ℕ)) : Type 0 where
   pub taps : List TapFields

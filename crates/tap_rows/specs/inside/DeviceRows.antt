@@ -23,7 +23,7 @@ IsHeadRow row =
 abbrev pub IsRowOfNone : List (List ℕ) → WrongDevice → Type 0
 IsRowOfNone row why = (devices : List Device) → IsWrongDevice devices row why
 
--- why the row of this number, behind those of these devices, was not added
+-- why the row of this number, after those of these devices, was not added
 abbrev pub IsRowFault : List Device → ℕ → List (List ℕ) → DevicesFault → Type 0
 IsRowFault devices number row fault.Head = ⊥
 IsRowFault devices number row (fault.Row at why) = (at ≡ number) × IsWrongDevice devices row why

@@ -39,11 +39,11 @@ IsHeadFault text Unread = Unit {0}
 IsHeadFault text Write = ⊥
 IsHeadFault text NoMemory = Unit {0}
 
--- what was written behind the old bytes is an upload with no fault, of exactly these taps
+-- what was written after the old bytes is an upload with no fault, of exactly these taps
 abbrev pub IsEncodedAs : List TapFields → Option (List ℕ) → Option (List ℕ) → Type 0
 IsEncodedAs taps old new = (file : List ℕ) × IsFileOf file taps × Appends old new file
 
--- what was written behind the old bytes is nothing, or a beginning of an upload of these taps
+-- what was written after the old bytes is nothing, or a prefix of an upload of these taps
 abbrev pub IsBegunAs : List TapFields → Option (List ℕ) → Option (List ℕ) → Type 0
 IsBegunAs taps old new =
     Keeps old new ⊎ ((file : List ℕ) × IsFileOf file taps × Begins old new file)

@@ -1,4 +1,4 @@
--- Why a field stands for no validator: what private functions alone cite.
+-- Why a field represents no validator: what private functions alone cite.
 use Rattle.std.specs.Prelude.{ℕ, List, Option}
 use Rattle.std.specs.Borrow.{Bor}
 use Rattle.tap_rows.specs.AgencyRows.{IsNoDevice, IsNoNumber}
@@ -6,7 +6,7 @@ use Rattle.tap_rows.specs.declared.agency.reading.Reason.{Reason}
 use Rattle.tap_rows.specs.declared.agency.reading.Reason.TheVariants as why
 use Rattle.tap_rows.specs.declared.devices.table.DeviceTable.{DeviceTable}
 
--- the field stands for no validator, for this reason
+-- the field represents no validator, for this reason
 abbrev pub IsWrongValidator : Option (Bor DeviceTable) → List ℕ → Reason → Type 0
 IsWrongValidator devices text why.Fields = ⊥
 IsWrongValidator devices text why.Token = ⊥
