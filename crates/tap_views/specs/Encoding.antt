@@ -16,7 +16,7 @@ abbrev pub fields_2_of : Tap → Tap2Fields
 fields_2_of tap = record { token = tap.token; moment = num tap.moment }
 
 -- the bytes are a `TAP1` batch, from which these fields are read again; as no batch begins another,
--- whatever stands behind them
+-- whatever comes after them
 pub record Encodes (bytes : List ℕ) (fields : List TapFields) : Type 0 where
   pub taps : List Tap
   pub batch : IsBatchIn Tap1 bytes taps
@@ -40,7 +40,7 @@ module _ {Fields : Type 0} (moment : Fields → ℕ) (taps : List Fields) where
   abbrev pub AreEarly : Type 0
   AreEarly = All (λ tap. moment tap < moment_limit) taps
 
-  -- the taps may stand in one batch
+  -- the taps may be in one batch
   abbrev pub AreEncodable : Type 0
   AreEncodable = (length taps ≤ 4096) × AreEarly
 
@@ -49,7 +49,7 @@ module _ {Fields : Type 0} (moment : Fields → ℕ) (taps : List Fields) where
     pub late : IsSomeAnd (slice_get taps index) (λ tap. moment_limit ≤ moment tap)
     pub earlier : All (λ tap. moment tap < moment_limit) (take index taps)
 
-  -- when taps are refused: for want of memory only if nothing else is wrong
+  -- when taps are refused: out of memory only if nothing else is wrong
   abbrev pub IsRefused : EncodeFault → Type 0
   IsRefused TooMany = 4096 < length taps
   IsRefused (Moment index) = (length taps ≤ 4096) × IsFirstLate index

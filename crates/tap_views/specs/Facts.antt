@@ -1,4 +1,4 @@
--- What an upload has: its batches and taps, their moments, and its good part.
+-- What an upload has: its batches and taps, their moments, and its valid prefix.
 use Rattle.std.specs.Prelude.{◌≡◌, ℕ, ◌≤◌, List, [], ◌++◌, length, map, Contains}
 use Rattle.std.specs.Prelude.{Option, None, Some}
 use Rattle.std.specs.List.{AllByRecursion}

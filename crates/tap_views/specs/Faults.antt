@@ -35,7 +35,7 @@ flags_in bytes = num (take 2 (drop 6 bytes))
 abbrev pub size_in : List ℕ → ℕ
 size_in bytes = header (layout_in bytes) + width (layout_in bytes) * count_in bytes
 
--- the moment of the tap at an index stands at the same place in both layouts: behind the header, a
+-- the moment of the tap at an index is at the same place in both layouts: after the header, a
 -- token and a validator
 abbrev pub moment_in : List ℕ → ℕ → ℕ
 moment_in bytes index = num (take 8 (drop (28 + width (layout_in bytes) * index) bytes))

@@ -1,5 +1,5 @@
 -- A file, as an upload is one: batches one after the other, and what is left, which begins with no
--- batch. All that a file is read as stands here.
+-- batch. All that a file is read as is defined here.
 use Rattle.std.specs.Prelude.{◌≡◌, ℕ, ◌+◌, ◌-◌, ◌<◌, List, [], ◌∷◌, ◌++◌, length, map, Option}
 use Rattle.std.specs.Prelude.{None, Some, Result, Ok, Err}
 use Rattle.std.specs.List.{flat_map, AllZip}
@@ -21,13 +21,13 @@ IsFile file (batch ∷ batches) rest =
     (front : List ℕ) × (back : List ℕ) × IsBatch front batch × (file ≡ front ++ back)
     × IsFile back batches rest
 
--- what is left of the file behind its batches begins at this offset, and this is its layout fault
+-- what is left of the file after its batches begins at this offset, and this is its layout fault
 pub record IsFaultAt (file rest : List ℕ) (offset : ℕ) (fault : LayoutFault) : Type 0 where
   pub some_byte : 0 < length rest
   pub is_fault : IsFault rest fault
   pub stands_at : offset + length rest ≡ length file
 
--- how the file ends behind its batches: with nothing, or with a layout fault
+-- how the file ends after its batches: with nothing, or with a layout fault
 abbrev pub IsEndAfterBatches : List ℕ → List ℕ → Option (ℕ × LayoutFault) → Type 0
 IsEndAfterBatches file rest None = rest ≡ []
 IsEndAfterBatches file rest (Some (offset, fault)) = IsFaultAt file rest offset fault
@@ -43,14 +43,14 @@ pub record IsReadAs (file : List ℕ) (batches : List (List Tap)) (fault : Optio
 abbrev pub taps_of_batches : List (List Tap) → List Tap
 taps_of_batches batches = flat_map (λ batch. batch) batches
 
--- the good taps of a file: those of all its batches before its first layout fault, in order
+-- the valid taps of a file: those of all its batches before its first layout fault, in order
 pub record AreGoodTaps (file : List ℕ) (taps : List Tap) : Type 0 where
   pub batches : List (List Tap)
   pub rest : List ℕ
   pub is_file : IsFile file batches rest
   pub all : taps ≡ taps_of_batches batches
 
--- the good taps of each file
+-- the valid taps of each file
 abbrev pub AreGoodTapsOfEach : List (List ℕ) → List (List Tap) → Type 0
 AreGoodTapsOfEach files taps = AllZip AreGoodTaps files taps
 
@@ -85,7 +85,7 @@ pub record IsReading (file : List ℕ) (items : List Item) : Type 0 where
   pub is_end : IsEnd (length file - length rest) rest last
   pub given : items ≡ map Ok batches ++ last
 
--- what is left to read of a file: good batches, and how it ends behind them
+-- what is left to read of a file: valid batches, and how it ends after them
 pub record GoodBatchesView : Type 0 where
   pub batches : List (List Tap)
   pub fault : Option (ℕ × LayoutFault)

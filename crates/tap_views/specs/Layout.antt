@@ -1,5 +1,5 @@
 -- The batch grammar: which bytes are a batch, and of which taps. It speaks of whole texts: no
--- offset stands here.
+-- offset is used here.
 use Rattle.std.specs.Prelude.{◌≡◌, ℕ, ◌+◌, ◌*◌, ◌^◌, ◌<◌, ◌≤◌, List, [], ◌∷◌, ◌++◌, length, codes}
 use Rattle.std.specs.Prelude.{flat_map}
 use Rattle.std.specs.List.{AllByRecursion}
@@ -36,7 +36,7 @@ abbrev pub magic : Layout → List ℕ
 magic Tap1 = codes "TAP1"
 magic (Tap2 validator) = codes "TAP2"
 
--- what stands in the header for all taps
+-- what is in the header for all taps
 abbrev pub shared : Layout → List ℕ
 shared Tap1 = []
 shared (Tap2 validator) = validator

@@ -37,7 +37,7 @@ abbrev pub first_taps : List ℕ → List Tap
 first_taps bytes =
     taps_in (layout_in bytes) (count_in bytes) (drop (header (layout_in bytes)) bytes)
 
--- what is given at an offset, before what comes behind the batch there
+-- what is given at an offset, before what comes after the batch there
 abbrev pub given_at : ℕ → List ℕ → Option LayoutFault → List Item → List Item
 given_at offset bytes None behind = Ok (first_taps bytes) ∷ behind
 given_at offset bytes (Some fault) behind = Err (offset, fault) ∷ []
@@ -51,7 +51,7 @@ items_within (suc fuel) offset (byte ∷ more) =
     (items_within fuel (offset + size_in (byte ∷ more))
     (drop (size_in (byte ∷ more)) (byte ∷ more)))
 
--- the items that a reader is given of bytes which stand at an offset of their file: each batch has
+-- the items that a reader is given of bytes which are at an offset of their file: each batch has
 -- a byte at least
 abbrev pub items_from : ℕ → List ℕ → List Item
 items_from offset bytes = items_within (length bytes) offset bytes
@@ -72,6 +72,6 @@ fault_among (Err stop ∷ items) = Some stop
 abbrev pub good_among : List Item → GoodBatchesView
 good_among items = record { batches = batches_among items; fault = fault_among items }
 
--- what is left to read of bytes which stand at an offset of their file
+-- what is left to read of bytes which are at an offset of their file
 abbrev pub good_from : ℕ → List ℕ → GoodBatchesView
 good_from offset bytes = good_among (items_from offset bytes)
