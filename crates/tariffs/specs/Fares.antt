@@ -56,7 +56,7 @@ class_of meaning token =
     unwrap_or (lookup (λ rider. is_eq (slice_cmp nat_cmp token rider)) meaning.riders)
     meaning.standard
 
--- a class that no table has: it stands for a place that has none
+-- a class that no table has: it is the index of no class
 abbrev pub no_class : Class
 no_class = record {
   terms = record { fare = 0; rides = 0; ceiling = 0 };

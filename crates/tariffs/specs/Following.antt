@@ -23,7 +23,7 @@ pub record CanFollow (fares : Fares) (from : ℕ) (next : Fares) : Type 0 where
   pub modes : next.meaning.modes ≡ fares.meaning.modes
   pub alone : next.later ≡ []
 
--- the first of these that does not hold, or that all hold and memory was refused
+-- the first of these that does not hold, or that all hold and an allocation failed
 abbrev pub IsFollowFault : Fares → ℕ → Fares → FollowFault → Type 0
 IsFollowFault fares from next Date = from ≤ last_from 0 fares.later
 IsFollowFault fares from next Zone =

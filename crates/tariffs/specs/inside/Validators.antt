@@ -11,7 +11,7 @@ is_rising [] = true
 is_rising (first ∷ []) = true
 is_rising (first ∷ next ∷ more) = nat_lt first next && is_rising (next ∷ more)
 
--- ranges that rise and stand apart, and their first numbers
+-- disjoint ranges in increasing order, and their first numbers
 pub record AreSearchable (ranges : List (ℕ × RangeRest)) (firsts : List ℕ) : Type 0 where
   pub apart : stand_apart ranges ≡ true
   pub same : firsts ≡ map (λ range. range.0) ranges
