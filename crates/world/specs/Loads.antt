@@ -10,8 +10,8 @@ pub record IsTooLong (old new : Run) (name : Option (List ℕ)) : Type 0 where
   pub longer : 67108864 < length front
   pub stopped : new ≡ with_too_long old (record { name = name; bytes = front })
 
--- The name could not be opened or read, or what it names is too long, or memory was refused. Nothing
--- else was done.
+-- The name could not be opened or read, or what it names is too long, or an allocation failed.
+-- Nothing else was done.
 abbrev pub IsRefused : Run → Run → Option (List ℕ) → LoadFault → Type 0
 IsRefused old new name Unread = new ≡ with_unread old name
 IsRefused old new name TooLong = IsTooLong old new name

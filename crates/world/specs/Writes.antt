@@ -17,7 +17,7 @@ pub record IsSaid (old new : Run) : Type 0 where
   pub text : List ℕ
   pub only : new ≡ with_said old text
 
--- The file of this name could not be made, or memory was refused. Nothing else was done.
+-- The file of this name could not be made, or an allocation failed. Nothing else was done.
 abbrev pub IsUnmade : Run → Run → List ℕ → MakeFault → Type 0
 IsUnmade old new name Unmade = new ≡ with_unmade old name
 IsUnmade old new name NoMemory = new ≡ old
