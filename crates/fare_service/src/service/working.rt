@@ -337,10 +337,10 @@ impl<U: LentUploads + Drop> Service<U> {
     }
 
     /// Draws uploads and posts their batches, until all are drawn, an allocation fails, or an
-    /// upload is not lent. A refusal after the draw, or a shard that takes no more visits, ends
-    /// that upload as cut. Memory for the results of all uploads is taken first: if that fails, the
-    /// share comes back unchanged. An upload that is not lent is named, and the share dropped. It
-    /// waits for turns at the shards' books.
+    /// upload is not lent. A refusal after the draw ends that upload as cut. So does a shard that
+    /// takes no more visits, and the work goes on. Memory for the results of all uploads is taken
+    /// first: if that fails, the share comes back unchanged. An upload that is not lent is named,
+    /// and the share dropped. It waits for turns at the shards' books.
     pub fn work<R: Wait, G: Gatekeeper>(
         &self,
         rt: &R,
