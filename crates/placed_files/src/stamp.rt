@@ -10,6 +10,7 @@ use std::os::unix::fs::MetadataExt;
 /// nothing changed: a change may be within the clock's grain, or have its times set back.
 #[derive(Clone, Copy, Debug, PartialEq, Eq)]
 pub struct FileStamp {
+    /// The length in bytes.
     pub bytes: u64,
     /// When bytes were written last: seconds since 1970, and nanoseconds.
     pub modified: (i64, i64),

@@ -13,13 +13,12 @@ const EMFILE: i32 = 24;
 
 const ENFILE: i32 = 23;
 
-/// Why a file was not opened.
+/// Why a file was not opened. `NotRegular`: a folder, a pipe or a device, which have no offsets.
 #[derive(Clone, Copy, Debug, PartialEq, Eq, Error)]
 pub enum Unopened {
     /// The system refuses it: it is missing, say, or may not be read.
     #[error("it cannot be read")]
     Unread,
-    /// It is a folder, a pipe or a device, which have no offsets.
     #[error("it is no regular file")]
     NotRegular,
     #[error("too many files are open")]
