@@ -8,7 +8,6 @@ pub use example::{NEW_YORK_STATEMENT, REPORT, STATEMENT, rides, strays};
 pub use narrow::Narrow;
 use tap_views::TapFields;
 
-/// The sample after a first line: two modes, three kinds of transfer, two classes and a rider.
 macro_rules! sample {
     ($first_line:literal) => {
         concat!(
@@ -65,6 +64,7 @@ pub fn bytes_of(last: u8) -> [u8; 16] {
     token
 }
 
+/// The tap of this token at a validator and a moment.
 pub fn tap(last: u8, validator: u32, moment: u64) -> TapFields {
     TapFields {
         token: bytes_of(last),
