@@ -4,8 +4,10 @@ use std::collections::LinkedList;
 
 /// What a drawer knows. No value of it is made.
 pub struct DrawerState {
+    /// Whether the drawer was not joined into another.
     pub unjoined: bool,
     pub claims: u64,
+    /// How many numbers there are.
     pub numbers: u64,
     /// Up to which number the drawer has seen the numbers drawn.
     pub seen: u64,

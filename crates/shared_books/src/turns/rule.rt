@@ -10,7 +10,9 @@ pub type Slot = Option<Box<ShardBook>>;
 /// What a shared book was opened with.
 #[derive(Drop)]
 pub struct Opening {
+    /// The number of the first visit.
     pub first: u64,
+    /// The book as it was then, without entries.
     pub book: Snapshot<ShardBook>,
 }
 
@@ -24,9 +26,11 @@ pub struct Mark {
 
 /// What a pass knows. No value of it is made.
 pub struct PassState {
+    /// Whether the pass was not joined into another.
     pub unjoined: bool,
     pub opened: Opening,
     pub claims: u64,
+    /// Whether the pass has the turn.
     pub turn: bool,
     /// The visits that the pass has seen, by their numbers.
     pub marks: LinkedList<Mark>,
