@@ -45,10 +45,13 @@ pub struct Condition<'a> {
 #[derive(Clone, Copy, Debug)]
 pub struct Choice<'a> {
     pub separator: Separator,
+    /// The name of the column of tokens.
     pub token: &'a [u8],
+    /// The name of the column of validators.
     pub validator: &'a [u8],
     /// The devices whose names are in that column; none if it has the validators' numbers.
     pub devices: Option<&'a DeviceTable>,
+    /// The name of the column of moments.
     pub moment: &'a [u8],
     /// What a plain number in that column counts.
     pub unit: Unit,
