@@ -6,7 +6,6 @@ pub mod DefaultClasses
 pub mod Defaults
 pub mod Going
 pub mod LastMoments
-pub mod ListedFiles
 pub mod Loads
 pub mod PostedTexts
 pub mod ReadAhead

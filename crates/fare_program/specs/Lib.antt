@@ -4,7 +4,6 @@ pub mod Fault
 pub mod FilesLoaded
 pub mod Lines
 pub mod Listing
-pub mod Notes
 pub mod Options
 pub mod Parts
 pub mod Program

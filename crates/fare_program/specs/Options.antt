@@ -8,7 +8,6 @@ use Rattle.clap.specs.Words.{App, IsAmong, Row, Rule, Text, all_of, fault_of, fi
 use Rattle.clap.specs.Words.{one_of, with_rule}
 use Rattle.clap.specs.declared.builder.action.ArgAction.TheVariants.{Append}
 use Rattle.clap.specs.declared.error.kind.ErrorKind.TheVariants.{DisplayHelp, DisplayVersion}
-use Rattle.program_manners.specs.ListedWords.{with_files}
 use Rattle.program_manners.specs.Words.{flag_rule, list_option, named_app, null_flag, number_rule}
 use Rattle.program_manners.specs.TableWords.{TableNames, tables_in}
 use Rattle.program_manners.specs.Words.{option_rule, positional_rule, repeated_rule}
@@ -148,18 +147,6 @@ asked_by words = record {
   tokens = range_named words;
   files = files_named words;
 }
-
--- Words with these files of a list ask for what they ask for without, and for these files behind
--- theirs. The first word is the program's name.
-abbrev pub AddsFiles : List Text → List Text → Type 0
-AddsFiles words names = asked_by (with_files words names) ≡ record (asked_by words) {
-  files = files_named words ++ names;
-}
-
--- all words do
-abbrev pub ListsAddFiles : Type 0
-ListsAddFiles = (program_name : Text) (words names : List Text)
-    → AddsFiles (program_name ∷ words) names
 
 -- The taps are listed by the flag, or if there is no table. Else the service runs.
 abbrev pub lists : Asked → Bool

@@ -5,7 +5,6 @@ pub mod ChargedPart
 pub mod ChargedSorted
 pub mod Fault
 pub mod Listing
-pub mod Notes
 pub mod Options
 pub mod PostedFiles
 pub mod Settling

@@ -5,7 +5,8 @@
 //! | module | what it does |
 //! |---|---|
 //! | `command_line`, `options` | what a command line asks for; its words, as `clap` reads them |
-//! | `named_list`, `laws` | the list of files that the words name, and what it adds to them |
+//! | `named_list` | the list of files that the words name |
+//! | `laws` | what follows of a run over named files |
 //! | `named_files` | files that are read while their taps are settled |
 //! | `listing` | the liveness of each tap, from those before it |
 //! | `lines`, `uploads` | the text of a listing |

@@ -1,10 +1,4 @@
 //! What a person should know of a run.
-ghost use Rattle.std.specs.Prelude.{◌≡◌, ◌⊎◌, Some, None, IfOk, is_some, map, string_bytes, true};
-ghost use Rattle.fare_program.specs.Fault.{mistake, wrong_date};
-ghost use Rattle.fare_program.specs.Notes.{note_of, note_text};
-ghost use Rattle.fare_program.specs.inside.Notes.{follows_order};
-ghost use Rattle.fare_program.specs.Options.{Parses, asked_by};
-ghost use Rattle.fare_program.specs.inside.Options.{asked_of};
 
 use crate::options::Options;
 use crate::program::checked;
@@ -32,16 +26,7 @@ pub enum Note {
 impl Note {
     /// The note on what the words ask for before the run begins, if there is one. There is none on
     /// words that are no command line, or that have a mistake or a wrong date of a table.
-    pub fn of(alloc: Global, words: &[String]) -> Result<Option<Note>, NoMemory>
-        ensures right { Parses (map string_bytes words.now)
-            → mistake (asked_by (map string_bytes words.now)) ≡ None
-            → wrong_date (asked_by (map string_bytes words.now)) ≡ None
-            → IfOk result (λ note. note ≡ note_of (asked_by (map string_bytes words.now))) }
-        ensures wrong { (¬ Parses (map string_bytes words.now))
-            ⊎ ((is_some (mistake (asked_by (map string_bytes words.now))) ≡ true)
-            ⊎ (is_some (wrong_date (asked_by (map string_bytes words.now))) ≡ true))
-            → IfOk result (λ note. note ≡ None) }
-    {
+    pub fn of(alloc: Global, words: &[String]) -> Result<Option<Note>, NoMemory> {
         let options = match Options::read(alloc, words) {
             Ok(options) => options,
             Err(error) if error.kind() == ErrorKind::OutOfMemory => return Err(NoMemory),
@@ -55,9 +40,7 @@ impl Note {
 }
 
 /// The note on these options, if there is one.
-fn note_on(options: &Options<'_>) -> Option<Note>
-    ensures { result ≡ note_of (asked_of options.now) }
-{
+fn note_on(options: &Options<'_>) -> Option<Note> {
     if options.files.is_empty() {
         return Some(Note::ReadsInput);
     }
@@ -65,15 +48,11 @@ fn note_on(options: &Options<'_>) -> Option<Note>
 }
 
 /// Whether a run that is charged depends on the order of its files, and none is meant.
-pub(crate) fn follows_order(options: &Options<'_>) -> bool
-    ensures { result ≡ follows_order (asked_of options.now) }
-{
+pub(crate) fn follows_order(options: &Options<'_>) -> bool {
     options.files.len() > 1 && !options.settle && !options.live
 }
 
 impl fmt::Display for Note {
-    ghost output = { λ note. Some (note_text note) };
-
     fn fmt<W: fmt::Write>(&self, f: &mut fmt::Formatter<W>) -> fmt::Result {
         match self {
             Note::ReadsInput => {
