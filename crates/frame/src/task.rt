@@ -1,0 +1,66 @@
+//! What a task is.
+
+use crate::stop::Stop;
+use std::alloc::Global;
+use std::fmt::Display;
+use world::Inputs;
+
+/// What a piece is for.
+#[derive(Clone, Copy, Debug, PartialEq, Eq)]
+pub enum For {
+    /// It goes to the output.
+    Text,
+    /// It goes to the standard error.
+    Note,
+}
+
+/// What one call of a task did.
+#[derive(Clone, Copy, Debug, PartialEq, Eq)]
+pub enum Step {
+    /// It gave a piece, which is for this.
+    More(For),
+    /// The answer is whole, and this is the status.
+    End(u8),
+}
+
+/// What a program is asked to do. It reads, and gives its answer piece by piece: it writes nothing.
+/// That an input is wrong is an answer too: a note says so, and the status.
+pub trait Task<I: Inputs> {
+    ghost use Rattle.std.specs.Prelude.{◌≡◌, ℕ, List, []};
+    ghost use Rattle.world.specs.Run.{Load, Run};
+    ghost use Rattle.frame.specs.Ends.{Answer, IsStarted, did};
+    ghost use Rattle.frame.specs.Tasks.{Goes};
+
+    /// What the words ask for.
+    type Asked;
+
+    /// The line that says what stopped the run.
+    type Line: Display + Drop;
+
+    ghost asked: { Self → Self.Asked };
+
+    // Which answer and status are right of the files that were loaded.
+    ghost right: { Self.Asked → List Load → Answer → ℕ → Type 0 };
+
+    // The words that name files.
+    ghost names: { Self.Asked → List (List ℕ) };
+
+    // The task can be here after these loads, when it has given this.
+    ghost has_given: { Self → List Load → Answer → Type 0 };
+
+    /// The line that says what stopped the run. What it says is not promised.
+    fn line(&self, why: Stop) -> Self::Line;
+
+    /// Gives the next piece.
+    fn next(&mut self, alloc: Global, files: &mut I, piece: &mut Vec<u8>) -> Result<Step, Stop>
+        requires { piece.old.items ≡ [] }
+        ensures asked { asked self.new ≡ asked self.old }
+        ensures given { (start : Run) (loads : List Load) (a : Answer)
+            → has_given self.old loads a → I.run files.old ≡ did start loads a
+            → Goes (has_given self.new) (right (asked self.old)) (names (asked self.old)) start a
+            (I.run files.new) piece.new.items result };
+
+    // A law: whatever a task has given is a prefix of a right answer.
+    ghost started: { (t : Self) (loads : List Load) (a : Answer)
+        → has_given t loads a → IsStarted (right (asked t)) loads a };
+}
