@@ -25,7 +25,7 @@ abbrev pub end_byte : NameEnd → ℕ
 end_byte LineFeed = 10
 end_byte Nul = 0
 
--- the byte stands nowhere in the text
+-- the byte is nowhere in the text
 abbrev pub Lacks : ℕ → List ℕ → Type 0
 Lacks byte text = (at : ℕ) → at < length text → slice_index text at ≢ byte
 
@@ -53,8 +53,8 @@ IsWrongBy Empty bytes = bytes ≡ []
 IsWrongBy HasNul bytes = ¬ Lacks 0 bytes
 IsWrongBy NotUtf8 bytes = ¬ IsUtf8 bytes
 
--- The piece of this number is the first that is no name, for this reason. Names stand before it,
--- and behind it the byte that ends it and the rest, or nothing. An empty piece has the byte behind
+-- The piece of this number is the first that is no name, for this reason. Names are before it,
+-- and after it the byte that ends it and the rest, or nothing. An empty piece has the byte after
 -- it.
 pub record IsFirstWrong (end : ℕ) (text : List ℕ) (number : ℕ) (wrong : WrongName) : Type 0 where
   pub before : List (List ℕ)

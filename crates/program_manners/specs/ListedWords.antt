@@ -3,7 +3,7 @@ use Rattle.std.specs.Prelude.{Bool, if◌then◌else◌, List, [], ◌∷◌, �
 use Rattle.std.specs.Str.{bytes_eq}
 use Rattle.clap.specs.Words.{Text}
 
--- the word is `--`, behind which no word is an option
+-- the word is `--`, after which no word is an option
 abbrev pub is_dashes : Text → Bool
 is_dashes word = bytes_eq word (codes "--")
 
@@ -22,7 +22,7 @@ abbrev pub missing_dashes : List Text → List Text
 missing_dashes [] = codes "--" ∷ []
 missing_dashes (word ∷ words) = []
 
--- The words with these names as positional arguments: they stand last, behind a `--`. The first
+-- The words with these names as positional arguments: they are last, after a `--`. The first
 -- word is the program's name.
 abbrev pub with_files : List Text → List Text → List Text
 with_files words names = words ++ (missing_dashes (from_dashes (drop 1 words)) ++ names)

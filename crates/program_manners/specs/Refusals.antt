@@ -27,7 +27,7 @@ HasRefused (Some refused) name fault =
 abbrev pub refusal_of : Refusal → Option (List ℕ) × LoadFault
 refusal_of r = (option_map (λ n. n.bytes) r.name, r.fault)
 
--- The calls of the run show this refusal. That memory was refused no call shows.
+-- The calls of the run show this refusal. That an allocation failed no call shows.
 abbrev pub IsShown : Run → Option (List ℕ) × LoadFault → Type 0
 IsShown run (name, load.Unread) = Contains run.unread name
 IsShown run (name, load.TooLong) = (front : List ℕ) × (67108864 < length front)
@@ -40,7 +40,7 @@ IsOneOf name [] = ⊥
 IsOneOf name (other ∷ names) = (name ≡ other) ⊎ IsOneOf name names
 
 -- The fault is the first one of a table's text: the meaning of the text gives it, or the text is
--- not UTF-8. Want of memory may come before.
+-- not UTF-8. An allocation failure may come before.
 pub record IsFirstTableFault (text : List ℕ) (fault : TableFault) : Type 0 where
   pub of_text : fault ≢ NoMemory → IsUtf8 text → meaning_in text ≡ Err fault
   pub no_text : fault ≢ NoMemory → ¬ (IsUtf8 text) → fault ≡ Text

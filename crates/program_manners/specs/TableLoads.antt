@@ -51,7 +51,7 @@ LoadsLater fares (word ∷ words) loaded loaded' texts all =
     × LoadsOne loaded between (Some (file_named word)) text × Follows fares word text next
     × LoadsLater next words between loaded' rest all × (texts ≡ text ∷ rest)
 
--- The file of the first table was loaded, and then those of the words behind it, each of which has
+-- The file of the first table was loaded, and then those of the words after it, each of which has
 -- a date. These are their texts, in their order, and what all of them mean.
 pub record LoadsTables (tables : TableNames) (loaded loaded' : Option (List Loaded))
     (texts : List (List ℕ)) (fares : Fares) : Type 0 where

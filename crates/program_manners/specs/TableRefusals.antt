@@ -15,7 +15,7 @@ pub record RefusesOnly (tables : TableNames) (loaded loaded' : Option (List Load
   pub alone : tables.later ≡ []
   pub refused : RefusesTable tables.first loaded loaded' fault
 
--- The file of a later table was loaded behind those of the tables before it. Its text is refused by
+-- The file of a later table was loaded after those of the tables before it. Its text is refused by
 -- this fault.
 pub record RefusesLater (tables : TableNames) (loaded loaded' : Option (List Loaded))
     (name : List ℕ)
@@ -36,7 +36,7 @@ pub record RefusesNamed (tables : TableNames) (loaded loaded' : Option (List Loa
   pub refused : ((name ≡ tables.first) × RefusesTable name loaded loaded' fault)
       ⊎ RefusesLater tables loaded loaded' name fault
 
--- The table of this word was loaded behind those before it, and cannot follow them from its date
+-- The table of this word was loaded after those before it, and cannot follow them from its date
 -- on, for this reason.
 pub record RefusesToFollow (tables : TableNames) (loaded loaded' : Option (List Loaded))
     (word : List ℕ) (fault : FollowFault) : Type 0 where

@@ -25,7 +25,7 @@ two_digits tens ones =
 abbrev pub byte_at : List ℕ → ℕ → ℕ
 byte_at bytes place = slice_index_or bytes place 0
 
--- eleven bytes, of which an `@` is the first, and hyphens stand where they stand in `@2026-01-04`
+-- eleven bytes, of which an `@` is the first, and hyphens are where they are in `@2026-01-04`
 abbrev pub has_form : List ℕ → Bool
 has_form end =
     length end == 11
@@ -49,12 +49,12 @@ written_in end =
 abbrev pub end_start : List ℕ → ℕ
 end_start word = length word - 11
 
--- the date that the word ends in, if its end has the form of one: what is behind the word's last
+-- the date that the word ends in, if its end has the form of one: what is after the word's last
 -- `@`
 unfoldable pub written_date : List ℕ → Option WrittenDate
 written_date word = written_in (drop (end_start word) word)
 
--- the name of the file: the word without the `@` and the date behind it, if it has one
+-- the name of the file: the word without the `@` and the date after it, if it has one
 unfoldable pub file_named : List ℕ → List ℕ
 file_named word = if is_some (written_date word) then take (end_start word) word else word
 
@@ -84,7 +84,7 @@ date_fault_of first (Some date) = wrong_date first date
 abbrev pub date_fault : Bool → List ℕ → Option DateFault
 date_fault first word = date_fault_of first (written_date word)
 
--- the word and its fault, if it has one, else what is found behind it
+-- the word and its fault, if it has one, else what is found after it
 abbrev pub found_or : List ℕ → Option DateFault → Option (List ℕ × DateFault)
     → Option (List ℕ × DateFault)
 found_or word (Some fault) behind = Some (word, fault)
@@ -95,7 +95,7 @@ abbrev pub wrong_later : List (List ℕ) → Option (List ℕ × DateFault)
 wrong_later [] = None
 wrong_later (word ∷ words) = found_or word (date_fault false word) (wrong_later words)
 
--- the words of `--table`: of the first table, and of those behind it
+-- the words of `--table`: of the first table, and of those after it
 pub record TableNames : Type 0 where
   pub first : List ℕ
   pub later : List (List ℕ)
@@ -110,7 +110,7 @@ abbrev pub wrong_word : TableNames → Option (List ℕ × DateFault)
 wrong_word tables =
     found_or tables.first (date_fault true tables.first) (wrong_later tables.later)
 
--- the names of the files of fare tables: of the first, and of those behind it
+-- the names of the files of fare tables: of the first, and of those after it
 abbrev pub table_files : TableNames → List (List ℕ)
 table_files tables = tables.first ∷ map file_named tables.later
 

@@ -12,7 +12,7 @@ use Rattle.program_manners.specs.declared.table_loads.TablesFault.TheVariants.{T
 
 -- The fault is the right one. A file that is named is that of one of the words, and one that the
 -- source refused so. A table fault is the first one of the text that was loaded under the table's
--- name, behind those of the tables before it. Only want of memory may come at any time.
+-- name, after those of the tables before it. Only running out of memory may come at any time.
 abbrev pub IsTablesFault : TableNames → Option (List Loaded) → Option (List Loaded)
     → Option (Option (List ℕ) × LoadFault) → TablesFault → Type 0
 IsTablesFault tables loaded loaded' refused (File file) =

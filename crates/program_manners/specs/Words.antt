@@ -19,7 +19,7 @@ option_rule name = record (new_rule name) {
   value_names = 1;
 }
 
--- `--NAME VALUE`, as often as wanted
+-- `--NAME VALUE`, as often as needed
 abbrev pub repeated_rule : Text → Rule
 repeated_rule name = record (new_rule name) {
   long = Some name;
@@ -34,7 +34,7 @@ number_rule name most default = record (option_rule name) {
   defaults = default ∷ [];
 }
 
--- `--NAME FILE..`, with one or more files, as often as wanted
+-- `--NAME FILE..`, with one or more files, as often as needed
 abbrev pub files_rule : Text → Rule
 files_rule name = record (new_rule name) {
   long = Some name;

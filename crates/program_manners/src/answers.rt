@@ -12,7 +12,6 @@ use clap::error::ErrorKind;
 use std::alloc::Global;
 use std::io::Write;
 
-/// Reports that memory was refused, and gives the status.
 fn report_memory<E: Write>(err: &mut Complaints<E>) -> u8
     ensures status { result ≡ 1 }
     ensures line { LineWritten (E.contents err.old.writer) (E.contents err.new.writer)
@@ -22,10 +21,9 @@ fn report_memory<E: Write>(err: &mut Complaints<E>) -> u8
     1
 }
 
-/// Shows what clap answers if there is nothing to run: help and version on `out`, which is flushed
-/// behind them, else on `err` the mistake, or that memory was refused while the words were read or
-/// the text was made. Gives the status: 0 for help and version, 2 for a mistake, and 1 for want of
-/// memory. An error is why help or the version was not written, and nothing is reported of it yet.
+/// Shows what clap answers if there is nothing to run: help and version on `out`, flushed, else a
+/// usage error or an allocation failure on `err`. The status is 0, 2 or 1. An error is why `out`
+/// was not written, which is not reported yet.
 pub fn show_answer<W: Write, E: Write>(
     alloc: Global,
     error: &Error,

@@ -1,4 +1,4 @@
-//! The words of the command line, and why they could not be had.
+//! The words of the command line, and why they could not be read.
 ghost use Rattle.std.specs.Prelude.{◌≡◌, ◌<◌, ◌++◌, IfOk, OnOk, Some, flat_map, string_bytes};
 ghost use Rattle.program_manners.specs.Arguments.{unread_status, unread_text};
 ghost use Rattle.program_manners.specs.inside.Arguments.{escaped_byte, hex_digit};
@@ -13,13 +13,12 @@ use std::{env, fmt};
 /// The longest word that Linux gives a program, in bytes with its NUL.
 const MAX_WORD_BYTES: usize = 131_072;
 
-/// Why the words of the command line could not be had.
+/// Why the words of the command line could not be read.
 #[derive(Debug, Drop)]
 pub enum WordsFault {
-    /// This word is not UTF-8. Shown is what its line shows of it: printable ASCII as it is, and
-    /// each other byte as `\xHH`.
+    /// This word is not UTF-8: printable ASCII is shown as it is, each other byte as `\xHH`.
     NotUtf8(String),
-    /// A growth of memory was refused.
+    /// An allocation failed.
     NoMemory,
 }
 
@@ -44,8 +43,7 @@ impl fmt::Display for WordsFault {
     }
 }
 
-/// Says why the words could not be had, and gives the status: 1 for want of memory, and 2 for a
-/// word that is not UTF-8.
+/// Reports why the words could not be read. The status is 1 out of memory, and else 2.
 pub fn unread_words<E: Write>(fault: &WordsFault, err: &mut Complaints<E>) -> u8
     ensures status { result ≡ unread_status fault.now }
     ensures line { LineWritten (E.contents err.old.writer) (E.contents err.new.writer)
@@ -58,11 +56,8 @@ pub fn unread_words<E: Write>(fault: &WordsFault, err: &mut Complaints<E>) -> u8
     }
 }
 
-/// The words of the command line, the program's name first. What the words are no contract can say.
-///
-/// # Errors
-///
-/// The first word that is not UTF-8; refused memory.
+/// The words of the command line, the program's name first. No contract says what they are. An
+/// error is the first word that is not UTF-8, or an allocation failure.
 pub fn words_of<R: Env + AllocGlobal>(rt: &R) -> Result<Vec<String>, WordsFault> {
     match env::args(rt) {
         Ok(words) => Ok(words.collect(rt.alloc())?),
@@ -71,7 +66,6 @@ pub fn words_of<R: Env + AllocGlobal>(rt: &R) -> Result<Vec<String>, WordsFault>
     }
 }
 
-/// The first word that is not UTF-8, as it is shown; nothing if there is none.
 fn first_wrong_word<R: Env + AllocGlobal>(rt: &R) -> Result<String, AllocError> {
     let mut room = Vec::new(rt.alloc());
     room.resize(MAX_WORD_BYTES, 0)?;
@@ -87,7 +81,6 @@ fn first_wrong_word<R: Env + AllocGlobal>(rt: &R) -> Result<String, AllocError> 
     Ok(String::new(rt.alloc()))
 }
 
-/// The hexadecimal digit of a number.
 fn hex_digit(number: u8) -> char
     requires { number < 16 }
     ensures { result ≡ hex_digit number }
@@ -100,7 +93,6 @@ fn hex_digit(number: u8) -> char
     digit as char
 }
 
-/// Adds a byte as it is shown.
 fn push_escaped(shown: &mut String, byte: u8) -> Result<(), AllocError>
     ensures { OnOk result (string_bytes shown.new ≡ string_bytes shown.old ++ escaped_byte byte) }
 {
@@ -113,7 +105,7 @@ fn push_escaped(shown: &mut String, byte: u8) -> Result<(), AllocError>
     shown.push(hex_digit(byte % 16))
 }
 
-/// The bytes as they are shown: printable ASCII as it is, and each other byte as `\xHH`.
+/// Printable ASCII is shown as it is, each other byte as `\xHH`.
 fn escaped(alloc: Global, bytes: &[u8]) -> Result<String, AllocError>
     ensures { IfOk result (λ shown. string_bytes shown ≡ flat_map escaped_byte bytes.now) }
 {

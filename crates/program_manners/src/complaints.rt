@@ -1,4 +1,4 @@
-//! Where mistakes and faults are reported.
+//! Where usage errors and faults are reported.
 ghost use Rattle.std.specs.Prelude.{◌≡◌, IfSome, false};
 ghost use Rattle.std.specs.Io.KnownBytes.{Appends};
 ghost use Rattle.program_manners.specs.LineWritten.{LineWritten};
@@ -6,8 +6,8 @@ ghost use Rattle.program_manners.specs.LineWritten.{LineWritten};
 use std::fmt::Display;
 use std::io::Write;
 
-/// The writer of mistakes and faults. If it cannot be written to, nothing can be reported, and the
-/// program goes on to its end.
+/// The writer of usage errors and faults. If a write to it fails, nothing is reported, and the
+/// program goes on.
 #[derive(Drop)]
 pub struct Complaints<W> {
     writer: W,

@@ -1,36 +1,34 @@
-//! Mistakes and faults with their control characters escaped.
+//! Usage errors and faults with their control characters escaped.
 
 use std::io;
 use std::io::Write;
 
-/// How many bytes go out in one write.
+/// How many bytes are written at once.
 const PIECE_BYTES: usize = 256;
 
 /// The first byte of the control characters U+0080 to U+009F.
 const LEAD: u8 = 0xc2;
 
-/// A writer of mistakes and faults, which repeat words of the command line. A control character
-/// comes out as `\xHH`, so that it does nothing to a terminal. A line feed does too within a line
-/// `fault: ..`, so that no name looks like a line of its own.
+/// A writer of usage errors and faults, which repeat words of the command line. A control character
+/// is written as `\xHH`, so that it does nothing to a terminal. So is a line feed within a line
+/// `fault: ..`, so that no name looks like a line.
 #[derive(Drop)]
 pub struct Escaping<W: Write + Drop> {
     /// Where the bytes go.
     to: W,
-    /// Those that wait to go out.
+    /// Those that are not written yet.
     piece: [u8; PIECE_BYTES],
-    /// How many these are.
     used: usize,
     /// Whether there was a byte.
     is_begun: bool,
     /// Whether the first byte is that of `fault: ..`.
     is_fault: bool,
-    /// Whether the last byte is a line feed that is held back, since it may stand within the line.
+    /// Whether the last byte is a line feed that is held back, since it may be within the line.
     has_feed: bool,
     /// Whether the last byte is `LEAD`, and is held back.
     has_lead: bool,
 }
 
-/// A hexadecimal digit of a number below 16.
 fn digit(number: u8) -> u8 {
     match number {
         0..=9 => b'0'.saturating_add(number),
@@ -52,14 +50,12 @@ impl<W: Write + Drop> Escaping<W> {
         }
     }
 
-    /// Lets the piece go out.
     fn send(&mut self) -> io::Result<()> {
         let piece = self.piece.get(..self.used).unwrap_or(&[]);
         self.used = 0;
         self.to.write_all(piece)
     }
 
-    /// Adds a byte as it is.
     fn push(&mut self, byte: u8) -> io::Result<()> {
         if self.used >= PIECE_BYTES {
             self.send()?;
@@ -71,7 +67,6 @@ impl<W: Write + Drop> Escaping<W> {
         Ok(())
     }
 
-    /// Adds a control character.
     fn push_escaped(&mut self, byte: u8) -> io::Result<()> {
         self.push(b'\\')?;
         self.push(b'x')?;
@@ -79,7 +74,6 @@ impl<W: Write + Drop> Escaping<W> {
         self.push(digit(byte & 15))
     }
 
-    /// Adds the next byte.
     fn take(&mut self, byte: u8) -> io::Result<()> {
         if !self.is_begun {
             self.is_begun = true;
@@ -111,7 +105,7 @@ impl<W: Write + Drop> Escaping<W> {
         }
     }
 
-    /// Lets all bytes go out. If that fails, it cannot be reported.
+    /// Writes all bytes that are left. If that fails, it cannot be reported.
     pub fn finish(mut self) {
         if self.has_feed {
             let _ = self.push(b'\n');

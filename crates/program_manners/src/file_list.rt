@@ -30,22 +30,19 @@ impl NameEnd {
 /// Why a name of a list is refused.
 #[derive(Clone, Copy, Debug, PartialEq, Eq)]
 pub enum WrongName {
-    /// It is empty.
     Empty,
     /// It has a NUL, which no file's name has.
     HasNul,
-    /// It is not UTF-8.
     NotUtf8,
 }
 
-/// Why a list gives no names. The first two are mistakes in the words.
+/// Why a list gives no names. The first two are usage errors.
 #[derive(Clone, Copy, Debug, PartialEq, Eq)]
 pub enum ListFault {
     /// It is said what ends its names, and no list is named.
     NullAlone,
     /// The list is standard input, and so is a file.
     InputTwice,
-    /// It could not be read.
     Unread,
     /// It has more than 67,108,864 bytes.
     TooLong,
@@ -53,7 +50,7 @@ pub enum ListFault {
     NoNames,
     /// Its name of this number, from 1 on, is refused.
     Name(usize, WrongName),
-    /// A growth of memory was refused.
+    /// An allocation failed.
     NoMemory,
 }
 
@@ -91,8 +88,7 @@ impl<T: Drop> From<AllocFailed<T>> for ListFault {
     }
 }
 
-/// What stands before the first such byte of the text, and what stands behind it. If there is none,
-/// it is all of the text, and nothing.
+/// What is before and after the first such byte; if there is none, all of the text and nothing.
 fn split_name(text: &[u8], end: u8) -> (&[u8], &[u8])
     ensures first { Lacks end result.0.now }
     ensures whole { (text.now ≡ result.0.now ++ end ∷ result.1.now)
@@ -104,7 +100,6 @@ fn split_name(text: &[u8], end: u8) -> (&[u8], &[u8])
     }
 }
 
-/// The name of these bytes; else why they are none.
 fn name_of(bytes: &[u8]) -> Result<&str, WrongName>
     ensures name { IfOk result (λ name. name.now ≡ bytes.now) }
     ensures right { OnOk result ((bytes.now ≢ []) × Lacks 0 bytes.now × IsUtf8 bytes.now) }
@@ -122,12 +117,8 @@ fn name_of(bytes: &[u8]) -> Result<&str, WrongName>
     }
 }
 
-/// The names that the text lists, in their order: what stands between the bytes that end names. The
-/// last name need not be ended.
-///
-/// # Errors
-///
-/// The first name that is empty, has a NUL or is not UTF-8; a list without a name; refused memory.
+/// The names that the text lists, in order. The last one need not be ended. An error is the first
+/// name that is empty, has a NUL or is not UTF-8, a list without a name, or an allocation failure.
 pub fn names_of_list<'a>(
     alloc: Global,
     text: &'a [u8],

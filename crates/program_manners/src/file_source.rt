@@ -15,11 +15,8 @@ pub trait FileSource {
     // The last load that it refused: the name, and why; of a source that keeps it.
     ghost refused: { Self → Option (Option (List ℕ) × AFault) } = { λ _. None };
 
-    /// All bytes of the file of this name. No clause says what a fault leaves loaded.
-    ///
-    /// # Errors
-    ///
-    /// Why the file was not loaded. A source that keeps its refusals has this as the last one.
+    /// All bytes of the file of this name, or why it was not loaded: a source that keeps its
+    /// refusals has this as the last one. No clause says what a fault leaves loaded.
     fn load(&mut self, name: &str) -> Result<Vec<u8>, LoadFault>
         ensures reported { IfOk result (λ bytes.
             LoadsOne (loaded self.old) (loaded self.new) (Some name.now) bytes.items) }

@@ -14,9 +14,8 @@ use std::fmt;
 /// Why the table of a text does not follow others.
 #[derive(Clone, Copy, Debug)]
 pub enum NextFault {
-    /// The text is no table.
+    /// The text is not a fare table.
     Table(TableFault),
-    /// The table cannot follow.
     Follow(FollowFault),
 }
 
@@ -30,13 +29,11 @@ impl From<TableFault> for NextFault {
     }
 }
 
-/// Why the next of several tables is not taken, by the name of its file. Its `Display` is the fault
-/// line without its line feed.
+/// The line of why the next of several tables is not taken, by its file's name, without line feed.
 #[derive(Clone, Copy, Debug)]
 pub struct NamedTableLine<'a> {
-    /// The name of the file.
     pub name: &'a str,
-    /// Why its text is no table.
+    /// Why its text is not a fare table.
     pub fault: TableFault,
 }
 
@@ -59,13 +56,11 @@ impl fmt::Display for NamedTableLine<'_> {
     }
 }
 
-/// A word of `--table` whose table cannot follow those before it. Its `Display` is the fault line
-/// without its line feed.
+/// The fault line of a word of `--table` whose table cannot follow others, without its line feed.
 #[derive(Clone, Copy, Debug)]
 pub struct FollowLine<'a> {
     /// The word, with its date.
     pub word: &'a str,
-    /// Why the table cannot follow.
     pub fault: FollowFault,
 }
 
@@ -87,8 +82,7 @@ impl fmt::Display for FollowLine<'_> {
     }
 }
 
-/// One of several tables with a class that no ledger can have, by the name of its file. Its
-/// `Display` is the fault line without its line feed.
+/// The fault line of one of several tables with a class that no ledger has, without line feed.
 #[derive(Clone, Copy, Debug)]
 pub struct NamedClassLine<'a>(pub &'a str);
 
@@ -104,13 +98,9 @@ impl fmt::Display for NamedClassLine<'_> {
     }
 }
 
-/// The fares, and behind them the table of a text, which is valid from 00:00 of the date on: by the
-/// clocks of the zone that the tables name, else in UTC.
-///
-/// # Errors
-///
-/// `Table`, if the text is no table; `Follow`, if the table cannot follow from that moment on. A
-/// date that begins before 1970-01-01T00:00Z is no later one than the first table's.
+/// The fares, and after them the table of a text, valid from 00:00 of the date on: by the clocks of
+/// the zone that the tables name, else in UTC. An error is `Table`, if the text is not a fare
+/// table, or `Follow`: a date that begins before 1970-01-01T00:00Z is not after the first table's.
 pub fn table_behind(
     alloc: Global,
     fares: FareTable,

@@ -1,26 +1,5 @@
-//! What each program does alike: it loads whole files, reports mistakes and faults, shows what clap
-//! answers, and gives clap its words.
-//!
-//! | module | what it does |
-//! |---|---|
-//! | `complaints` | where mistakes and faults are reported |
-//! | `escaping` | the control characters of what is reported |
-//! | `output` | where the text of a run goes, and why it cannot go there |
-//! | `loading` | whole files up to a limit, and the line of one that was not loaded |
-//! | `file_source` | where whole files come from, by their names |
-//! | `recorded_loads`, `refusal` | what a source loads of the system, and what was refused last |
-//! | `opened` | a file or standard input, to be read in pieces |
-//! | `table_line` | the line of a fault of the fare table |
-//! | `table_words` | words of `--table`: a file, and the date from which its table is valid |
-//! | `following` | fare tables that follow others from a date on, and the lines of their faults |
-//! | `table_loads` | fare tables that are loaded in the order of their words |
-//! | `terminal_line` | a line on a terminal that says how far a long run is |
-//! | `answers` | what clap answers if there is nothing to run |
-//! | `arguments` | the words of the command line, and why they could not be had |
-//! | `version` | the version that each program prints |
-//! | `words` | a command and its options, as `clap` takes them |
-//! | `file_list`, `list_line` | the names of files that a text lists, and the line of a fault |
-//! | `list_words`, `listed_words` | a list on a command line, and the words with its names |
+//! What each program does alike: it loads whole files, reports usage errors and faults, shows what
+//! clap answers, and gives clap its arguments.
 #![tactic(auto)]
 
 mod answers;

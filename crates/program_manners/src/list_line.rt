@@ -16,7 +16,6 @@ pub struct ListLine<'a> {
     pub fault: ListFault,
 }
 
-/// What a piece of the list is called.
 fn piece_word(end: NameEnd) -> &'static str
     ensures { result.now ≡ piece_word end }
 {
@@ -26,7 +25,6 @@ fn piece_word(end: NameEnd) -> &'static str
     }
 }
 
-/// What is wrong with a name.
 fn wrong_text(wrong: WrongName) -> &'static str
     ensures { result.now ≡ wrong_text wrong }
 {
@@ -38,7 +36,7 @@ fn wrong_text(wrong: WrongName) -> &'static str
 }
 
 impl ListLine<'_> {
-    /// The line of a fault before a list is named.
+    /// The fault line before a list is named.
     pub fn unnamed(fault: ListFault) -> ListLine<'static>
         ensures { (result.list.now ≡ []) × (result.end ≡ NameEnd.LineFeed)
             × (result.fault ≡ fault) }
@@ -50,7 +48,7 @@ impl ListLine<'_> {
         }
     }
 
-    /// The exit status: 2 for a mistake in the words, else 1.
+    /// The exit status: 2 for a usage error, else 1.
     pub fn status(&self) -> u8
         ensures { result ≡ list_status self.now.fault }
     {

@@ -20,21 +20,20 @@ use std::fs::Files;
 use std::io::{Input, Write};
 use world::LoadFault;
 
-/// The word that stands for standard input.
+/// The word that represents standard input.
 const INPUT_WORD: &str = "-";
 
 /// What the words say of a list of files.
 #[derive(Clone, Copy, Debug)]
 pub struct ListWords<'a> {
-    /// The name of the list; `-` stands for standard input.
+    /// The name of the list; `-` represents standard input.
     pub name: &'a str,
     /// What ends its names.
     pub end: NameEnd,
 }
 
 impl<'a> ListWords<'a> {
-    /// What the words say of a list, if they name one. The error is `NullAlone`: they say what ends
-    /// its names, and name none.
+    /// What the words say of a list, if they name one. An error is `NullAlone`.
     pub fn of(matches: &ArgMatches<'a>) -> Result<Option<ListWords<'a>>, ListFault>
         ensures list { IfOk result (λ list. option_map view_of list
             ≡ list_asked (rows_of (found_of matches.now))) }
@@ -58,8 +57,8 @@ impl<'a> ListWords<'a> {
         Ok(Some(ListWords { name, end }))
     }
 
-    /// What words that clap does not read say of a list: nothing. The program says why they are not
-    /// read, or shows its help. The error is `NoMemory`: memory was refused while they were read.
+    /// What words that clap does not read say of a list: nothing. An error is an allocation
+    /// failure.
     pub fn unread(error: &Error) -> Result<Option<ListWords<'a>>, ListFault>
         ensures none { kind_of error.now ≢ ErrorKind.OutOfMemory → result ≡ Ok None }
         ensures memory { kind_of error.now ≡ ErrorKind.OutOfMemory
@@ -80,7 +79,6 @@ impl<'a> ListWords<'a> {
         self.name == INPUT_WORD
     }
 
-    /// What a fault line calls the list.
     fn called(&self) -> &'a str
         ensures { result.now ≡ called self.now.name.now }
     {
@@ -103,8 +101,8 @@ impl<'a> ListWords<'a> {
         }
     }
 
-    /// The words with the names that the list has: each as the value of this option, or else as a
-    /// positional argument. What the list has no contract can say.
+    /// The words with the list's names, as values of this option or else as positional arguments.
+    /// No contract says what the list has.
     pub fn add_names<R: Files + Input + AllocGlobal>(
         &self,
         rt: &R,
@@ -122,7 +120,6 @@ impl<'a> ListWords<'a> {
         }
     }
 
-    /// All bytes of the list.
     fn load<R: Files + Input + AllocGlobal>(&self, rt: &R) -> Result<Vec<u8>, LoadFault> {
         if self.is_input() {
             load_from(rt.alloc(), &mut rt.reader())
@@ -132,9 +129,8 @@ impl<'a> ListWords<'a> {
     }
 }
 
-/// The words with the names of the list that they name, if they name one: each as the value of this
-/// option, or else as a positional argument. The list is what the program says of its words. The
-/// error is the status, when it was reported why there are no names.
+/// The words with the names of the list, if they name one: as values of this option or else as
+/// positional arguments. On an error the reason was reported, and the error is the status.
 pub fn take_list<'a, R: Files + Input + AllocGlobal, E: Write>(
     rt: &R,
     words: &[String],
@@ -160,7 +156,6 @@ pub fn take_list<'a, R: Files + Input + AllocGlobal, E: Write>(
     }
 }
 
-/// Says why the names of a list are not had, and gives the status.
 fn report<E: Write>(err: &mut Complaints<E>, line: ListLine<'_>) -> u8
     ensures status { result ≡ list_status line.entry.fault }
     ensures reported { LineWritten (E.contents err.old.writer) (E.contents err.new.writer)

@@ -7,21 +7,18 @@ ghost use Rattle.program_manners.specs.ListedWords.{option_word, with_files, wit
 use crate::file_list::ListFault;
 use std::alloc::Global;
 
-/// The words without the program's name.
 fn arguments_in(words: &[String]) -> &[String]
     ensures { result.now ≡ drop 1 words.now }
 {
     words.get(1..).unwrap_or(&[])
 }
 
-/// The program's name, if there are any words.
 fn name_in(words: &[String]) -> &[String]
     ensures { result.now ≡ take 1 words.now }
 {
     words.get(..1).unwrap_or(&[])
 }
 
-/// The words before this place.
 fn words_before(words: &[String], at: usize) -> &[String]
     requires { at ≤ length words.now }
     ensures { result.now ≡ take at words.now }
@@ -29,7 +26,6 @@ fn words_before(words: &[String], at: usize) -> &[String]
     &words[..at]
 }
 
-/// The words from this place on.
 fn words_from(words: &[String], at: usize) -> &[String]
     requires { at ≤ length words.now }
     ensures { result.now ≡ drop at words.now }
@@ -37,7 +33,7 @@ fn words_from(words: &[String], at: usize) -> &[String]
     &words[at..]
 }
 
-/// How many words stand before the first `--`.
+/// How many words are before the first `--`.
 fn dashes_at(words: &[String]) -> usize
     ensures range { result ≤ length words.now }
     ensures before { take result (map string_bytes words.now)
@@ -53,7 +49,6 @@ fn dashes_at(words: &[String]) -> usize
     words.len()
 }
 
-/// Adds a word.
 fn push_word(alloc: Global, all: &mut Vec<String>, word: &str) -> Result<(), ListFault>
     ensures { OnOk result (map string_bytes all.new.items
         ≡ map string_bytes all.old.items ++ word.now ∷ []) }
@@ -62,7 +57,6 @@ fn push_word(alloc: Global, all: &mut Vec<String>, word: &str) -> Result<(), Lis
     Ok(())
 }
 
-/// Adds words.
 fn push_words(alloc: Global, all: &mut Vec<String>, words: &[String]) -> Result<(), ListFault>
     ensures { OnOk result (map string_bytes all.new.items
         ≡ map string_bytes all.old.items ++ map string_bytes words.now) }
@@ -73,7 +67,6 @@ fn push_words(alloc: Global, all: &mut Vec<String>, words: &[String]) -> Result<
     Ok(())
 }
 
-/// Adds a `--`, if the words have none.
 fn push_missing_dashes(
     alloc: Global,
     all: &mut Vec<String>,
@@ -88,7 +81,6 @@ fn push_missing_dashes(
     push_word(alloc, all, "--")
 }
 
-/// Adds names as they are.
 fn push_names(alloc: Global, all: &mut Vec<String>, names: &[&str]) -> Result<(), ListFault>
     ensures { OnOk result (map string_bytes all.new.items
         ≡ map string_bytes all.old.items ++ map (λ n. n.now) names.now) }
@@ -99,7 +91,6 @@ fn push_names(alloc: Global, all: &mut Vec<String>, names: &[&str]) -> Result<()
     Ok(())
 }
 
-/// Adds names as values of an option.
 fn push_options(
     alloc: Global,
     all: &mut Vec<String>,
@@ -116,8 +107,8 @@ fn push_options(
     Ok(())
 }
 
-/// The words, the program's name first, with these names as positional arguments. They stand last
-/// and behind a `--`, so that a name may begin with `-`. The error is `NoMemory`.
+/// The words with these names as positional arguments, last and after a `--`, so that a name may
+/// begin with `-`. An error is an allocation failure.
 pub fn with_files(alloc: Global, words: &[String], names: &[&str]) -> Result<Vec<String>, ListFault>
     ensures { IfOk result (λ all. map string_bytes all.items
         ≡ with_files (map string_bytes words.now) (map (λ n. n.now) names.now)) }
@@ -129,8 +120,7 @@ pub fn with_files(alloc: Global, words: &[String], names: &[&str]) -> Result<Vec
     Ok(all)
 }
 
-/// The words, the program's name first, with each of these names as the value of an option,
-/// `--OPTION=NAME`. They stand before the first `--`. The error is `NoMemory`.
+/// The words with each name as `--OPTION=NAME`, before the first `--`, or an allocation failure.
 pub fn with_option_files(
     alloc: Global,
     words: &[String],

@@ -11,7 +11,7 @@ use world::{LOAD_LIMIT_BYTES, LoadFault};
 /// What standard input is called in a fault line.
 pub const STANDARD_INPUT: &str = "standard input";
 
-/// A file that was not loaded. Its `Display` is the fault line without its line feed.
+/// The fault line of a file that was not loaded, without its line feed.
 #[derive(Clone, Copy, Debug)]
 pub struct FileFault<'a> {
     /// The name of the file, or what standard input is called.
@@ -32,8 +32,8 @@ impl fmt::Display for FileFault<'_> {
     }
 }
 
-/// The file of this name, to be read from its beginning. If it cannot be opened, that is reported
-/// as if it could not be read, unless memory was refused.
+/// Opens the file of this name to be read from its start. A file that cannot be opened is reported
+/// as one that could not be read, unless an allocation failed.
 pub fn open_file<R: Files>(rt: &R, name: &str) -> Result<R::File, LoadFault>
     ensures { IfErr result (λ fault. fault ≢ LoadFault.TooLong) }
 {
@@ -52,10 +52,9 @@ pub fn load_file<R: Files>(rt: &R, alloc: Global, name: &str) -> Result<Vec<u8>,
     load_from(alloc, &mut file)
 }
 
-/// All bytes that the reader has left, to its end. Reading stops at the first read that fails (and
-/// is not interrupted by a signal), and at the first byte past the limit, so that a reader without
-/// end takes no more memory than the limit. The bytes are read into their place: a short file costs
-/// little. No clause says how much was read before a fault.
+/// All bytes that the reader has left. Reading stops at the first read that fails, but for a
+/// signal, and at the first byte past the limit, so no more memory is taken. The bytes are read in
+/// place. No clause says how much was read before a fault.
 pub fn load_from<R: Read>(alloc: Global, r: &mut R) -> Result<Vec<u8>, LoadFault>
     ensures whole { IfOk result (λ bytes. IfSome (R.remaining r.old) (λ left. bytes.items ≡ left)) }
     ensures short { IfOk result (λ bytes. length bytes.items ≤ LOAD_LIMIT_BYTES) }

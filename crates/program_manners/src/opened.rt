@@ -7,9 +7,7 @@ use std::io::{Read, StdinLock};
 /// A file or standard input, to be read in pieces.
 #[derive(Drop)]
 pub enum Opened {
-    /// The file that was named.
     File(File),
-    /// Standard input.
     Input(StdinLock<'static>),
 }
 

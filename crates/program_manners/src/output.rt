@@ -16,7 +16,6 @@ pub enum WriteEnd {
 }
 
 impl WriteEnd {
-    /// Why a write failed with this error.
     fn of(error: &io::Error) -> WriteEnd
         ensures { (error_kind error.now ≡ ErrorKind.BrokenPipe)
             ↔ (Some result ≡ Some WriteEnd.Closed) }
@@ -29,14 +28,13 @@ impl WriteEnd {
     }
 }
 
-/// The writer of a run's text. It remembers why a write failed, and whether all that it took was
-/// flushed.
+/// The writer of a run's text, which remembers why a write failed, and whether all was flushed.
 #[derive(Drop)]
 pub struct Output<W> {
     writer: W,
     /// Why the last write that failed did so; none if no write failed.
     end: Option<WriteEnd>,
-    /// Whether nothing was written after the last flush, which ended well.
+    /// Whether nothing was written after the last flush, which succeeded.
     is_flushed: bool,
 }
 
@@ -72,7 +70,6 @@ impl<W: Write> Output<W> {
     ghost use Rattle.std.specs.Io.KnownBytes.{Appends, Keeps};
     ghost use Rattle.fare_texts.specs.WrittenOut.{Begins};
 
-    /// Notes why a write failed.
     fn note(&mut self, end: WriteEnd) -> WriteEnd
         ensures given { result ≡ end }
         ensures noted { self.new ≡ record {
@@ -85,7 +82,7 @@ impl<W: Write> Output<W> {
         end
     }
 
-    /// Writes the bytes whole. An error is why a write failed, behind a beginning of them.
+    /// Writes the bytes whole. An error is why a write failed, after a prefix of them.
     pub fn put(&mut self, bytes: &[u8]) -> Result<(), WriteEnd>
         ensures whole { OnOk result (Appends (W.contents self.old.writer)
             (W.contents self.new.writer) bytes.now) }
@@ -101,7 +98,7 @@ impl<W: Write> Output<W> {
         Ok(())
     }
 
-    /// Flushes the writer, behind the whole text. Only then is the output flushed.
+    /// Flushes the writer, after the whole text. Only then is the output flushed.
     pub fn finish(&mut self) -> Result<(), WriteEnd>
         ensures kept { Keeps (W.contents self.old.writer) (W.contents self.new.writer) }
         ensures well { OnOk result (self.new.end ≡ self.old.end) }
@@ -162,7 +159,7 @@ impl<W: Write> Write for Output<W> {
         ensures noted { IfErr result (λ _. self.new.end ≢ None) }
         ensures failed { IfErr result (λ error. (error_kind error ≡ ErrorKind.BrokenPipe)
             ↔ (self.new.end ≡ Some WriteEnd.Closed)) }
-        // Only a flush that ends well leaves the output flushed.
+        // Only a flush that succeeds leaves the output flushed.
         ensures flushed { OnOk result (self.new.is_flushed ≡ true) }
         ensures unflushed { OnErr result (self.new.is_flushed ≡ false) }
     {

@@ -8,8 +8,8 @@ use std::io::Input;
 use std::snapshot::Snapshot;
 use world::{GhostBytes, LoadFault, Loaded, Trace, load_file, load_input};
 
-/// What a source loads of the files of the system and of its standard input, each call recorded,
-/// and the load that was refused last. It has no bytes at run time.
+/// What a source loads of the system's files and standard input: each call recorded, and the last
+/// load that was refused. It has no bytes at run time.
 #[derive(Drop)]
 pub struct RecordedLoads {
     trace: Trace,
@@ -18,7 +18,6 @@ pub struct RecordedLoads {
     pub ghost shown: { ∥ IsShown trace.run (refusal_of last.value) ∥₁ },
 }
 
-/// The file of this name was refused.
 fn named(name: &str, fault: LoadFault) -> Snapshot<Refusal>
     ensures { refusal_of result.value ≡ (Some name.now, fault) }
 {
@@ -28,7 +27,6 @@ fn named(name: &str, fault: LoadFault) -> Snapshot<Refusal>
     })
 }
 
-/// Standard input was refused.
 fn unnamed(fault: LoadFault) -> Snapshot<Refusal>
     ensures { refusal_of result.value ≡ (None, fault) }
 {
@@ -42,8 +40,7 @@ impl RecordedLoads {
     ghost use Rattle.world.specs.Run.{no_calls, with_all, with_load};
     ghost use Rattle.world.specs.Loads.{IsRefused};
 
-    /// Nothing was loaded or refused yet. So the last refusal is that memory was refused, which no
-    /// call shows.
+    /// Nothing was loaded or refused yet: the last refusal is an allocation failure of no call.
     pub fn new() -> RecordedLoads
         ensures trace { result.trace ≡ no_calls }
         ensures last { refusal_of result.last.value ≡ (None, LoadFault.NoMemory) }
@@ -90,7 +87,7 @@ impl RecordedLoads {
         loaded
     }
 
-    /// The bytes of a file that another thread loaded: it becomes one of these loads.
+    /// The bytes of a file that another thread loaded, as one of these loads.
     pub fn take(&mut self, file: Loaded) -> Vec<u8>
         ensures bytes { result ≡ file.bytes }
         ensures loaded { self.new.trace.run

@@ -5,7 +5,7 @@ ghost use Rattle.program_manners.specs.Lines.{table_text};
 use fare_table::TableFault;
 use std::fmt;
 
-/// A fault of the fare table. Its `Display` is the fault line without its line feed.
+/// The fault line of the fare table, without its line feed.
 #[derive(Clone, Copy, Debug)]
 pub struct TableLine(pub TableFault);
 

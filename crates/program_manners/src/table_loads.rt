@@ -21,13 +21,13 @@ use std::alloc::{AllocError, Global};
 pub enum TablesFault<'a> {
     /// The file of a table was not loaded.
     File(FileFault<'a>),
-    /// The text of the only table is no table.
+    /// The text of the only table is not a fare table.
     Table(TableFault),
-    /// The text of one of several tables is no table.
+    /// The text of one of several tables is not a fare table.
     NamedTable(NamedTableLine<'a>),
     /// A table cannot follow those before it.
     Follow(FollowLine<'a>),
-    /// A growth of memory was refused.
+    /// An allocation failed.
     NoMemory,
 }
 
@@ -60,7 +60,6 @@ pub struct Tables {
     pub texts: Vec<Vec<u8>>,
 }
 
-/// All bytes of the file of this name.
 fn load_named<'a, S: FileSource>(source: &mut S, name: &'a str) -> Result<Vec<u8>, FileFault<'a>>
     ensures ok { IfOk result (λ bytes. LoadsOne (S.loaded source.old) (S.loaded source.new)
         (Some name.entry.now) bytes.items) }
@@ -75,7 +74,7 @@ fn load_named<'a, S: FileSource>(source: &mut S, name: &'a str) -> Result<Vec<u8
     }
 }
 
-/// Why the text of this file is no table: by the file's name if there are several tables.
+/// By the file's name if there are several tables.
 fn of_table<'a>(name: &'a str, is_alone: bool, fault: TableFault) -> TablesFault<'a>
     ensures { IsRightNamed name.entry.now is_alone fault result }
 {
@@ -88,7 +87,6 @@ fn of_table<'a>(name: &'a str, is_alone: bool, fault: TableFault) -> TablesFault
     }
 }
 
-/// Why the table of this word does not follow those before it.
 fn of_next<'a>(word: &'a str, name: &'a str, fault: NextFault) -> TablesFault<'a>
     ensures { IsRightLater word.entry.now name.entry.now fault result }
 {
@@ -98,7 +96,6 @@ fn of_next<'a>(word: &'a str, name: &'a str, fault: NextFault) -> TablesFault<'a
     }
 }
 
-/// Adds a text.
 fn push(texts: &mut Vec<Vec<u8>>, text: Vec<u8>) -> Result<(), AllocError>
     ensures { OnOk result (texts.new.items ≡ texts.old.items ++ text ∷ []) }
 {
@@ -106,7 +103,6 @@ fn push(texts: &mut Vec<Vec<u8>>, text: Vec<u8>) -> Result<(), AllocError>
     Ok(())
 }
 
-/// Loads the table of this word, and adds it to those before it, and its text to theirs.
 fn load_next<'a, S: FileSource>(
     alloc: Global,
     mut tables: Tables,
@@ -143,7 +139,6 @@ fn load_next<'a, S: FileSource>(
     }
 }
 
-/// Loads the table that is valid first.
 fn load_first<'a, S: FileSource>(
     alloc: Global,
     words: &TableWords<'a>,
@@ -171,14 +166,8 @@ fn load_first<'a, S: FileSource>(
     }
 }
 
-/// Loads the tables of these words, in their order: each is loaded and held against those before it
-/// before the next one is.
-///
-/// # Errors
-///
-/// The first of: `File`, if the source refused a table's file; `Table` or `NamedTable`, if a text
-/// is no table; `Follow`, if a table cannot follow those before it from its date on. `NoMemory`
-/// may come at any time.
+/// Loads the tables of these words in order, each compared with those before it. An error is the
+/// first of `File`, `Table` or `NamedTable`, and `Follow`, or `NoMemory` at any time.
 pub fn load_tables<'a, S: FileSource>(
     alloc: Global,
     words: &TableWords<'a>,

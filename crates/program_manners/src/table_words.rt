@@ -15,14 +15,11 @@ use std::fmt;
 /// How many bytes `@2026-01-04` has.
 const DATE_BYTES: usize = 11;
 
-/// The date that the digits of a word write. The calendar may lack it.
+/// The date that a word's four, two and two digits write. The calendar may lack it.
 #[derive(Clone, Copy, Debug, PartialEq, Eq)]
 pub struct WrittenDate {
-    /// The year, of four digits.
     pub year: u16,
-    /// The month, of two digits.
     pub month: u8,
-    /// The day of the month, of two digits.
     pub day: u8,
 }
 
@@ -33,19 +30,16 @@ pub enum DateFault {
     OtherYear,
     /// The calendar has no such day.
     NotADay,
-    /// It is the first table's, which is valid from the beginning.
+    /// It is the first table's, which is valid from the first moment on.
     IsFirst,
-    /// A table behind the first one has none.
+    /// A table after the first one has none.
     NoDate,
 }
 
-/// A word of `--table` with a wrong date, or with none if one is wanted. Its `Display` is the line
-/// of the mistake without what is before it.
+/// The usage error of a word of `--table`, without the prefix of its line.
 #[derive(Clone, Copy, Debug)]
 pub struct WrongWord<'a> {
-    /// The word.
     pub word: &'a str,
-    /// What is wrong.
     pub fault: DateFault,
 }
 
@@ -77,8 +71,7 @@ pub struct TableWord<'a> {
 }
 
 impl<'a> TableWord<'a> {
-    /// The word in its parts. What is behind its last `@` is a date if it has the form
-    /// `2026-01-04`, and else belongs to the name.
+    /// The word in its parts. What is after its last `@` is a date if it has the form `2026-01-04`.
     pub fn of(word: &'a str) -> TableWord<'a>
         ensures name { result.name.now ≡ file_named word.entry.now }
         ensures date { result.date ≡ written_date word.entry.now }
@@ -108,12 +101,12 @@ impl<'a> TableWord<'a> {
     }
 }
 
-/// The words of `--table`, which may be given again for a table that is valid from a date on.
+/// The words of `--table`, one for each table.
 #[derive(Drop)]
 pub struct TableWords<'a> {
     /// The word of the table that is valid first.
     pub first: &'a str,
-    /// The words of the tables behind it, in order.
+    /// The words of the tables after it, in order.
     pub later: Vec<&'a str>,
 }
 
@@ -132,8 +125,8 @@ impl<'a> TableWords<'a> {
         }))
     }
 
-    /// The first of the words that has a wrong date, or none if one is wanted: the first table has
-    /// none, and each later one has a date from 1970-01-01 to 2099-12-31.
+    /// The first word with a wrong date: the first table has none, and each later one has a date
+    /// from 1970-01-01 to 2099-12-31.
     pub fn wrong_word(&self) -> Option<WrongWord<'a>>
         ensures { option_map wrong_of result ≡ wrong_word (names_of self.now) }
     {
@@ -147,7 +140,6 @@ impl<'a> TableWords<'a> {
     }
 }
 
-/// The byte at a place, and 0 if there is none.
 fn byte_at(bytes: &[u8], place: usize) -> u8
     ensures { result ≡ byte_at bytes.now place }
 {
@@ -157,7 +149,6 @@ fn byte_at(bytes: &[u8], place: usize) -> u8
     }
 }
 
-/// The number that two decimal digits write.
 fn two_digits(tens: u8, ones: u8) -> Option<u8>
     ensures number { result ≡ two_digits tens ones }
     ensures bound { IfSome result (λ number. number ≤ 99) }
@@ -169,7 +160,6 @@ fn two_digits(tens: u8, ones: u8) -> Option<u8>
     }
 }
 
-/// The number that the two bytes from a place on write.
 fn number_at(bytes: &[u8], place: usize) -> Option<u8>
     requires { place ≤ 9 }
     ensures number { result ≡ two_digits (byte_at bytes.now place) (byte_at bytes.now (place + 1)) }
@@ -178,7 +168,6 @@ fn number_at(bytes: &[u8], place: usize) -> Option<u8>
     two_digits(byte_at(bytes, place), byte_at(bytes, place + 1))
 }
 
-/// Whether an `@` and hyphens stand where they stand in `@2026-01-04`.
 fn has_form(end: &[u8]) -> bool
     ensures { result ≡ has_form end.now }
 {
@@ -186,7 +175,6 @@ fn has_form(end: &[u8]) -> bool
         && (byte_at(end, 0) == b'@' && (byte_at(end, 5) == b'-' && byte_at(end, 8) == b'-'))
 }
 
-/// The date of these numbers, if each of them is written.
 fn date_of(
     century: Option<u8>,
     year: Option<u8>,
@@ -207,7 +195,6 @@ fn date_of(
     }
 }
 
-/// The date of `@2026-01-04`, with the digits of any date.
 fn written_in(end: &[u8]) -> Option<WrittenDate>
     ensures { result ≡ written_in end.now }
 {
@@ -222,7 +209,7 @@ fn written_in(end: &[u8]) -> Option<WrittenDate>
     )
 }
 
-/// The day of a date of the years 1970 to 2099, if the calendar has it.
+/// `None` if the calendar lacks the day.
 pub(crate) fn day_of(date: WrittenDate) -> Option<Date>
     requires { date.year ≤ 2099 }
     ensures there { is_some result ≡ is_day date }
@@ -238,7 +225,6 @@ pub(crate) fn day_of(date: WrittenDate) -> Option<Date>
     }
 }
 
-/// What is wrong with a date.
 fn wrong_date(is_first: bool, date: WrittenDate) -> Option<DateFault>
     ensures { result ≡ wrong_date is_first date }
 {
@@ -255,7 +241,6 @@ fn wrong_date(is_first: bool, date: WrittenDate) -> Option<DateFault>
     }
 }
 
-/// What is wrong with the date of a word, or with that it has none.
 fn date_fault(is_first: bool, word: &str) -> Option<DateFault>
     ensures { result ≡ date_fault is_first word.now }
 {
@@ -266,7 +251,6 @@ fn date_fault(is_first: bool, word: &str) -> Option<DateFault>
     }
 }
 
-/// The first of the words behind the first table's that is wrong.
 fn wrong_later<'a>(words: &[&'a str]) -> Option<WrongWord<'a>>
     ensures { option_map wrong_of result ≡ wrong_later (map (λ w. w.now) words.now) }
 {

@@ -13,7 +13,7 @@ pub const QUIET_MS: u64 = 1_000;
 /// How many milliseconds a line stays before the next one.
 pub const PACE_MS: u64 = 200;
 
-/// What shows a text, or an error if that is more than 80 bytes.
+/// An error if it has more than 80 bytes.
 fn line_of<D: Display + Drop>(text: D) -> Result<ArrayString<80>, fmt::Error>
     ensures { IfOk result (λ line. IfSome (D.output text) (λ shown.
         line.bytes ≡ line_with shown)) }
@@ -43,8 +43,8 @@ impl<W: Write + Drop> TerminalLine<W> {
         }
     }
 
-    /// Shows a text in place of the one that is there, by one write. That one may be longer, so
-    /// what follows the text is cleared. A text of more than 76 bytes is not shown.
+    /// Shows a text in place of the one there, by one write. One of more than 76 bytes is not
+    /// shown.
     pub fn show<D: Display + Drop>(&mut self, text: D)
         ensures { IfSome (D.output text) (λ shown. IsWrittenOnce (W.contents self.old.to)
             (W.contents self.new.to) (line_with shown)) }

@@ -11,10 +11,8 @@ use clap::builder::ValueParser;
 use clap::{Arg, ArgAction, ArgMatches, Command};
 use std::alloc::{AllocError, Global};
 
-/// The help of `--files-from`.
 const LIST_HELP: &str = "Take the files that LIST names, a name a line; - is standard input";
 
-/// The help of `-0`.
 const NULL_HELP: &str = "The names of LIST end with NUL, as `find -print0` writes them";
 
 /// An option with a value: `--NAME VALUE`.
@@ -99,7 +97,6 @@ pub fn new_command<'a>(alloc: Global, name: &'a str, about: &'a str, notes: &'a 
         .after_help(notes)
 }
 
-/// The option of a list of files: `--files-from LIST`.
 fn list_arg<'a>(alloc: Global) -> Arg<'a>
     ensures rule { rule_of result ≡ list_option }
     ensures local { result.global ≡ false }
@@ -107,7 +104,6 @@ fn list_arg<'a>(alloc: Global) -> Arg<'a>
     option_arg(alloc, "files-from", "LIST", LIST_HELP)
 }
 
-/// The flag that says what ends the names of a list: `-0`, `--null`.
 fn null_arg<'a>(alloc: Global) -> Arg<'a>
     ensures rule { rule_of result ≡ null_flag }
     ensures local { result.global ≡ false }
