@@ -12,7 +12,6 @@ use std::thread;
 use std::thread::Threads;
 use std::time::Clock;
 
-/// The whole program, as `main_over` runs it. Behind it no line is shown any more.
 fn run<
     R: Threads + Wait + RandomSource + Sync + AllocGlobal,
     D: Disk + Sync,
@@ -39,9 +38,8 @@ fn run<
     status
 }
 
-/// Runs the whole program, while the ticker shows what it does: the status, what is written, what
-/// is loaded and what is said are those of `main_over`. If no thread can be started, no line is
-/// shown: then `tick` comes last, and sees that all is over.
+/// Runs the whole program as `main_over` does, while the ticker shows what it does. If no thread
+/// can be started, no line is shown: then `tick` comes last, and sees that all is over.
 pub fn run_beside_line<
     R: Threads + Wait + Clock + RandomSource + Sync + AllocGlobal,
     D: Disk + Sync,

@@ -1,12 +1,6 @@
-//! The program: `fare_program` over the words, with the names of a list if they name one, the
-//! files, the standard input and the outputs of the system. After the run notes on the standard error
-//! say what one should know of its text. If the standard error is a terminal, a note says before that
-//! the standard input is read, and a line says what a long run does.
-//!
-//! | module | what it does |
-//! |---|---|
-//! | `beside` | a run with the line of `run_progress` beside it |
-//! | `system` | a run over the files and the outputs of the system: what binds the program |
+//! The program: `fare_program` over the words, the files, the standard input and the outputs of the
+//! system. The names of a list become words. After the run notes on the standard error say what one
+//! should know of its text. On a terminal a line says what a long run does.
 #![tactic(auto)]
 
 mod beside;
@@ -21,8 +15,7 @@ use std::process::ExitCode;
 use system::run_system;
 use world::Recorded;
 
-/// The ticker of the run that the words ask for. If the standard error is a terminal, the note on
-/// them is printed there, if there is one.
+/// The ticker of the run. On a terminal it first prints the note on the words, if there is one.
 fn ticker_for(rt: &HostRuntime, words: &[String]) -> Ticker {
     let is_terminal = rt.stderr().is_terminal();
     if is_terminal && let Ok(Some(note)) = Note::of(rt.alloc(), words) {
@@ -31,8 +24,7 @@ fn ticker_for(rt: &HostRuntime, words: &[String]) -> Ticker {
     Ticker::new(Steps::of(words), rt.stderr(), is_terminal)
 }
 
-/// The words of the command line with the names of the list that they name, if they name one. On an
-/// error the reason was printed, and the error is the status.
+/// The words, with the names of the list that they name. On an error the reason was printed.
 fn words_with_list(rt: &HostRuntime) -> Result<Vec<String>, u8> {
     let mut err = Complaints::new(Escaping::new(rt.stderr()));
     let words = named_words(rt, &mut err);
@@ -40,7 +32,6 @@ fn words_with_list(rt: &HostRuntime) -> Result<Vec<String>, u8> {
     words
 }
 
-/// The same. On an error the reason was reported.
 fn named_words<E: Write>(rt: &HostRuntime, err: &mut Complaints<E>) -> Result<Vec<String>, u8> {
     let words = match words_of(rt) {
         Ok(words) => words,
@@ -51,7 +42,6 @@ fn named_words<E: Write>(rt: &HostRuntime, err: &mut Complaints<E>) -> Result<Ve
     Ok(more.unwrap_or(words))
 }
 
-/// Prints what a person should know of a run that made a text.
 fn report_findings(findings: Findings, err: &mut Complaints<Stderr>) {
     if let Some(late) = findings.live {
         err.report_line(Note::FollowsFileOrder);
@@ -66,8 +56,7 @@ fn report_findings(findings: Findings, err: &mut Complaints<Stderr>) {
     }
 }
 
-/// Whether the standard output is a file, which no terminal shows. It is asked by the name that the
-/// system has for it: if there is none, it is taken for no file.
+/// It asks by the system's name: without `/dev/stdout` the standard output counts as no file.
 fn writes_to_file(rt: &HostRuntime) -> bool {
     match fs::metadata(rt, "/dev/stdout") {
         Ok(about) => about.is_file(),

@@ -20,10 +20,9 @@ use std::thread::Threads;
 use std::time::Clock;
 use world::Recorded;
 
-/// Runs the whole program over the files, the standard input, the standard output and the standard
-/// error of the system, of which nothing was read and to which nothing was written yet. What was
-/// loaded and written is what the system calls tell. What was reported is what went to the standard
-/// error, before its control characters were escaped.
+/// Runs the whole program over the system's files, standard input and outputs, of which nothing was
+/// read or written yet. What was loaded and written is what the system calls tell. What was
+/// reported went to the standard error with its control characters escaped.
 pub fn run_system<R: Threads + Wait + Clock + RandomSource + Sync + AllocGlobal>(
     rt: &R,
     system: &HostRuntime,
