@@ -8,7 +8,7 @@ use Rattle.histories.specs.Entry.{taps_of}
 use Rattle.histories.specs.declared.entry.Entry.{Entry}
 use Rattle.settlement.specs.declared.replay.Replay.{Replay}
 
--- the account stands for the token's taps among these entries
+-- the account represents the token's taps among these entries
 unfoldable pub HasPosted : Fares → Replay → List Entry → Type 0
 HasPosted fares replay entries = Stands (rules_of fares (bytes_of replay.token)) replay.account
     (taps_of fares replay.token entries)

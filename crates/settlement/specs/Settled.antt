@@ -9,7 +9,7 @@ use Rattle.tap_views.specs.Files.{AreGoodTapsOfEach}
 use Rattle.histories.specs.Plain.{plain}
 use Rattle.tap_parts.specs.Canonical.{IsCanonical}
 
--- The settled history of uploads under a table: all good taps of the uploads, in canonical order,
+-- The settled history of uploads under a table: all valid taps of the uploads, in canonical order,
 -- each with the reply of the account rule for the earlier taps of its token.
 pub record IsSettledHistory (fares : Fares) (uploads : List (List ℕ)) (history : List Entry)
     : Type 0 where

@@ -1,4 +1,4 @@
--- The good taps of uploads in canonical order, and those of one token among them.
+-- The valid taps of uploads in canonical order, and those of one token among them.
 use Rattle.std.specs.Prelude.{◌≡◌, ℕ, List, All, map}
 use Rattle.tap_views.specs.Encoding.{AreEarly, fields_of}
 use Rattle.tap_views.specs.Files.{AreGoodTapsOfEach}
@@ -9,7 +9,7 @@ use Rattle.tap_parts.specs.Canonical.{IsCanonical}
 use Rattle.tap_parts.specs.Parts.{taps_of_uploads}
 use Rattle.settlement.specs.Posted.{HasName, only}
 
--- The list has all good taps of the uploads, in canonical order. The moments are before 2100, and
+-- The list has all valid taps of the uploads, in canonical order. The moments are before 2100, and
 -- the 16 bytes of each token name it.
 pub record AreSettledTaps (uploads : List (List ℕ)) (order : List TapFields) : Type 0 where
   pub taps : List (List Tap)
@@ -18,7 +18,7 @@ pub record AreSettledTaps (uploads : List (List ℕ)) (order : List TapFields) :
   pub early : AreEarly (λ (tap : TapFields). tap.moment) order
   pub named : All HasName order
 
--- the list has the token's taps among the good taps of the uploads, in canonical order
+-- the list has the token's taps among the valid taps of the uploads, in canonical order
 pub record AreSettledTapsOf (uploads : List (List ℕ)) (token : Token) (taps : List TapFields)
     : Type 0 where
   pub order : List TapFields

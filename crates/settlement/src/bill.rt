@@ -23,7 +23,7 @@ use tariffs::{Clock, FareTable};
 /// What settled taps come to.
 #[derive(Drop)]
 pub struct Bill {
-    /// The tokens rise.
+    /// The tokens are strictly increasing.
     pub tokens: TokenSums,
     pub validators: ValidatorTallies,
     pub totals: Tally,
@@ -36,7 +36,6 @@ fn token_of(tap: &TapFields) -> Token
     Token::of(&tap.token)
 }
 
-/// How many of the first taps have `token`, which the first one has.
 fn count_of_first(token: Token, taps: &[TapFields]) -> usize
     requires some { 0 < length taps.now }
     requires first { (tap : TapFields) → token_of_tap (slice_index_or taps.now 0 tap) ≡ token }
@@ -56,7 +55,7 @@ fn count_of_first(token: Token, taps: &[TapFields]) -> usize
 }
 
 impl Bill {
-    /// The seed serves to hash the validators' numbers.
+    /// The seed is for hashing the validators' numbers.
     pub(crate) fn new(alloc: Global, seed: HashSeed) -> Self
         ensures { IsBillOf [] result }
     {
@@ -67,7 +66,7 @@ impl Bill {
         }
     }
 
-    /// Adds the taps of one token, in canonical order. After want of memory the bill is of no use.
+    /// After an error the bill is of no use.
     fn add_token(
         &mut self,
         alloc: Global,
@@ -99,8 +98,7 @@ impl Bill {
         Ok(())
     }
 
-    /// Adds the taps of the first token, and returns how many these are. The taps are in canonical
-    /// order.
+    /// Adds the taps of the first token, and returns how many these are.
     fn add_first_token(
         &mut self,
         alloc: Global,
@@ -126,8 +124,7 @@ impl Bill {
         Ok(length)
     }
 
-    /// Adds taps in canonical order, whose tokens are all above those of the bill. After want of
-    /// memory the bill is of no use.
+    /// Adds canonical taps of tokens above the bill's. After an error the bill is of no use.
     pub(crate) fn add(
         &mut self,
         alloc: Global,
@@ -154,8 +151,7 @@ impl Bill {
         Ok(())
     }
 
-    /// Adds the bill of other taps, whose tokens are all above those of this one. After want of
-    /// memory the bill is of no use.
+    /// Adds the bill of tokens that are all above this one's. After an error it is of no use.
     pub(crate) fn append(&mut self, alloc: Global, more: Bill) -> Result<(), NoMemory>
         requires room { HaveBillRoom self.old more }
         ensures { OnOk result ((entries others : List Entry) → IsBillOf entries self.old

@@ -16,8 +16,7 @@ use tap_parts::{are_in_order, arrange_into, number_of};
 use tap_views::{NoMemory, TapFields};
 use tariffs::{Clock, FareTable};
 
-/// Adds the taps of a part to the bill, in canonical order: as they lie, if that is their order.
-/// `list` is room to work in.
+/// Taps that are in order are added as they lie. `list` is room to work in.
 fn add_part(
     alloc: Global,
     table: &FareTable,
@@ -47,7 +46,7 @@ fn add_part(
     Ok(())
 }
 
-/// How many taps the parts have, or 2^64 - 1 if there are more.
+/// `u64::MAX` if there are more.
 fn count_of(parts: &[Pieces]) -> u64 {
     let mut taps = 0u64;
     for pieces in parts {
@@ -56,7 +55,6 @@ fn count_of(parts: &[Pieces]) -> u64 {
     taps
 }
 
-/// The bill of the parts, in their order. Each is noted when it is charged.
 fn bill_of<U: Uploads>(
     alloc: Global,
     table: &FareTable,
@@ -79,9 +77,8 @@ fn bill_of<U: Uploads>(
     Ok(bill)
 }
 
-/// The bill of the parts, in their order. Each of `workers` threads makes the bill of a run of
-/// parts. If a thread is refused, another does its work. The parts are noted for whoever watches
-/// the uploads.
+/// Each of `workers` threads makes the bill of a run of parts. If a thread cannot be started,
+/// another does its work. The parts are noted for whoever watches the uploads.
 pub(crate) fn bill_by_threads<R: Threads + Sync, U: Uploads + Sync>(
     rt: &R,
     alloc: Global,

@@ -22,9 +22,8 @@ fn halves(parts: Vec<Pieces>) -> Result<(Vec<Pieces>, Vec<Pieces>), AllocError>
     Ok((front, back))
 }
 
-/// The lists of the parts, in their order. The parts are halved `halvings` times, and each piece is
-/// arranged by a thread of its own. If one is refused, both halves are arranged one after the
-/// other.
+/// The parts are halved `halvings` times, and a thread of its own arranges each piece. If one
+/// cannot be started, both halves are arranged one after the other.
 #[cycle(lists)]
 pub(crate) fn lists_by_threads<R: Threads + Sync>(
     rt: &R,

@@ -1,7 +1,7 @@
 //! Memory that is given back.
 
-/// Gives a list's memory back. The list is cut short before: the C library keeps larger blocks in
-/// its own heaps, and gives less of them back, once it was given back a large one.
+/// Shrinks the list before it is freed: once a large block was given back, the C library keeps
+/// larger blocks in its own heaps.
 pub(crate) fn release<T: Copy>(list: Vec<T>) {
     let mut list = list;
     list.truncate(1);

@@ -22,11 +22,9 @@ pub(crate) struct OwnTaps {
     /// They are in the order of the uploads.
     pub(crate) taps: Vec<TapFields>,
     pub(crate) ends: Vec<UploadEnd>,
-    /// By which the uploads were read.
     pub(crate) calls: Trace,
 }
 
-/// Adds the token's taps in a batch, in their order.
 fn add_batch(token: Token, batch: &Batch<'_>, taps: &mut Vec<TapFields>) -> Result<(), AllocError>
     ensures { OnOk result
         (taps.new.items ≡ taps.old.items ++ only token (map fields_of batch.now)) }
@@ -39,7 +37,6 @@ fn add_batch(token: Token, batch: &Batch<'_>, taps: &mut Vec<TapFields>) -> Resu
     Ok(())
 }
 
-/// Adds the token's taps before the upload's first layout fault, and returns how the upload ends.
 fn add_upload(
     token: Token,
     upload: &[u8],
@@ -57,8 +54,7 @@ fn add_upload(
     Ok(UploadEnd::by_fault(number, good.fault()))
 }
 
-/// Collects the token's taps from the uploads from one number on and below another. All are read
-/// into one room, one after the other.
+/// All are read into one room, one after the other. No other tap is kept.
 fn own_taps<U: Uploads>(
     alloc: Global,
     token: Token,
@@ -87,9 +83,8 @@ fn own_taps<U: Uploads>(
     Ok(OwnTaps { taps, ends, calls })
 }
 
-/// Collects the token's taps from the uploads from one number on and below another: no other tap is
-/// kept. The uploads are halved `halvings` times, and a thread of its own reads each piece. If one
-/// is refused, both halves are read one after the other.
+/// The uploads are halved `halvings` times, and a thread of its own reads each piece. If one cannot
+/// be started, both halves are read one after the other.
 #[cycle(owns)]
 pub(crate) fn own_by_threads<R: Threads + Sync, U: Uploads + Sync>(
     rt: &R,

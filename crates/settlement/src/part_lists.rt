@@ -9,15 +9,13 @@ use std::alloc::{AllocError, Global};
 use tap_parts::arranged;
 use tap_views::TapFields;
 
-/// The part's taps in canonical order. The memory of the pieces is given back.
 fn list_of(alloc: Global, pieces: Pieces) -> Result<Vec<TapFields>, AllocError>
     ensures { IfOk result (λ list. IsCanonical pieces list.items) }
 {
     arranged(alloc, pieces.as_slice())
 }
 
-/// The lists of the parts, in their order. The memory of a part's pieces is given back as soon as
-/// its taps lie in one list.
+/// The memory of a part's pieces is given back as soon as its taps are in one list.
 pub(crate) fn lists_of(alloc: Global, parts: Vec<Pieces>) -> Result<Vec<Vec<TapFields>>, AllocError>
     ensures { IfOk result (λ lists. AllZip IsCanonical parts.items
         (map (λ list. list.items) lists.items)) }

@@ -9,7 +9,7 @@ use std::marker::Model;
 use tap_parts::Parts;
 use tap_views::TapFields;
 
-/// The taps of one part. Its memory goes when it is dropped, while other parts stay.
+/// The taps of one part. Dropping it frees them, while other parts stay.
 #[derive(Drop)]
 pub(crate) struct Pieces {
     /// A piece from each thread, in their order.
@@ -41,7 +41,7 @@ impl Pieces {
         Ok(())
     }
 
-    /// How many taps they have, or 2^64 - 1 if there are more.
+    /// `u64::MAX` if there are more.
     pub(crate) fn count(&self) -> u64 {
         let mut taps = 0u64;
         for piece in &self.list {
@@ -69,7 +69,6 @@ fn no_pieces(alloc: Global, parts: u32) -> Result<Vec<Pieces>, AllocError>
     Ok(made)
 }
 
-/// Adds to each part the piece that a thread made of it.
 fn join(parts: &mut [Pieces], lists: Vec<Vec<TapFields>>) -> Result<(), AllocError>
     requires { length lists.items ≡ length parts.old }
     ensures { OnOk result (ArePiecesAdded (map (λ list. list.items) lists.items) parts.old

@@ -29,7 +29,7 @@ fn seen(table: &FareTable, tap: &TapFields) -> TapIn
     }
 }
 
-/// The bytes of the token, as they stand in the tap that names it: no bytes are put together.
+/// No bytes are put together: they lie in the tap that names the token.
 #[inline(always)]
 fn named_bytes<'a>(token: Token, tap: &'a TapFields) -> &'a [u8]
     requires { token_of_tap tap.now ≡ token }
@@ -62,7 +62,6 @@ impl Replay {
     }
 
     /// Posts the token's next tap, whose moment is in milliseconds since 1970, and gives its entry.
-    /// The clock is the table's.
     #[inline(always)]
     pub fn next(&mut self, table: &FareTable, clock: &Clock, tap: &TapFields) -> Entry
         requires clock { clock.now ≡ table.now.zone }

@@ -28,13 +28,13 @@ use tap_views::{NoMemory, TapFields, Token, UploadEnd};
 use tariffs::FareTable;
 use world::Trace;
 
-/// How many bytes of uploads go to one part: some 40,000 taps. More parts make the split slower,
+/// How many bytes of uploads go to one part, some 40,000 taps: more parts make the split slower,
 /// larger ones the order.
 const BYTES_OF_PART: usize = 1_120_000;
 
 const MAX_PARTS: usize = 65_535;
 
-/// Of how many uploads tokens are sampled, at most.
+/// The most uploads whose tokens are sampled.
 const MAX_SAMPLED: usize = 1_024;
 
 /// How many times the uploads are halved: four threads share the work.
@@ -43,7 +43,6 @@ const HALVINGS: u32 = 2;
 /// The most workers that arrange parts.
 const MAX_WORKERS: u32 = 64;
 
-/// How many parts there are to be. They are counted by the uploads' bytes, whatever these are.
 fn parts_for<U: Uploads>(uploads: &U) -> u32
     ensures least { 1 ≤ result }
     ensures most { result ≤ 65535 }
@@ -54,12 +53,11 @@ fn parts_for<U: Uploads>(uploads: &U) -> u32
 #[derive(Drop)]
 struct SplitUploads {
     ends: Vec<UploadEnd>,
-    /// The taps of each part. A part has the tokens of a range, so that the parts lie one behind
-    /// the other in the order of tokens.
+    /// The taps of each part. Parts are ranges of tokens, in the order of tokens.
     parts: Vec<Pieces>,
 }
 
-/// Some tokens of the uploads: if there are many, of uploads at equal distances.
+/// If there are many uploads, those at equal distances are sampled.
 fn sample_of<U: Uploads>(alloc: Global, uploads: &U) -> Result<Vec<u128>, AllocError> {
     let mut sample = Vec::new(alloc);
     let step = uploads.len() / MAX_SAMPLED + 1;
@@ -73,7 +71,6 @@ fn sample_of<U: Uploads>(alloc: Global, uploads: &U) -> Result<Vec<u128>, AllocE
     Ok(sample)
 }
 
-/// The ranges of tokens into which the uploads are split: as many as there are to be parts.
 fn ranges_for<U: Uploads>(alloc: Global, uploads: &U) -> Result<TokenRanges, AllocError>
     ensures { IfOk result (λ ranges. length ranges < 65535) }
 {
@@ -81,9 +78,7 @@ fn ranges_for<U: Uploads>(alloc: Global, uploads: &U) -> Result<TokenRanges, All
     TokenRanges::of_sample(alloc, sample, parts_for(uploads))
 }
 
-/// Splits uploads into parts by their tokens, while they are read. Four threads read and split; if
-/// one is refused, another does its work. An error is want of memory, or that an upload cannot be
-/// read.
+/// Four threads read and split the uploads. If one cannot be started, another does its work.
 fn split<R: Threads + Sync, U: Uploads + Sync>(
     rt: &R,
     alloc: Global,
@@ -110,14 +105,13 @@ fn split<R: Threads + Sync, U: Uploads + Sync>(
 #[derive(Drop)]
 pub struct Billed {
     pub ends: Vec<UploadEnd>,
-    /// The bill of the uploads' good taps, in canonical order.
+    /// The bill of the uploads' valid taps, in canonical order.
     pub bill: Bill,
 }
 
-/// The bill of the settled history of uploads, by `workers` threads: account by account, with no
-/// book and no entry kept. It does not depend on the number of workers. The system calls by
-/// which the uploads are read are appended to `calls`. An error is out of memory, or that an upload
-/// cannot be read.
+/// The bill of the settled history of uploads, by `workers` threads, whose number does not matter:
+/// account by account, with no book and no entry kept. The system calls of the reads are appended
+/// to `calls`. An error is out of memory, or an upload that cannot be read.
 pub fn settled_bill<R: Threads + Sync, U: Uploads + Sync>(
     rt: &R,
     alloc: Global,
@@ -139,24 +133,23 @@ pub fn settled_bill<R: Threads + Sync, U: Uploads + Sync>(
     Ok(Billed { ends, bill })
 }
 
-/// Uploads whose good taps lie in canonical order.
+/// Uploads whose valid taps lie in canonical order.
 #[derive(Drop)]
 pub struct SettledTaps {
     pub ends: Vec<UploadEnd>,
-    /// The lists, one behind the other, have the good taps in canonical order.
+    /// The lists, one after the other, have the valid taps in canonical order.
     pub lists: Vec<Vec<TapFields>>,
 }
 
-/// How many times the parts are halved, so that each worker has some of them, and at most 64 have.
+/// Each worker has some of them, and at most 64 have.
 fn halvings_for(workers: u32) -> u32 {
     (workers.clamp(1, MAX_WORKERS) * 2 - 1).ilog2()
 }
 
-/// The good taps of uploads in canonical order. Four threads read the uploads and split the taps by
-/// part, and `workers` threads, 64 at most, put the parts' taps into order. If one is refused,
-/// another does its work. The system calls by which the uploads are read are appended to `calls`. An
-/// error is out of memory, or that an upload cannot be read. The bytes of a part are given back as
-/// soon as its list is made.
+/// The valid taps of uploads in canonical order. Four threads read and split the uploads, and
+/// `workers` threads, 64 at most, order the parts. The bytes of a part are freed as soon as its
+/// list is made. The system calls of the reads are appended to `calls`. An error is out of memory,
+/// or an upload that cannot be read.
 pub fn settled_taps<R: Threads + Sync, U: Uploads + Sync>(
     rt: &R,
     alloc: Global,
@@ -183,7 +176,6 @@ pub struct TokenTaps {
     pub taps: Vec<TapFields>,
 }
 
-/// Sorts in the same memory.
 fn sorted(taps: Vec<TapFields>) -> Vec<TapFields>
     ensures { IsCanonical taps.items result.items }
 {
@@ -192,9 +184,9 @@ fn sorted(taps: Vec<TapFields>) -> Vec<TapFields>
     list
 }
 
-/// The good taps of one token in canonical order: no other tap is kept. Four threads read the
-/// uploads; if one is refused, another does its work. The system calls by which the uploads are read
-/// are appended to `calls`. An error is out of memory, or that an upload cannot be read.
+/// The valid taps of one token in canonical order. No other tap is kept. Four threads read the
+/// uploads, and append the system calls to `calls`. An error is out of memory, or an upload that
+/// cannot be read.
 pub fn settled_taps_of<R: Threads + Sync, U: Uploads + Sync>(
     rt: &R,
     alloc: Global,

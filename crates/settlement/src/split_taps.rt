@@ -21,16 +21,13 @@ use world::Trace;
 
 #[derive(Drop)]
 pub(crate) struct SplitTaps {
-    /// The taps of each part, a list of parts for each thread: those of earlier uploads come
-    /// first.
+    /// A list of parts for each thread, those of earlier uploads first.
     pub(crate) lists: Vec<Parts>,
     pub(crate) ends: Vec<UploadEnd>,
-    /// By which the uploads were read.
     pub(crate) calls: Trace,
 }
 
-/// About how many bytes the uploads from one number on and below another have. If they have more
-/// than 2^64 - 1, it is that.
+/// About how many bytes the uploads of a range have, at most `u64::MAX`.
 pub(crate) fn bytes_of<U: Uploads>(uploads: &U, start: usize, end: usize) -> usize {
     let mut bytes = 0usize;
     for upload in start..end {
@@ -39,7 +36,7 @@ pub(crate) fn bytes_of<U: Uploads>(uploads: &U, start: usize, end: usize) -> usi
     bytes
 }
 
-/// The law that the tokens of an upload's good taps have 16 bytes. Reads no tap.
+/// proof: the tokens of an upload's valid taps have 16 bytes. Reads no tap.
 pub(crate) fn good_tokens(upload: &Vec<u8>)
     ensures { HasGoodTokens upload.now.items }
 {
@@ -47,8 +44,7 @@ pub(crate) fn good_tokens(upload: &Vec<u8>)
     plain_history(slice::from_ref(upload));
 }
 
-/// Reads each upload from one number on and below another, adds its taps, and returns how each
-/// ends. All are read into one room, one after the other.
+/// All are read into one room, one after the other.
 fn add_all<U: Uploads>(
     alloc: Global,
     ranges: &TokenRanges,
@@ -78,8 +74,7 @@ fn add_all<U: Uploads>(
     Ok(ends)
 }
 
-/// Splits the taps of the uploads from one number on and below another into parts, which are ranges
-/// of tokens. Each part has room for half as many taps again as its share, if tokens were even.
+/// Each part has room for its even share and half of it again.
 fn split_uploads<U: Uploads>(
     alloc: Global,
     ranges: &TokenRanges,
@@ -103,7 +98,7 @@ fn split_uploads<U: Uploads>(
     Ok(SplitTaps { lists, ends, calls })
 }
 
-/// Where the uploads from one number on and below another have half of their bytes, about.
+/// Where the bytes of the uploads of a range are about halved.
 pub(crate) fn middle_of<U: Uploads>(uploads: &U, start: usize, end: usize) -> usize
     requires { start ≤ end }
     ensures least { start ≤ result }
@@ -120,9 +115,8 @@ pub(crate) fn middle_of<U: Uploads>(uploads: &U, start: usize, end: usize) -> us
     end
 }
 
-/// Splits the taps of the uploads from one number on and below another into ranges of tokens. The
-/// uploads are halved `halvings` times, and a thread of its own reads and splits each piece. If one
-/// is refused, both halves are split one after the other.
+/// The uploads are halved `halvings` times, and a thread of its own splits each piece. If one
+/// cannot be started, both halves are split one after the other.
 #[cycle(splits)]
 pub(crate) fn split_by_threads<R: Threads + Sync, U: Uploads + Sync>(
     rt: &R,

@@ -18,23 +18,22 @@ pub trait Uploads {
     fn len(&self) -> usize
         ensures { result ≡ number self.now };
 
-    /// About how many bytes an upload has. Any number serves: only speed and memory depend on it.
+    /// About how many bytes an upload has. Any number is right: only speed and memory depend on it.
     fn size(&self, upload: usize) -> usize;
 
-    /// Adds some tokens of an upload to a sample, as big-endian numbers. Any serve, and none: only
-    /// speed and memory depend on them.
+    /// Adds some tokens of an upload to a sample, as big-endian numbers. Any are right, and none:
+    /// only speed and memory depend on them.
     fn push_sample(&self, upload: usize, sample: &mut Vec<u128>) -> Result<(), AllocError>;
 
-    /// The bytes of an upload. They may be read into the memory of `room`. The system calls by
-    /// which they are read are appended to `calls`. An error is out of memory, or that the upload
-    /// cannot be read.
+    /// The bytes of an upload, maybe read into the memory of `room`. The system calls are appended
+    /// to `calls`. An error is out of memory, or that the upload cannot be read.
     fn read(&self, upload: usize, room: Vec<u8>, calls: &mut Trace) -> Result<Vec<u8>, AllocError>
         requires { upload < number self.now }
         ensures { IfOk result (λ bytes.
             IsLent (origin self.now upload) calls.old.run calls.new.run bytes.items) };
 
-    /// Notes how many good taps are to be charged, before the first one is. It serves whoever
-    /// watches the run: nothing else depends on it.
+    /// Notes how many valid taps are to be charged, before the first one is, for whoever watches
+    /// the run.
     fn note_all(&self, _taps: u64) {}
 
     /// Notes that `_taps` more of them are charged.

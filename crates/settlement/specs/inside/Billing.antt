@@ -56,7 +56,7 @@ pub record IsPartBilled (fares : Fares) (part : List TapFields) (old new : Bill)
       → AreBelow (map token_of before) (map token_of_tap list)
       → new.tokens ≡ sums_by_token (before ++ posted fares list)
 
--- the bill is that of the parts' taps, each part posted in canonical order, one behind the other
+-- the bill is that of the parts' taps, each part posted in canonical order, one after the other
 pub record IsBillOfParts (fares : Fares) (parts : List (List TapFields)) (bill : Bill)
     : Type 0 where
   pub lists : List (List TapFields)

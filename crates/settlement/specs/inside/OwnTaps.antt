@@ -14,7 +14,7 @@ use Rattle.settlement.specs.Posted.{only}
 use Rattle.settlement.specs.Reading.{AreRead}
 use Rattle.settlement.specs.inside.SplitTaps.{HasGoodTokens}
 
--- the token's taps among the good taps of the upload were added, in their order, and the upload
+-- the token's taps among the valid taps of the upload were added, in their order, and the upload
 -- ends so
 pub record AreOwnAdded (token : Token) (upload : List ℕ) (old new : List TapFields)
     (end : UploadEnd) : Type 0 where
@@ -23,7 +23,7 @@ pub record AreOwnAdded (token : Token) (upload : List ℕ) (old new : List TapFi
   pub added : new ≡ old ++ only token (map fields_of taps)
   pub ended : IsPlainEnd upload end
 
--- the list has the token's taps among the good taps of the uploads, in the order of the uploads,
+-- the list has the token's taps among the valid taps of the uploads, in the order of the uploads,
 -- and these are the uploads' ends
 pub record AreOwnTaps (token : Token) (uploads : List (List ℕ)) (own : List TapFields)
     (ends : List UploadEnd) : Type 0 where
@@ -33,7 +33,7 @@ pub record AreOwnTaps (token : Token) (uploads : List (List ℕ)) (own : List Ta
   pub ended : ArePlainEnds uploads ends
 
 -- of the uploads from one number on and below another, which were read, the list has the token's
--- good taps
+-- valid taps
 pub record AreOwnBetween (origin : ℕ → Origin) (start end : ℕ) (token : Token)
     (own : List TapFields) (ends : List UploadEnd) (before after : Run) : Type 0 where
   pub files : List (List ℕ)

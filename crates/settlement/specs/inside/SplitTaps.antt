@@ -32,7 +32,7 @@ pub record AreAllAdded (part_of : List ℕ → ℕ) (uploads : List (List ℕ))
   pub added : AreAddedBy part_of (taps_of_uploads taps) old new
   pub ended : ArePlainEnds uploads ends
 
--- each of the parts has, over all lists, exactly the uploads' good taps that fall to it, in their
+-- each of the parts has, over all lists, exactly the uploads' valid taps that fall to it, in their
 -- order, and these are the uploads' ends
 pub record AreInParts (part_of : List ℕ → ℕ) (parts : ℕ) (uploads : List (List ℕ))
     (lists : List (List (List TapFields))) (ends : List UploadEnd) : Type 0 where
@@ -43,7 +43,7 @@ pub record AreInParts (part_of : List ℕ → ℕ) (parts : ℕ) (uploads : List
       → in_part part lists ≡ map fields_of (taps_at part_of part (taps_of_uploads taps))
   pub ended : ArePlainEnds uploads ends
 
--- the upload's good taps have tokens of 16 bytes
+-- the upload's valid taps have tokens of 16 bytes
 abbrev pub HasGoodTokens : List ℕ → Type 0
 HasGoodTokens upload =
     (taps : List Tap) → AreGoodTaps upload taps → All HasTokenBytes (map fields_of taps)
@@ -56,7 +56,7 @@ pub record AreAddedBetween (origin : ℕ → Origin) (start end : ℕ) (part_of 
   pub tokens : All HasGoodTokens files
   pub added : AreAllAdded part_of files old new ends
 
--- of the uploads from one number on and below another, which were read, the good taps lie in parts
+-- of the uploads from one number on and below another, which were read, the valid taps lie in parts
 pub record AreInPartsBetween (origin : ℕ → Origin) (start end : ℕ) (part_of : List ℕ → ℕ)
     (parts : ℕ) (lists : List (List (List TapFields))) (ends : List UploadEnd)
     (before after : Run) : Type 0 where

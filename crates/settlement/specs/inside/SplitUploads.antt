@@ -10,8 +10,8 @@ use Rattle.tap_parts.specs.Ranges.{range_of_token}
 use Rattle.tap_views.specs.UploadEnds.{ArePlainEnds}
 use Rattle.tap_views.specs.declared.upload_end.UploadEnd.{UploadEnd}
 
--- Each upload ends as its bytes call for. The parts are ranges of tokens, one behind the other, and
--- each has exactly the uploads' good taps of its tokens, in the order of the uploads. A token has
+-- Each upload ends as its bytes call for. The parts are ranges of tokens, one after the other, and
+-- each has exactly the uploads' valid taps of its tokens, in the order of the uploads. A token has
 -- 16 bytes.
 pub record AreSplit (uploads : List (List ℕ)) (ends : List UploadEnd)
     (parts : List (List TapFields)) : Type 0 where
