@@ -20,7 +20,7 @@ abbrev pub last_token : Token → List TapFields → Token
 last_token token [] = token
 last_token token (tap ∷ taps) = last_token (token_of_tap tap) taps
 
--- these are the lines of taps that follow the entries, and the explainer has come past all of them
+-- these are the lines of taps that follow the entries, and the explainer has consumed all of them
 pub record AreExplained (fares : Fares) (earlier : List Entry) (taps : List TapFields)
     (explainer : Explainer)
     (lines : List ℕ) : Type 0 where

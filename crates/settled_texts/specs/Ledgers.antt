@@ -10,7 +10,7 @@ use Rattle.settled_texts.specs.declared.trace.TracedTap.{TracedTap}
 
 -- The text is the traced ledger of the files, by a function that gives the class of each token at a
 -- moment. It is the ledger of the taps of their trace, which is that of the files' settled history,
--- with three columns more behind each line. Behind the head line are the columns' names, and behind
+-- with three columns more after each line. After the header line are the columns' names, and after
 -- the line of each tap the class of its token at its moment, the number of its file and its place
 -- there. It is whole if no file has a layout fault.
 pub record IsTracedLedger (classes : ℕ → List ℕ → List ℕ) (fares : Fares) (files : List (List ℕ))

@@ -1,4 +1,4 @@
--- The good taps of uploads, each with its upload and its place there.
+-- The valid taps of uploads, each with its upload and its place there.
 use Rattle.std.specs.Prelude.{◌≡◌, ℕ, ◌+◌, Bool, List, [], ◌∷◌, ◌++◌, map, not, is_some}
 use Rattle.std.specs.List.{AllZip, list_all}
 use Rattle.std.specs.List.Sorted.{IsPermutation, IsSorted}
@@ -16,11 +16,11 @@ numbered upload place [] = []
 numbered upload place (tap ∷ taps) =
     record { tap = tap; upload = upload; place = place } ∷ numbered upload (place + 1) taps
 
--- the good taps of an upload, by its reading
+-- the valid taps of an upload, by its reading
 abbrev pub good_fields : GoodBatchesView → List TapFields
 good_fields reading = map fields_of (taps_of_batches reading.batches)
 
--- the good taps of uploads, of which the first has this number: each upload's are numbered from 1
+-- the valid taps of uploads, of which the first has this number: each upload's are numbered from 1
 abbrev pub traced_from : ℕ → List GoodBatchesView → List TracedTap
 traced_from upload [] = []
 traced_from upload (reading ∷ readings) =
@@ -41,7 +41,7 @@ traced_cmp a b =
     ordering_then (tap_cmp a.tap b.tap)
     (ordering_then (nat_cmp a.upload b.upload) (nat_cmp a.place b.place))
 
--- The trace of files, whose numbers are from 0: each good tap of each file stands there once, with
+-- The trace of files, whose numbers are from 0: each valid tap of each file is there once, with
 -- its file's number and its place in that file. The taps are in canonical order.
 pub record IsTrace (files : List (List ℕ)) (trace : List TracedTap) (whole : Bool) : Type 0 where
   pub readings : List GoodBatchesView

@@ -1,4 +1,4 @@
-//! The three columns behind the lines of a traced ledger.
+//! The three columns after the lines of a traced ledger.
 
 ghost use Rattle.std.specs.Prelude.{◌≡◌, ◌++◌, ◌∷◌, [], ℕ, List, IfOk, OnOk, codes, drop};
 ghost use Rattle.std.specs.Prelude.{◌==◌, if◌then◌else◌};
@@ -12,7 +12,6 @@ use class_names::ClassNames;
 use itoa::Buffer;
 use std::alloc::AllocError;
 
-/// Appends a comma and the number.
 fn put_number(text: &mut Vec<u8>, number: u64) -> Result<(), AllocError>
     ensures { OnOk result (text.new.items ≡ text.old.items ++ (codes "," ++ decimal number)) }
 {
@@ -33,7 +32,6 @@ fn put_columns(text: &mut Vec<u8>, class: &str, traced: &TracedTap) -> Result<()
     Ok(())
 }
 
-/// Appends the columns of the next tap, if there is one, and returns the taps behind it.
 fn put_next<'t>(
     text: &mut Vec<u8>,
     names: &ClassNames,
@@ -63,8 +61,7 @@ fn is_feed(byte: u8) -> bool
     byte == b'\n'
 }
 
-/// Appends a byte of the lines, and before a line feed the columns of the next tap. Returns the
-/// taps that are left.
+/// Before a line feed it appends the columns of the next tap. Returns the taps that are left.
 fn put_byte<'t>(
     text: &mut Vec<u8>,
     byte: u8,
@@ -86,8 +83,7 @@ fn put_byte<'t>(
     Ok(taps)
 }
 
-/// Appends the lines to the text, each with the columns of a tap behind it, in their order, and
-/// returns the taps that are left.
+/// Appends the lines, each with the columns of a tap after it, and returns the taps that are left.
 pub(crate) fn put_lines<'t>(
     text: &mut Vec<u8>,
     lines: &[u8],

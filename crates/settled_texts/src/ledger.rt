@@ -23,8 +23,6 @@ use std::thread::Threads;
 use tap_views::{NoMemory, TapFields, Token};
 use tariffs::FareTable;
 
-/// Counts the taps of the lists. If there are more than memory can hold, the error is want of
-/// memory.
 fn count(lists: &[Vec<TapFields>]) -> Result<u64, NoMemory>
     ensures count { IfOk result
         (λ count. count ≡ length (flat_map (λ list. list.items) lists.now)) }
@@ -45,7 +43,7 @@ pub fn least_token() -> Token
     Token::of(&[0; 16])
 }
 
-/// A seat for each worker, if there are two or more.
+/// A slot for each worker, if there are two or more.
 fn seats_of(alloc: Global, workers: u32) -> Result<Vec<Seat>, NoMemory> {
     let mut seats = Vec::new(alloc);
     if workers > 1 {
@@ -56,12 +54,11 @@ fn seats_of(alloc: Global, workers: u32) -> Result<Vec<Seat>, NoMemory> {
     Ok(seats)
 }
 
-/// Writes the ledger of taps in canonical order, which lie in lists one behind the other: the head
-/// line, and a line for each tap, with the reply and the reason that the account rule has for it
-/// after the earlier taps of its token. Nothing is kept of a tap but its token's account. Each of
-/// `workers` threads makes the lines of a list, and these go out in order. If a thread or its
-/// memory is refused, or a token has taps in two lists, this thread makes the lines itself, with
-/// the room that it took at first. So on a fault of memory nothing was written.
+/// Writes the ledger of taps in canonical order, list after list: the header line, and a line for
+/// each tap with the reply and the reason of the account rule after its token's earlier taps. Each
+/// of `workers` threads makes the lines of a list, and these go out in order. If that fails, or a
+/// token has taps in two lists, this thread makes the lines in the room that it took at first. So
+/// if memory runs out, nothing was written.
 pub fn write_settled_ledger<R: Threads + Sync, W: Write>(
     rt: &R,
     alloc: Global,

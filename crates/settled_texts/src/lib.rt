@@ -1,7 +1,7 @@
 //! The texts of settled taps, which are posted account by account. The line of each tap in the
 //! ledger of all tokens is made in the step that posts it: no entry is kept, and nothing is sorted.
-//! The texts of one token are made from its taps alone. A traced ledger has behind each line the
-//! class of its token's rider, and the upload and the place there that its tap came from.
+//! A traced ledger has after each line its rider's class, and the upload and the index there of its
+//! tap.
 #![tactic(auto)]
 
 mod columns;

@@ -1,4 +1,4 @@
-//! The lines of taps whose tokens do not fall.
+//! The lines of taps whose tokens are nondecreasing.
 
 ghost use Rattle.std.specs.Prelude.{◌≡◌, ◌+◌, ◌^◌, ◌<◌, ◌≤◌, ◌++◌, ◌∷◌, [], ℕ, List, IfErr, OnErr};
 ghost use Rattle.std.specs.Prelude.{OnOk, length, string_bytes};
@@ -31,8 +31,7 @@ pub fn token_of(tap: &TapFields) -> Token
     Token::of(&tap.token)
 }
 
-/// Posts a tap, whose token is not below the explainer's, and appends its line. If memory is
-/// refused, the line is not whole.
+/// If an allocation fails, the line is not whole.
 #[inline(always)]
 fn explain_tap(
     text: &mut String,
@@ -47,7 +46,7 @@ fn explain_tap(
     requires come { (earlier : List Entry) × HasCome table.now explainer.old earlier }
     requires room { explainer.old.number + 1 < 2 ^ 64 }
 
-    // After all entries that the explainer has come past.
+    // After all entries that the explainer has consumed.
     ensures explained { OnOk result
         ((earlier : List Entry) → HasCome table.now explainer.old earlier
         → (line : List ℕ) × AreExplained table.now earlier (tap.now ∷ []) explainer.new line
@@ -60,8 +59,7 @@ fn explain_tap(
     Ok(())
 }
 
-/// Posts the taps, whose tokens do not fall from the explainer's on, and appends their lines. If
-/// memory is refused, the lines are not whole.
+/// If an allocation fails, the lines are not whole.
 pub(crate) fn explain_taps(
     text: &mut String,
     table: &FareTable,
@@ -75,7 +73,7 @@ pub(crate) fn explain_taps(
     requires come { (earlier : List Entry) × HasCome table.now explainer.old earlier }
     requires room { explainer.old.number + length taps.now < 2 ^ 64 }
 
-    // After all entries that the explainer has come past.
+    // After all entries that the explainer has consumed.
     ensures explained { OnOk result
         ((earlier : List Entry) → HasCome table.now explainer.old earlier
         → (lines : List ℕ) × AreExplained table.now earlier taps.now explainer.new lines
@@ -89,9 +87,9 @@ pub(crate) fn explain_taps(
     Ok(())
 }
 
-/// Posts the taps, whose tokens do not fall from the explainer's on, and appends their lines, in
-/// strides. Between these what waits in the text goes out if it is a piece. The text has room for a
-/// piece and a stride, so that no memory is taken.
+/// Posts taps of nondecreasing tokens, from the explainer's on, and appends their lines, in
+/// strides. Between these the text goes out if it is a piece. It has room for a piece and a stride,
+/// so that no memory is taken.
 pub fn write_taps<W: Write>(
     text: &mut String,
     table: &FareTable,
@@ -106,7 +104,7 @@ pub fn write_taps<W: Write>(
     requires come { (earlier : List Entry) × HasCome table.now explainer.old earlier }
     requires room { explainer.old.number + length taps.now < 2 ^ 64 }
 
-    // After all entries that the explainer has come past.
+    // After all entries that the explainer has consumed.
     ensures explained { OnOk result
         ((earlier : List Entry) → HasCome table.now explainer.old earlier
         → (lines : List ℕ) × AreExplained table.now earlier taps.now explainer.new lines

@@ -24,7 +24,6 @@ use std::thread::Threads;
 use tap_views::TapFields;
 use tariffs::{Clock, FareTable};
 
-/// Lets each seat make the lines of the list at its place.
 fn sit<R: Threads + Sync>(
     rt: &R,
     table: &FareTable,
@@ -55,8 +54,8 @@ fn sit<R: Threads + Sync>(
     );
 }
 
-/// Writes the lines of a list: those that a seat has made, if they are whole and no earlier tap has
-/// the list's first token, and else by pieces.
+/// The lines that a slot made go out if they are whole and no earlier tap has the list's first
+/// token.
 fn write_list<W: Write>(
     text: &mut String,
     table: &FareTable,
@@ -73,7 +72,7 @@ fn write_list<W: Write>(
     requires room { explainer.old.number + length list.now < 2 ^ 64 }
     requires sat { IfSome seat (λ seat. HasSat table.now list.now seat.now) }
 
-    // After all entries that the explainer has come past.
+    // After all entries that the explainer has consumed.
     ensures explained { OnOk result
         ((earlier : List Entry) → HasCome table.now explainer.old earlier
         → (lines : List ℕ) × AreExplained table.now earlier list.now explainer.new lines
@@ -99,7 +98,6 @@ fn write_list<W: Write>(
     Ok(())
 }
 
-/// Writes the lines of a round of lists, a list a seat.
 fn write_round<R: Threads + Sync, W: Write>(
     rt: &R,
     text: &mut String,
@@ -118,7 +116,7 @@ fn write_round<R: Threads + Sync, W: Write>(
     requires room { explainer.old.number
         + length (flat_map (λ list. list.items) round.now) < 2 ^ 64 }
 
-    // After all entries that the explainer has come past.
+    // After all entries that the explainer has consumed.
     ensures explained { OnOk result
         ((earlier : List Entry) → HasCome table.now explainer.old earlier
         → (lines : List ℕ) × AreExplained table.now earlier
@@ -146,7 +144,6 @@ fn write_round<R: Threads + Sync, W: Write>(
     Ok(())
 }
 
-/// Writes the lines of all lists, in rounds of as many lists as there are seats.
 pub(crate) fn write_lists<R: Threads + Sync, W: Write>(
     rt: &R,
     text: &mut String,
@@ -165,7 +162,7 @@ pub(crate) fn write_lists<R: Threads + Sync, W: Write>(
     requires room { explainer.old.number
         + length (flat_map (λ list. list.items) lists.now) < 2 ^ 64 }
 
-    // After all entries that the explainer has come past.
+    // After all entries that the explainer has consumed.
     ensures explained { OnOk result
         ((earlier : List Entry) → HasCome table.now explainer.old earlier
         → (lines : List ℕ) × AreExplained table.now earlier

@@ -11,10 +11,10 @@ use std::alloc::Global;
 use tap_views::{TapFields, Token};
 use tariffs::{Clock, FareTable};
 
-/// The most taps of a list that a seat takes, so that its text stays small.
+/// The most taps of a list that a slot takes, so that its text stays small.
 const SEAT_TAPS: usize = 65_536;
 
-/// What one thread made of one list.
+/// What one worker made of one list.
 #[derive(Drop)]
 pub(crate) struct Seat {
     /// The token of the list's first tap.
@@ -22,7 +22,7 @@ pub(crate) struct Seat {
     /// The last token of the list, with its account after the list.
     pub(crate) explainer: Explainer,
     pub(crate) text: String,
-    /// Whether these are the lines of all taps of the list, if its first token had none before.
+    /// Whether all taps of the list have their lines, if its first token had none before.
     pub(crate) is_whole: bool,
 }
 
@@ -37,8 +37,7 @@ impl Seat {
         }
     }
 
-    /// Posts the taps of a list, the first token anew, and keeps their lines. A list that is too
-    /// long or empty, or for which memory is refused, is left to the caller.
+    /// A list that is too long or empty, or for which an allocation fails, is left to the caller.
     fn explain(&mut self, table: &FareTable, clock: &Clock, list: &[TapFields])
         requires clock { clock.now ≡ table.now.zone }
         requires sound { IsSoundList list.now }
@@ -60,7 +59,6 @@ impl Seat {
         self.is_whole = true;
     }
 
-    /// Takes the list at the place, if there is one.
     pub(crate) fn take(
         &mut self,
         table: &FareTable,

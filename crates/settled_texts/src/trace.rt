@@ -1,4 +1,4 @@
-//! The good taps of uploads, each with its upload and its place there.
+//! The valid taps of uploads, each with its upload and its index there.
 
 ghost use Rattle.std.specs.Prelude.{◌≡◌, ◌&&◌, ◌+◌, ◌++◌, ℕ, List, IfOk, length, map};
 ghost use Rattle.std.specs.List.{list_all};
@@ -10,8 +10,7 @@ ghost use Rattle.settled_texts.specs.Traces.{traced_from};
 use std::alloc::Global;
 use tap_views::{Batch, NoMemory, TapFields, good_batches};
 
-/// A tap, and where it stands in the uploads. Its order is the canonical one of taps, then by
-/// upload, then by place.
+/// A tap, and where it is in the uploads. The order is the canonical one, then by upload and index.
 #[derive(Clone, Copy, Debug, PartialEq, Eq, PartialOrd, Ord)]
 pub struct TracedTap {
     pub tap: TapFields,
@@ -21,7 +20,7 @@ pub struct TracedTap {
     pub place: u64,
 }
 
-/// The good taps of uploads in canonical order, each with its upload and its place there.
+/// The valid taps of uploads in canonical order, each with its upload and its index there.
 #[derive(Drop)]
 pub struct Trace {
     pub taps: Vec<TracedTap>,
@@ -29,8 +28,7 @@ pub struct Trace {
     pub whole: bool,
 }
 
-/// Adds the taps of a batch, of which the first has this place in the upload, and returns the place
-/// behind the last.
+/// The first tap has this index in the upload. Returns the index after the last.
 fn add_batch(
     taps: &mut Vec<TracedTap>,
     upload: u64,
@@ -54,7 +52,7 @@ fn add_batch(
     Ok(next)
 }
 
-/// Adds the good taps of an upload, and says whether it has no layout fault.
+/// Returns whether it has no layout fault.
 fn add_upload(taps: &mut Vec<TracedTap>, upload: u64, bytes: &[u8]) -> Result<bool, NoMemory>
     ensures { IfOk result (λ whole. (reading : GoodBatchesView)
         × IsReadAs bytes.now reading.batches reading.fault
@@ -75,7 +73,6 @@ fn both(a: bool, b: bool) -> bool
     a && b
 }
 
-/// The good taps of the uploads, upload by upload.
 fn collected(alloc: Global, uploads: &[Vec<u8>]) -> Result<Trace, NoMemory>
     ensures { IfOk result (λ trace. (readings : List GoodBatchesView)
         × AreReadAs (map (λ u. u.items) uploads.now) readings
@@ -93,8 +90,8 @@ fn collected(alloc: Global, uploads: &[Vec<u8>]) -> Result<Trace, NoMemory>
     Ok(Trace { taps, whole })
 }
 
-/// The good taps of the uploads in canonical order, each with its upload and its place there: taps
-/// that are equal stand in the order of their uploads and places. An error is want of memory.
+/// The valid taps of the uploads in canonical order, equal ones by upload and index there. An error
+/// is an allocation failure.
 pub fn trace_of(alloc: Global, uploads: &[Vec<u8>]) -> Result<Trace, NoMemory>
     ensures { IfOk result (λ trace.
         IsTrace (map (λ u. u.items) uploads.now) trace.taps.items trace.whole) }

@@ -34,11 +34,11 @@ use tap_views::laws::one_reading_each;
 use tap_views::{NoMemory, TapFields};
 use tariffs::{Clock, FareTable};
 
-/// The head line of a ledger, without its line feed.
+/// The header line of a ledger, without its line feed.
 const HEAD: &str =
     "token,line,moment,validator,mode,answer,cents,window_start,window_end,ride,reason,points_at";
 
-/// What is behind it in a traced ledger.
+/// What comes after it in a traced ledger.
 const HEAD_COLUMNS: &str = ",class,upload,place\n";
 
 /// How many taps are posted before their lines go out.
@@ -47,14 +47,14 @@ const STRIDE_TAPS: usize = 64;
 /// More bytes than the columns of a stride have.
 const COLUMNS_ROOM_BYTES: usize = STRIDE_TAPS * 128;
 
-/// What the lines of a stride are made in, with room for them, so that no memory is taken later.
+/// What the lines of a stride are made in. No memory is taken later.
 #[derive(Drop)]
 struct Room {
     taps: Vec<TapFields>,
     /// Their lines, before they are whole.
     text: String,
     lines: Vec<u8>,
-    /// Their lines with the columns behind them.
+    /// Their lines with the columns after them.
     traced: Vec<u8>,
 }
 
@@ -86,7 +86,6 @@ impl Room {
         Ok(())
     }
 
-    /// Makes the lines of the taps of a stride, whose tokens do not fall from the explainer's on.
     fn explain(
         &mut self,
         table: &FareTable,
@@ -127,8 +126,7 @@ impl Room {
         pass_on(&mut self.text, &mut self.lines)
     }
 
-    /// Writes the lines, each with the columns of a tap behind it, and returns the taps that are
-    /// left.
+    /// Returns the taps that are left.
     fn write<'t, W: Write>(
         &mut self,
         names: &ClassNames,
@@ -153,8 +151,6 @@ impl Room {
     }
 }
 
-/// Writes the lines of the taps, whose tokens do not fall from the explainer's on, each with its
-/// columns behind it.
 fn write_lines<W: Write>(
     room: &mut Room,
     table: &FareTable,
@@ -192,8 +188,7 @@ fn write_lines<W: Write>(
     Ok(())
 }
 
-/// Writes the head line, and the lines of the taps in canonical order, each with its columns behind
-/// it. All memory is taken before the first byte is written.
+/// All memory is taken before the first byte is written.
 fn write_trace<W: Write>(
     alloc: Global,
     table: &FareTable,
@@ -226,11 +221,10 @@ fn write_trace<W: Write>(
     Ok(())
 }
 
-/// Writes the traced ledger of the uploads: the ledger of their settled history, and behind each
-/// line the class of its token at its moment, the number of the tap's upload, from 0, and its place
-/// there, from 1. Taps that are equal stand in the order of their uploads and places. Says whether
-/// no upload has a layout fault. Each tap takes 48 bytes, and no thread is started. If memory is
-/// refused, nothing was written.
+/// Writes the traced ledger of the uploads: that of their settled history, and after each line the
+/// class of its token at its moment, the tap's upload, from 0, and its index there, from 1. Equal
+/// taps are in the order of these. Returns whether no upload has a layout fault. Each tap takes 48
+/// bytes, and no thread is started. If an allocation fails, nothing was written.
 pub fn write_traced_ledger<W: Write>(
     alloc: Global,
     table: &FareTable,
