@@ -7,7 +7,7 @@ use Rattle.tap_parts.specs.Parts.{AreAddedBy}
 use Rattle.tap_parts.specs.declared.upload.UploadTaps.{UploadTaps}
 
 -- the upload's taps before its first layout fault were added, each at its place; the upload's end
--- has their number, and the fault behind them
+-- has their number, and the fault after them
 pub record IsUploadAddedBy (place_of : List ℕ → ℕ) (upload : List ℕ)
     (old new : List (List TapFields)) (end : UploadTaps) : Type 0 where
   pub batches : List (List Tap)

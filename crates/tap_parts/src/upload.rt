@@ -17,8 +17,8 @@ pub struct UploadTaps {
 }
 
 impl Parts {
-    /// Adds the upload's taps before its first layout fault, each to the part of its token by the
-    /// rule, and returns how many these are, and the fault. After an error the parts are of no use.
+    /// Adds the upload's taps before its first layout fault, each to the part of its token. Returns
+    /// how many these are, and the fault. After an error the parts are of no use.
     pub fn add_upload<P: PartRule>(
         &mut self,
         rule: &P,
