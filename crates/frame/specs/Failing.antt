@@ -14,7 +14,7 @@ pub data Cause : Type 0 where
   unmade : List ℕ → Cause
   -- the output was not written or flushed
   unwritten : WriteFault → Cause
-  -- a growth of memory was refused
+  -- an allocation failed
   no_memory : Cause
 
 -- What the source, the sink and the output of a run remember of what failed.

@@ -31,8 +31,8 @@ IsNamed names (Unwritten why) = ⊤
 IsNamed names (Unmade number why) = number < length names
 IsNamed names NoMemory = ⊤
 
--- A file that is read in pieces, one of those that the words name, stopped the run; or memory was
--- refused. Nothing of it is recorded.
+-- A file that is read in pieces, one of those that the words name, stopped the run; or an
+-- allocation failed. Nothing of it is recorded.
 abbrev pub IsOfStream : List (List ℕ) → Stop → Type 0
 IsOfStream names (Unread number why) = number < length names
 IsOfStream names (Unwritten why) = ⊥

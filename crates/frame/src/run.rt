@@ -9,7 +9,6 @@ use crate::task::{Step, Task};
 use std::alloc::Global;
 use world::World;
 
-/// Does with each piece of the task what it is for. Gives the status.
 fn pull<T: Task<W>, W: World>(alloc: Global, task: &mut T, world: &mut W) -> Result<u8, Stop>
     requires { T.has_given task.old [] no_answer }
     ensures done { IfOk result
@@ -36,7 +35,6 @@ fn pull<T: Task<W>, W: World>(alloc: Global, task: &mut T, world: &mut W) -> Res
     Err(Stop::NoMemory)
 }
 
-/// Says what stopped the run, unless the reader of the output is gone.
 fn report<T: Task<W>, W: World>(task: &T, why: Stop, world: &mut W)
     ensures { IsReported why (W.run world.old) (W.run world.new) }
 {
@@ -46,9 +44,7 @@ fn report<T: Task<W>, W: World>(task: &T, why: Stop, world: &mut W)
     let _ = world.report_line(task.line(why));
 }
 
-/// Runs the task: writes its answer piece by piece, and flushes the output at its end. What stops it
-/// from outside is reported, and the status is 1. If the reader of the output is gone, nothing is
-/// reported.
+/// Runs the task and writes its answer. What stops it from outside is reported, with status 1.
 pub fn run_task<T: Task<W>, W: World>(alloc: Global, task: &mut T, world: &mut W) -> u8
     requires { T.has_given task.old [] no_answer }
     ensures { Ends (T.right (T.asked task.old)) (T.names (T.asked task.old)) (W.run world.old)

@@ -7,7 +7,6 @@ use crate::stop::Stop;
 use crate::task::For;
 use world::World;
 
-/// Writes the piece to the output.
 fn put_text<W: World>(piece: &[u8], world: &mut W) -> Result<(), Stop>
     ensures taken { OnOk result (Takes (W.run world.old) (W.run world.new) Text piece.now) }
     ensures halted { IfErr result (Halts (W.run world.old) (W.run world.new) Text piece.now) }
@@ -18,7 +17,6 @@ fn put_text<W: World>(piece: &[u8], world: &mut W) -> Result<(), Stop>
     }
 }
 
-/// Does with the piece what it is for.
 pub(crate) fn put<W: World>(use_of: For, piece: &[u8], world: &mut W) -> Result<(), Stop>
     ensures taken { OnOk result (Takes (W.run world.old) (W.run world.new) use_of piece.now) }
     ensures halted { IfErr result (Halts (W.run world.old) (W.run world.new) use_of piece.now) }

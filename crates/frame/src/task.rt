@@ -5,36 +5,30 @@ use std::alloc::Global;
 use std::fmt::Display;
 use world::Inputs;
 
-/// What a piece is for.
+/// What a piece is for: the output, or the standard error.
 #[derive(Clone, Copy, Debug, PartialEq, Eq)]
 pub enum For {
-    /// It goes to the output.
     Text,
-    /// It goes to the standard error.
     Note,
 }
 
-/// What one call of a task did.
+/// What one call of a task did: it gave a piece, or the answer is whole, with this status.
 #[derive(Clone, Copy, Debug, PartialEq, Eq)]
 pub enum Step {
-    /// It gave a piece, which is for this.
     More(For),
-    /// The answer is whole, and this is the status.
     End(u8),
 }
 
-/// What a program is asked to do. It reads, and gives its answer piece by piece: it writes nothing.
-/// That an input is wrong is an answer too: a note says so, and the status.
+/// What a program is to do: it reads, gives its answer piece by piece, and writes nothing. A wrong
+/// input is an answer too: a note, and the status.
 pub trait Task<I: Inputs> {
     ghost use Rattle.std.specs.Prelude.{◌≡◌, ℕ, List, []};
     ghost use Rattle.world.specs.Run.{Load, Run};
     ghost use Rattle.frame.specs.Ends.{Answer, IsStarted, did};
     ghost use Rattle.frame.specs.Tasks.{Goes};
 
-    /// What the words ask for.
     type Asked;
 
-    /// The line that says what stopped the run.
     type Line: Display + Drop;
 
     ghost asked: { Self → Self.Asked };
@@ -48,10 +42,9 @@ pub trait Task<I: Inputs> {
     // The task can be here after these loads, when it has given this.
     ghost has_given: { Self → List Load → Answer → Type 0 };
 
-    /// The line that says what stopped the run. What it says is not promised.
+    /// The line that says what stopped the run. No clause says more of it.
     fn line(&self, why: Stop) -> Self::Line;
 
-    /// Gives the next piece.
     fn next(&mut self, alloc: Global, files: &mut I, piece: &mut Vec<u8>) -> Result<Step, Stop>
         requires { piece.old.items ≡ [] }
         ensures asked { asked self.new ≡ asked self.old }
