@@ -11,29 +11,24 @@ use tool_program::{MakeFault, NewFault, Sink};
 /// How many bytes of a new file are collected before they are written: its lines are short.
 const NEW_WRITE_BYTES: usize = 65_536;
 
-/// Of a file that may replace another none are collected: its texts are long.
+/// A file that may replace another has long texts, which are not collected.
 const WRITE_BYTES: usize = 0;
 
 /// How many random names are tried for a file that is begun.
 const NAMES_TRIED: u32 = 16;
 
-/// Files of the system. Each is begun under a random name beside its own, which no file has, so that
-/// its own name is only ever that of a whole file, whatever other runs do. It does not keep what it
-/// made.
+/// Files of the system. Each is begun under a random name beside its own, which no file has, so
+/// that its own name is only ever that of a whole file, whatever other runs do.
 #[derive(Drop)]
 pub(crate) struct FilesMade<'r> {
-    /// The runtime that makes them.
     rt: &'r HostRuntime,
 }
 
 /// A file that is being made.
 #[derive(Drop)]
 pub(crate) struct BegunFile {
-    /// The name under which it was begun.
     begun: String,
-    /// What is written.
     file: BufWriter<fs::File>,
-    /// Whether it may take the place of a file of its name.
     replaces: bool,
 }
 
@@ -47,19 +42,17 @@ impl Write for BegunFile {
     }
 }
 
-/// Why an empty file was not begun.
 enum Unbegun {
     Refused,
     NoMemory,
 }
 
 impl<'r> FilesMade<'r> {
-    /// No files yet.
     pub(crate) fn new(rt: &'r HostRuntime) -> FilesMade<'r> {
         FilesMade { rt }
     }
 
-    /// Whether a file can have this name: none has it, or a regular file, which is replaced.
+    /// None has it, or a regular file, which is replaced.
     fn can_have(&self, name: &str) -> bool {
         match fs::metadata(self.rt, name) {
             Ok(about) => about.is_file(),
@@ -67,7 +60,6 @@ impl<'r> FilesMade<'r> {
         }
     }
 
-    /// An empty file beside the one that is to have this name.
     fn begin_beside(
         &self,
         alloc: Global,
@@ -92,7 +84,6 @@ impl<'r> FilesMade<'r> {
         Err(Unbegun::Refused)
     }
 
-    /// A begun file of which as many bytes are collected.
     fn collect(
         &self,
         alloc: Global,
@@ -115,8 +106,8 @@ impl<'r> FilesMade<'r> {
     }
 }
 
-/// Gives the begun file a name that no file has. Where the system has no links it is given the
-/// place of an empty file of that name, which is made for it.
+/// Gives the begun file a name that no file has. Where the system has no links it takes the place
+/// of an empty file of that name.
 fn name_new(rt: &HostRuntime, begun: &str, name: &str) -> io::Result<()> {
     match fs::hard_link(rt, begun, name) {
         Ok(()) => fs::remove_file(rt, begun),
@@ -128,15 +119,13 @@ fn name_new(rt: &HostRuntime, begun: &str, name: &str) -> io::Result<()> {
     }
 }
 
-/// Lets the names of a folder go out to the device. Not every system can: then the file is whole
-/// all the same, under one of its names.
+/// Writes a folder's names to the device. If the system cannot, the file is whole all the same.
 fn sync_folder(rt: &HostRuntime, folder: &str) {
     if let Ok(folder) = fs::open(rt, folder) {
         let _ = folder.sync_all();
     }
 }
 
-/// Lets all that was written go out, to the device, and gives the file its name.
 fn finish_begun(rt: &HostRuntime, name: &str, file: &mut BegunFile) -> io::Result<()> {
     file.file.flush()?;
     file.file.get_ref().sync_all()?;
@@ -149,7 +138,6 @@ fn finish_begun(rt: &HostRuntime, name: &str, file: &mut BegunFile) -> io::Resul
     Ok(())
 }
 
-/// Removes what was written.
 fn remove_begun(rt: &HostRuntime, file: BegunFile) {
     let _ = fs::remove_file(rt, file.begun.as_str());
 }
@@ -183,7 +171,7 @@ impl Sink for FilesMade<'_> {
         }
     }
 
-    // It keeps no list of the files, so nothing is known of them.
+    // nothing is known of the files: it keeps no list of them
     fn finish(&mut self, name: &str, file: Output<BegunFile>) -> Result<(), MakeFault>
         ensures made { OnOk result (MakesOne None None name.now None) }
         ensures kept { IfErr result (λ _. (λ (kept : Option (List Made)). kept ≡ kept) None) }

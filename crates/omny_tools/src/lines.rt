@@ -6,20 +6,16 @@ use std::io::{ErrorKind, Read};
 /// How many bytes a line has at most, with its line feed. A ledger's line has 255.
 const LINE_BYTES: usize = 1_024;
 
-/// A reader that fails at a line that is too long, if lines are to be short. So no line is held in
-/// memory that no report or ledger has.
+/// A reader that fails at a line that is too long, if lines are to be short: memory is bounded.
 #[derive(Drop)]
 pub(crate) struct Lines<R: Read + Drop> {
-    /// What is read.
     from: R,
-    /// Whether lines are to be short.
     are_short: bool,
     /// How many bytes of the last line were read.
     length: usize,
 }
 
 impl<R: Read + Drop> Lines<R> {
-    /// A reader of which nothing was read.
     pub(crate) fn new(from: R, are_short: bool) -> Lines<R> {
         Lines {
             from,
@@ -28,7 +24,7 @@ impl<R: Read + Drop> Lines<R> {
         }
     }
 
-    /// Whether the byte may come next. If so, it is read.
+    /// Reads the byte if it may come next.
     fn takes(&mut self, byte: u8) -> bool {
         self.length = match byte {
             b'\n' => 0,

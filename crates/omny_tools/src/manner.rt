@@ -1,5 +1,5 @@
-//! What the words ask for, as far as the system matters: what is refused before anything is read or
-//! made, by what standard output is or by what files the words name, and how a CSV is read.
+//! What the words request of the system: what is refused before anything is read or made, and how a
+//! CSV is read.
 
 use std::fs;
 use std::io::IsTerminal;
@@ -14,7 +14,6 @@ const TO_TERMINAL: &str =
 /// The ends are not made in place of the taps, or of an upload that is read.
 const ENDS_IN_PLACE: &str = "error: --ends names OUT or an upload";
 
-/// The folder of a file.
 pub(crate) fn folder_of(name: &str) -> &str {
     match name.rsplit_once('/') {
         None => ".",
@@ -23,7 +22,6 @@ pub(crate) fn folder_of(name: &str) -> &str {
     }
 }
 
-/// The name of a file in its folder.
 fn name_in_folder(name: &str) -> &str {
     match name.rsplit_once('/') {
         None => name,
@@ -31,7 +29,7 @@ fn name_in_folder(name: &str) -> &str {
     }
 }
 
-/// Whether two names are of one file, or would be.
+/// Whether two names are of one file, or would be once both are made.
 fn are_of_one(rt: &HostRuntime, one: &str, other: &str) -> bool {
     match (fs::metadata(rt, one), fs::metadata(rt, other)) {
         (Ok(one), Ok(other)) => one.dev() == other.dev() && one.ino() == other.ino(),
@@ -49,7 +47,6 @@ fn are_of_one(rt: &HostRuntime, one: &str, other: &str) -> bool {
     }
 }
 
-/// Whether the file of the ends would take the place of another that the words name.
 fn has_ends_in_place(rt: &HostRuntime, words: &SortingWords<'_>) -> bool {
     let Some(ends) = words.ends else {
         return false;
@@ -65,17 +62,14 @@ fn has_ends_in_place(rt: &HostRuntime, words: &SortingWords<'_>) -> bool {
     false
 }
 
-/// What the words ask for, as far as the system matters.
 #[derive(Clone, Copy)]
 pub(crate) enum Manner {
-    /// It is refused, as this line says.
     Refused(&'static str),
     /// An agency's CSV is read, with this byte between two fields.
     Rows(u8),
     Other,
 }
 
-/// The byte of a separator.
 fn byte_of(separator: Separator) -> u8 {
     match separator {
         Separator::Comma => b',',
@@ -84,7 +78,6 @@ fn byte_of(separator: Separator) -> u8 {
     }
 }
 
-/// What the words ask for.
 pub(crate) fn manner_of(rt: &HostRuntime, words: &[String]) -> Manner {
     let Ok(task) = read(rt.alloc(), words) else {
         return Manner::Other;

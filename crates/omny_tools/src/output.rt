@@ -7,7 +7,6 @@ use std::io::{BufWriter, Write};
 /// How many bytes are collected before they are written.
 const WRITE_BYTES: usize = 65_536;
 
-/// Collects what is written to this writer.
 pub(crate) fn collect<W: Write + Drop>(
     rt: &HostRuntime,
     to: W,

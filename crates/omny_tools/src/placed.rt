@@ -4,15 +4,12 @@ use placed_files::{Unopened, open_regular};
 use std::fs;
 use tool_program::PlacedFiles;
 
-/// Files of the system by their names.
 #[derive(Drop)]
 pub(crate) struct FilesByName<'r> {
-    /// The runtime that opens them.
     rt: &'r HostRuntime,
 }
 
 impl<'r> FilesByName<'r> {
-    /// What this runtime opens.
     pub(crate) fn new(rt: &'r HostRuntime) -> FilesByName<'r> {
         FilesByName { rt }
     }

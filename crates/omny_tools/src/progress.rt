@@ -1,5 +1,4 @@
-//! A line on the standard error that shows how far a long run is: only if that is a terminal, and
-//! only from the first second on.
+//! A line on the standard error that shows how far a long run is: on a terminal, after a second.
 
 use program_manners::{PACE_MS, QUIET_MS, TerminalLine};
 use std::fmt::Display;
@@ -10,12 +9,9 @@ use std::time::Instant;
 /// A MiB in bytes.
 const MIB: u64 = 1_048_576;
 
-/// How far a run is.
 #[derive(Drop)]
 pub(crate) struct Progress<'r> {
-    /// The runtime, whose clock is asked.
     rt: &'r HostRuntime,
-    /// The line of the standard error.
     line: TerminalLine<io::Stderr>,
     /// When the run began; none if nothing is shown.
     begun: Option<Instant>,
@@ -24,7 +20,6 @@ pub(crate) struct Progress<'r> {
 }
 
 impl<'r> Progress<'r> {
-    /// A run that begins now.
     pub(crate) fn new(rt: &'r HostRuntime) -> Progress<'r> {
         let err = rt.stderr();
         let begun = if err.is_terminal() {
@@ -40,7 +35,6 @@ impl<'r> Progress<'r> {
         }
     }
 
-    /// A run of which nothing is shown.
     pub(crate) fn hidden(rt: &'r HostRuntime) -> Progress<'r> {
         Progress {
             rt,
@@ -50,8 +44,7 @@ impl<'r> Progress<'r> {
         }
     }
 
-    /// A run that begins now, and whose text goes to standard output as it is made: nothing is
-    /// shown if that is a terminal, too.
+    /// Nothing is shown if the text goes to a terminal as it is made.
     pub(crate) fn beside_text(rt: &'r HostRuntime) -> Progress<'r> {
         let mut progress = Progress::new(rt);
         if rt.stdout().is_terminal() {
@@ -68,7 +61,7 @@ impl<'r> Progress<'r> {
         }
     }
 
-    /// Whether a line is to be shown. Then the next one is due a while later.
+    /// Whether a line is to be shown. If so, the next one is due a while later.
     fn is_due(&mut self) -> bool {
         let Some(passed) = self.passed_ms() else {
             return false;
@@ -80,20 +73,17 @@ impl<'r> Progress<'r> {
         is_due
     }
 
-    /// Shows the text, if a line is due.
     fn show<D: Display + Drop>(&mut self, text: D) {
         if self.is_due() {
             self.line.show(text);
         }
     }
 
-    /// Shows how many of all these things are done.
     pub(crate) fn report(&mut self, done: usize, all: usize, things: &str) {
         self.show(format_args!("{done} of {all} {things}"));
     }
 
-    /// Shows with how many bytes of all something is done, or with how many if their number is not
-    /// known.
+    /// Shows how many bytes are done, of all if their number is known.
     pub(crate) fn report_bytes(&mut self, done: u64, all: Option<u64>, verb: &str) {
         let done = done / MIB;
         match all {
@@ -105,7 +95,6 @@ impl<'r> Progress<'r> {
         }
     }
 
-    /// Takes the line away.
     pub(crate) fn end(&mut self) {
         self.line.clear();
     }
@@ -114,20 +103,15 @@ impl<'r> Progress<'r> {
 /// A reader that shows how far it was read.
 #[derive(Drop)]
 pub(crate) struct Watched<'r, R: Read + Drop> {
-    /// What is read.
     from: R,
-    /// Where the count is shown.
     progress: Progress<'r>,
-    /// How many bytes were read.
     done: u64,
     /// How many there are, if that is known.
     all: Option<u64>,
-    /// What is done with them.
     verb: &'static str,
 }
 
 impl<'r, R: Read + Drop> Watched<'r, R> {
-    /// A reader of which nothing was read.
     pub(crate) fn new(
         from: R,
         progress: Progress<'r>,
@@ -143,7 +127,6 @@ impl<'r, R: Read + Drop> Watched<'r, R> {
         }
     }
 
-    /// Takes the line away.
     pub(crate) fn end(&mut self) {
         self.progress.end();
     }
@@ -164,16 +147,12 @@ impl<'r, R: Read + Drop> Read for Watched<'r, R> {
 /// A writer that shows how much was written.
 #[derive(Drop)]
 pub(crate) struct Watching<'r, W: Write + Drop> {
-    /// Where the bytes go.
     to: W,
-    /// Where the count is shown.
     progress: Progress<'r>,
-    /// How many bytes were written.
     done: u64,
 }
 
 impl<'r, W: Write + Drop> Watching<'r, W> {
-    /// A writer to which nothing was written.
     pub(crate) fn new(to: W, progress: Progress<'r>) -> Watching<'r, W> {
         Watching {
             to,

@@ -5,29 +5,24 @@ use std::io;
 use std::io::{ErrorKind, Read};
 use tool_program::Name;
 
-/// Where the bytes of a CSV text are.
 #[derive(Clone, Copy, Debug, PartialEq, Eq)]
 enum Place {
-    /// At the first byte of a field.
     Begin,
     /// In a field without quotes, or after its closing quote.
     Plain,
-    /// Between the quotes of a field.
     Quoted,
-    /// After a quote within quotes, which closes them or stands for one.
+    /// After a quote within quotes, which closes them or represents one.
     Quote,
 }
 
-/// A reader that fails at the end of a text whose last quote is not closed, since it takes all rows
-/// after it into its field. Then it says in which line that quote is.
+/// A reader that fails at the end of a text whose last quote is not closed, since it takes all
+/// later rows into its field. It names the line of that quote.
 #[derive(Drop)]
 pub(crate) struct Quotes<'r, R: Read + Drop> {
     rt: &'r HostRuntime,
-    /// What is read.
     from: R,
-    /// The word that names it.
     word: String,
-    /// What stands between two fields; none if nothing is looked at.
+    /// What is between two fields; none if nothing is looked at.
     separator: Option<u8>,
     place: Place,
     /// The number of the line that is read, from 1.
@@ -37,7 +32,6 @@ pub(crate) struct Quotes<'r, R: Read + Drop> {
 }
 
 impl<'r, R: Read + Drop> Quotes<'r, R> {
-    /// A reader of which nothing was read.
     pub(crate) fn new(
         rt: &'r HostRuntime,
         from: R,
@@ -55,7 +49,6 @@ impl<'r, R: Read + Drop> Quotes<'r, R> {
         }
     }
 
-    /// Goes over a byte.
     fn pass(&mut self, byte: u8, separator: u8) {
         let is_end = byte == separator || byte == b'\n' || byte == b'\r';
         self.place = match self.place {

@@ -9,10 +9,9 @@ use std::fs;
 use std::io::{BufReader, ErrorKind, Input, Read};
 use tool_program::{Shown, Source};
 
-/// How many bytes one read of a text asks for.
 const READ_BYTES: usize = 65_536;
 
-/// The file of this name, or standard input if there is none, to be read from its beginning.
+/// Standard input if there is no name.
 fn opened(rt: &HostRuntime, name: Option<&str>) -> Result<Opened, LoadFault> {
     match name {
         Some(name) => Ok(Opened::File(open_file(rt, name)?)),
@@ -20,7 +19,6 @@ fn opened(rt: &HostRuntime, name: Option<&str>) -> Result<Opened, LoadFault> {
     }
 }
 
-/// All bytes that the reader has left.
 fn read_whole<R: Read>(alloc: Global, from: &mut R) -> Result<Vec<u8>, LoadFault> {
     let mut bytes = Vec::new(alloc);
     match from.read_to_end(&mut bytes) {
@@ -33,18 +31,15 @@ fn read_whole<R: Read>(alloc: Global, from: &mut R) -> Result<Vec<u8>, LoadFault
 /// Files and standard input of the system. It does not keep what it opened.
 #[derive(Drop)]
 pub(crate) struct Texts<'r> {
-    /// The runtime that reaches them.
     rt: &'r HostRuntime,
-    /// Where counts are shown.
     progress: Progress<'r>,
-    /// Whether their lines are to be short.
     has_short_lines: bool,
-    /// What stands between two fields of a CSV whose quotes are looked at, if they are.
+    /// What is between two fields of a CSV whose quotes are checked; none if they are not.
     separator: Option<u8>,
 }
 
 impl<'r> Texts<'r> {
-    /// What this runtime reaches. Counts are shown unless the text that is made goes to a terminal.
+    /// Counts are shown unless the text that is made goes to a terminal.
     pub(crate) fn new(rt: &'r HostRuntime) -> Texts<'r> {
         Texts {
             rt,
@@ -54,21 +49,20 @@ impl<'r> Texts<'r> {
         }
     }
 
-    /// The same, of reports and ledgers of others, whose lines are short.
+    /// Of reports and ledgers of others, whose lines are short.
     pub(crate) fn of_others(rt: &'r HostRuntime) -> Texts<'r> {
         let mut texts = Texts::new(rt);
         texts.has_short_lines = true;
         texts
     }
 
-    /// The same, of an agency's CSV with this byte between two fields.
+    /// Of an agency's CSV with this byte between two fields.
     pub(crate) fn of_rows(rt: &'r HostRuntime, separator: u8) -> Texts<'r> {
         let mut texts = Texts::new(rt);
         texts.separator = Some(separator);
         texts
     }
 
-    /// A text whose quotes are looked at, if that is wanted.
     fn quotes(&self, name: Option<&str>) -> Result<Quotes<'r, Opened>, LoadFault> {
         let Ok(word) = String::from_str(self.rt.alloc(), name.unwrap_or("-")) else {
             return Err(LoadFault::NoMemory);
@@ -76,7 +70,7 @@ impl<'r> Texts<'r> {
         Ok(Quotes::new(self.rt, opened(self.rt, name)?, word, self.separator))
     }
 
-    /// The same. Counts are shown whether or not: the text is made behind them, or none is.
+    /// Counts are always shown: the text is made after them, or none is.
     pub(crate) fn shown(rt: &'r HostRuntime) -> Texts<'r> {
         Texts {
             rt,
@@ -86,7 +80,6 @@ impl<'r> Texts<'r> {
         }
     }
 
-    /// A text that is read in pieces.
     fn read(
         &self,
         name: Option<&str>,
