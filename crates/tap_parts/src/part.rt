@@ -16,10 +16,13 @@ pub trait PartRule {
         ensures { result ≡ part_of self.now token.now };
 }
 
-/// Parts that are about equal: the number in a token's last four bytes, divided by 64, modulo the
-/// number of parts. So 64 numbers in a row fall to one part, which has tokens of 1 to 64 shards.
+/// Parts that are about equal, whatever the tokens are: the part of a token is the number in its
+/// last four bytes, divided by 64, modulo the number of parts.
+///
+/// 64 numbers in a row fall to one part, so a part has tokens of all shards, 1 to 64 of them.
 #[derive(Clone, Copy)]
 pub struct EqualParts {
+    /// The last part.
     last: u16,
 }
 
