@@ -9,21 +9,17 @@ use clap::{Arg, ArgAction, Command};
 use program_manners::{add_list_args, flag_arg, option_arg, positional_arg};
 use std::alloc::{AllocError, Global};
 
-/// What an argument takes. First is its name, last is what the help says of it, and before that
-/// what the help calls a value.
+/// What an argument takes. First is its name, last its help, and before that the help's name of a
+/// value.
 #[derive(Clone, Copy)]
 pub(crate) enum Takes {
-    /// Nothing: `--NAME`.
     Flag(&'static str, &'static str),
-    /// A value: `--NAME VALUE`.
     Value(&'static str, &'static str, &'static str),
-    /// A value, as often as it is given: `--NAME VALUE`.
+    /// A value, as often as it is given.
     Values(&'static str, &'static str, &'static str),
-    /// A number from the first to the second one: `--NAME N`.
+    /// A number from the first to the second one.
     Number(&'static str, &'static str, i64, i64, &'static str),
-    /// A word at its place.
     Word(&'static str, &'static str),
-    /// Words at their place.
     Words(&'static str, &'static str),
 }
 
@@ -32,7 +28,6 @@ pub(crate) enum Takes {
 pub(crate) enum Need {
     /// Whenever it is given.
     Never,
-    /// It must be there.
     Always,
     /// It must be there, unless a list names files.
     WithoutList,
@@ -40,16 +35,13 @@ pub(crate) enum Need {
     Apart(&'static [&'static str]),
 }
 
-/// A row of the table.
 #[derive(Clone, Copy)]
 pub(crate) enum Row {
-    /// An argument.
     One(Takes, Need),
     /// A list of files: two options, which each program has.
     List,
 }
 
-/// The argument, as if it need not be there.
 fn begun_arg<'a>(alloc: Global, takes: Takes) -> Arg<'a>
     ensures rule { rule_of result ≡ taken_rule takes }
     ensures local { result.global ≡ false }
@@ -96,7 +88,6 @@ fn arg<'a>(alloc: Global, takes: Takes, need: Need, is_whole: bool) -> Result<Ar
 }
 
 impl Row {
-    /// The command with the arguments of the row.
     fn add_to<'a>(
         &self,
         alloc: Global,
@@ -113,7 +104,6 @@ impl Row {
     }
 }
 
-/// The command with the arguments of these rows.
 fn add_rows<'a>(
     alloc: Global,
     command: Command<'a>,
@@ -130,7 +120,6 @@ fn add_rows<'a>(
     Ok(more)
 }
 
-/// A subcommand of this name, with what its exit status says, and with these arguments.
 pub(crate) fn subcommand<'a>(
     alloc: Global,
     name: &'a str,

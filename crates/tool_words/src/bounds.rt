@@ -8,7 +8,6 @@ use crate::arguments::{Need, Row, Takes, subcommand};
 use clap::Command;
 use std::alloc::{AllocError, Global};
 
-/// What `bounds` does.
 const BOUNDS_ABOUT: &str =
     "Prints the tokens at which to divide a run over sorted uploads into parts, one a line.
 
@@ -17,10 +16,8 @@ part 2 one of FIRST..SECOND, and so on, and the last one of LAST.. with no end. 
 are printed, by a sample of the uploads: the parts have about as many taps. Any tokens would do:
 only the speed of the parts depends on them.";
 
-/// The help of `--parts`.
 const PARTS_HELP: &str = "How many parts at most, 1 to 65536";
 
-/// The help of the uploads.
 const UPLOADS_HELP: &str = "Uploads in canonical order, of any length";
 
 /// `bounds --parts N [--files-from LIST [-0]] FILE...`

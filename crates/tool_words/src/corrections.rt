@@ -8,14 +8,12 @@ use crate::arguments::{Need, Row, Takes, subcommand};
 use clap::Command;
 use std::alloc::{AllocError, Global};
 
-/// What the exit status of `corrections` says.
 const CORRECTIONS_STATUS: &str = "Exit status:
   0  the corrections are written, also where there is none
   1  a text is no settled ledger, or could not be read or written, as a line `fault: ..` on the
      standard error says; what was written is not the corrections
   2  the command line is wrong";
 
-/// What `corrections` does.
 const CORRECTIONS_ABOUT: &str =
     "Writes what the bill of the ledger NEW charges otherwise than that of OLD, line by line.
 
@@ -26,13 +24,10 @@ and their cents summed: a line for each token that has one. The ledgers are read
 so they may be larger than memory. If OLD has lines that NEW has not, their number is reported on
 the standard error.";
 
-/// The help of the old ledger.
 const OLD_HELP: &str = "The ledger of the bill that was issued; - stands for standard input";
 
-/// The help of the new ledger.
 const NEW_HELP: &str = "The ledger of the bill that takes its place; - stands for standard input";
 
-/// The help of `--tokens`.
 const TOKENS_HELP: &str = "Write the sums of each token's corrections in place of their lines";
 
 /// `corrections [--tokens] OLD NEW`

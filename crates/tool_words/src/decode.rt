@@ -8,14 +8,12 @@ use crate::arguments::{Need, Row, Takes, subcommand};
 use clap::Command;
 use std::alloc::{AllocError, Global};
 
-/// What `decode` does.
 const DECODE_ABOUT: &str =
     "Writes the taps of uploads as one tap table for encode, to standard output.
 
 Tokens have lower-case digits, moments are milliseconds. Of an upload with a layout fault the taps
 before it are written, and the fault is reported.";
 
-/// The help of `decode`'s uploads.
 const DECODE_HELP: &str =
     "Uploads of at most 67108864 bytes; - stands for standard input [default: standard input]";
 

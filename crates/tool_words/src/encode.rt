@@ -8,7 +8,6 @@ use crate::arguments::{Need, Row, Takes, subcommand};
 use clap::Command;
 use std::alloc::{AllocError, Global};
 
-/// What the exit status of `encode` says.
 const ENCODE_STATUS: &str = "Exit status:
   0  the upload is written
   1  a file has a fault, or could not be read or written, as a line `fault: ..` on the standard
@@ -16,7 +15,6 @@ const ENCODE_STATUS: &str = "Exit status:
   2  the command line is wrong, or standard output is a terminal
   3  with --refused: the upload is written, and rows were refused";
 
-/// What `encode` does.
 const ENCODE_ABOUT: &str = "Writes the upload of a tap table to standard output.
 
 The tap table is CSV. Its first line is token,validator,moment. Each other line is a tap: 32
@@ -40,35 +38,28 @@ With --validators the column of validators has the names of devices. DEVICES is 
 device,validator and a row for each device, which gives it its number. A row of another device is no
 tap.";
 
-/// The help of `encode`'s table.
 const ENCODE_HELP: &str = "The tap table; - stands for standard input [default: standard input]";
 
-/// The help of `--columns`.
 const COLUMNS_HELP: &str =
     "Read any CSV: token=NAME,validator=NAME,moment=NAME are the columns with these names in the head";
 
-/// The help of `--only`.
 const ONLY_HELP: &str =
     "Keep only the rows with this value in this column; of several, each must be met";
 
-/// The help of `--validators`.
 const VALIDATORS_HELP: &str =
     "Take the validators by the names of their devices in the file DEVICES";
 
-/// The help of `--separator`.
 const SEPARATOR_HELP: &str = "What stands between two fields: , or ; or tab [default: ,]";
 
-/// The help of `--unit`.
 const UNIT_HELP: &str =
     "Plain numbers are seconds (s) or milliseconds (ms), also before 2000 [default: ms, from 2000 on]";
 
-/// The help of `--refused`.
 const REFUSED_HELP: &str =
     "Make the file OUT of the rows that are no taps, with their numbers and reasons, and go on; it must
 not be there";
 
-/// `encode [--columns NAMES [--validators DEVICES] [--only COLUMN=VALUE]... [--separator S]
-/// [--unit UNIT] [--refused OUT]] [FILE]`
+/// `encode [--columns NAMES [--validators DEVICES] [--only COLUMN=VALUE]... [--separator S] [--unit
+/// UNIT] [--refused OUT]] [FILE]`
 pub(crate) fn encode_command<'a>(alloc: Global, is_whole: bool) -> Result<Command<'a>, AllocError>
     ensures { is_whole ≡ false → IfOk result
         (λ command. app_of command ≡ leaf (codes "encode") encode_rules) }

@@ -1,4 +1,4 @@
-//! What `encode` is asked for with columns.
+//! What `encode` with columns requests.
 ghost use Rattle.std.specs.Prelude.{◌≡◌, IfOk, filter_map, map, option_map};
 ghost use Rattle.clap.specs.Words.{found_of, rows_of};
 ghost use Rattle.tool_words.specs.Asked.{encoded_file, has_devices_twice, rows_asked};
@@ -17,25 +17,19 @@ use program_manners::names_in;
 use std::alloc::{AllocError, Global};
 use tap_rows::{Condition, Separator, Unit};
 
-/// The names of the columns.
 #[derive(Clone, Copy)]
 struct Columns<'a> {
-    /// That of tokens.
     token: &'a str,
-    /// That of validators.
     validator: &'a str,
-    /// That of moments.
     moment: &'a str,
 }
 
-/// What is before and what is behind the first `=` of a word, if it has one.
 fn parts_of<'a>(word: &'a str) -> Option<(&'a str, &'a str)>
     ensures { option_map (λ p. (p.0.now, p.1.now)) result ≡ parts_of word.entry.now }
 {
     word.split_once('=')
 }
 
-/// The name that the word COLUMN=NAME gives this column.
 fn name_given<'a>(column: &str, word: &'a str) -> Option<&'a str>
     ensures { text_in result ≡ name_given column.now word.entry.now }
 {
@@ -43,7 +37,6 @@ fn name_given<'a>(column: &str, word: &'a str) -> Option<&'a str>
     if before == column { Some(behind) } else { None }
 }
 
-/// The names that the words give this column.
 fn names_given<'a>(
     alloc: Global,
     column: &str,
@@ -61,7 +54,6 @@ fn names_given<'a>(
     Ok(names)
 }
 
-/// The name that one alone of the words gives this column.
 fn only_name<'a>(
     alloc: Global,
     column: &str,
@@ -77,14 +69,12 @@ fn only_name<'a>(
     }
 }
 
-/// The words between commas.
 fn between_commas<'a>(alloc: Global, text: &'a str) -> Result<Vec<&'a str>, AllocError>
     ensures { IfOk result (λ words. texts_of words.items ≡ between_commas text.entry.now) }
 {
     text.split(',').collect(alloc)
 }
 
-/// These names, if there are all three.
 fn columns_of<'a>(
     token: Option<&'a str>,
     validator: Option<&'a str>,
@@ -100,7 +90,6 @@ fn columns_of<'a>(
     })
 }
 
-/// The names that three words give, if they name each column once.
 fn columns_among<'a>(alloc: Global, words: &[&'a str]) -> Result<Option<Columns<'a>>, AllocError>
     ensures { IfOk result (λ columns. option_map columns_of columns
         ≡ columns_among (texts_of words.now)) }
@@ -114,7 +103,6 @@ fn columns_among<'a>(alloc: Global, words: &[&'a str]) -> Result<Option<Columns<
     Ok(columns_of(token, validator, moment))
 }
 
-/// The names that a value of `--columns` gives, if it names each column once.
 fn columns_in<'a>(alloc: Global, text: &'a str) -> Result<Option<Columns<'a>>, AllocError>
     ensures { IfOk result (λ columns. option_map columns_of columns
         ≡ columns_in text.entry.now) }
@@ -123,7 +111,6 @@ fn columns_in<'a>(alloc: Global, text: &'a str) -> Result<Option<Columns<'a>>, A
     columns_among(alloc, &words)
 }
 
-/// What a word of `--separator` says.
 fn separator_in(word: Option<&str>) -> Option<Separator>
     ensures { result ≡ separator_in (text_in word.entry) }
 {
@@ -136,7 +123,6 @@ fn separator_in(word: Option<&str>) -> Option<Separator>
     }
 }
 
-/// What a word of `--unit` says.
 fn unit_in(word: Option<&str>) -> Option<Unit>
     ensures { result ≡ unit_in (text_in word.entry) }
 {
@@ -148,7 +134,6 @@ fn unit_in(word: Option<&str>) -> Option<Unit>
     }
 }
 
-/// The conditions of words of `--only`, if each is COLUMN=VALUE.
 fn conditions_in<'a>(
     alloc: Global,
     words: &[&'a str],
@@ -166,21 +151,18 @@ fn conditions_in<'a>(
     Ok(Some(only))
 }
 
-/// The file of the tap table, or of the agency's CSV.
 pub(crate) fn encoded_file<'a>(matches: &ArgMatches<'a>) -> &'a str
     ensures { result.now ≡ encoded_file (rows_of (found_of matches.now)) }
 {
     value_in(matches, "FILE").unwrap_or("-")
 }
 
-/// Whether the devices are standard input, and so is the agency's CSV.
 fn has_devices_twice(matches: &ArgMatches<'_>) -> bool
     ensures { result ≡ has_devices_twice (rows_of (found_of matches.now)) }
 {
     is_input(encoded_file(matches)) && is_input_given(value_in(matches, "validators"))
 }
 
-/// What `encode` is asked for with columns: the rows of an agency's CSV.
 pub(crate) fn rows_task<'a>(alloc: Global, matches: &ArgMatches<'a>) -> Result<Task<'a>, AllocError>
     ensures { IfOk result (λ task. asked_of task ≡ rows_asked (rows_of (found_of matches.now))) }
 {

@@ -8,14 +8,12 @@ use crate::arguments::{Need, Row, Takes, subcommand};
 use clap::Command;
 use std::alloc::{AllocError, Global};
 
-/// What the exit status of `merge` says.
 const MERGE_STATUS: &str = "Exit status:
   0  the report or the ledger is written
   1  a part is wrong, or could not be read or written, as a line `fault: ..` on the standard error
      says; what was written is not the whole
   2  the command line is wrong";
 
-/// What `merge` does.
 const MERGE_ABOUT: &str =
     "Merges the parts of a run into the report or the ledger of the whole, on standard output.
 
@@ -24,7 +22,6 @@ files. The parts stand in their order: each begins at the tokens at which the on
 part is refused if it does not begin where the one before it ends, or if its sums do not add up. The
 parts are read as the whole is written, so they may be larger than memory.";
 
-/// The help of the parts.
 const PARTS_HELP: &str = "The parts, in the order of their tokens; - stands for standard input";
 
 /// `merge [--files-from LIST [-0]] PART...`

@@ -1,9 +1,8 @@
-//! What is wrong with words that clap takes.
+//! Usage errors that clap does not find.
 
 use std::fmt;
 
-/// What is wrong with words that clap takes. Its `Display` is the line that says so, without its
-/// line feed.
+/// A usage error in words that clap takes. Its `Display` is the line without its line feed.
 #[derive(Clone, Copy, Debug, PartialEq, Eq)]
 pub enum Mistake {
     /// Two texts that are to be read are standard input.
@@ -14,9 +13,7 @@ pub enum Mistake {
     InputSampled,
     /// An option of `encode` needs `--columns`.
     NoColumns,
-    /// `--validators` needs `--columns`.
     NoColumnsForValidators,
-    /// `--unit` needs `--columns`.
     NoColumnsForUnit,
     /// `--unit` is none.
     Unit,
@@ -26,11 +23,11 @@ pub enum Mistake {
     Separator,
     /// `--only` has no `=`.
     Condition,
-    /// A good part is asked for, and not of one upload.
+    /// A valid prefix is requested, but not of one upload.
     NotOneUpload,
-    /// What `--from` gives is no moment.
+    /// What `--from` gives is not a moment.
     From,
-    /// What `--until` gives is no moment.
+    /// What `--until` gives is not a moment.
     Until,
     /// What `--until` gives is not after what `--from` gives.
     Order,
@@ -38,7 +35,7 @@ pub enum Mistake {
     TablesAsSql,
     /// Arguments do not go together, or files are missing. clap says so first, in its own words.
     Arguments,
-    /// No subcommand. clap says so first, in its own words.
+    /// clap says so first, in its own words.
     NoSubcommand,
 }
 

@@ -6,13 +6,9 @@ use crate::words::{entered, matched};
 use program_manners::{ListFault, ListWords};
 use std::alloc::Global;
 
-/// The list of files that the words name, if they name one. Words that are no command line name
-/// none: the program says why, or shows its help.
-///
-/// # Errors
-///
-/// `NullAlone`, if the words say what ends the names of a list and name none; `InputTwice`, if the
-/// list is standard input, and so is a file; `NoMemory`.
+/// The list of files that the words name; words that are not a command line name none. An error is
+/// `NullAlone`, if they only say what ends its names, `InputTwice`, if it is standard input and so
+/// is a file, or `NoMemory`.
 pub fn list_words<'a>(
     alloc: Global,
     words: &'a [String],

@@ -15,18 +15,15 @@ use clap::Command;
 use program_manners::new_command;
 use std::alloc::{AllocError, Global};
 
-/// What the program is for, as the help says it first.
 const ABOUT: &str =
     "Turns tables of taps into uploads and back, and prints what uploads and fare tables have.";
 
-/// The exit status, as the help says it last.
 const STATUS: &str = "Exit status:
   0  all is done
   1  a file has a fault, or could not be read or written, as a line `fault: ..` on the standard
      error says
   2  the command line is wrong";
 
-/// The command with a subcommand, which has none of its own.
 fn with_leaf<'a>(command: Command<'a>, leaf: Command<'a>) -> Result<Command<'a>, AllocError>
     ensures { (shape : Shape) → app_of leaf.entry ≡ record { top = shape; subs = [] }
         → shape.is_plain ≡ true
@@ -35,7 +32,6 @@ fn with_leaf<'a>(command: Command<'a>, leaf: Command<'a>) -> Result<Command<'a>,
     command.subcommand(leaf)
 }
 
-/// The program's name, and that a subcommand is wanted.
 fn name_command<'a>(alloc: Global) -> Command<'a>
     ensures { app_of result ≡ app_of_name }
 {
@@ -44,7 +40,6 @@ fn name_command<'a>(alloc: Global) -> Command<'a>
         .arg_required_else_help(true)
 }
 
-/// The first subcommands, in the order in which the help has them.
 fn texts_command<'a>(alloc: Global, is_whole: bool) -> Result<Command<'a>, AllocError>
     ensures { is_whole ≡ false → IfOk result (λ command. app_of command ≡ app_of_texts) }
 {
@@ -55,8 +50,8 @@ fn texts_command<'a>(alloc: Global, is_whole: bool) -> Result<Command<'a>, Alloc
     with_leaf(three, table_command(alloc, STATUS, is_whole)?)
 }
 
-/// The command line. The rules between the arguments of a subcommand are left out if it is not
-/// whole, so that clap's contract says which words it takes.
+/// The rules between arguments are left out if it is not whole: clap's contract says which words it
+/// takes.
 pub(crate) fn command<'a>(alloc: Global, is_whole: bool) -> Result<Command<'a>, AllocError>
     ensures { is_whole ≡ false → IfOk result (λ command. app_of command ≡ program) }
 {

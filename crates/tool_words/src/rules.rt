@@ -8,14 +8,12 @@ use crate::reading::has_value;
 use clap::ArgMatches;
 use program_manners::flag_in;
 
-/// Whether files are wanted under this name, and neither they are given nor a list of files.
 fn lacks_files(matches: &ArgMatches<'_>, name: &str) -> bool
     ensures { result ≡ lacks_files name.now (rows_of (found_of matches.now)) }
 {
     !has_value(matches, name) && !has_value(matches, "files-from")
 }
 
-/// Whether an option of `uploads` says what to look for, or that all that is found is listed.
 pub(crate) fn looks(matches: &ArgMatches<'_>) -> bool
     ensures { result ≡ looks (rows_of (found_of matches.now)) }
 {
@@ -27,7 +25,7 @@ pub(crate) fn looks(matches: &ArgMatches<'_>) -> bool
         || has_value(matches, "table")
 }
 
-/// Whether `uploads` has no files, a look beside `--good-part`, or `--list` beside `--tokens`.
+/// `uploads` has no files, a look beside `--good-part`, or `--list` beside `--tokens`.
 fn breaks_uploads(matches: &ArgMatches<'_>) -> bool
     ensures { result ≡ breaks_uploads (rows_of (found_of matches.now)) }
 {
@@ -36,14 +34,13 @@ fn breaks_uploads(matches: &ArgMatches<'_>) -> bool
         || (flag_in(matches, "list") && flag_in(matches, "tokens"))
 }
 
-/// Whether `table` has `--sql` beside `--riders` or `--from`.
+/// `table` has `--sql` beside `--riders` or `--from`.
 fn breaks_table(matches: &ArgMatches<'_>) -> bool
     ensures { result ≡ breaks_table (rows_of (found_of matches.now)) }
 {
     flag_in(matches, "sql") && (flag_in(matches, "riders") || has_value(matches, "from"))
 }
 
-/// Whether what is given to the subcommand of this name breaks a rule between its arguments.
 pub(crate) fn breaks_rule(name: &str, matches: &ArgMatches<'_>) -> bool
     ensures { result ≡ breaks_rule name.now (rows_of (found_of matches.now)) }
 {

@@ -8,7 +8,6 @@ use crate::arguments::{Need, Row, Takes, subcommand};
 use clap::Command;
 use std::alloc::{AllocError, Global};
 
-/// What the exit status of `sort` says.
 const SORT_STATUS: &str = "Exit status:
   0  OUT is made, and no upload was refused
   1  a file has a fault, or could not be read or made, as a line `fault: ..` on the standard error
@@ -16,7 +15,6 @@ const SORT_STATUS: &str = "Exit status:
   2  the command line is wrong
   3  OUT is made of the taps before each upload's first layout fault, and there is one";
 
-/// What `sort` does.
 const SORT_ABOUT: &str =
     "Makes an upload of all taps of uploads, in canonical order: by token, moment and validator.
 
@@ -25,16 +23,12 @@ in canonical order already, and of any length: they are read in pieces and merge
 or layout then ends it. OUT has batches of 512 taps. It is made under another name and then renamed,
 so it is whole, and it may be one of the uploads.";
 
-/// The help of `--merge`.
 const MERGE_HELP: &str = "Merge uploads that are in canonical order already";
 
-/// The help of `--out`.
 const OUT_HELP: &str = "The file that is made; one that is there is replaced";
 
-/// The help of `--ends`.
 const ENDS_HELP: &str = "Make a file ENDS of a line for each upload: how it ended, as in a report";
 
-/// The help of the uploads.
 const UPLOADS_HELP: &str =
     "Uploads of at most 67108864 bytes (with --merge of any length); - stands for standard input";
 

@@ -8,7 +8,6 @@ use crate::arguments::{Need, Row, Takes, subcommand};
 use clap::Command;
 use std::alloc::{AllocError, Global};
 
-/// What `table` does.
 const TABLE_ABOUT: &str =
     "Prints a fare table as it is understood: the zone with its next changes of clocks, the modes,
 the transfers, the classes with the price of each ride of a window, the ranges of validators with
@@ -22,29 +21,22 @@ the standard error, and of a table with a fault nothing else is printed.
 With --table the tables that follow, each from its date on, are printed behind it. Uploads are held
 against each table by the taps of its own time.";
 
-/// The help of the table.
 const TABLE_HELP: &str =
     "The fare table, a TOML file of at most 67108864 bytes; - stands for standard input";
 
-/// The help of the tables that follow it.
 const LATER_HELP: &str =
     "A fare table that is valid from 00:00 of this date on, by the clocks of the tables' zone";
 
-/// The help of `table`'s uploads.
 const TABLE_UPLOADS_HELP: &str =
     "Uploads of at most 67108864 bytes, whose validators are held against the ranges";
 
-/// The help of `--strict`.
 const STRICT_HELP: &str = "Let the status be 1 also where there is a warning";
 
-/// The help of `--riders`.
 const RIDERS_HELP: &str = "Print each rider with its class";
 
-/// The help of `--sql`.
 const SQL_HELP: &str =
     "Print the table as SQL tables, which SQLite and PostgreSQL read, in place of these lines";
 
-/// The help of `--from`.
 const FROM_HELP: &str =
     "Print the changes of clocks after this moment, as 2026-03-01T00:00:00Z [default: now]";
 

@@ -8,7 +8,6 @@ use crate::arguments::{Need, Row, Takes, subcommand};
 use clap::Command;
 use std::alloc::{AllocError, Global};
 
-/// What `uploads` does.
 const UPLOADS_ABOUT: &str =
     "Prints what uploads have: batches, taps, first and last moment, and the layout fault, if any,
 with its batch, its tap (both from 0), the offset of its batch in bytes, and what to do.
@@ -19,39 +18,30 @@ With --look, or an option that says what to look for, the uploads are also searc
 auditor fears. How much of each kind is found is printed, with the first of it. Nothing is
 changed or left out, and the status does not depend on what is found. All taps are in memory.";
 
-/// The help of `--tokens`.
 const TOKENS_HELP: &str =
     "Print how many tokens each upload has, and how many of these another FILE has, too";
 
-/// The help of the uploads.
 const UPLOADS_HELP: &str = "Uploads of at most 67108864 bytes; - stands for standard input";
 
-/// The help of `--good-part`.
 const GOOD_PART_HELP: &str =
     "Make the file OUT of the batches before the layout fault; it must not be there; needs one FILE";
 
-/// The help of `--look`.
 const LOOK_HELP: &str =
     "Look for near doubles and repeated uploads, too, and for what the next options ask for";
 
-/// The help of `--within`.
 const WITHIN_HELP: &str =
     "A near double is at most so many seconds later than the tap before it, of its token at its
 validator [default: 5]";
 
-/// The help of `--from`.
 const FROM_HELP: &str = "Look for taps before this moment, as 2026-03-02T00:00:00Z";
 
-/// The help of `--until`.
 const UNTIL_HELP: &str = "Look for taps at this moment or after it, as 2026-03-09T00:00:00Z";
 
-/// The help of `--table`.
 const TABLE_HELP: &str =
     "Look for validators of this fare table that have no tap on a day of UTC, of the days on which
 others have one, and of all days from --from to --until if both are given; - stands for
 standard input";
 
-/// The help of `--list`.
 const LIST_HELP: &str = "Write all that is found as CSV, and nothing else";
 
 /// `uploads [--good-part OUT] [--tokens] [LOOK]... [--files-from LIST [-0]] FILE...`, where LOOK is
