@@ -24,7 +24,7 @@ use std::random::RandomSource;
 use std::thread::Threads;
 use world::Trace;
 
-/// Writes the report of a bill. Says whether each file was posted whole.
+/// Returns whether each file was posted whole.
 pub(crate) fn write_billed<'a, W: Write>(
     alloc: Global,
     made: Billed,
@@ -51,8 +51,7 @@ pub(crate) fn write_billed<'a, W: Write>(
     Ok(are_posted(&ends))
 }
 
-/// Writes the report of the settled history of the uploads, which this number of workers make. Says
-/// whether each file was posted whole.
+/// The number of workers does not change the report. Returns whether each file was posted whole.
 pub(crate) fn write_bill<'a, R: Threads + RandomSource + Sync, U: Uploads + Sync, W: Write>(
     rt: &R,
     alloc: Global,

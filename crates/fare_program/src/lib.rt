@@ -1,28 +1,6 @@
 //! The program as a library, over any source of bytes and any two writers: it charges the taps of
 //! upload files by a fare table and prints what they cost, or lists them, each as live, stale or
 //! unknown.
-//!
-//! | module | what it does |
-//! |---|---|
-//! | `command_line`, `options` | what a command line asks for; its words, as `clap` reads them |
-//! | `named_list` | the list of files that the words name |
-//! | `laws` | what follows of a run over named files |
-//! | `named_files` | files that are read while their taps are settled |
-//! | `listing` | the liveness of each tap, from those before it |
-//! | `lines`, `uploads` | the text of a listing |
-//! | `run` | a run of the service |
-//! | `settle`, `bill` | what is asked for of settled files, whose taps are charged in one order |
-//! | `settled_token` | what is asked for of one token of settled files |
-//! | `sorted`, `sorted_fault` | what is asked for of sorted files, and why they are not charged |
-//! | `part`, `token_range` | what is asked for of a part of sorted files: of a range of tokens |
-//! | `traced` | the traced ledger of files |
-//! | `posting` | the text that is asked for of files, posted as they are or settled |
-//! | `output` | texts written out whole |
-//! | `fault` | why the program gives up, and the line that says so |
-//! | `note` | what a person should know of a run |
-//! | `remarks` | what is noted of what was charged, for whoever watches the run |
-//! | `noting` | loaded uploads whose charging is noted, for whoever watches the run |
-//! | `program` | the whole |
 #![tactic(auto)]
 
 mod bill;

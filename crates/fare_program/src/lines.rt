@@ -19,7 +19,6 @@ impl fmt::Display for Word {
     }
 }
 
-/// Writes the line of a tap.
 #[tactic(auto, unfolding(crate::specs::Lines::tap_line))]
 pub(crate) fn write_tap(
     text: &mut String,
@@ -41,7 +40,6 @@ pub(crate) fn write_tap(
     Ok(())
 }
 
-/// Writes the last line of an upload whose batch at the offset was refused.
 #[tactic(auto, unfolding(crate::specs::Lines::refused_line))]
 pub(crate) fn write_refused(
     text: &mut String,
@@ -57,7 +55,6 @@ pub(crate) fn write_refused(
     Ok(())
 }
 
-/// Writes the last line of a listing.
 #[tactic(auto, unfolding(crate::specs::Lines::counts_line))]
 pub(crate) fn write_counts(text: &mut String, counts: ListCounts) -> Result<(), NoMemory>
     ensures { OnOk result (string_bytes text.new

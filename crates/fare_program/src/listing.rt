@@ -17,8 +17,8 @@ use tap_views::{NoMemory, TapView};
 pub enum Word {
     /// The validator is known, and the tap is later than every known tap of its token before it.
     Live,
-    /// The validator is known, and a known tap of the token with this moment or a later one came
-    /// before.
+    /// The validator is known, and an earlier known tap of the token has this moment or a later
+    /// one.
     Stale,
     /// The validator is not known. The tap has no effect on later ones.
     Unknown,
@@ -29,16 +29,12 @@ pub enum Word {
 pub struct ListCounts {
     /// All taps; the other three add up to it.
     pub taps: u128,
-    /// The live ones.
     pub live: u128,
-    /// The stale ones.
     pub stale: u128,
-    /// The unknown ones.
     pub unknown: u128,
 }
 
 impl ListCounts {
-    /// No taps.
     const NONE: ListCounts = ListCounts {
         taps: 0,
         live: 0,
@@ -46,7 +42,6 @@ impl ListCounts {
         unknown: 0,
     };
 
-    /// Counts a tap with this liveness.
     fn count(&mut self, liveness: Word)
         requires sums { AddsUp self.old }
         requires room { self.old.taps < 2 ^ 127 }
@@ -61,7 +56,6 @@ impl ListCounts {
     }
 }
 
-/// Whether the moment is later than the last one of the token, if there is one.
 fn is_later(last: &BTreeMap<[u8; 16], u64>, token: &[u8; 16], moment: u64) -> bool
     ensures { result ≡ is_after_last (last_of last.now.entries token.now) moment }
 {
@@ -71,7 +65,7 @@ fn is_later(last: &BTreeMap<[u8; 16], u64>, token: &[u8; 16], moment: u64) -> bo
     }
 }
 
-/// Keeps the moment as the token's last one if it is later than that, and says whether it is.
+/// A later moment becomes the token's last one. Returns whether it is later.
 fn advance(
     last: &mut BTreeMap<[u8; 16], u64>,
     token: [u8; 16],
@@ -90,7 +84,7 @@ fn advance(
     Ok(is_live)
 }
 
-/// The liveness of a tap by the last moments, of which a live tap's becomes one.
+/// A live tap's moment becomes its token's last one.
 fn liveness_next(
     last: &mut BTreeMap<[u8; 16], u64>,
     tap: &TapView,
@@ -111,13 +105,11 @@ fn liveness_next(
     Ok(if is_live { Word::Live } else { Word::Stale })
 }
 
-/// A listing of taps: it says of each whether it is live, stale or unknown, from the taps that were
-/// listed before it.
+/// A listing of taps: it says whether each is live, stale or unknown, from those before it.
 #[derive(Drop)]
 pub struct Listing {
     /// The moment of the last live tap of each token.
     last: BTreeMap<[u8; 16], u64>,
-    /// How many taps were listed, and with which livenesses.
     counts: ListCounts,
 }
 
@@ -142,8 +134,8 @@ impl Listing {
         }
     }
 
-    /// Lists one more tap, `known` if its validator is, and says its liveness. If memory is
-    /// refused, the listing stays as it was. The taps so far are below 2 to the power of 127.
+    /// Lists a tap, `known` if its validator is, and returns its liveness. If an allocation fails,
+    /// the listing is unchanged. The taps so far are below 2 to the power of 127.
     pub fn add(&mut self, tap: &TapView, known: bool) -> Result<Word, NoMemory>
         requires { self.old.counts.taps < 2 ^ 127 }
         ensures liveness { IfOk result (λ liveness. (taps : List Listed) → StandsFor self.old taps

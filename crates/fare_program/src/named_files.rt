@@ -28,9 +28,7 @@ use world::Trace;
 /// Files of a disk, each of which is read when its turn comes.
 #[derive(Clone, Copy)]
 pub(crate) struct NamedFiles<'a, D> {
-    /// Where the memory comes from.
     pub(crate) alloc: Global,
-    /// Where the files lie.
     pub(crate) disk: &'a D,
     pub(crate) names: &'a [&'a str],
     /// The size of each in bytes, as it was seen before.
@@ -109,7 +107,7 @@ impl<D: Disk> LentUploads for NamedFiles<'_, D> {
     }
 }
 
-/// The sizes of the files of these names, if all may be read before they are due.
+/// The sizes of the files, if all may be read before their turns.
 pub(crate) fn sizes_of<D: Disk>(alloc: Global, disk: &D, names: &[&str]) -> Option<Vec<u64>> {
     let mut sizes = Vec::new(alloc);
     for name in names {
@@ -120,8 +118,7 @@ pub(crate) fn sizes_of<D: Disk>(alloc: Global, disk: &D, names: &[&str]) -> Opti
     Some(sizes)
 }
 
-/// Charges the files that are asked for, each of which is read when its turn comes, by this table,
-/// and writes what is asked for. Says whether each file was posted whole.
+/// Each file is read when its turn comes. Returns whether each was posted whole.
 fn charge_named<'a, R: Threads + Wait + RandomSource + Sync, D: Disk + Sync, W: Write>(
     rt: &R,
     alloc: Global,
@@ -161,12 +158,11 @@ fn charge_named<'a, R: Threads + Wait + RandomSource + Sync, D: Disk + Sync, W: 
     )
 }
 
-/// Charges the named files while they are read, and writes what is asked for, if all files may be
-/// read before they are due. Says whether each file was posted whole. The source takes over what
-/// was loaded.
+/// Charges the named files while they are read, if all may be read before their turns. Returns
+/// whether each was posted whole. The source takes over what was loaded.
 ///
-/// If it says nothing, nothing was written and nothing loaded. Then the files are to be loaded in
-/// their turns: so the fault that is reported is that of the first file in the order of the words.
+/// `None` says that nothing was written and nothing loaded. Then the files are to be loaded in
+/// their turns, so that the fault of the first file in the order of the words is reported.
 pub(crate) fn charge_ahead<
     'a,
     R: Threads + Wait + RandomSource + Sync,

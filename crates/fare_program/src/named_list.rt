@@ -9,12 +9,8 @@ use crate::command_line::matched;
 use program_manners::{ListFault, ListWords};
 use std::alloc::Global;
 
-/// The list of files that the words name, if they name one. Words that are no command line name
-/// none: the program says why, or shows its help.
-///
-/// # Errors
-///
-/// `NullAlone`, if the words say what ends the names of a list and name none; `NoMemory`.
+/// The list of files that the words name; words that are not a command line name none. An error is
+/// `NullAlone`, if they only say what ends its names, or `NoMemory`.
 pub fn list_words<'a>(
     alloc: Global,
     words: &'a [String],

@@ -11,21 +11,21 @@ use tap_views::NoMemory;
 /// prints it itself.
 #[derive(Clone, Copy, Debug, PartialEq, Eq)]
 pub enum Note {
-    /// No FILE is named, so that the standard input is read.
+    /// No FILE is named, so the standard input is read.
     ReadsInput,
-    /// Several files are charged as they are drawn, so that their order can change the bill.
+    /// Several files are charged as they are drawn, so their order can change the bill.
     FollowsFileOrder,
-    /// So many taps came after a tap of their token that is as late or later.
+    /// This many taps came after a tap of their token that is as late or later.
     CameLate(u64),
     /// These taps were not counted.
     LateUncounted,
-    /// No file has the token that is asked for.
+    /// No file has the requested token.
     UnknownToken,
 }
 
 impl Note {
-    /// The note on what the words ask for before the run begins, if there is one. There is none on
-    /// words that are no command line, or that have a mistake or a wrong date of a table.
+    /// The note on what the words request, if there is one. Words that are not a command line, or
+    /// have a usage error or a wrong date of a table, have none.
     pub fn of(alloc: Global, words: &[String]) -> Result<Option<Note>, NoMemory> {
         let options = match Options::read(alloc, words) {
             Ok(options) => options,
@@ -39,7 +39,6 @@ impl Note {
     }
 }
 
-/// The note on these options, if there is one.
 fn note_on(options: &Options<'_>) -> Option<Note> {
     if options.files.is_empty() {
         return Some(Note::ReadsInput);
@@ -47,7 +46,7 @@ fn note_on(options: &Options<'_>) -> Option<Note> {
     None
 }
 
-/// Whether a run that is charged depends on the order of its files, and none is meant.
+/// Whether a live run depends on the order of its files, and none is meant.
 pub(crate) fn follows_order(options: &Options<'_>) -> bool {
     options.files.len() > 1 && !options.settle && !options.live
 }

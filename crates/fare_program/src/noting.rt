@@ -7,7 +7,7 @@ use std::alloc::{AllocError, Global};
 use tap_views::NoMemory;
 use world::Trace;
 
-/// How many bytes these sizes are together, or 2^64 - 1 if they are more.
+/// `u64::MAX` if it is more.
 fn sum_of(sizes: &[u64]) -> u64 {
     let mut bytes = 0u64;
     for size in sizes {
@@ -16,7 +16,6 @@ fn sum_of(sizes: &[u64]) -> u64 {
     bytes
 }
 
-/// The size of each file in bytes.
 pub(crate) fn sizes_in(alloc: Global, files: &[Vec<u8>]) -> Result<Vec<u64>, NoMemory> {
     let mut sizes = Vec::new(alloc);
     for file in files {
@@ -25,17 +24,14 @@ pub(crate) fn sizes_in(alloc: Global, files: &[Vec<u8>]) -> Result<Vec<u64>, NoM
     Ok(sizes)
 }
 
-/// A gatekeeper that keeps nobody waiting. Behind it each upload is noted that was posted.
+/// A gatekeeper that keeps nobody waiting. Each upload is noted when it is posted.
 #[derive(Clone, Copy)]
 pub(crate) struct NotingGatekeeper<'a, D> {
-    /// Where they are noted.
     disk: &'a D,
-    /// The size of each upload in bytes.
     sizes: &'a [u64],
 }
 
 impl<'a, D: Disk> NotingGatekeeper<'a, D> {
-    /// The gatekeeper to uploads of these sizes, of which none is posted.
     pub(crate) fn new(disk: &'a D, sizes: &'a [u64]) -> Self {
         disk.note_all(Amount::Bytes(sum_of(sizes)));
         NotingGatekeeper { disk, sizes }
@@ -58,12 +54,10 @@ impl<D: Disk> Gatekeeper for NotingGatekeeper<'_, D> {
     }
 }
 
-/// Uploads that are loaded already, as `LoadedUploads`. What is charged of them is noted.
+/// Loaded uploads. What is charged of them is noted.
 #[derive(Clone, Copy)]
 pub(crate) struct NotedUploads<'a, D> {
-    /// Where it is noted.
     pub(crate) disk: &'a D,
-    /// The bytes of each upload.
     pub(crate) all: &'a [Vec<u8>],
 }
 

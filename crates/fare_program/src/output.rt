@@ -7,7 +7,7 @@ use crate::fault::Fault;
 use fare_texts::write_bytes;
 use std::io::Write;
 
-/// Writes the whole text. If a write fails, a beginning of it was written.
+/// If a write fails, a prefix of the text was written.
 pub(crate) fn write_text<'a, W: Write>(out: &mut W, text: &str) -> Result<(), Fault<'a>>
     ensures fault { IfErr result (λ fault. fault ≡ Fault.Write) }
     ensures text { OnOk result (Appends (W.contents out.old) (W.contents out.new) text.now) }

@@ -1,4 +1,4 @@
-//! What is asked for of a part of sorted files: of the taps of a range of tokens.
+//! What is requested of a part of sorted files: of the taps of a range of tokens.
 ghost use Rattle.std.specs.Prelude.{◌≡◌, ◌≢◌, ◌≤◌, ◌^◌, ◌++◌, ℕ, true, false, List, Some, None};
 ghost use Rattle.std.specs.Prelude.{IfErr, IfOk, OnOk, Option, is_some, length, map};
 ghost use Rattle.std.specs.Io.KnownBytes.{Appends, Keeps};
@@ -29,7 +29,6 @@ use std::alloc::Global;
 use std::io::Write;
 use std::random::RandomSource;
 
-/// Writes where the taps of the part lie in each file, and then its report.
 fn write_made<'a, W: Write>(alloc: Global, made: PartBill, out: &mut W) -> Result<(), Fault<'a>>
     requires { (history : List Entry) × IsBillOf history made.billed.bill
         × (length history ≤ 2 ^ 95) }
@@ -54,7 +53,6 @@ fn write_made<'a, W: Write>(alloc: Global, made: PartBill, out: &mut W) -> Resul
     }
 }
 
-/// Writes the report of the part.
 fn write_report<'a, R: RandomSource, F: Placed, W: Write>(
     rt: &R,
     alloc: Global,
@@ -82,7 +80,6 @@ fn write_report<'a, R: RandomSource, F: Placed, W: Write>(
     }
 }
 
-/// Writes where the taps of the part lie in each file, and then its ledger.
 fn write_ledger<'a, F: Placed, W: Write>(
     alloc: Global,
     options: &Options<'a>,
@@ -111,7 +108,6 @@ fn write_ledger<'a, F: Placed, W: Write>(
     }
 }
 
-/// Writes what is asked for of the part: the ledger, or the report.
 fn charge_part<'a, R: RandomSource, F: Placed, W: Write>(
     rt: &R,
     alloc: Global,
@@ -139,9 +135,9 @@ fn charge_part<'a, R: RandomSource, F: Placed, W: Write>(
     write_report(rt, alloc, options, table, range, files, out)
 }
 
-/// Opens the named files, each of which has its taps in canonical order, charges those of the range
-/// of tokens that the word names by the table, of which there is one, and writes what is asked for.
-/// It ends well, or with a fault. One thread does it, and reads no more of the files than it needs.
+/// Opens the named files, each with its taps in canonical order, charges those of the word's range
+/// of tokens by the only table, and writes what is requested. One thread does it, and reads no more
+/// of the files than it needs.
 pub(crate) fn work_part<'a, R: RandomSource, D: Disk, W: Write>(
     rt: &R,
     alloc: Global,

@@ -9,7 +9,7 @@ use std::alloc::Global;
 use tap_views::{TapFields, Token};
 
 /// How many taps of the outcome came after a tap of their token that is as late or later; none if
-/// memory is refused.
+/// an allocation fails.
 fn late_in(alloc: Global, outcome: &Outcome) -> Option<u64> {
     if outcome.totals().stale == 0 {
         return Some(0);
@@ -17,7 +17,6 @@ fn late_in(alloc: Global, outcome: &Outcome) -> Option<u64> {
     late_taps(alloc, outcome.books()).ok()
 }
 
-/// Whether a book has an entry of the token.
 fn have_token(books: &[ShardBook], token: Token) -> bool {
     for book in books {
         for i in 0..book.len() {
@@ -29,8 +28,8 @@ fn have_token(books: &[ShardBook], token: Token) -> bool {
     false
 }
 
-/// Notes what a person should know of a live run: that the order of its files counts, if none is
-/// meant, and that no file has the token that is asked for.
+/// Notes of a live run that the order of its files counts, if none is meant, and that no file has
+/// the requested token.
 pub(crate) fn note_outcome<D: Disk>(
     alloc: Global,
     disk: &D,
@@ -48,7 +47,7 @@ pub(crate) fn note_outcome<D: Disk>(
     }
 }
 
-/// Notes that no file has the token that is asked for, if these are all its taps.
+/// Notes that no file has the requested token, if these are all its taps.
 pub(crate) fn note_taps<D: Disk>(disk: &D, taps: &[TapFields]) {
     if taps.is_empty() {
         disk.note_absent();

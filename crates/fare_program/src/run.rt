@@ -1,4 +1,4 @@
-//! A run of the service over uploads that are lent to it.
+//! A run of the service over uploads that are provided.
 ghost use Rattle.std.specs.Prelude.{◌≡◌, ℕ, true, List, Option, IfErr, IfOk, length};
 ghost use Rattle.tariffs.specs.Fares.{Fares};
 ghost use Rattle.tap_views.specs.declared.token.Token.{Token};
@@ -22,7 +22,6 @@ use std::sync::Wait;
 use std::thread::Threads;
 use tap_views::UploadEnd;
 
-/// What the service comes to over uploads that are lent to it, by this table.
 pub(crate) fn outcome_of<
     'a,
     R: Threads + Wait + RandomSource + Sync,
@@ -50,8 +49,8 @@ pub(crate) fn outcome_of<
     }
 }
 
-/// The law that if no token has taps in two files, what is shown of an outcome is shown over the
-/// plain history of the files. Reads no tap and no entry.
+/// proof: if no token has taps in two files, what is shown of an outcome is shown over the
+/// sequential history of the files. Reads no tap and no entry.
 fn shows_plain(outcome: &Outcome)
     ensures { (files : List (List ℕ)) (fares : Fares) (shards workers : ℕ) (asked : Asked)
         (token : Option Token) (text : List ℕ) → HasRun fares shards files workers outcome.now
@@ -64,7 +63,6 @@ fn shows_plain(outcome: &Outcome)
     one_rising_list();
 }
 
-/// Posts uploads that are lent, as they are.
 pub(crate) fn post_live<
     'a,
     R: Threads + Wait + RandomSource + Sync,
@@ -90,14 +88,12 @@ pub(crate) fn post_live<
     Ok(outcome)
 }
 
-/// Whether the upload was posted whole.
 fn is_posted(end: UploadEnd) -> bool
     ensures { result ≡ is_posted end }
 {
     matches!(end, UploadEnd::Posted { .. })
 }
 
-/// Whether each upload was posted whole.
 pub(crate) fn are_posted(ends: &[UploadEnd]) -> bool
     ensures { result ≡ are_posted ends.now }
 {

@@ -1,4 +1,4 @@
-//! What is asked for of settled files, whose taps are charged account by account in one order.
+//! What is requested of settled files, whose taps are charged account by account in one order.
 ghost use Rattle.std.specs.Prelude.{Bool, ◌≡◌, ◌≢◌, ℕ, true, List, None, IfErr, IfOk};
 ghost use Rattle.std.specs.Io.KnownBytes.{Appends, Keeps};
 ghost use Rattle.fare_texts.specs.WrittenOut.{Begins};
@@ -26,8 +26,7 @@ use std::thread::Threads;
 use tap_views::Token;
 use world::Trace;
 
-/// Writes the ledger of the settled history of the uploads, which this number of workers make. Says
-/// whether each file was posted whole.
+/// Returns whether each file was posted whole.
 fn write_ledger<'a, R: Threads + Sync, U: Uploads + Sync, W: Write>(
     rt: &R,
     alloc: Global,
@@ -62,8 +61,7 @@ fn write_ledger<'a, R: Threads + Sync, U: Uploads + Sync, W: Write>(
     Ok(are_posted(&ends))
 }
 
-/// Writes what is asked for of all tokens: the ledger, or the report. Says whether each file was
-/// posted whole.
+/// Returns whether each file was posted whole.
 fn charge_all<'a, R: Threads + RandomSource + Sync, U: Uploads + Sync, W: Write>(
     rt: &R,
     alloc: Global,
@@ -95,8 +93,8 @@ fn charge_all<'a, R: Threads + RandomSource + Sync, U: Uploads + Sync, W: Write>
     write_bill(rt, alloc, table, options.workers, uploads, calls, out)
 }
 
-/// Settles the uploads, and writes what is asked for. Says whether each file was posted whole. If
-/// no upload has the token that is asked for, that is noted on the disk.
+/// Settles the uploads, and writes what is requested. Returns whether each file was posted whole.
+/// If no upload has the requested token, that is noted on the disk.
 pub(crate) fn charge_settled<
     'a,
     R: Threads + RandomSource + Sync,

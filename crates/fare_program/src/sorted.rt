@@ -1,4 +1,4 @@
-//! What is asked for of sorted files, which are read in pieces and merged.
+//! What is requested of sorted files, which are read in pieces and merged.
 ghost use Rattle.std.specs.Prelude.{◌≡◌, ◌≢◌, ℕ, true, false, List, Option, Some, None, IfErr};
 ghost use Rattle.std.specs.Prelude.{IfOk, OnOk, ◌++◌, ◌∷◌, [], is_some, map};
 ghost use Rattle.std.specs.Io.KnownBytes.{Keeps};
@@ -27,7 +27,6 @@ use std::random::RandomSource;
 use std::thread::Threads;
 use tap_views::{NoMemory, Token};
 
-/// Adds an opened file.
 fn push<F: Drop>(files: &mut Vec<F>, file: F) -> Result<(), NoMemory>
     ensures { OnOk result (files.new.items ≡ files.old.items ++ file ∷ []) }
 {
@@ -35,7 +34,6 @@ fn push<F: Drop>(files: &mut Vec<F>, file: F) -> Result<(), NoMemory>
     Ok(())
 }
 
-/// The files of these names, opened in their order.
 pub(crate) fn open_files<'a, D: Disk>(
     alloc: Global,
     disk: &D,
@@ -58,7 +56,6 @@ pub(crate) fn open_files<'a, D: Disk>(
     Ok(files)
 }
 
-/// Writes the report of the files, which this number of workers make.
 fn write_report<'a, R: Threads + RandomSource + Sync, F: Placed + Sync, W: Write>(
     rt: &R,
     alloc: Global,
@@ -90,7 +87,6 @@ fn write_report<'a, R: Threads + RandomSource + Sync, F: Placed + Sync, W: Write
     }
 }
 
-/// Writes the ledger of the files, which this number of workers make.
 fn write_ledger<'a, R: Threads + Sync, F: Placed + Sync, W: Write>(
     rt: &R,
     alloc: Global,
@@ -118,7 +114,7 @@ fn write_ledger<'a, R: Threads + Sync, F: Placed + Sync, W: Write>(
     }
 }
 
-/// Writes what is asked for of the token: of the taps of the files no others are kept.
+/// No taps of other tokens are kept.
 fn write_token<'a, R: Threads + Sync, D: Disk, F: Placed + Sync, W: Write>(
     rt: &R,
     alloc: Global,
@@ -152,7 +148,6 @@ fn write_token<'a, R: Threads + Sync, D: Disk, F: Placed + Sync, W: Write>(
     }
 }
 
-/// Writes what is asked for of all tokens: the ledger, or the report.
 fn charge_all<'a, R: Threads + RandomSource + Sync, F: Placed + Sync, W: Write>(
     rt: &R,
     alloc: Global,
@@ -179,7 +174,6 @@ fn charge_all<'a, R: Threads + RandomSource + Sync, F: Placed + Sync, W: Write>(
     write_report(rt, alloc, options, table, files, out)
 }
 
-/// Charges the files and writes what is asked for.
 fn charge_sorted<'a, R: Threads + RandomSource + Sync, D: Disk, F: Placed + Sync, W: Write>(
     rt: &R,
     alloc: Global,
@@ -209,9 +203,8 @@ fn charge_sorted<'a, R: Threads + RandomSource + Sync, D: Disk, F: Placed + Sync
     }
 }
 
-/// Opens the named files, each of which has its taps in canonical order, charges them by the table,
-/// of which there is one, and writes what is asked for. It ends well, or with a fault: a file that
-/// is out of order or damaged is refused whole.
+/// Opens the named files, each with its taps in canonical order, charges them by the only table,
+/// and writes what is requested. A file that is out of order or damaged is refused whole.
 pub(crate) fn work_sorted<'a, R: Threads + RandomSource + Sync, D: Disk, W: Write>(
     rt: &R,
     alloc: Global,

@@ -9,9 +9,7 @@ use std::fmt;
 /// A sorted file that was not opened. Its `Display` is the fault line without its line feed.
 #[derive(Clone, Copy, Debug)]
 pub(crate) struct UnopenedFile<'a> {
-    /// The name of the file.
     pub(crate) name: &'a str,
-    /// Why it was not opened.
     pub(crate) fault: Unopened,
 }
 
@@ -34,13 +32,10 @@ impl fmt::Display for UnopenedFile<'_> {
     }
 }
 
-/// A file that is not read as taps in canonical order. Its `Display` is the fault line without its
-/// line feed.
+/// A file that is not read as taps in canonical order, shown as its fault line without line feed.
 #[derive(Clone, Copy, Debug)]
 pub(crate) struct UnsortedFile<'a> {
-    /// The name of the file.
     pub(crate) name: &'a str,
-    /// Why it is refused.
     pub(crate) fault: SortedFault,
 }
 
@@ -62,20 +57,19 @@ impl fmt::Display for UnsortedFile<'_> {
     }
 }
 
-/// Why the text of sorted files was broken off: each file was checked before its first byte was
+/// Why the text of sorted files was aborted: each file was checked before the first byte was
 /// written.
 #[derive(Clone, Copy, Debug)]
 pub(crate) enum LateFault {
-    /// A file has not the taps that it had when it was checked.
+    /// A file does not have the taps that it had when it was checked.
     Changed,
     /// A file that was checked cannot be read again.
     Unread,
-    /// A growth of memory was refused.
+    /// An allocation failed.
     NoMemory,
 }
 
 impl LateFault {
-    /// Why a file that was checked is refused.
     pub(crate) fn of(fault: SortedFault) -> LateFault {
         match fault {
             SortedFault::OutOfOrder { .. } | SortedFault::Layout { .. } => LateFault::Changed,

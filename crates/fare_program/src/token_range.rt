@@ -11,15 +11,14 @@ use tap_views::Token;
 /// What is wrong with `--tokens`. Its `Display` is the fault line without its line feed.
 #[derive(Clone, Copy, Debug)]
 pub(crate) enum RangeFault {
-    /// The word does not have two dots behind its first token.
+    /// The word does not have two dots after its first token.
     Form,
     /// A side is neither 32 hexadecimal digits nor left out.
     Digits,
     /// The first token is not below the one that ends the range.
     Order,
-    /// The files are not sorted ones.
     NoSorted,
-    /// One token is asked for, too.
+    /// One token is requested, too.
     WithToken,
 }
 
@@ -42,9 +41,7 @@ impl fmt::Display for RangeFault {
 /// The tokens from one on and below another. Each of the two may be left out.
 #[derive(Clone, Copy, Debug)]
 pub(crate) struct TokenRange {
-    /// The first token.
     pub(crate) from: Option<Token>,
-    /// The token that ends the range, and is not in it.
     pub(crate) below: Option<Token>,
 }
 
@@ -66,7 +63,6 @@ impl TokenRange {
     }
 }
 
-/// What the word has before two dots and behind them.
 fn sides_of(word: &str) -> Option<(&str, &str)>
     ensures { option_map (λ sides. (sides.0.now, sides.1.now)) result ≡ sides_of word.now }
 {
@@ -75,7 +71,6 @@ fn sides_of(word: &str) -> Option<(&str, &str)>
     Some((from, below))
 }
 
-/// The bytes of the token that these digits write, unless they are left out.
 fn bytes_of_side(digits: &str) -> Result<Option<[u8; 16]>, RangeFault>
     ensures side { OnOk result (is_side digits.now ≡ true) }
     ensures bytes { IfOk result (λ bytes. bytes ≡ bytes_of_side digits.now) }
@@ -91,7 +86,6 @@ fn bytes_of_side(digits: &str) -> Result<Option<[u8; 16]>, RangeFault>
     }
 }
 
-/// Looks whether the first token is below the one that ends the range, if it has both.
 fn check_order(from: &Option<[u8; 16]>, below: &Option<[u8; 16]>) -> Result<(), RangeFault>
     ensures right { OnOk result (order_fault from.now below.now ≡ None) }
     ensures fault { IfErr result (λ fault. order_fault from.now below.now ≡ Some fault) }
@@ -105,7 +99,6 @@ fn check_order(from: &Option<[u8; 16]>, below: &Option<[u8; 16]>) -> Result<(), 
     Err(RangeFault::Order)
 }
 
-/// The token of these bytes, if there is one.
 fn token_of(bytes: Option<[u8; 16]>) -> Option<Token> {
     match bytes {
         Some(bytes) => Some(Token::of(&bytes)),

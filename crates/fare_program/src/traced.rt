@@ -27,14 +27,12 @@ use std::io::Write;
 /// Fare tables that follow one another, and the names of their classes.
 #[derive(Drop)]
 pub(crate) struct Riders {
-    /// The fares.
     pub(crate) table: FareTable,
     /// The class of each rider.
     pub(crate) names: ClassNames,
 }
 
-/// Why the names of classes were not read. The texts were read as fare tables before, so that each
-/// is TOML, and names a default class.
+/// The texts were read as fare tables before, so each is TOML and names a default class.
 fn of_names<'a>(words: &TableWords<'a>, wrong: WrongNames) -> Fault<'a>
     requires fault { wrong.fault ≢ ClassFault.Text }
     requires place { wrong.place ≤ length (names_of words.now).later }
@@ -49,7 +47,6 @@ fn of_names<'a>(words: &TableWords<'a>, wrong: WrongNames) -> Fault<'a>
     }
 }
 
-/// The fault of a class that the table at this place names.
 fn of_class<'a>(words: &TableWords<'a>, place: usize) -> Fault<'a>
     requires place { place ≤ length (names_of words.now).later }
     ensures unwritten { result ≢ Fault.Write }
@@ -65,7 +62,6 @@ fn of_class<'a>(words: &TableWords<'a>, place: usize) -> Fault<'a>
     Fault::NamedClass(NamedClassLine(TableWord::of(words.later[place - 1]).name))
 }
 
-/// The fare tables of these words, and the names of their classes.
 pub(crate) fn riders_of<'a>(
     alloc: Global,
     words: &TableWords<'a>,
@@ -95,7 +91,7 @@ pub(crate) fn riders_of<'a>(
     }
 }
 
-/// Writes the traced ledger of the files. Says whether no file has a layout fault.
+/// Returns whether no file has a layout fault.
 pub(crate) fn charge_traced<'a, W: Write>(
     alloc: Global,
     riders: &Riders,

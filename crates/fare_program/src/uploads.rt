@@ -12,7 +12,6 @@ use fare_table::FareTable;
 use std::alloc::Global;
 use tap_views::{Batch, NoMemory, TapView, good_batches};
 
-/// Whether the tap's validator is known.
 fn is_known(table: Option<&FareTable>, tap: &TapView) -> bool
     ensures { result ≡ is_known (option_copied table.entry) tap.now }
 {
@@ -24,7 +23,6 @@ fn is_known(table: Option<&FareTable>, tap: &TapView) -> bool
     }
 }
 
-/// Lists one tap, with its line.
 fn list_tap(
     text: &mut String,
     listing: &mut Listing,
@@ -43,7 +41,6 @@ fn list_tap(
     write_tap(text, upload, number, tap, liveness)
 }
 
-/// Lists the taps of a batch, the first of which has this number in its upload.
 fn list_batch(
     text: &mut String,
     listing: &mut Listing,
@@ -68,8 +65,7 @@ fn list_batch(
     Ok(number)
 }
 
-/// Lists an upload, of which the file is given: the taps of its batches up to the first layout
-/// fault, and that fault. Says whether there is none.
+/// Lists the taps up to the first layout fault, and that. Returns whether there is none.
 fn list_upload(
     text: &mut String,
     listing: &mut Listing,
@@ -96,8 +92,7 @@ fn list_upload(
     Ok(false)
 }
 
-/// Lists uploads, of which the files are given, from the first on. Says whether none has a layout
-/// fault.
+/// Returns whether none has a layout fault.
 fn list_uploads(
     text: &mut String,
     listing: &mut Listing,
@@ -116,8 +111,8 @@ fn list_uploads(
     Ok(clean)
 }
 
-/// The text of a listing of these files, and whether none of them has a layout fault. Validators
-/// are known by the table, if there is one, and else all of them are.
+/// The text of a listing, and whether no file has a layout fault. Without a table all validators
+/// are known.
 pub(crate) fn listing_text(
     alloc: Global,
     table: Option<&FareTable>,
