@@ -7,10 +7,10 @@ ghost use Rattle.tool_tasks.specs.Names.{called, escaped, file_named, shown_lett
 use program_manners::STANDARD_INPUT;
 use std::fmt;
 
-/// The word that stands for standard input.
+/// The word that represents standard input.
 const INPUT_WORD: &str = "-";
 
-/// The name of the file that a word names; none of standard input, for which `-` stands.
+/// The name of the file that a word names; none of standard input, which `-` represents.
 pub fn file_of<'a>(word: &'a str) -> Option<&'a str>
     ensures { option_map (λ n. n.now) result ≡ file_named word.entry.now }
 {
@@ -28,7 +28,7 @@ pub fn word_at<'a>(words: &[&'a str], number: usize) -> Option<&'a str>
 }
 
 /// A word that names a file. Its `Display` is what the file is called: its name with control
-/// characters escaped, so that it stays within its line, or `standard input`.
+/// characters escaped, or `standard input`.
 #[derive(Clone, Copy, Debug)]
 pub struct Name<'a>(pub &'a str);
 
@@ -53,7 +53,6 @@ impl fmt::Display for Name<'_> {
     }
 }
 
-/// The hexadecimal digit of a number.
 fn hex_digit(number: u32) -> char
     requires { number < 16 }
     ensures { result ≡ digit_glyph false number }
@@ -85,7 +84,6 @@ impl fmt::Display for Shown {
     }
 }
 
-/// Writes the text with its control characters escaped.
 fn write_escaped<W: fmt::Write>(text: &str, f: &mut fmt::Formatter<W>) -> fmt::Result
     ensures { WritesOnOk W.write_str_gives f.old result (escaped text.now) f.new }
 {

@@ -13,7 +13,7 @@ pub trait PlacedFiles {
     /// A file that was opened to be read at any offset.
     type File: Placed + Drop;
 
-    // What the file of a name has, if that is known. It does not change.
+    // The bytes of the file of a name, if known. They do not change.
     ghost bytes_under: { Self → List ℕ → Option (List ℕ) } = { λ _ _. None };
 
     /// The file of this name, opened to be read at any offset.
@@ -21,7 +21,6 @@ pub trait PlacedFiles {
         ensures { IfOk result (λ file. Self.File.bytes file ≡ bytes_under self.now name.now) };
 }
 
-/// Why the file that the word names was not opened.
 fn fault_of_open<'a>(word: &'a str, fault: Unopened) -> Fault<'a>
     ensures { IsOpenFault word.entry.now result }
 {
@@ -32,7 +31,6 @@ fn fault_of_open<'a>(word: &'a str, fault: Unopened) -> Fault<'a>
     }
 }
 
-/// Adds an opened file.
 fn push<F: Drop>(files: &mut Vec<F>, file: F) -> Result<(), AllocError>
     ensures { OnOk result (files.new.items ≡ files.old.items ++ file ∷ []) }
 {
@@ -40,7 +38,6 @@ fn push<F: Drop>(files: &mut Vec<F>, file: F) -> Result<(), AllocError>
     Ok(())
 }
 
-/// The files that the words name, opened in their order.
 pub(crate) fn open_placed<'a, D: PlacedFiles>(
     alloc: Global,
     disk: &D,

@@ -1,11 +1,11 @@
-//! Why the text of a file is no text of a fare table.
+//! Why the text of a file is not a fare table.
 
 use crate::names::Name;
 use std::fmt;
 use toml::de::Error as TomlError;
 
-/// Why the text of a file is no text of a fare table. The file is named by its word of the command
-/// line. Its `Display` is the fault line without its line feed.
+/// Why the text of a file, named by its word, is not a fare table. Its `Display` is the fault line
+/// without its line feed.
 #[derive(Clone, Copy, Debug)]
 pub(crate) enum RefusedText<'a> {
     /// It is not UTF-8.

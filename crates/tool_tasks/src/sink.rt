@@ -14,13 +14,13 @@ use std::io::Write;
 pub enum MakeFault {
     /// The system refuses it, or a write to it failed.
     Unmade,
-    /// A growth of memory was refused.
+    /// An allocation failed.
     NoMemory,
 }
 
 impl MakeFault {
-    /// Why a file has not what was to be written to it, as its writer remembers it. If it remembers
-    /// no write that failed, memory was refused.
+    /// Why a file lacks what was written to it, as its writer remembers it: else an allocation
+    /// failed.
     pub(crate) fn of_write(fault: WriteFault, end: Option<WriteEnd>) -> MakeFault
         ensures { result ≡ MakeFault.Unmade → end ≢ None }
     {
@@ -48,12 +48,12 @@ pub enum NewFault {
     Exists,
     /// The system refuses it.
     Unmade,
-    /// A growth of memory was refused.
+    /// An allocation failed.
     NoMemory,
 }
 
-/// Where files are made. A file is written under another name, and has its own name once it is
-/// whole. A new file gets it only if no file has it then.
+/// Where files are made. A file is written under another name, and gets its own once it is whole. A
+/// new file gets it only if no file has it then.
 pub trait Sink {
     ghost use Rattle.std.specs.Prelude.{◌≡◌, ◌≢◌, ℕ, List, IfErr, IfOk, OnOk, Option, None};
     ghost use Rattle.tool_tasks.specs.Sink.{IsEmptyFile, IsNewName, IsNotMade, Made, MakesOne};
@@ -61,7 +61,6 @@ pub trait Sink {
     ghost use Rattle.tool_tasks.specs.declared.sink.MakeFault.TheVariants.{Unmade};
     ghost use Rattle.tool_tasks.specs.declared.sink.NewFault.{NewFault as ANewFault};
 
-    /// A file that is being made.
     type File: Write + Drop;
 
     // The files that were made so far, in order, by a sink that keeps them.
@@ -90,8 +89,8 @@ pub trait Sink {
         ensures refused { IfErr result (λ fault. fault ≢ NewFault.NoMemory
             → RefusesNew (unbegun self.new) name.now fault) };
 
-    /// Gives the file its name. A file of this name that was there is replaced. After a fault
-    /// nothing is left of what was written.
+    /// Gives the file its name, and replaces a file that has it. A fault leaves nothing that was
+    /// written.
     fn finish(&mut self, name: &str, file: Output<Self::File>) -> Result<(), MakeFault>
         ensures made { OnOk result (MakesOne (made self.old) (made self.new) name.now
             (Self.File.contents file.writer)) }
@@ -104,14 +103,12 @@ pub trait Sink {
         ensures made { made self.new ≡ made self.old }
         ensures failed { failed self.new ≡ failed self.old };
 
-    /// Removes what was written of the file that was to have this name, and cannot be made if a
-    /// write to it failed.
+    /// Removes what was written of a file that cannot be made if a write to it failed.
     fn fail(&mut self, name: &str, file: Output<Self::File>)
         ensures made { made self.new ≡ made self.old }
         ensures failed { StopsFile name.now file.end (failed self.old) (failed self.new) };
 }
 
-/// Makes a file of these bytes.
 pub(crate) fn make_file<K: Sink>(
     alloc: Global,
     name: &str,

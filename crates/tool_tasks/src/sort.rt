@@ -31,7 +31,7 @@ use tap_views::UploadEnd;
 /// How many threads put taps into order.
 const WORKERS: u32 = 4;
 
-/// What `sort` is asked for, beside the uploads.
+/// What `sort` is to do, beside the uploads.
 #[derive(Clone, Copy, Debug)]
 pub struct SortWords<'a> {
     /// The file that is made.
@@ -40,7 +40,6 @@ pub struct SortWords<'a> {
     pub ends: Option<&'a str>,
 }
 
-/// Why the file of this word was not made.
 pub(crate) fn fault_of_make<'a>(word: &'a str, fault: MakeFault) -> Fault<'a>
     ensures { IsMakeFault word.entry.now fault result }
 {
@@ -50,7 +49,6 @@ pub(crate) fn fault_of_make<'a>(word: &'a str, fault: MakeFault) -> Fault<'a>
     }
 }
 
-/// Adds an upload.
 fn push(files: &mut Vec<Vec<u8>>, upload: Vec<u8>) -> Result<(), AllocError>
     ensures { OnOk result (files.new.items ≡ files.old.items ++ upload ∷ []) }
 {
@@ -58,7 +56,6 @@ fn push(files: &mut Vec<Vec<u8>>, upload: Vec<u8>) -> Result<(), AllocError>
     Ok(())
 }
 
-/// Loads what the words name, in their order.
 fn load_uploads<'a, S: Source>(
     alloc: Global,
     uploads: &[&'a str],
@@ -79,8 +76,7 @@ fn load_uploads<'a, S: Source>(
     Ok(files)
 }
 
-/// Writes the taps of the uploads to the file that is to have this name, in canonical order. Gives
-/// how each upload ended.
+/// Returns how each upload ended.
 fn write_sorted<'a, R: Threads + Sync, W: Write>(
     threads: &R,
     alloc: Global,
@@ -101,7 +97,6 @@ fn write_sorted<'a, R: Threads + Sync, W: Write>(
     }
 }
 
-/// Loads the uploads and writes their taps to the file.
 fn write_all<'a, R: Threads + Sync, S: Source, W: Write>(
     threads: &R,
     alloc: Global,
@@ -125,7 +120,6 @@ fn write_all<'a, R: Threads + Sync, S: Source, W: Write>(
     }
 }
 
-/// Appends a line for each upload, of how it ended.
 fn push_lines(text: &mut String, ends: &[UploadEnd]) -> Result<(), AllocError>
     ensures { OnOk result (string_bytes text.new ≡ string_bytes text.old
         ++ upload_lines 0 ends.now) }
@@ -136,7 +130,6 @@ fn push_lines(text: &mut String, ends: &[UploadEnd]) -> Result<(), AllocError>
     Ok(())
 }
 
-/// A line for each upload, of how it ended.
 fn lines_of(alloc: Global, ends: &[UploadEnd]) -> Result<String, AllocError>
     ensures { IfOk result (λ text. string_bytes text ≡ upload_lines 0 ends.now) }
 {
@@ -145,7 +138,6 @@ fn lines_of(alloc: Global, ends: &[UploadEnd]) -> Result<String, AllocError>
     Ok(text)
 }
 
-/// Makes the file of the uploads' ends, if it has a name.
 fn make_ends<'a, K: Sink>(
     alloc: Global,
     name: Option<&'a str>,
@@ -172,8 +164,6 @@ fn make_ends<'a, K: Sink>(
     }
 }
 
-/// Makes the file of the uploads' ends, if it has a name, and then that of their taps, of which all
-/// is written.
 pub(crate) fn make_both<'a, K: Sink>(
     alloc: Global,
     words: &SortWords<'a>,
@@ -204,7 +194,7 @@ pub(crate) fn make_both<'a, K: Sink>(
     }
 }
 
-/// Makes the file of the uploads' taps, and before it that of their ends. Gives how each ended.
+/// Returns how each upload ended.
 fn sort<'a, R: Threads + Sync, S: Source, K: Sink>(
     threads: &R,
     alloc: Global,
@@ -239,7 +229,6 @@ fn sort<'a, R: Threads + Sync, S: Source, K: Sink>(
     }
 }
 
-/// Reports the layout fault of the upload that the word names, if it has one, and a word.
 fn report_refused<E: Write>(word: Option<&str>, end: &UploadEnd, err: &mut Complaints<E>)
     ensures reported { AreReported (E.contents err.old.writer) (E.contents err.new.writer)
         err.new.failed (line_at (option_map (λ w. w.now) word.entry) end.now) }
@@ -255,7 +244,6 @@ fn report_refused<E: Write>(word: Option<&str>, end: &UploadEnd, err: &mut Compl
     say(err, &Fault::Layout(word, *offset, *fault));
 }
 
-/// Reports the layout fault of each upload that has one.
 fn report_each<E: Write>(uploads: &[&str], ends: &[UploadEnd], err: &mut Complaints<E>)
     ensures quiet { are_posted ends.now ≡ true → err.new ≡ err.old }
     ensures reported { AreReported (E.contents err.old.writer) (E.contents err.new.writer)
@@ -266,24 +254,21 @@ fn report_each<E: Write>(uploads: &[&str], ends: &[UploadEnd], err: &mut Complai
     }
 }
 
-/// Whether the upload was posted whole.
 fn is_posted(end: UploadEnd) -> bool
     ensures { result ≡ is_posted end }
 {
     end.is_posted()
 }
 
-/// Whether each upload was posted whole.
 fn are_posted(ends: &[UploadEnd]) -> bool
     ensures { result ≡ are_posted ends.now }
 {
     ends.iter().all(|end| is_posted(*end))
 }
 
-/// Makes the file of the good taps of the uploads that the words name, `-` being standard input, in
-/// canonical order, and before it that of a line for each upload, if it has a name. Reports layout
-/// faults and a fault on `err`. Gives the status: 0 if the files are made and no upload has a
-/// layout fault, 3 if they are made and one has, 1 after a fault.
+/// Makes the file of the valid taps of the uploads that the words name, `-` being standard input,
+/// in canonical order, and before it that of the upload ends, if it has a name. The status is 0, or
+/// 3 if an upload has a layout fault, or 1 after a fault. Reports each fault on `err`.
 pub fn sort_over<R: Threads + Sync, S: Source, K: Sink, E: Write>(
     threads: &R,
     alloc: Global,
@@ -293,8 +278,8 @@ pub fn sort_over<R: Threads + Sync, S: Source, K: Sink, E: Write>(
     sink: &mut K,
     err: &mut Complaints<E>,
 ) -> u8
-    // Of a source that keeps what it loaded: with status 0 the files were made, and no upload has
-    // a layout fault.
+    // With status 0, if the source keeps what it loaded, the files were made, and no upload has a
+    // fault.
     ensures done { (kept : List Loaded) → S.loaded source.old ≡ Some kept → result ≡ 0
         → (ends : List AnEnd) × (are_posted ends ≡ true)
         × Sorts words.now (map (λ w. w.now) uploads.now) (S.loaded source.old)
@@ -307,7 +292,7 @@ pub fn sort_over<R: Threads + Sync, S: Source, K: Sink, E: Write>(
         (S.loaded source.new) (K.made sink.old) (K.made sink.new) ends
         × AreReported (E.contents err.old.writer) (E.contents err.new.writer) err.new.failed
         (refused_lines (map (λ w. w.now) uploads.now) ends) }
-    // With status 1 the line of a fault was reported, which is the right one.
+    // With status 1 the right line of a fault was reported.
     ensures faults { result ≡ 1 → (fault : AFault) × IsFaultReported fault
         (E.contents err.old.writer) (E.contents err.new.writer) err.new.failed
         × ((kept : List Loaded) → S.loaded source.old ≡ Some kept

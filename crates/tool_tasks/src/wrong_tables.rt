@@ -17,7 +17,6 @@ pub enum WrongTapTable {
     Row(u64, Column),
 }
 
-/// What is wrong with a row of a tap table, by its column.
 fn column_text(column: Column) -> &'static str
     ensures { result.now ≡ column_text column }
 {
@@ -48,11 +47,10 @@ impl fmt::Display for WrongTapTable {
 pub enum WrongRows<'a> {
     /// The head has not one column of this name.
     Column(&'a str),
-    /// The row of this number is no tap, for this reason. The head is row 1.
+    /// The row of this number is not a tap, for this reason. The head is row 1.
     Row(u64, Reason),
 }
 
-/// What is wrong with a row of an agency's CSV.
 fn reason_text(reason: Reason) -> &'static str
     ensures { result.now ≡ reason_text reason }
 {
@@ -92,7 +90,6 @@ pub enum WrongDevices {
     Row(u64, WrongDevice),
 }
 
-/// What is wrong with a row of a device table.
 fn device_text(wrong: WrongDevice) -> &'static str
     ensures { result.now ≡ device_text wrong }
 {
