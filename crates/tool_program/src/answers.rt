@@ -12,8 +12,8 @@ use std::alloc::Global;
 use std::io::Write;
 use tool_tasks::{Escaped, Fault, finish, say};
 
-/// Writes a text of several lines, with its other control characters escaped, since it may have
-/// words of the command line.
+/// Other control characters of the lines are escaped, since they may have words of the command
+/// line.
 fn write_safely<E: Write>(err: &mut Complaints<E>, text: &str) {
     for line in text.split_inclusive("\n") {
         match line.strip_suffix("\n") {
@@ -23,7 +23,6 @@ fn write_safely<E: Write>(err: &mut Complaints<E>, text: &str) {
     }
 }
 
-/// Writes clap's text, and lets it go out.
 fn print<'a, W: Write>(error: &Error, out: &mut Output<W>) -> Result<(), Fault<'a>>
     ensures { IfErr result (λ fault. fault ≡ failed_as out.new.end) }
 {
@@ -33,7 +32,6 @@ fn print<'a, W: Write>(error: &Error, out: &mut Output<W>) -> Result<(), Fault<'
     }
 }
 
-/// Reports a fault, and gives the status.
 pub(crate) fn report<E: Write>(err: &mut Complaints<E>, fault: &Fault<'_>) -> u8
     ensures status { result ≡ 1 }
     ensures reported { IsFaultReported fault.now (E.contents err.old.writer)
@@ -43,9 +41,8 @@ pub(crate) fn report<E: Write>(err: &mut Complaints<E>, fault: &Fault<'_>) -> u8
     1
 }
 
-/// Shows what clap answers if there is nothing to do: help and the version on `out`, a mistake on
-/// `err`. Gives the status: 0 for help and version, 2 for a mistake, and 1 after a fault: memory
-/// was refused, or help or the version could not be written.
+/// Shows help and the version on `out`, a usage error on `err`. The status is 0 for help and
+/// version, 2 for a usage error, 1 if an allocation or a write failed.
 pub(crate) fn show<W: Write, E: Write>(
     alloc: Global,
     error: &Error,

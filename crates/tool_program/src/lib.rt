@@ -1,11 +1,6 @@
 //! The tools' program over any source of bytes and any writers: from its words to the status. Each
-//! subcommand has a function `.._over`: that of `merge` is here, and all others are in `tool_tasks`.
-//!
-//! | module | what it does |
-//! |---|---|
-//! | `merge` | `merge` |
-//! | `answers` | what clap answers if there is nothing to do |
-//! | `program` | the whole, from the words to the status |
+//! subcommand has a function `.._over`: that of `merge` is here, and all others are in
+//! `tool_tasks`.
 #![tactic(auto)]
 
 mod answers;
