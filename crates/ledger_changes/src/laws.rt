@@ -16,8 +16,8 @@ pub fn ledgers_are_sorted()
         → IsSorted (λ a b. key_cmp a.key b.key) rows }
 {}
 
-/// Bills in order are side by side in the corrections: each line is there once, in its bill's order,
-/// and lines of one key are paired as long as both bills have one.
+/// Bills in order are side by side in the corrections: each line is there once, in its bill's
+/// order, and lines of one key are paired as long as both bills have one.
 pub fn bills_are_side_by_side()
     ensures { (old new : List Row) → IsSorted (λ a b. key_cmp a.key b.key) old
         → IsSorted (λ a b. key_cmp a.key b.key) new
@@ -47,8 +47,7 @@ pub fn each_token_has_a_line()
         → HasTokens changes (all_lines true changes) }
 {}
 
-/// The tokens' signed changes add up to the change of the bill's cents: what all tokens' lines cost
-/// after is more than what they cost before by as much as the new bill is more than the old one.
+/// The tokens' signed changes add up to the change of the bill's cents.
 pub fn tokens_add_up()
     ensures { (old new : List Row) (changes : List Pair) (tokens : List (List ℕ))
         → AreCorrections old new changes → AreTokensOf changes tokens

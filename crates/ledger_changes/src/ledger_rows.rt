@@ -18,7 +18,6 @@ use std::mem;
 /// A settled ledger that is read row by row, at one of its rows or at its end.
 #[derive(Drop)]
 pub(crate) struct LedgerRows<R: BufRead + Drop> {
-    /// What is left to read.
     from: R,
     bill: Bill,
     /// The number of the row's line, from 1.
@@ -39,8 +38,7 @@ fn does_fall(before: &Option<LedgerRow>, row: &LedgerRow) -> bool
     }
 }
 
-/// Reads the line of this number, and gives its row, which follows the row before it; none at the
-/// end.
+/// The row of the line of this number; none at the end.
 fn read_row<R: BufRead>(
     alloc: Global,
     from: &mut R,
@@ -76,7 +74,6 @@ impl<R: BufRead + Drop> LedgerRows<R> {
         &self.row
     }
 
-    /// The ledger at its first row.
     pub(crate) fn begin(
         alloc: Global,
         from: R,
@@ -111,7 +108,7 @@ impl<R: BufRead + Drop> LedgerRows<R> {
         })
     }
 
-    /// Goes on to the next row, and gives the row at which it was.
+    /// Returns the row at which it was.
     fn next_row(&mut self, alloc: Global) -> Result<Option<LedgerRow>, CorrectionsFault>
         ensures row { IfOk result (λ row. row ≡ self.old.row) }
         ensures moved { IfOk result (λ row. IfSome (rows_at R.remaining self.old)
@@ -132,7 +129,7 @@ impl<R: BufRead + Drop> LedgerRows<R> {
         Ok(mem::replace(&mut self.row, next))
     }
 
-    /// If that is wanted, goes on to the next row and gives the row at which it was; else none.
+    /// If it is to go on, the row at which it was; else none.
     pub(crate) fn row_if(
         &mut self,
         alloc: Global,

@@ -8,8 +8,7 @@ ghost use Rattle.ledger_changes.specs.inside.Views.{charge_of, pair_of, row_in};
 use crate::row::{LedgerRow, LineCharge, LineKey};
 use std::cmp::Ordering;
 
-/// A line of one bill beside the line of the other that has the same key, or a line that has none
-/// beside it.
+/// A line of one bill beside the other's of the same key, or a line that has none beside it.
 #[derive(Drop)]
 pub(crate) struct LinePair {
     pub(crate) key: LineKey,
@@ -17,8 +16,7 @@ pub(crate) struct LinePair {
     pub(crate) after: Option<LineCharge>,
 }
 
-/// Which of two ledgers have the next pair's line, at these rows of theirs: both do if the keys are
-/// the same.
+/// Which of two ledgers have the next pair's line: both if the keys are the same.
 pub(crate) fn next_sides(old: &Option<LedgerRow>, new: &Option<LedgerRow>) -> (bool, bool)
     ensures { result ≡ next_sides (row_in old.now) (row_in new.now) }
 {
@@ -34,7 +32,6 @@ pub(crate) fn next_sides(old: &Option<LedgerRow>, new: &Option<LedgerRow>) -> (b
     }
 }
 
-/// Whether both bills charge the same.
 fn agree(before: &Option<LineCharge>, after: &Option<LineCharge>) -> bool
     ensures { result ≡ agree (option_map charge_of before.now) (option_map charge_of after.now) }
 {
@@ -46,7 +43,6 @@ fn agree(before: &Option<LineCharge>, after: &Option<LineCharge>) -> bool
 }
 
 impl LinePair {
-    /// The pair of these rows; none if there is no row.
     pub(crate) fn of_rows(before: Option<LedgerRow>, after: Option<LedgerRow>) -> Option<LinePair>
         ensures { option_to_list (option_map pair_of result)
             ≡ pairs_of (row_in before) (row_in after) }
@@ -71,7 +67,6 @@ impl LinePair {
         }
     }
 
-    /// Whether both bills charge the same.
     pub(crate) fn agrees(&self) -> bool
         ensures { result ≡ agree (pair_of self.now).before (pair_of self.now).after }
     {

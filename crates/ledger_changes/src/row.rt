@@ -12,9 +12,7 @@ use std::cmp::Ordering;
 /// What sets a line of a bill apart.
 #[derive(Drop)]
 pub(crate) struct LineKey {
-    /// The token's digits.
     pub(crate) token: Vec<u8>,
-    /// The moment's text.
     pub(crate) moment: Vec<u8>,
     pub(crate) validator: u32,
 }
@@ -22,10 +20,8 @@ pub(crate) struct LineKey {
 /// What is charged by a line.
 #[derive(Drop)]
 pub(crate) struct LineCharge {
-    /// The word of the answer.
     pub(crate) answer: Vec<u8>,
     pub(crate) cents: u32,
-    /// The word of the reason.
     pub(crate) reason: Vec<u8>,
 }
 
@@ -35,7 +31,6 @@ pub(crate) struct LedgerRow {
     pub(crate) charge: LineCharge,
 }
 
-/// The bytes, in memory of their own.
 pub(crate) fn owned(alloc: Global, bytes: &[u8]) -> Result<Vec<u8>, AllocError>
     ensures { IfOk result (λ own. own.items ≡ bytes.now) }
 {
@@ -45,7 +40,7 @@ pub(crate) fn owned(alloc: Global, bytes: &[u8]) -> Result<Vec<u8>, AllocError>
 }
 
 impl LineKey {
-    /// How the lines come one after the other: by token, moment and validator.
+    /// By token, moment and validator, as in a bill.
     pub(crate) fn compare(&self, other: &LineKey) -> Ordering
         ensures { result ≡ key_cmp (key_of self.now) (key_of other.now) }
     {
@@ -68,7 +63,6 @@ impl LineCharge {
 }
 
 impl LedgerRow {
-    /// The row that the fields make, in memory of its own.
     pub(crate) fn of_fields(alloc: Global, fields: RowFields<'_>) -> Result<LedgerRow, AllocError>
         ensures { IfOk result (λ row. row_of row ≡ row_of_fields fields.entry) }
     {
