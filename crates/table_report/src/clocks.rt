@@ -29,7 +29,6 @@ fn push_change(text: &mut String, change: &TimeZoneTransition) -> Result<(), All
     write!(text, " {name} {sign}{hours:02}:{minutes:02}\n")
 }
 
-/// Appends the lines of the zone's next changes of clocks after a moment.
 pub(crate) fn push_changes(
     text: &mut String,
     zone: &str,

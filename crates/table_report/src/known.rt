@@ -9,8 +9,8 @@ fn is_near(edits: usize, letters: usize) -> bool {
     edits.saturating_mul(3) <= letters.saturating_add(1)
 }
 
-/// The word of the known key that may be meant by one that has no meaning in its holder: the one of
-/// the fewest edits, and the first of these.
+/// The known key of the fewest edits that may be meant by a key without meaning, and the first
+/// such.
 pub(crate) fn nearest(
     alloc: Global,
     holder: KeyHolder,

@@ -7,17 +7,15 @@ use std::fmt;
 #[derive(Clone, Copy)]
 pub(crate) struct Key<'a>(pub(crate) &'a str);
 
-/// Whether a letter may stand in a bare key.
+/// Whether a letter may be in a bare key.
 fn is_bare(byte: u8) -> bool {
     byte.is_ascii_alphanumeric() || byte == b'_' || byte == b'-'
 }
 
-/// Whether a key can be written bare.
 fn is_bare_key(key: &str) -> bool {
     !key.is_empty() && key.bytes().all(|byte| is_bare(byte))
 }
 
-/// Writes a letter of a quoted text.
 fn write_letter<W: fmt::Write>(f: &mut fmt::Formatter<W>, letter: char) -> fmt::Result {
     if letter == '"' {
         f.write_str("\\\"")
@@ -53,7 +51,6 @@ pub(crate) fn key_path(alloc: Global, holder: &str, key: &str) -> Result<String,
     }
 }
 
-/// The path of the element at a place of the array at a path.
 pub(crate) fn item_path(alloc: Global, array: &str, place: usize) -> Result<String, AllocError> {
     format!(in alloc; "{array}[{place}]")
 }

@@ -1,4 +1,4 @@
-//! Where each key and each value stands in the text.
+//! The line and the column of each key and each value in the text.
 
 use crate::paths::{item_path, key_path};
 use std::alloc::{AllocError, AllocFailed, Global};
@@ -6,32 +6,31 @@ use std::collections::BTreeMap;
 use toml_parser::text::{skip_blank, skip_ws};
 use toml_parser::{Key, ParseError, dotted_key, quoted, starts_string, unquoted};
 
-/// The mark that may stand before the first line. An editor does not show it.
+/// The mark that may be before the first line. An editor does not show it.
 const BYTE_ORDER_MARK: &str = "\u{feff}";
 
 /// How many parts of a key that has dots are kept: no key with a meaning has more. So a text of one
 /// long key takes no more than its length.
 const KEPT_PARTS: usize = 16;
 
-/// Where the keys and the values of a text stand, by their whole paths.
+/// Where the keys and the values of a text are, by their whole paths.
 #[derive(Drop)]
 pub(crate) struct Places {
     /// The offset of each key or element, in bytes.
     offsets: BTreeMap<String, usize>,
-    /// The offset of the value behind each key, in bytes.
+    /// The offset of the value after each key, in bytes.
     values: BTreeMap<String, usize>,
     /// The offsets at which lines begin.
     lines: Vec<usize>,
-    /// The number of bytes.
     size: usize,
 }
 
-/// Why a text is read no further.
+/// Why the text is not read further.
 #[derive(Clone, Copy)]
 enum Stop {
-    /// A growth of memory was refused.
+    /// An allocation failed.
     NoMemory,
-    /// What follows has not the form that was looked for.
+    /// What follows does not have the expected form.
     Lost,
 }
 
@@ -56,25 +55,21 @@ impl From<ParseError> for Stop {
     }
 }
 
-/// A text that is read from its front.
 #[derive(Drop)]
 struct Reader {
-    /// What was found.
     places: Places,
     /// How many elements each array of tables has so far, by its path.
     counts: BTreeMap<String, usize>,
     /// The path of the last header.
     section: String,
-    /// The allocator.
     alloc: Global,
 }
 
 /// What encloses a value.
 #[derive(Drop)]
 enum Around {
-    /// An array with this path, and the place of its next element.
+    /// An array with this path, and the index of its next element.
     Array(String, usize),
-    /// An inline table with this path.
     Inline(String),
 }
 
@@ -95,7 +90,6 @@ fn behind_comma(text: &str) -> &str {
     }
 }
 
-/// The offsets at which lines begin.
 fn lines_of(alloc: Global, text: &str) -> Result<Vec<usize>, AllocError> {
     let mut lines = Vec::new(alloc);
     lines.push(0)?;
@@ -110,12 +104,11 @@ fn lines_of(alloc: Global, text: &str) -> Result<Vec<usize>, AllocError> {
 }
 
 impl Reader {
-    /// The offset of what is left.
     fn offset(&self, rest: &str) -> usize {
         self.places.size.saturating_sub(rest.len())
     }
 
-    /// Keeps the offset of a key or an element, the first time that it comes.
+    /// Keeps the offset, the first time only.
     fn keep(&mut self, path: &str, rest: &str) -> Result<(), Stop> {
         let offset = self.offset(rest);
         if !self.places.offsets.contains_key(path) {
@@ -125,7 +118,6 @@ impl Reader {
         Ok(())
     }
 
-    /// Keeps the offset of a value.
     fn keep_value(&mut self, path: &str, rest: &str) -> Result<(), Stop> {
         let offset = self.offset(rest);
         let path = String::from_str(self.alloc, path)?;
@@ -141,7 +133,7 @@ impl Reader {
         }
     }
 
-    /// The path of a key that may have dots. Each part is kept with the offset of the key.
+    /// The path of a key that may have dots. Each part is kept with the key's offset.
     fn path_of(&mut self, holder: &str, key: &Key, at: &str) -> Result<String, Stop> {
         let mut path = String::from_str(self.alloc, holder)?;
         for part in key.path.iter().take(KEPT_PARTS) {
@@ -154,7 +146,7 @@ impl Reader {
         Ok(path)
     }
 
-    /// A header `[KEY]`, behind its first bracket.
+    /// A header `[KEY]`, after its first bracket.
     fn header<'t>(&mut self, at: &'t str, inner: &'t str) -> Result<&'t str, Stop> {
         let (key, rest) = dotted_key(self.alloc, skip_ws(inner))?;
         let path = self.path_of("", &key, at)?;
@@ -162,7 +154,7 @@ impl Reader {
         behind(rest, "]")
     }
 
-    /// A header `[[KEY]]`, behind its two first brackets.
+    /// A header `[[KEY]]`, after its two first brackets.
     fn array_header<'t>(&mut self, at: &'t str, inner: &'t str) -> Result<&'t str, Stop> {
         let (key, rest) = dotted_key(self.alloc, skip_ws(inner))?;
         let path = self.path_of("", &key, at)?;
@@ -177,7 +169,6 @@ impl Reader {
         behind(rest, "]]")
     }
 
-    /// A value that encloses none.
     fn scalar<'t>(&self, text: &'t str) -> Result<&'t str, Stop> {
         if starts_string(text) {
             let (_text, rest) = quoted(self.alloc, text)?;
@@ -187,7 +178,6 @@ impl Reader {
         Ok(rest)
     }
 
-    /// The key and the equals sign before a value in the table at a path.
     fn pair<'t>(&mut self, holder: &str, at: &'t str) -> Result<(String, &'t str), Stop> {
         let (key, rest) = dotted_key(self.alloc, at)?;
         let path = self.path_of(holder, &key, at)?;
@@ -242,7 +232,6 @@ impl Reader {
         }
     }
 
-    /// A value with all that it encloses.
     fn value<'t>(&mut self, path: String, at: &'t str) -> Result<&'t str, Stop> {
         let mut around = Vec::new(self.alloc);
         let mut rest = self.open(&mut around, path, at)?;
@@ -255,7 +244,6 @@ impl Reader {
         Ok(rest)
     }
 
-    /// A header, or a key with its value.
     fn expression<'t>(&mut self, at: &'t str) -> Result<&'t str, Stop> {
         if let Some(inner) = at.strip_prefix("[[") {
             return self.array_header(at, inner);
@@ -268,7 +256,6 @@ impl Reader {
         self.value(path, value)
     }
 
-    /// The whole text.
     fn document(&mut self, text: &str) -> Result<(), Stop> {
         let mut rest = match text.strip_prefix(BYTE_ORDER_MARK) {
             Some(rest) => rest,
@@ -296,7 +283,7 @@ impl Places {
         })
     }
 
-    /// The places of a text that is TOML. Of another text those up to what is wrong with it.
+    /// The places of a text. If it is not TOML, those up to what is wrong with it.
     pub(crate) fn of(alloc: Global, text: &str) -> Result<Places, AllocError> {
         let mut reader = Reader {
             places: Places::of_lines(alloc, text)?,
@@ -310,12 +297,10 @@ impl Places {
         }
     }
 
-    /// The offset of a key or an element.
     pub(crate) fn of_key(&self, path: &str) -> Option<usize> {
         self.offsets.get(path).copied()
     }
 
-    /// The offset of a value.
     pub(crate) fn of_value(&self, path: &str) -> Option<usize> {
         match self.values.get(path) {
             Some(offset) => Some(*offset),

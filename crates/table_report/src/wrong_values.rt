@@ -1,5 +1,5 @@
-//! What is wrong with a text that is no fare table: each wrong value, where it stands, and what is
-//! wanted in its place.
+//! What is wrong with a text that is not a fare table: each wrong value, where it is, and what has
+//! to be in its place.
 
 mod checks;
 mod people;
@@ -11,8 +11,8 @@ use checks::wrongs_of;
 use std::alloc::{AllocError, Global};
 use toml::Table;
 
-/// The lines of what is wrong with the text of a file of this name, key by key in the order in
-/// which its keys are read. Empty if no value was found to be wrong.
+/// The lines of what is wrong with the text, in the order in which its keys are read. Empty if no
+/// value was found to be wrong.
 pub(crate) fn wrong_lines(
     alloc: Global,
     name: &str,

@@ -14,7 +14,6 @@ const TOKEN: &str = "a token of 32 hexadecimal digits";
 /// What `riders` has to be.
 const RIDERS: &str = "a table from tokens to classes";
 
-/// What is wanted if it is a class of the table.
 fn one_class(wrongs: &Wrongs, classes: Option<&Table>) -> Result<String, AllocError> {
     let Some(classes) = classes else {
         return String::from_str(wrongs.alloc, "a class of the table");
@@ -37,7 +36,6 @@ fn is_class(value: &Value, classes: Option<&Table>) -> bool {
     }
 }
 
-/// Looks at `default_class`.
 pub(super) fn check_default(
     wrongs: &mut Wrongs,
     tree: &Table,
@@ -53,7 +51,7 @@ pub(super) fn check_default(
     wrongs.value(top(wrongs.alloc, "default_class")?, value, wanted.as_str())
 }
 
-/// Looks at a key of `riders`: it is a token, and no earlier key is the same one.
+/// A key of `riders` is a token, and no earlier key is the same one.
 fn check_token<'t>(
     wrongs: &mut Wrongs,
     earlier: &mut BTreeMap<[u8; 16], &'t str>,
@@ -76,7 +74,6 @@ fn check_token<'t>(
     }
 }
 
-/// Looks at each rider.
 fn check_each(
     wrongs: &mut Wrongs,
     riders: &Table,
@@ -94,7 +91,6 @@ fn check_each(
     Ok(())
 }
 
-/// Looks at `riders`.
 pub(super) fn check_riders(
     wrongs: &mut Wrongs,
     tree: &Table,

@@ -14,10 +14,9 @@ const RANGES: &str = "an array of ranges, each with first, last and mode; [] for
 /// What an element of `validators` has to be.
 const RANGE: &str = "a range: a table with first, last and mode";
 
-/// The ranges so far, by their first numbers: the last number and the place of each.
+/// The ranges so far, by their first numbers: the last number and the index of each.
 type Ranges = BTreeMap<i64, (i64, usize)>;
 
-/// The earlier range that shares a number with one from `first` to `last`.
 fn shared(ranges: &Ranges, first: i64, last: i64) -> Option<(i64, i64, usize)> {
     let (begin, (end, place)) = ranges.range(..=last).next_back()?;
     if first <= *end {
@@ -52,7 +51,6 @@ fn check_overlap(
     }
 }
 
-/// Looks at the mode of a range.
 fn check_mode(
     wrongs: &mut Wrongs,
     path: &str,
@@ -77,7 +75,6 @@ fn check_mode(
     wrongs.value(path, value, wanted.as_str())
 }
 
-/// Looks at one range.
 fn check_range(
     wrongs: &mut Wrongs,
     ranges: &mut Ranges,
@@ -109,7 +106,6 @@ fn check_range(
     }
 }
 
-/// Looks at `validators`.
 pub(super) fn check_ranges(
     wrongs: &mut Wrongs,
     tree: &Table,

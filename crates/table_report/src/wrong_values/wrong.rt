@@ -5,31 +5,26 @@ use crate::places::Places;
 use std::alloc::{AllocError, Global};
 use toml::Value;
 
-/// How many letters of a wrong value a line shows at most.
+/// The most letters of a wrong value that a line shows.
 const SHOWN_LETTERS: usize = 60;
 
 /// What is wrong at a path.
 #[derive(Clone, Copy)]
 enum Part {
-    /// There is no such key.
     Missing,
-    /// The key itself.
     Key,
     Value,
 }
 
-/// One wrong value, and what is wanted in its place.
+/// One wrong value, and what has to be in its place.
 #[derive(Drop)]
 pub(super) struct Wrong {
-    /// The whole path.
     path: String,
     /// The path of what is shown: the table that lacks a key, the key, or the value.
     shown: String,
-    /// What is wrong there.
     part: Part,
     /// The value as TOML writes it. Empty if there is none.
     value: String,
-    /// What is wanted.
     wanted: String,
 }
 
@@ -57,14 +52,11 @@ fn shown(alloc: Global, value: &Value) -> Result<String, AllocError> {
 /// What is wrong with a table, in the order in which it is looked at.
 #[derive(Drop)]
 pub(super) struct Wrongs {
-    /// The allocator.
     pub(super) alloc: Global,
-    /// What was found.
     pub(super) found: Vec<Wrong>,
 }
 
 impl Wrongs {
-    /// No wrong value yet.
     pub(super) fn new(alloc: Global) -> Wrongs {
         Wrongs {
             alloc,
@@ -72,7 +64,6 @@ impl Wrongs {
         }
     }
 
-    /// Adds a key that is missing in the table at a path.
     pub(super) fn missing(
         &mut self,
         holder: &str,
@@ -90,7 +81,6 @@ impl Wrongs {
         Ok(())
     }
 
-    /// Adds a key that is wrong.
     pub(super) fn key(&mut self, path: String, wanted: &str) -> Result<(), AllocError> {
         let wrong = Wrong {
             shown: path.clone()?,
@@ -103,7 +93,6 @@ impl Wrongs {
         Ok(())
     }
 
-    /// Adds a value that is wrong.
     pub(super) fn value(
         &mut self,
         path: String,
