@@ -167,7 +167,7 @@ impl Explainer {
     }
 
     /// Posts the token's next tap, at the validator and the moment, and appends its line. The text
-    /// alone grows. If memory is refused, the tap is posted, but its line is not whole.
+    /// alone grows. If an allocation fails, the tap is posted, but its line is not whole.
     pub fn write_posted(
         &mut self,
         text: &mut String,
@@ -198,7 +198,7 @@ impl Explainer {
     }
 
     /// Takes the token's next entry, and appends its line. The text alone grows. It refuses an
-    /// entry from 2100-01-01T00:00Z on. If memory is refused, the entry is taken, but its line is
+    /// entry from 2100-01-01T00:00Z on. If an allocation fails, the entry is taken, but its line is
     /// not whole.
     pub fn write_next(
         &mut self,

@@ -1,4 +1,4 @@
-//! The ledger of one token's entries, and the head line.
+//! The ledger of one token's entries, and the header line.
 
 ghost use Rattle.std.specs.Prelude.{◌≡◌, ◌^◌, ◌<◌, ℕ, List, ◌++◌, IfErr, IfOk, OnOk, Some};
 ghost use Rattle.std.specs.Prelude.{string_bytes};
@@ -22,7 +22,7 @@ use tariffs::FareTable;
 /// More bytes than a line has.
 pub const LINE_ROOM_BYTES: usize = 1_024;
 
-/// The head line, in a text with room for a piece and these bytes more.
+/// The header line, in a text with room for a piece and these bytes more.
 pub fn head_with_room(alloc: Global, more: usize) -> Result<String, NoMemory>
     requires { more < 2 ^ 32 }
     ensures { IfOk result (λ text. string_bytes text ≡ head_text) }

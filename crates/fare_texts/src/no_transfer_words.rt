@@ -1,4 +1,4 @@
-//! The words behind an explained ride: why it is no transfer.
+//! The words after an explained ride: why it is no transfer.
 
 ghost use Rattle.std.specs.Prelude.{◌≡◌, ◌-◌, ◌++◌, List, ℕ, OnOk, length, string_bytes};
 ghost use Rattle.std.specs.Option.{ForSome};

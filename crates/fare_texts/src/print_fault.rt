@@ -5,7 +5,7 @@ use tap_views::NoMemory;
 /// Why a text was not printed.
 #[derive(Clone, Copy, Debug, PartialEq, Eq, thiserror::Error)]
 pub enum PrintFault {
-    /// The writer failed. A beginning of the text was written.
+    /// The writer failed. A prefix of the text was written.
     #[error("cannot write")]
     Write,
     /// The text could not be made, and nothing was written.

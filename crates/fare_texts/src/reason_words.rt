@@ -102,7 +102,7 @@ fn write_window(text: &mut String, start: u64, until: u64) -> Result<(), AllocEr
     write_moment(text, until)
 }
 
-/// The words of a charge behind its window.
+/// The words of a charge after its window.
 fn charge_end(charge: Charge) -> &'static str
     ensures { result.now ≡ charge_end charge }
 {

@@ -33,7 +33,7 @@ pub fn statement_text(
     Ok(text)
 }
 
-/// Appends the head line, `statement` and the token.
+/// Appends the header line, `statement` and the token.
 #[tactic(auto, unfolding(crate::specs::StatementText::statement_head))]
 pub fn write_statement_head(text: &mut String, token: Token) -> Result<(), AllocError>
     ensures { OnOk result (string_bytes text.new ≡ string_bytes text.old ++ statement_head token) }
@@ -64,7 +64,7 @@ fn write_entry(text: &mut String, table: &FareTable, entry: &Entry) -> Result<()
     Ok(())
 }
 
-/// Appends what an entry's line has behind its moment: the mode, the validator, the answer and the
+/// Appends what an entry's line has after its moment: the mode, the validator, the answer and the
 /// cents.
 #[tactic(auto, unfolding(crate::specs::StatementText::entry_words))]
 pub fn write_entry_words(
@@ -107,7 +107,7 @@ fn write_last_window(text: &mut String, window: WindowView) -> Result<(), AllocE
     Ok(())
 }
 
-/// Appends what a window's line has behind its end: how many rides were paid, and what they cost.
+/// Appends what a window's line has after its end: how many rides were paid, and what they cost.
 #[tactic(auto, unfolding(crate::specs::StatementText::window_words))]
 pub fn write_window_words(text: &mut String, window: WindowView) -> Result<(), AllocError>
     ensures { OnOk result (string_bytes text.new ≡ string_bytes text.old ++ window_words window) }

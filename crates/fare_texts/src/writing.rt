@@ -9,7 +9,7 @@ use crate::print_fault::PrintFault;
 use std::io;
 use std::io::{ErrorKind, Write};
 
-/// Writes the bytes at once. If a write fails, a beginning of them was written.
+/// Writes the bytes at once. If a write fails, a prefix of them was written.
 pub fn write_bytes<W: Write>(bytes: &[u8], out: &mut W) -> io::Result<()>
     ensures whole { OnOk result (Appends (W.contents out.old) (W.contents out.new) bytes.now) }
     ensures begun { OnErr result (Begins (W.contents out.old) (W.contents out.new) bytes.now) }
@@ -32,7 +32,7 @@ pub fn write_bytes<W: Write>(bytes: &[u8], out: &mut W) -> io::Result<()>
     Err(io::Error::from(ErrorKind::WriteZero))
 }
 
-/// Writes the bytes at once. If the writer fails, a beginning of them was written.
+/// Writes the bytes at once. If the writer fails, a prefix of them was written.
 pub fn write_out<W: Write>(bytes: &[u8], out: &mut W) -> Result<(), PrintFault>
     ensures ok { OnOk result (Appends (W.contents out.old) (W.contents out.new) bytes.now) }
     ensures begun { OnErr result (Begins (W.contents out.old) (W.contents out.new) bytes.now) }

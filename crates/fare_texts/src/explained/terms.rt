@@ -9,7 +9,7 @@ use crate::write_moment;
 use std::alloc::AllocError;
 use tariffs::{FareTable, Terms};
 
-/// Appends what a line of terms has behind its first words, with the end of the line.
+/// Appends what a line of terms has after its first words, with the end of the line.
 #[tactic(auto, unfolding(crate::specs::Explained::terms_words))]
 fn write_words(text: &mut String, terms: Terms) -> Result<(), AllocError>
     ensures { OnOk result (string_bytes text.new ≡ string_bytes text.old ++ terms_words terms) }

@@ -15,7 +15,7 @@ use std::alloc::{AllocError, Global};
 use tap_views::{NoMemory, Token};
 use tariffs::{Clock, FareTable};
 
-/// Appends the line of a window behind its first word.
+/// Appends the line of a window after its first word.
 fn write_line(
     text: &mut String,
     clock: &Clock,
