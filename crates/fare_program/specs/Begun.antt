@@ -12,7 +12,7 @@ use Rattle.program_manners.specs.declared.output.WriteEnd.{WriteEnd}
 use Rattle.world.specs.Origins.{Origin}
 use Rattle.sorted_bills.specs.Ledgers.{KnownAreBytes}
 
--- Known bytes grew, and with some bytes more behind them `Whole` would hold of all that stands.
+-- Known bytes grew, and with some bytes more after them `Whole` would hold of the whole.
 pub record IsBegun (before after : Option (List ℕ)) (Whole : Option (List ℕ) → Type 0)
     : Type 0 where
   pub front : List ℕ
@@ -24,7 +24,7 @@ pub record IsBegun (before after : Option (List ℕ)) (Whole : Option (List ℕ)
 abbrev pub IsSortedLedger : Asked → Type 0
 IsSortedLedger asked = (asked.sorted ≡ true) × (asked.ledger ≡ true) × (asked.token ≡ None)
 
--- the ledger of a part is asked for: nothing is promised of a beginning of it
+-- the ledger of a part is asked for: nothing is promised of a prefix of it
 abbrev pub IsPartLedger : Asked → Type 0
 IsPartLedger asked = (is_some asked.tokens ≡ true) × (asked.ledger ≡ true)
 
@@ -34,15 +34,15 @@ abbrev pub AreOfBytes : Asked → (List ℕ → Option (List ℕ)) → Type 0
 AreOfBytes asked under =
     (¬ IsPartLedger asked) × (IsSortedLedger asked → KnownAreBytes (map under asked.files))
 
--- What stands is a beginning: with some bytes more behind it, what is asked for would have been
+-- What is there is a prefix: with some bytes more after it, what is asked for would have been
 -- done.
 abbrev pub HasBegun : Asked → (List ℕ → Option (List ℕ)) → (List ℕ → Origin) → Option (List Loaded)
     → Option (List Loaded) → Option (List ℕ) → Option (List ℕ) → Type 0
 HasBegun asked known origin loaded loaded' out out' = (well : Bool)
     × IsBegun out out' (λ whole. Does asked known origin loaded loaded' out whole well)
 
--- What this fault left in the output. If a write failed, a beginning of the text that is asked for
--- was written, and nothing else. If memory was refused, nothing was written, or such a beginning.
+-- What this fault left in the output. If a write failed, a prefix of the text that is asked for
+-- was written, and nothing else. If an allocation failed, nothing was written, or such a prefix.
 -- Before any other fault nothing was written, unless a sorted file was refused after all were
 -- checked.
 abbrev pub IsLeftBy : Asked → (List ℕ → Option (List ℕ)) → (List ℕ → Origin) → Option (List Loaded)

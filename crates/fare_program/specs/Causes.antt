@@ -39,7 +39,7 @@ IsNameReported asked name =
 
 -- A fault of sorted files under these names, of which this is known, is the right one: a file that
 -- is named is one of them, and is refused for this reason, or all have too many taps. Any may have
--- changed after it was checked, and a write or want of memory may fail at any time.
+-- changed after it was checked, and a write or an allocation may fail at any time.
 abbrev pub IsRightOfSorted : List (List ℕ) → List (Option (List ℕ)) → Fault → Type 0
 IsRightOfSorted names known (AtOpening file) = IsOneOf file.name.now names
 IsRightOfSorted names known (Unsorted file) =
@@ -51,12 +51,12 @@ IsRightOfSorted names known Write = Unit {0}
 IsRightOfSorted names known NoMemory = Unit {0}
 IsRightOfSorted names known fault = ⊥
 
--- the text is TOML, and a class that it names cannot stand in a ledger
+-- the text is TOML, and a class that it names cannot be in a ledger
 abbrev pub HasOtherNames : List ℕ → Type 0
 HasOtherNames text =
     (tree : Members) × (parse_document text ≡ Some tree) × (has_plain_classes tree ≡ false)
 
--- All tables were loaded. A class that the text of this place names cannot stand in a ledger, and
+-- All tables were loaded. A class that the text of this place names cannot be in a ledger, and
 -- each class of the texts before it can.
 pub record RefusesClass (tables : TableNames) (loaded loaded' : Option (List Loaded)) (place : ℕ)
     : Type 0 where
@@ -68,7 +68,7 @@ pub record RefusesClass (tables : TableNames) (loaded loaded' : Option (List Loa
   pub other : HasOtherNames text
   pub before : All (λ earlier. ¬ HasOtherNames earlier) (take place texts)
 
--- The one table has a class that cannot stand in a ledger.
+-- The one table has a class that cannot be in a ledger.
 pub record RefusesTheNames (asked : Asked) (loaded loaded' : Option (List Loaded)) : Type 0 where
   pub tables : TableNames
   pub are_named : asked.table ≡ Some tables
@@ -76,7 +76,7 @@ pub record RefusesTheNames (asked : Asked) (loaded loaded' : Option (List Loaded
   pub place : ℕ
   pub refused : RefusesClass tables loaded loaded' place
 
--- Of several tables, the one of this name is the first that has a class that cannot stand in a
+-- Of several tables, the one of this name is the first that has a class that cannot be in a
 -- ledger.
 pub record RefusesNames (asked : Asked) (loaded loaded' : Option (List Loaded)) (name : List ℕ)
     : Type 0 where
@@ -89,10 +89,10 @@ pub record RefusesNames (asked : Asked) (loaded loaded' : Option (List Loaded)) 
 
 -- The fault is the right one for what is asked for. A file that is named is one of the words, and
 -- one that the source refused so. A table fault is the first one of the text that was loaded under
--- the table's name, behind those of the tables before it. A class's name is refused only for a
+-- the table's name, after those of the tables before it. A class's name is refused only for a
 -- traced ledger, and if a text has one that no ledger can have. There are too many uploads only
--- above 65,535. A write may fail at any time, and so may memory, also for gathering a live run. With
--- sorted files a file may have changed or be read no more.
+-- above 65,535. A write may fail at any time, and so may memory, also for gathering a live run.
+-- With sorted files a file may have changed or be read no more.
 abbrev pub IsRightFault : Asked → (List ℕ → Option (List ℕ)) → Option (List Loaded)
     → Option (List Loaded) → Option (Option (List ℕ) × LoadFault) → Fault → Type 0
 IsRightFault asked under loaded loaded' refused (File file) =

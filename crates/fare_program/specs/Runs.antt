@@ -16,7 +16,7 @@ use Rattle.fare_program.specs.Program.{Does, GaveUp}
 use Rattle.fare_program.specs.declared.fault.Fault.{Fault}
 use Rattle.fare_program.specs.declared.fault.Fault.TheVariants.{NoMemory}
 
--- What `main_over` promises, each clause under its name there: of these words, of what stands on
+-- What `main_over` promises, each clause under its name there: of these words, of what is on
 -- the disk under a name, of where the bytes there come from, of what the source had loaded before
 -- and after, of the last load that it refused, of what was written to the output and said on the
 -- standard error before and after, of why a write to the output failed (`end`), if it remembers

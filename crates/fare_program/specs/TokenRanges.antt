@@ -18,7 +18,7 @@ range_text Order = codes "fault: --tokens needs a FROM that is below BELOW"
 range_text NoSorted = codes "fault: --tokens needs --sorted"
 range_text WithToken = codes "fault: --tokens cannot be used with --token"
 
--- what stands before a dot and behind it and one dot more, if that follows it
+-- what is before a dot and after it and one dot more, if that follows it
 abbrev pub around_dots : List ℕ → List ℕ → Option (List ℕ × List ℕ)
 around_dots from [] = None
 around_dots from (byte ∷ below) = if byte == 46 then Some (from, below) else None

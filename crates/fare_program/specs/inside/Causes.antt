@@ -4,7 +4,7 @@ use Rattle.fare_service.specs.Faults.{IsForMemory}
 use Rattle.fare_program.specs.declared.fault.Fault.{Fault}
 use Rattle.fare_program.specs.declared.fault.Fault.TheVariants.{Uploads, Gather, Write, NoMemory}
 
--- a write failed, or memory was refused
+-- a write failed, or an allocation failed
 abbrev pub IsOfOutput : Fault → Type 0
 IsOfOutput Write = Unit {0}
 IsOfOutput NoMemory = Unit {0}

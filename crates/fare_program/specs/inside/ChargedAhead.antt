@@ -9,7 +9,7 @@ use Rattle.fare_program.specs.Program.{ShowsAsked}
 use Rattle.program_manners.specs.Loads.{Loaded}
 
 -- There is a table, and the files were read ahead. What is asked for of them, well or not, was
--- written, or a beginning of it: `Written` of its text.
+-- written, or a prefix of it: `Written` of its text.
 pub record IsChargedAhead (asked : Asked) (origin : List ℕ → Origin)
     (loaded loaded' : Option (List Loaded)) (table : Option Fares) (token : Option Token)
     (Written : List ℕ → Type 0) (well : Bool) : Type 0 where

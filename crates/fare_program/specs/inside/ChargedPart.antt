@@ -14,7 +14,7 @@ pub record IsChargedPart (ledger : Bool) (known : List (Option (List ℕ))) (far
       → IsPartText ledger fares files text
   pub written : Appends out out' text
 
--- a beginning of it was, and nothing else
+-- a prefix of it was, and nothing else
 pub record IsBegunPart (ledger : Bool) (known : List (Option (List ℕ))) (fares : Fares)
     (out out' : Option (List ℕ)) : Type 0 where
   pub text : List ℕ

@@ -16,7 +16,7 @@ pub record IsChargedSorted (asked : Asked) (known : List (Option (List ℕ))) (f
       → ShowsSettled asked fares files token text true
   pub written : Appends out out' text
 
--- a beginning of it was, and nothing else
+-- a prefix of it was, and nothing else
 pub record IsBegunSorted (asked : Asked) (known : List (Option (List ℕ))) (fares : Fares)
     (token : Option Token) (out out' : Option (List ℕ)) : Type 0 where
   pub text : List ℕ

@@ -35,8 +35,8 @@ abbrev pub as_remembered : Option WriteEnd → Fault → Fault
 as_remembered None Write = NoMemory
 as_remembered end fault = fault
 
--- why a run over this number of uploads came to nothing: there were too many of them, or memory was
--- refused, also to the gathering
+-- why a run over this number of uploads came to nothing: there were too many of them, or an
+-- allocation failed, also to the gathering
 abbrev pub IsRunFailure : ℕ → Fault → Type 0
 IsRunFailure uploads Uploads = 65535 < uploads
 IsRunFailure uploads NoMemory = Unit {0}

@@ -12,7 +12,7 @@ use Rattle.world.specs.Origins.{Origin}
 use Rattle.world.specs.Run.{Run, with_all}
 
 -- The files were posted as they are, as uploads that were lent. If each was posted whole, what is
--- shown of the outcome is shown over their plain history.
+-- shown of the outcome is shown over their sequential history.
 pub record IsLiveRun (fares : Fares) (shards workers : ℕ) (uploads : List Origin)
     (files : List (List ℕ)) (outcome : OutcomeView) : Type 0 where
   pub lent : AreLentAs uploads files

@@ -14,7 +14,7 @@ IsClassFaultAt tables place (NamedClass line) = (tables.later ≢ [])
     × (slice_get (tables.first ∷ map file_named tables.later) place ≡ Some line.0.now)
 IsClassFaultAt tables place _ = ⊥
 
--- the same, or memory was refused
+-- the same, or an allocation failed
 abbrev pub IsClassFault : TableNames → WrongNames → Fault → Type 0
 IsClassFault tables wrong NoMemory = wrong.fault ≡ class.NoMemory
 IsClassFault tables wrong reported =

@@ -6,8 +6,8 @@ use Rattle.fare_program.specs.Listing.{KeptListing, Listed, StandsFor}
 use Rattle.fare_program.specs.Uploads.{AreReadings, has_no_fault, have_no_fault, lines_from}
 use Rattle.fare_program.specs.Uploads.{listed_in, listing_lines, tap_lines}
 
--- A listing went on with these taps: whatever list it stood for, their lines were appended, and it
--- now stands for that list followed by them.
+-- A listing went on with these taps: whatever list it represented, their lines were appended, and
+-- it now represents that list followed by them.
 abbrev pub Lists : KeptListing → KeptListing → List ℕ → List ℕ → ℕ → ℕ → List Listed → Type 0
 Lists kept kept' text text' upload number taps = (before : List Listed) → StandsFor kept before
     → (text' ≡ text ++ tap_lines upload number before taps) × StandsFor kept' (before ++ taps)
