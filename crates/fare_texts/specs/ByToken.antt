@@ -6,7 +6,7 @@ use Rattle.histories.specs.declared.entry.Entry.{Entry}
 use Rattle.tap_views.specs.declared.token.Token.{Token}
 use Rattle.fare_texts.specs.Lines.{NoFall}
 
--- the list has these entries in order of token, and those of each token as they stood
+-- the list has these entries in order of token, and those of each token as they were
 pub record IsByToken (entries list : List Entry) : Type 0 where
   pub moved : IsPermutation entries list
   pub no_fall : NoFall list

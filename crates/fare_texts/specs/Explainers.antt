@@ -1,4 +1,4 @@
--- What a explainer stands for.
+-- What an explainer represents.
 use Rattle.std.specs.Prelude.{◌≡◌, ℕ, List, length, map}
 use Rattle.tariffs.specs.Fares.{Fares}
 use Rattle.account_rule.specs.Replies.{reply}
@@ -32,7 +32,7 @@ next_entry fares token earlier validator moment =
       cents = replied.cents;
     }
 
--- the explainer has taken these entries: its account stands for their taps, and its number counts
+-- the explainer has taken these entries: its account represents their taps, and its number counts
 -- them
 pub record HasExplained (fares : Fares) (explainer : Explainer)
     (entries : List Entry) : Type 0 where

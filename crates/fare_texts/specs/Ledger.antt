@@ -1,4 +1,4 @@
--- The ledger of a history: a head line, and the lines of each token, by rising tokens.
+-- The ledger of a history: a header line, and the lines of each token, by increasing tokens.
 use Rattle.std.specs.Prelude.{◌≡◌, ℕ, List, [], ◌∷◌, ◌++◌, Option, Some, None}
 use Rattle.tariffs.specs.Fares.{Fares}
 use Rattle.histories.specs.Entry.{own}
@@ -8,7 +8,7 @@ use Rattle.tap_views.specs.declared.token.Token.{Token}
 use Rattle.fare_texts.specs.LedgerLines.{AreLedgerLines, head_text}
 
 -- whose lines a ledger has: those of the one token that is asked for, or of all tokens of the
--- history, rising, each once
+-- history, increasing, each once
 abbrev pub ledger_tokens : Option Token → List Entry → List Token
 ledger_tokens None history = tokens history
 ledger_tokens (Some token) history = token ∷ []
@@ -20,7 +20,7 @@ AreLinesOfEach fares history (token ∷ others) text =
     (lines : List ℕ) × (rest : List ℕ) × AreLedgerLines fares token (own token history) lines
     × AreLinesOfEach fares history others rest × (text ≡ lines ++ rest)
 
--- the ledger of a history: the head line once, and then the lines of each token
+-- the ledger of a history: the header line once, and then the lines of each token
 pub record IsLedgerOver (fares : Fares) (history : List Entry) (only : Option Token)
     (text : List ℕ) : Type 0 where
   pub lines : List ℕ

@@ -1,4 +1,4 @@
--- The ledger: a head line, and a line of twelve fields for each entry of a token.
+-- The ledger: a header line, and a line of twelve fields for each entry of a token.
 use Rattle.std.specs.Prelude.{◌≡◌, ℕ, ◌+◌, List, [], ◌∷◌, ◌++◌, length, map, Option, Some, None}
 use Rattle.std.specs.Prelude.{codes, slice_index_or}
 use Rattle.std.specs.Fmt.{decimal}
@@ -18,7 +18,7 @@ use Rattle.tap_views.specs.declared.token.Token.{Token}
 use Rattle.fare_texts.specs.Moments.{IsMomentText}
 use Rattle.fare_texts.specs.StatementText.{answer_text}
 
--- the head line
+-- the header line
 abbrev pub head_text : List ℕ
 head_text =
     codes

@@ -24,12 +24,12 @@ abbrev pub NoFall : List Entry → Type 0
 NoFall [] = Unit {0}
 NoFall (entry ∷ entries) = NoFallFrom entry.token entries
 
--- the line of an entry that stands after these: the one that it has among the entries of its token
+-- the line of an entry that is after these: the one that it has among the entries of its token
 abbrev pub IsLineAfter : Fares → List Entry → Entry → List ℕ → Type 0
 IsLineAfter fares earlier entry line =
     IsLedgerLineAfter fares entry.token (own entry.token earlier) entry line
 
--- the lines of entries that stand after these
+-- the lines of entries that are after these
 abbrev pub AreLinesAlong : Fares → List Entry → List Entry → List ℕ → Type 0
 AreLinesAlong fares earlier [] text = text ≡ []
 AreLinesAlong fares earlier (entry ∷ entries) text =

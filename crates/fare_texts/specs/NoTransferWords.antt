@@ -1,4 +1,4 @@
--- The words behind an explained ride: why it is no transfer.
+-- The words after an explained ride: why it is no transfer.
 use Rattle.std.specs.Prelude.{◌≡◌, ℕ, ◌-◌, ◌/◌, ◌%◌, List, [], ◌++◌, Option, Some, None, codes}
 use Rattle.std.specs.Prelude.{map, option_map, slice_index_or}
 use Rattle.std.specs.Fmt.{decimal}

@@ -1,4 +1,4 @@
--- The words that end an explained line, behind the entry's own.
+-- The words that end an explained line, after the entry's own.
 use Rattle.std.specs.Prelude.{◌≡◌, ℕ, ◌+◌, ◌<◌, List, [], ◌++◌, length, codes, slice_index_or}
 use Rattle.std.specs.Fmt.{decimal}
 use Rattle.tariffs.specs.Fares.{Fares}
@@ -27,7 +27,7 @@ charge_start (CeilingCut place cents) = place_start place
 charge_start (CeilingReached place) = place_start place
 charge_start RideLimitReached = codes " because the ride limit of the window"
 
--- the words of a charge behind the window: ` at full fare`
+-- the words of a charge after the window: ` at full fare`
 abbrev pub charge_end : Charge → List ℕ
 charge_end (Full place cents) = codes " at full fare"
 charge_end (CeilingCut place cents) = codes " cut by the ceiling"

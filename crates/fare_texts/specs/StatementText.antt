@@ -38,7 +38,7 @@ mode_text fares moment validator =
 unfoldable pub statement_head : Token → List ℕ
 statement_head token = codes "statement " ++ (encode_lower (bytes_of token) ++ codes "\n")
 
--- ` subway 1000 paid 300`: what a line has of the entry behind its moment
+-- ` subway 1000 paid 300`: what a line has of the entry after its moment
 unfoldable pub entry_words : Fares → Entry → List ℕ
 entry_words fares entry =
     codes " " ++ (mode_text fares entry.moment entry.validator ++ (codes " "
@@ -59,7 +59,7 @@ AreEntryLines fares (entry ∷ entries) text =
     × AreEntryLines fares entries rest
     × (text ≡ line ++ rest)
 
--- ` paid 1 cents 300`: what a line has of the window behind its end
+-- ` paid 1 cents 300`: what a line has of the window after its end
 unfoldable pub window_words : WindowView → List ℕ
 window_words window =
     codes " paid " ++ (decimal window.paid ++ (codes " cents " ++ decimal window.cents))
