@@ -9,7 +9,7 @@ use Rattle.ledger_fields.specs.Rows.{Charge, Key, Row}
 use Rattle.ledger_changes.specs.Rows.{is_same_charge, key_cmp}
 
 -- a line of one bill beside the line of the other that has the same key; a line that has none
--- beside it stands alone
+-- beside it is alone
 pub record Pair : Type 0 where
   pub key : Key
   pub before : Option Charge
@@ -66,7 +66,7 @@ pairs_by Less old new behind_old behind_both behind_new = only_old old ∷ behin
 pairs_by Equal old new behind_old behind_both behind_new = both_rows old new ∷ behind_both
 pairs_by Greater old new behind_old behind_both behind_new = only_new new ∷ behind_new
 
--- the pairs of a row and these new ones, if `more` gives those of the old rows behind it
+-- the pairs of a row and these new ones, if `more` gives those of the old rows after it
 abbrev pub pairs_with : (List Row → List Pair) → Row → List Row → List Pair
 pairs_with more old [] = only_old old ∷ more []
 pairs_with more old (new ∷ news) =

@@ -6,7 +6,7 @@ use Rattle.std.specs.Fmt.{decimal}
 use Rattle.ledger_changes.specs.Changes.{Pair}
 use Rattle.ledger_fields.specs.Rows.{Charge}
 
--- the head line
+-- the header line
 abbrev pub corrections_head : List ℕ
 corrections_head =
     codes
@@ -18,7 +18,7 @@ change_word None after = codes "added"
 change_word (Some before) None = codes "removed"
 change_word (Some before) (Some after) = codes "changed"
 
--- the answer, the cents and the reason, each behind a comma; three empty fields if there is no line
+-- the answer, the cents and the reason, each after a comma; three empty fields if there is no line
 abbrev pub charge_fields : Option Charge → List ℕ
 charge_fields None = codes ",,,"
 charge_fields (Some charge) =

@@ -52,7 +52,7 @@ sums_of changes = record {
   after = sum_by (λ change. cents_of change.after) changes;
 }
 
--- the head line
+-- the header line
 abbrev pub tokens_head : List ℕ
 tokens_head = codes "token,added,removed,changed,cents_before,cents_after,cents_change\n"
 
@@ -84,7 +84,7 @@ add_sums a b = record {
 abbrev pub no_sums : List ℕ → TokenSum
 no_sums token = record { token = token; sums = sums_of [] }
 
--- the open sums, if they are the token's; else they begin anew
+-- the open sums, if they are the token's; else they begin again
 abbrev pub sums_for : Option TokenSum → List ℕ → TokenSum
 sums_for None token = no_sums token
 sums_for (Some last) token = if is_same_text last.token token then last else no_sums token
@@ -111,7 +111,7 @@ abbrev pub change_lines : Bool → Option TokenSum → Pair → List ℕ
 change_lines false last change = correction_line change
 change_lines true last change = ended_line last change.key.token
 
--- the sums that are open behind it
+-- the sums that are open after it
 abbrev pub sums_with : Bool → Option TokenSum → Pair → Option TokenSum
 sums_with false last change = last
 sums_with true last change = Some (add_changes (sums_for last change.key.token) (change ∷ []))
@@ -131,7 +131,7 @@ abbrev pub all_lines : Bool → List Pair → List ℕ
 all_lines by_token changes =
     lines_of_changes by_token None changes ++ sums_line (last_sums by_token None changes)
 
--- the head line
+-- the header line
 abbrev pub head_of : Bool → List ℕ
 head_of false = corrections_head
 head_of true = tokens_head
@@ -152,7 +152,7 @@ corrections_of by_token old new =
     option_map (text_of by_token) (changes_of_both (rows_of old) (rows_of new))
 
 -- ---- what the sums of tokens say
--- these are the tokens that have a correction: each once, rising
+-- these are the tokens that have a correction: each once, increasing
 pub record AreTokensOf (changes : List Pair) (tokens : List (List ℕ)) : Type 0 where
   pub rising : IsStrictlySortedBy text_cmp tokens
   pub some : All (λ token. ¬ (of_token token changes ≡ [])) tokens
