@@ -82,7 +82,7 @@ IsFaultReported fault said said' failed = MatchBool (is_quiet fault) (said' ≡ 
     (LineWritten said said' failed (fault_text fault))
 
 -- The source refused the file of one of these words, which the fault names, for its reason; or
--- memory was refused.
+-- an allocation failed.
 abbrev pub IsRefusal : Option (Option (List ℕ) × LoadFault) → List (List ℕ) → Fault → Type 0
 IsRefusal refused words (Unread word) =
     IsOneOf word.now words × Refuses refused (file_named word.now) load.Unread
@@ -92,7 +92,7 @@ IsRefusal refused words NoMemory = ⊤
 IsRefusal refused words fault = ⊥
 
 -- The fault of a writer that remembers this of its writes. If it remembers none that failed, the
--- fault is that memory was refused.
+-- fault is that an allocation failed.
 abbrev pub failed_as : Option WriteEnd → Fault
 failed_as (Some writes.Closed) = Closed
 failed_as (Some writes.Refused) = Write

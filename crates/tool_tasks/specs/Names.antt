@@ -15,7 +15,7 @@ shown_letter letter = if is_control letter
 abbrev pub escaped : List ℕ → List ℕ
 escaped text = flat_map shown_letter (chars text)
 
--- what the file is called that a word names; `-` stands for standard input
+-- what the file is called that a word names; `-` represents standard input
 abbrev pub called : List ℕ → List ℕ
 called word = if bytes_eq word (codes "-") then codes "standard input" else escaped word
 

@@ -17,7 +17,7 @@ use Rattle.tool_tasks.specs.declared.fault.Fault.{Fault}
 use Rattle.tool_tasks.specs.declared.fault.Fault.TheVariants.{NoMemory, Unmade}
 use Rattle.tool_tasks.specs.declared.sort.SortWords.{SortWords}
 
--- The file has exactly the good taps of the uploads, in canonical order and in batches of 512, the
+-- The file has exactly the valid taps of the uploads, in canonical order and in batches of 512, the
 -- last of fewer if need be. None is empty.
 pub record IsSortedOf (uploads : List (List ℕ)) (file : List ℕ) : Type 0 where
   pub order : List TapFields
@@ -61,7 +61,7 @@ refused_lines words [] = []
 refused_lines [] (end ∷ ends) = []
 refused_lines (word ∷ words) (end ∷ ends) = refused_line word end ++ refused_lines words ends
 
--- The file of this name could not be made; or memory was refused.
+-- The file of this name could not be made; or an allocation failed.
 abbrev pub IsUnmade : List ℕ → Option (List ℕ) → Fault → Type 0
 IsUnmade word failed (Unmade named) = (named.now ≡ word) × IsNotMade failed word
 IsUnmade word failed NoMemory = ⊤
