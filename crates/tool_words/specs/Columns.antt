@@ -27,7 +27,7 @@ is_equals byte = byte == 61
 abbrev pub between_commas : Text → List Text
 between_commas text = slice_split is_comma text
 
--- what is before and what is behind the first `=` of a word, if it has one
+-- what is before and what is after the first `=` of a word, if it has one
 abbrev pub parts_of : Text → Option (Text × Text)
 parts_of word = if nat_lt (position_or_len is_equals word) (length word)
     then Some (before_first is_equals word, after_first is_equals word) else None
@@ -67,7 +67,7 @@ columns_among words = if length words == 3
 abbrev pub columns_in : Text → Option ColumnNames
 columns_in text = columns_among (between_commas text)
 
--- what stands between two fields: a comma if the words do not say, and none if they say it wrong
+-- what is between two fields: a comma if the words do not say, and none if they say it wrong
 abbrev pub separator_in : Option Text → Option Separator
 separator_in None = Some separators.Comma
 separator_in (Some word) = if bytes_eq word (codes ",") then Some separators.Comma

@@ -30,12 +30,12 @@ abbrev pub rules_of : Row → List Rule
 rules_of (row.One takes need) = rule_by need (taken_rule takes) ∷ []
 rules_of row.List = list_option ∷ null_flag ∷ []
 
--- the command with these rules behind its own
+-- the command with these rules after its own
 abbrev pub with_rules : App → List Rule → App
 with_rules app [] = app
 with_rules app (rule ∷ rules) = with_rules (with_rule app rule) rules
 
--- the command with the rules of these rows behind its own
+-- the command with the rules of these rows after its own
 abbrev pub with_rows : App → List Row → App
 with_rows app [] = app
 with_rows app (row ∷ rows) = with_rows (with_rules app (rules_of row)) rows
