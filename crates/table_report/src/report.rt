@@ -1,17 +1,5 @@
 //! A fare table's text as it was understood, or why it is none.
 
-ghost use Rattle.std.specs.Prelude.{◌≡◌, ◌≢◌, ◌↔◌, true, false, IfErr, IfOk, IsUtf8, Ok, OnOk};
-ghost use Rattle.std.specs.Prelude.{option_map};
-ghost use Rattle.std.specs.Io.KnownBytes.{Appends};
-ghost use Rattle.tariffs.specs.TableMeaning.{TableMeaning};
-ghost use Rattle.fare_table.specs.TableMeaning.{meaning_in};
-ghost use Rattle.table_report.specs.ReadTable.{IsReadFrom, IsRightRefusal};
-ghost use Rattle.table_report.specs.SqlText.{has_names_in_line, sql_text};
-ghost use Rattle.table_report.specs.Warned.{warned_count};
-ghost use Rattle.table_report.specs.declared.report.Refusal.{Refusal};
-ghost use Rattle.table_report.specs.declared.sql.ReportFault.{ReportFault};
-ghost use Rattle.table_report.specs.inside.Refusals.{IsNoToml, IsOfFault};
-
 use crate::lines::lines_of;
 use crate::places::Places;
 use crate::seen::SeenValidators;
@@ -22,20 +10,16 @@ use fare_table::{FareTable, ReadFareTable, TableFault};
 use jiff::Timestamp;
 use std::alloc::{AllocError, Global};
 use std::io::Write;
-use std::marker::Model;
 use tap_views::NoMemory;
 use toml::Table;
 use toml::de::Error as TomlError;
 
-/// What is asked of a table.
 #[derive(Clone, Copy)]
 pub struct Wanted<'a> {
     /// The name of its file, as lines show it.
     pub name: &'a str,
-    /// The moment from which it is valid, if it follows other tables, in milliseconds since
-    /// 1970-01-01T00:00Z.
+    /// Of a later table, in milliseconds since 1970-01-01T00:00Z.
     pub valid_from: Option<u64>,
-    /// Whether each rider has a line.
     pub has_riders: bool,
     /// The moment after which changes of clocks have lines.
     pub from: Timestamp,
@@ -46,32 +30,22 @@ pub struct Wanted<'a> {
 /// The lines of what the rules of a table ignore.
 #[derive(Drop)]
 pub struct Warnings {
-    /// The lines.
     pub lines: String,
-    /// How many there are.
     pub count: usize,
 }
 
-/// Why a text is no fare table.
 #[derive(Drop)]
 pub enum Refusal {
-    /// It is not UTF-8.
     NotUtf8,
     /// It is no TOML, at this line and column, from 1, for this reason.
     NotToml(usize, usize, TomlError),
-    /// Some values are wrong: a line of each.
     WrongValues(String),
     /// It has this fault, and no value was found to be wrong.
     Fault(TableFault),
-    /// Memory was refused.
     NoMemory,
 }
 
 impl From<AllocError> for Refusal {
-    ghost use Rattle.table_report.specs.declared.report.Refusal.TheVariants.{NoMemory as ForMemory};
-
-    ghost from_gives = { λ _ refusal. refusal ≡ ForMemory };
-
     fn from(_refused: AllocError) -> Self {
         Refusal::NoMemory
     }
@@ -81,44 +55,13 @@ impl From<AllocError> for Refusal {
 #[derive(Drop)]
 pub struct TableText<'t> {
     text: &'t str,
-    /// Its keys and values.
     tree: Table,
-    /// What it means.
     fares: FareTable,
 }
 
-impl<'t> Model for TableText<'t> {
-    ghost use Rattle.std.specs.Prelude.{◌≡◌, Some};
-    ghost use Rattle.toml.specs.Parse.{parse_document};
-    ghost use Rattle.toml.specs.View.{table_view};
-    ghost use Rattle.table_report.specs.ReadTable.{ReadTable};
-
-    ghost Value = { ReadTable };
-
-    ghost view = { λ t. record { text = t.text.now; fares = t.fares } };
-
-    ghost invariant = { λ t. parse_document t.text.now ≡ Some (table_view t.tree) };
-}
-
 impl<'t> TableText<'t> {
-    ghost use Rattle.std.specs.Prelude.{◌≡◌, ◌≢◌, ◌↔◌, true, false, IfErr, IfOk, IsUtf8, Ok, OnOk};
-    ghost use Rattle.std.specs.Prelude.{option_map};
-    ghost use Rattle.std.specs.Io.KnownBytes.{Appends};
-    ghost use Rattle.tariffs.specs.TableMeaning.{TableMeaning};
-    ghost use Rattle.fare_table.specs.TableMeaning.{meaning_in};
-    ghost use Rattle.table_report.specs.ReadTable.{IsReadFrom, IsRightRefusal};
-    ghost use Rattle.table_report.specs.SqlText.{has_names_in_line, sql_text};
-    ghost use Rattle.table_report.specs.Warned.{warned_count};
-
-    /// Reads the bytes of a file of this name, as lines show it. A text is refused only if it means
-    /// no fare table, or for want of memory.
-    pub fn read(alloc: Global, name: &str, bytes: &'t [u8]) -> Result<TableText<'t>, Refusal>
-        ensures means { IfOk result (IsReadFrom bytes.now) }
-        ensures refused { IfErr result (λ e. e ≢ Refusal.NoMemory → IsUtf8 bytes.now
-            → (meaning : TableMeaning) → ¬ (meaning_in bytes.now ≡ Ok meaning)) }
-        // The reason is the right one.
-        ensures reason { IfErr result (IsRightRefusal bytes.now) }
-    {
+    /// Reads the bytes of a file, whose name is as lines show it.
+    pub fn read(alloc: Global, name: &str, bytes: &'t [u8]) -> Result<TableText<'t>, Refusal> {
         let Ok(text) = str::from_utf8(bytes) else {
             return Err(Refusal::NotUtf8);
         };
@@ -138,10 +81,7 @@ impl<'t> TableText<'t> {
         }
     }
 
-    /// What it means.
-    pub fn fares(&self, alloc: Global) -> Result<FareTable, NoMemory>
-        ensures { IfOk result (λ fares. fares ≡ self.now.fares) }
-    {
+    pub fn fares(&self, alloc: Global) -> Result<FareTable, NoMemory> {
         self.fares.try_clone(alloc)
     }
 
@@ -153,16 +93,7 @@ impl<'t> TableText<'t> {
         wanted: &Wanted<'_>,
         seen: Option<&SeenValidators>,
         out: &mut W,
-    ) -> Result<Warnings, ReportFault>
-        ensures sql { OnOk result (wanted.now.is_sql ≡ true
-            → Appends (W.contents out.old) (W.contents out.new) (sql_text self.now.fares)) }
-        ensures kept { IfErr result (λ fault. fault ≢ ReportFault.Write → out.new ≡ out.old) }
-        ensures named { IfErr result (λ fault. fault ≡ ReportFault.Name
-            → (wanted.now.is_sql ≡ true) × (has_names_in_line self.now.fares ≡ false)) }
-        // There is no warning exactly if the rules ignore nothing.
-        ensures warned { IfOk result (λ warnings. (warnings.count ≡ 0)
-            ↔ (warned_count self.now (option_map (λ s. s.now) seen.entry) ≡ 0)) }
-    {
+    ) -> Result<Warnings, ReportFault> {
         let read = ReadText {
             name: wanted.name,
             text: self.text,
@@ -183,9 +114,7 @@ impl<'t> TableText<'t> {
 }
 
 /// Why the text is no TOML, with the line and the column.
-fn not_toml(alloc: Global, text: &str, error: TomlError) -> Result<Refusal, AllocError>
-    ensures { IfOk result IsNoToml }
-{
+fn not_toml(alloc: Global, text: &str, error: TomlError) -> Result<Refusal, AllocError> {
     let start = match error.span() {
         Some(span) => span.start,
         None => 0,
@@ -202,9 +131,7 @@ fn refusal_of(
     text: &str,
     tree: &Table,
     fault: TableFault,
-) -> Result<Refusal, AllocError>
-    ensures { IfOk result (IsOfFault fault) }
-{
+) -> Result<Refusal, AllocError> {
     let lines = wrong_lines(alloc, name, text, tree)?;
     if lines.is_empty() {
         return Ok(Refusal::Fault(fault));

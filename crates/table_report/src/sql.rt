@@ -1,25 +1,10 @@
 //! A fare table as SQL tables, in words that SQLite and PostgreSQL share.
 
-ghost use Rattle.std.specs.Prelude.{◌≡◌, ◌≢◌, ◌++◌, true, false, IfErr, IfOk, OnOk, codes, map};
-ghost use Rattle.std.specs.Prelude.{string_bytes};
-ghost use Rattle.std.specs.Io.KnownBytes.{Appends};
-ghost use Rattle.std.specs.List.{list_all};
-ghost use Rattle.table_report.specs.declared.sql.ReportFault.{ReportFault};
-ghost use Rattle.table_report.specs.SqlText.{begins_control, has_names_in_line, is_control};
-ghost use Rattle.table_report.specs.SqlText.{is_control_end, is_in_line};
-ghost use Rattle.table_report.specs.SqlText.{rows_text, sql_text, tables_text};
-
-mod fields;
-mod rows;
-mod tables;
-
-use fare_table::FareTable;
-use fields::put;
+use crate::names::{class_name, mode_name};
+use fare_table::{FareTable, Terms, TransferTerms, WindowSpan};
 use std::alloc::{AllocError, Global};
+use std::fmt;
 use std::io::Write;
-use tables::{
-    put_classes, put_fares, put_modes, put_pairs, put_ranges, put_riders, put_window, put_zone,
-};
 
 /// Why a fare table was not written as SQL.
 #[derive(Clone, Copy, Debug, PartialEq, Eq, thiserror::Error)]
@@ -36,17 +21,13 @@ pub enum ReportFault {
 }
 
 impl From<AllocError> for ReportFault {
-    ghost use Rattle.table_report.specs.declared.sql.ReportFault.TheVariants as faults;
-
-    ghost from_gives = { λ _ fault. fault ≡ faults.NoMemory };
-
     fn from(_refused: AllocError) -> Self {
         ReportFault::NoMemory
     }
 }
 
 /// The statements that make the tables.
-const TABLES: &[u8] = b"CREATE TABLE classes (name TEXT NOT NULL PRIMARY KEY, fare BIGINT NOT NULL,
+const TABLES: &str = "CREATE TABLE classes (name TEXT NOT NULL PRIMARY KEY, fare BIGINT NOT NULL,
   rides BIGINT NOT NULL, ceiling BIGINT NOT NULL, is_default INTEGER NOT NULL,
   transfers BIGINT NOT NULL, transfer_ms BIGINT NOT NULL);
 CREATE TABLE fares (class TEXT NOT NULL, mode TEXT NOT NULL, fare BIGINT NOT NULL,
@@ -61,123 +42,157 @@ CREATE TABLE zone (rule TEXT NOT NULL);
 CREATE TABLE window_span (unit TEXT NOT NULL, most_days BIGINT NOT NULL);
 ";
 
+/// A text in quotes, in which an apostrophe stands twice.
+#[derive(Clone, Copy)]
+struct Quoted<'a>(&'a str);
+
+impl fmt::Display for Quoted<'_> {
+    fn fmt<W: fmt::Write>(&self, f: &mut fmt::Formatter<W>) -> fmt::Result {
+        f.write_char('\'')?;
+        for letter in self.0.chars() {
+            if letter == '\'' {
+                f.write_char('\'')?;
+            }
+            f.write_char(letter)?;
+        }
+        f.write_char('\'')
+    }
+}
+
 /// Writes a fare table as SQL: the statements that make its tables, and one for each row, in a
 /// transaction. On a fault of memory or of a name nothing was written.
-pub fn write_sql<W: Write>(alloc: Global, fares: &FareTable, out: &mut W) -> Result<(), ReportFault>
-    ensures ok { OnOk result
-        (Appends (W.contents out.old) (W.contents out.new) (sql_text fares.now)) }
-    ensures kept { IfErr result (λ fault. fault ≢ ReportFault.Write → out.new ≡ out.old) }
-
-    // A name that SQL does not take is reported exactly if the table has one.
-    ensures named { OnOk result (has_names_in_line fares.now ≡ true) }
-    ensures fault { IfErr result (λ fault. fault ≡ ReportFault.Name
-        → has_names_in_line fares.now ≡ false) }
-{
+pub(crate) fn write_sql<W: Write>(
+    alloc: Global,
+    fares: &FareTable,
+    out: &mut W,
+) -> Result<(), ReportFault> {
+    if !are_in_line(fares.class_names()) {
+        return Err(ReportFault::Name);
+    }
     let text = sql_of(alloc, fares)?;
-    if out.write_all(text.as_slice()).is_err() {
+    if out.write_all(text.as_bytes()).is_err() {
         return Err(ReportFault::Write);
     }
     Ok(())
 }
 
-/// The text of those statements.
-fn sql_of(alloc: Global, fares: &FareTable) -> Result<Vec<u8>, ReportFault>
-    ensures text { IfOk result (λ text. text.items ≡ sql_text fares.now) }
-    ensures named { OnOk result (has_names_in_line fares.now ≡ true) }
-    ensures fault { IfErr result (λ fault. fault ≡ ReportFault.Name
-        → has_names_in_line fares.now ≡ false) }
-    ensures no_write { IfErr result (λ fault. fault ≢ ReportFault.Write) }
-{
-    if !are_in_line(fares.class_names()) {
-        return Err(ReportFault::Name);
+/// Whether no name has a control character.
+fn are_in_line(names: &[String]) -> bool {
+    for name in names {
+        for letter in name.chars() {
+            if letter.is_control() {
+                return false;
+            }
+        }
     }
-    let mut text = Vec::new(alloc);
-    put_sql(&mut text, fares)?;
+    true
+}
+
+/// The text of all statements.
+fn sql_of(alloc: Global, fares: &FareTable) -> Result<String, AllocError> {
+    let mut text = String::new(alloc);
+    text.push_str("BEGIN;\n")?;
+    text.push_str(TABLES)?;
+    put_classes(&mut text, fares)?;
+    put_fares(&mut text, fares)?;
+    for mode in fares.mode_names() {
+        let mode = Quoted(mode.as_str());
+        write!(text, "INSERT INTO modes VALUES ({mode});\n")?;
+    }
+    put_pairs(&mut text, fares)?;
+    put_ranges(&mut text, fares)?;
+    put_riders(&mut text, fares)?;
+    if let Some(rule) = fares.zone_text() {
+        let rule = Quoted(rule);
+        write!(text, "INSERT INTO zone VALUES ({rule});\n")?;
+    }
+    put_window(&mut text, fares.window_span())?;
+    text.push_str("COMMIT;\n")?;
     Ok(text)
 }
 
-/// Appends the text of those statements.
-fn put_sql(text: &mut Vec<u8>, fares: &FareTable) -> Result<(), AllocError>
-    ensures { OnOk result (text.new.items ≡ text.old.items ++ sql_text fares.now) }
-{
-    put(text, b"BEGIN;\n")?;
-    put_tables(text)?;
-    put_rows(text, fares)?;
-    put(text, b"COMMIT;\n")?;
+fn put_classes(text: &mut String, fares: &FareTable) -> Result<(), AllocError> {
+    for (place, class) in fares.classes().iter().enumerate() {
+        let name = Quoted(class_name(fares, place));
+        let Terms {
+            fare,
+            rides,
+            ceiling,
+        } = class.terms;
+        let is_default = u32::from(place == fares.default_class() as usize);
+        let TransferTerms { taps, time } = class.transfers;
+        write!(
+            text,
+            "INSERT INTO classes VALUES ({name}, {fare}, {rides}, {ceiling}, {is_default}, {taps}, {time});\n"
+        )?;
+    }
     Ok(())
 }
 
-/// Whether no name has a control character.
-fn are_in_line(names: &[String]) -> bool
-    ensures { result ≡ list_all is_in_line (map string_bytes names.now) }
-{
-    let mut rest = names;
-    while let Some((name, behind)) = rest.split_first() {
-        if !is_in_line(name.as_str()) {
-            return false;
+fn put_fares(text: &mut String, fares: &FareTable) -> Result<(), AllocError> {
+    for (place, class) in fares.classes().iter().enumerate() {
+        let name = Quoted(class_name(fares, place));
+        for (mode, fare) in fares.mode_names().iter().zip(class.fares.iter()) {
+            let mode = Quoted(mode.as_str());
+            write!(text, "INSERT INTO fares VALUES ({name}, {mode}, {fare});\n")?;
         }
-        rest = behind;
     }
-    true
+    Ok(())
 }
 
-/// Whether the name has no control character.
-fn is_in_line(name: &str) -> bool
-    ensures { result ≡ is_in_line name.now }
-{
-    let mut rest = name.as_bytes();
-    while let Some((byte, behind)) = rest.split_first() {
-        if begins_control(*byte, behind) {
-            return false;
+fn put_pairs(text: &mut String, fares: &FareTable) -> Result<(), AllocError> {
+    let pairs = fares.pairs();
+    for (from_place, from) in fares.mode_names().iter().enumerate() {
+        for (to_place, to) in fares.mode_names().iter().enumerate() {
+            if has_pair(pairs, from_place, to_place) {
+                let from = Quoted(from.as_str());
+                let to = Quoted(to.as_str());
+                write!(text, "INSERT INTO pairs VALUES ({from}, {to});\n")?;
+            }
         }
-        rest = behind;
     }
-    true
-}
-
-/// Whether a control character begins with the byte, before these.
-fn begins_control(byte: u8, behind: &[u8]) -> bool
-    ensures { result ≡ begins_control byte behind.now }
-{
-    is_control(byte) || (byte == 194 && is_control_end(behind))
-}
-
-/// Whether the bytes go on with the last one of a control character of two bytes.
-fn is_control_end(bytes: &[u8]) -> bool
-    ensures { result ≡ is_control_end bytes.now }
-{
-    match bytes.split_first() {
-        Some((byte, _rest)) => *byte < 160,
-        None => false,
-    }
-}
-
-/// Whether the byte is a control character.
-fn is_control(byte: u8) -> bool
-    ensures { result ≡ is_control byte }
-{
-    byte < 32 || byte == 127
-}
-
-/// Appends the statements that make the tables.
-fn put_tables(text: &mut Vec<u8>) -> Result<(), AllocError>
-    ensures { OnOk result (text.new.items ≡ text.old.items ++ tables_text) }
-{
-    put(text, TABLES)?;
     Ok(())
 }
 
-/// Appends the statements of all rows.
-fn put_rows(text: &mut Vec<u8>, fares: &FareTable) -> Result<(), AllocError>
-    ensures { OnOk result (text.new.items ≡ text.old.items ++ rows_text fares.now) }
-{
-    put_classes(text, fares)?;
-    put_fares(text, fares)?;
-    put_modes(text, fares)?;
-    put_pairs(text, fares)?;
-    put_ranges(text, fares)?;
-    put_riders(text, fares)?;
-    put_zone(text, fares)?;
-    put_window(text, fares)?;
+fn has_pair(pairs: &[(u8, u8)], from: usize, to: usize) -> bool {
+    for pair in pairs {
+        if pair.0 as usize == from && pair.1 as usize == to {
+            return true;
+        }
+    }
+    false
+}
+
+fn put_ranges(text: &mut String, fares: &FareTable) -> Result<(), AllocError> {
+    for (first, rest) in fares.ranges() {
+        let last = rest.last;
+        let mode = Quoted(mode_name(fares, rest.mode as usize));
+        write!(
+            text,
+            "INSERT INTO ranges VALUES ({first}, {last}, {mode});\n"
+        )?;
+    }
     Ok(())
+}
+
+fn put_riders(text: &mut String, fares: &FareTable) -> Result<(), AllocError> {
+    let mut digits = [0; 32];
+    for (token, class) in fares.riders() {
+        let _ = hex::encode_to_slice(&token.bytes()[..], &mut digits[..]);
+        let token = Quoted(str::from_utf8(&digits[..]).unwrap_or(""));
+        let class = Quoted(class_name(fares, *class as usize));
+        write!(text, "INSERT INTO riders VALUES ({token}, {class});\n")?;
+    }
+    Ok(())
+}
+
+/// Appends the statement of the unit of windows, and of how many days they have at most.
+fn put_window(text: &mut String, span: WindowSpan) -> Result<(), AllocError> {
+    let (unit, days) = match span {
+        WindowSpan::Days(count) => ("days", count),
+        WindowSpan::CalendarDay => ("calendar day", 1),
+        WindowSpan::CalendarWeek => ("calendar week", 7),
+        WindowSpan::CalendarMonth => ("calendar month", 31),
+    };
+    write!(text, "INSERT INTO window_span VALUES ('{unit}', {days});\n")
 }

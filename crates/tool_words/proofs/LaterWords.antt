@@ -1,16 +1,12 @@
 -- A word behind the first table.
-use Rattle.std.proofs.Common.{◌≡◌, ◌∙◌, ◌<◌, ◌+◌, Bor, List, [], ◌∷◌, ℕ, Option, None, Some, ap}
-use Rattle.std.proofs.Common.{drop, get_or, length, lit<, map, sym}
+use Rattle.std.proofs.Common.{◌≡◌, ◌∙◌, Bor, List, [], ◌∷◌, ℕ, Option, None, ap, lit<, map, sym}
 use Rattle.std.specs.Prelude.{false, option_map, true}
-use Rattle.std.proofs.lemmas.List.{drop_more}
 use Rattle.program_manners.specs.TableViews.{wrong_of}
 use Rattle.program_manners.specs.TableWords.{TableNames, date_fault, date_fault_of, found_or}
 use Rattle.program_manners.specs.TableWords.{wrong_later, wrong_word}
-use Rattle.program_manners.specs.declared.table_words.DateFault.{DateFault}
 use Rattle.program_manners.specs.declared.table_words.WrittenDate.{WrittenDate}
 use Rattle.program_manners.specs.declared.table_words.WrongWord.{WrongWord}
 use Rattle.program_manners.proofs.DatedWords.{later_right, short_word}
-use Rattle.tool_words.specs.Tasks.{texts_of}
 
 -- the words of `--table` behind a first one that has no letter
 abbrev tables_behind : List (Bor (List ℕ)) → TableNames
@@ -37,24 +33,3 @@ pub one_right : (word : Bor (List ℕ)) (found : Option WrongWord)
     → date_fault false word.now ≡ None
 one_right word found is none =
     later_right (word ∷ []) 0 word (sym is ∙ ap (option_map wrong_of) none) (lit< tt)
-
--- the first of the words is wrong, whatever is behind it
-wrong_first : (word : List ℕ) (fault : Option DateFault) (behind : Option (List ℕ × DateFault))
-    (wrong : List ℕ × DateFault) → Some wrong ≡ found_or word fault None
-    → found_or word fault behind ≡ Some wrong
-wrong_first word None behind wrong is = cc
-wrong_first word (Some fault) behind wrong is = sym is
-
--- the next of the words is wrong, and those before it are not
-pub wrong_next : (words : List (Bor (List ℕ))) (place : ℕ) (other : Bor (List ℕ))
-    (wrong : List ℕ × DateFault) → place < length words
-    → Some wrong ≡ wrong_later ((get_or words place other).now ∷ [])
-    → wrong_later (texts_of (drop place words)) ≡ wrong_later (texts_of words)
-    → wrong_later (texts_of words) ≡ Some wrong
-wrong_next words place other wrong within is left =
-    let word = (get_or words place other).now in
-    sym left
-    ∙ ap (λ (ws : List (Bor (List ℕ))). wrong_later (texts_of ws))
-    (drop_more words place other within)
-    ∙ wrong_first word (date_fault false word) (wrong_later (texts_of (drop (place + 1) words)))
-    wrong is

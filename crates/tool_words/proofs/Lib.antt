@@ -2,6 +2,5 @@ pub mod Columns
 pub mod Entered
 pub mod LaterWords
 pub mod Locals
-pub mod Numbers
 pub mod Refused
 pub mod Rows

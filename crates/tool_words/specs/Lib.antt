@@ -1,7 +1,6 @@
 pub mod Asked
 pub mod Columns
 pub mod Mistakes
-pub mod Moments
 pub mod Tasks
 pub mod ToolLine
 pub mod inside

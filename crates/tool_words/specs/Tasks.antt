@@ -3,16 +3,13 @@ use Rattle.std.specs.Prelude.{List, Option, map, option_map}
 use Rattle.std.specs.Borrow.{Bor}
 use Rattle.clap.specs.Words.{Text}
 use Rattle.tap_rows.specs.declared.agency.choice.Condition.{Condition}
-use Rattle.tool_words.specs.Asked.{Asked, CorrectionsAsked, GoodPartAsked, LookAsked, RowsAsked}
-use Rattle.tool_words.specs.Asked.{SortAsked, TableAsked, bounds, corrections, decode, encode}
-use Rattle.tool_words.specs.Asked.{encode_rows, good_part, look, merge, mistake, sort, table}
-use Rattle.tool_words.specs.Asked.{uploads, wrong_date}
+use Rattle.tool_words.specs.Asked.{Asked, CorrectionsAsked, GoodPartAsked, RowsAsked, SortAsked}
+use Rattle.tool_words.specs.Asked.{corrections, decode, encode, encode_rows, good_part, merge}
+use Rattle.tool_words.specs.Asked.{mistake, shows, sort}
 use Rattle.tool_words.specs.declared.task.CorrectionsWords.{CorrectionsWords}
 use Rattle.tool_words.specs.declared.task.GoodPartWords.{GoodPartWords}
-use Rattle.tool_words.specs.declared.task.LookWords.{LookWords}
 use Rattle.tool_words.specs.declared.task.RowsWords.{RowsWords}
 use Rattle.tool_words.specs.declared.task.SortingWords.{SortingWords}
-use Rattle.tool_words.specs.declared.task.TableQuestion.{TableQuestion}
 use Rattle.tool_words.specs.declared.task.Task.{Task}
 use Rattle.tool_words.specs.declared.task.Task.TheVariants as task
 
@@ -49,27 +46,6 @@ good_part_of words = record {
   has_tokens = words.has_tokens;
 }
 
-abbrev pub look_of : LookWords → LookAsked
-look_of words = record {
-  within = words.within;
-  first = words.first;
-  last = words.last;
-  table = text_in words.table;
-  has_list = words.has_list;
-  has_tokens = words.has_tokens;
-}
-
-abbrev pub table_of : TableQuestion → TableAsked
-table_of question = record {
-  table = question.table.now;
-  later = map (λ later. later.word.now) question.later.items;
-  uploads = texts_of question.uploads.items;
-  is_strict = question.is_strict;
-  has_riders = question.has_riders;
-  from = option_map (λ moment. moment.nanosecond) question.from;
-  is_sql = question.is_sql;
-}
-
 abbrev pub sorting_of : SortingWords → SortAsked
 sorting_of words = record {
   is_merge = words.is_merge;
@@ -90,13 +66,14 @@ abbrev pub asked_of : Task → Asked
 asked_of (task.Encode word) = encode word.now
 asked_of (task.EncodeRows word words) = encode_rows word.now (rows_words_of words)
 asked_of (task.Decode words) = decode (texts_of words.items)
-asked_of (task.Uploads words has_tokens) = uploads (texts_of words.items) has_tokens
+asked_of (task.Uploads words has_tokens) = shows
 asked_of (task.GoodPart words) = good_part (good_part_of words)
-asked_of (task.Look words names) = look (look_of words) (texts_of names.items)
-asked_of (task.Table question) = table (table_of question)
+asked_of (task.Look words names) = shows
+asked_of (task.Table question) = shows
 asked_of (task.Sort words) = sort (sorting_of words)
 asked_of (task.Merge parts) = merge (texts_of parts.items)
-asked_of (task.Bounds words) = bounds words.parts (texts_of words.uploads.items)
+asked_of (task.Bounds words) = shows
 asked_of (task.Corrections words) = corrections (corrections_of words)
 asked_of (task.Mistake why) = mistake why
-asked_of (task.WrongDate wrong) = wrong_date wrong.word.now wrong.fault
+asked_of (task.Unshown why) = shows
+asked_of (task.WrongDate wrong) = shows

@@ -3,17 +3,13 @@ ghost use Rattle.std.specs.Prelude.{◌≡◌, ◌≤◌, false, map, option_map
 ghost use Rattle.std.specs.List.{list_any};
 ghost use Rattle.std.specs.Option.{option_map_or};
 ghost use Rattle.clap.specs.Words.{first_of, found_of, rows_of};
-ghost use Rattle.tool_words.specs.Asked.{as_parts, has_input_twice, inputs_in, is_input};
-ghost use Rattle.tool_words.specs.Asked.{names_input};
-ghost use Rattle.tool_words.specs.Asked.{number_in};
+ghost use Rattle.tool_words.specs.Asked.{has_input_twice, inputs_in, is_input, names_input};
 ghost use Rattle.tool_words.specs.ToolLine.{has_value};
 
 use clap::ArgMatches;
 
-/// The word that stands for standard input.
 const INPUT_WORD: &str = "-";
 
-/// The most parts.
 const MAX_PARTS: u32 = 65_536;
 
 /// Whether the word stands for standard input.
@@ -23,7 +19,6 @@ pub fn is_input(word: &str) -> bool
     word == INPUT_WORD
 }
 
-/// Whether there is a word, and it stands for standard input.
 pub(crate) fn is_input_given(word: Option<&str>) -> bool
     ensures { result ≡ option_map_or is_input (option_map (λ w. w.now) word.entry) false }
 {
@@ -54,7 +49,6 @@ pub(crate) fn value_in<'a>(matches: &ArgMatches<'a>, name: &str) -> Option<&'a s
     matches.get_str(name)
 }
 
-/// Whether a value is given under this name.
 pub(crate) fn has_value(matches: &ArgMatches<'_>, name: &str) -> bool
     ensures { result ≡ has_value name.now (rows_of (found_of matches.now)) }
 {
@@ -62,15 +56,12 @@ pub(crate) fn has_value(matches: &ArgMatches<'_>, name: &str) -> bool
 }
 
 /// The number that is given under this name, or else this one.
-pub(crate) fn number_in(matches: &ArgMatches<'_>, name: &str, default: u32) -> u32
-    ensures { result ≡ number_in name.now default (rows_of (found_of matches.now)) }
-{
+pub(crate) fn number_in(matches: &ArgMatches<'_>, name: &str, default: u32) -> u32 {
     matches.get_one(name).unwrap_or(default)
 }
 
 /// The nearest number from 1 to `MAX_PARTS`.
 pub(crate) fn as_parts(number: u32) -> u32
-    ensures nearest { result ≡ as_parts number }
     ensures some { 1 ≤ result }
     ensures few { result ≤ 65536 }
 {

@@ -10,19 +10,14 @@ use tap_rows::{Condition, Separator, Unit};
 /// How an agency's CSV is read, and what is done with the rows that are no taps.
 #[derive(Drop)]
 pub struct RowsWords<'a> {
-    /// The name of the column of tokens.
     pub token: &'a str,
-    /// The name of the column of validators.
     pub validator: &'a str,
-    /// The name of the column of moments.
     pub moment: &'a str,
     /// The file of devices and their validators; none if the rows have the validators' numbers.
     pub devices: Option<&'a str>,
-    /// What stands between two fields.
     pub separator: Separator,
     /// What a plain number of the column of moments counts.
     pub unit: Unit,
-    /// Which rows are kept.
     pub only: Vec<Condition<'a>>,
     /// The file of the rows that are no taps; none if the first of them ends the encoding.
     pub refused: Option<&'a str>,
@@ -31,11 +26,8 @@ pub struct RowsWords<'a> {
 /// What `uploads --good-part` is asked for.
 #[derive(Clone, Copy, Debug)]
 pub struct GoodPartWords<'a> {
-    /// The upload.
     pub upload: &'a str,
-    /// The file that is made.
     pub out: &'a str,
-    /// Whether its tokens are counted.
     pub has_tokens: bool,
 }
 
@@ -46,11 +38,9 @@ pub struct LookWords<'a> {
     pub within: u64,
     /// The first moment that is looked at, in milliseconds since 1970-01-01T00:00Z, if it is given.
     pub first: Option<u64>,
-    /// The last one, if it is given.
     pub last: Option<u64>,
     /// The word of the fare table whose validators are looked at, if one is given.
     pub table: Option<&'a str>,
-    /// Whether all that is found is listed, and not only counted.
     pub has_list: bool,
     /// Whether it is printed how many tokens the uploads have and share. A list has no such lines.
     pub has_tokens: bool,
@@ -67,7 +57,6 @@ pub struct TableQuestion<'a> {
     pub uploads: Vec<&'a str>,
     /// Whether a warning is a fault.
     pub is_strict: bool,
-    /// Whether each rider is printed.
     pub has_riders: bool,
     /// The moment after which changes of clocks are printed; none: now.
     pub from: Option<Timestamp>,
@@ -80,11 +69,9 @@ pub struct TableQuestion<'a> {
 pub struct SortingWords<'a> {
     /// Whether the uploads are in canonical order already, and are merged.
     pub is_merge: bool,
-    /// The file that is made.
     pub out: &'a str,
     /// The file of a line for each upload, if it is made.
     pub ends: Option<&'a str>,
-    /// The uploads, in order.
     pub uploads: Vec<&'a str>,
 }
 
@@ -93,7 +80,6 @@ pub struct SortingWords<'a> {
 pub struct BoundsWords<'a> {
     /// How many parts at most, 1 to 65,536.
     pub parts: u32,
-    /// The uploads, in order.
     pub uploads: Vec<&'a str>,
     ghost some_part: { 1 ≤ parts },
     ghost few_parts: { parts ≤ 65536 },
@@ -119,7 +105,7 @@ pub enum Task<'a> {
     EncodeRows(&'a str, RowsWords<'a>),
     /// The tap table of uploads.
     Decode(Vec<&'a str>),
-    /// What uploads have, and how many tokens they share, if that is asked for.
+    /// What uploads have, and whether their tokens are counted.
     Uploads(Vec<&'a str>, bool),
     /// What one upload has, and a file of its good part.
     GoodPart(GoodPartWords<'a>),
@@ -137,6 +123,8 @@ pub enum Task<'a> {
     Corrections(CorrectionsWords<'a>),
     /// Nothing, since the words are wrong in this way.
     Mistake(Mistake),
+    /// Nothing, since the words of what only informs are wrong in this way.
+    Unshown(Mistake),
     /// Nothing, since the word of a later table has a wrong date, or none.
     WrongDate(WrongWord<'a>),
 }

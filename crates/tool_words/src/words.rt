@@ -1,12 +1,12 @@
 //! From the words to what they ask for.
-ghost use Rattle.std.specs.Prelude.{◌≡◌, ◌≤◌, ◌⊎◌, ◌≢◌, IfErr, IfOk, IfSome, [], codes, map, option_map};
+ghost use Rattle.std.specs.Prelude.{◌≡◌, ◌⊎◌, ◌≢◌, IfErr, IfOk, IfSome, [], codes, map, option_map};
 ghost use Rattle.std.specs.Prelude.{string_bytes};
 ghost use Rattle.clap.specs.Words.{FailsBy, fault_of, found_of, kind_of, matches_of, rows_of};
 ghost use Rattle.clap.specs.Words.{subcommand_of, subcommand_rows_of};
 ghost use Rattle.program_manners.specs.Words.{IsRequest};
-ghost use Rattle.tool_words.specs.Asked.{asked_by, asked_of_name, asked_once, bounds_asked};
-ghost use Rattle.tool_words.specs.Asked.{corrections_asked, decode, encode_asked, ledgers_named};
-ghost use Rattle.tool_words.specs.Asked.{merge_asked, named, or_input, sort_asked, uploads_asked};
+ghost use Rattle.tool_words.specs.Asked.{asked_by, asked_of_name, asked_once, corrections_asked};
+ghost use Rattle.tool_words.specs.Asked.{decode, encode_asked, ledgers_named, merge_asked, named};
+ghost use Rattle.tool_words.specs.Asked.{or_input, shows, sort_asked, uploads_asked};
 ghost use Rattle.tool_words.specs.Tasks.{asked_of, corrections_of, texts_of};
 ghost use Rattle.tool_words.specs.ToolLine.{AsksForText, Parses, program};
 
@@ -105,16 +105,16 @@ fn merge_task<'a>(parts: Vec<&'a str>) -> Task<'a>
     Task::Merge(parts)
 }
 
-/// What `bounds` is asked for with this number of parts and these uploads.
-fn bounds_task<'a>(parts: u32, uploads: Vec<&'a str>) -> Task<'a>
-    requires some { 1 ≤ parts }
-    requires few { parts ≤ 65536 }
-    ensures { asked_of result ≡ bounds_asked parts (texts_of uploads.entry.items) }
+/// What `bounds` is asked for. Uploads that are sampled are read at any offset, too.
+fn bounds_task<'a>(alloc: Global, matches: &ArgMatches<'a>) -> Result<Task<'a>, AllocError>
+    ensures { IfOk result (λ task. asked_of task ≡ shows) }
 {
+    let parts = as_parts(number_in(matches, "parts", 1));
+    let uploads = names_in(alloc, matches, "FILE")?;
     if inputs_in(&uploads) > 0 {
-        return Task::Mistake(Mistake::InputSampled);
+        return Ok(Task::Unshown(Mistake::InputSampled));
     }
-    Task::Bounds(BoundsWords { parts, uploads })
+    Ok(Task::Bounds(BoundsWords { parts, uploads }))
 }
 
 /// The ledgers of `corrections`.
@@ -163,8 +163,7 @@ fn task_of_name<'a>(
         return Ok(merge_task(names_in(alloc, &matches, "PART")?));
     }
     if name == "bounds" {
-        let parts = as_parts(number_in(&matches, "parts", 1));
-        return Ok(bounds_task(parts, names_in(alloc, &matches, "FILE")?));
+        return bounds_task(alloc, &matches);
     }
     if name == "corrections" {
         return Ok(corrections_task(ledgers_in(&matches)));

@@ -1,10 +1,5 @@
 //! What is wrong with the modes, the transfers, the classes, the zone and the window of a text.
 
-ghost use Rattle.std.specs.Prelude.{◌≡◌};
-ghost use Rattle.std.specs.Char.{is_ascii_lowercase};
-ghost use Rattle.std.specs.List.{list_all};
-ghost use Rattle.fare_table.specs.Modes as spec;
-
 use super::people::{check_default, check_riders};
 use super::ranges::check_ranges;
 use super::wrong::{Wrong, Wrongs};
@@ -98,16 +93,12 @@ pub(super) fn are_all<F: Fn(&Value) -> bool>(
 }
 
 /// Whether a name can be that of a mode.
-fn is_mode_name(name: &str) -> bool
-    ensures { result ≡ spec.is_mode_name name.now }
-{
+fn is_mode_name(name: &str) -> bool {
     1 <= name.len() && name.len() <= MAX_MODE_NAME_BYTES && are_letters(name.as_bytes())
 }
 
 /// Whether each byte is a letter `a` to `z`.
-fn are_letters(bytes: &[u8]) -> bool
-    ensures { result ≡ list_all is_ascii_lowercase bytes.now }
-{
+fn are_letters(bytes: &[u8]) -> bool {
     bytes.iter().all(|byte| byte.is_ascii_lowercase())
 }
 

@@ -1,4 +1,0 @@
-mod IgnoredLemmas
-mod PlaceLemmas
-mod PriceLemmas
-mod SeenLemmas

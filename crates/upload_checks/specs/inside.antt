@@ -1,5 +1,0 @@
--- What only private functions cite. Who reads the contracts of public calls need not read it.
-pub mod CommonTokens
-pub mod LastTaps
-pub mod SilentRuns
-pub mod TappedDays
