@@ -13,12 +13,11 @@ use jiff::Timestamp;
 use std::alloc::{AllocError, Global};
 use toml::Table;
 
-/// The table at a key, or `None` if the key is not there or is no table.
+/// The table at a key, or `None` if the key is not there or is not a table.
 fn table_at<'t>(tree: &'t Table, key: &str) -> Option<&'t Table> {
     tree.get(key)?.as_table()
 }
 
-/// Appends the lines of the zone.
 fn push_zone(text: &mut String, fares: &FareTable, from: Timestamp) -> Result<(), AllocError> {
     match fares.zone_text() {
         Some(zone) => {
@@ -29,7 +28,6 @@ fn push_zone(text: &mut String, fares: &FareTable, from: Timestamp) -> Result<()
     }
 }
 
-/// Appends the line of the mode at a place: how many ranges and validators it has.
 fn push_mode(text: &mut String, fares: &FareTable, place: usize) -> Result<(), AllocError> {
     let mut count = 0u64;
     let mut validators = 0u64;
@@ -44,7 +42,6 @@ fn push_mode(text: &mut String, fares: &FareTable, place: usize) -> Result<(), A
     write!(text, "mode {name} ranges {count} validators {validators}\n")
 }
 
-/// Appends the lines of the modes.
 fn push_modes(text: &mut String, fares: &FareTable) -> Result<(), AllocError> {
     let count = fares.mode_names().len();
     write!(text, "modes {count}\n")?;
@@ -54,7 +51,7 @@ fn push_modes(text: &mut String, fares: &FareTable) -> Result<(), AllocError> {
     Ok(())
 }
 
-/// Appends the lines of the pairs of modes with a transfer, each once.
+/// Each pair of modes once.
 fn push_transfers(text: &mut String, fares: &FareTable) -> Result<(), AllocError> {
     let pairs = fares.pairs();
     let count = pairs.len();
@@ -67,7 +64,7 @@ fn push_transfers(text: &mut String, fares: &FareTable) -> Result<(), AllocError
     Ok(())
 }
 
-/// How many riders each class has of its own, by the places of the classes.
+/// By the index of each class.
 fn riders_of(alloc: Global, fares: &FareTable) -> Result<Vec<u64>, AllocError> {
     let mut counts = Vec::new(alloc);
     for _class in fares.classes() {
@@ -81,8 +78,7 @@ fn riders_of(alloc: Global, fares: &FareTable) -> Result<Vec<u64>, AllocError> {
     Ok(counts)
 }
 
-/// Appends the lines of a class. Whether it names fares of its own, or what a ride gives, only the
-/// keys of its text say.
+/// Only the keys of its text say whether it names fares of its own, or what a ride gives.
 fn push_class(
     alloc: Global,
     text: &mut String,
@@ -115,7 +111,6 @@ fn push_class(
     push_ride_transfers(text, name, class, keys)
 }
 
-/// Appends the lines of the classes.
 fn push_classes(
     alloc: Global,
     text: &mut String,
@@ -152,7 +147,6 @@ fn push_gap(text: &mut String, first: u64, next: u64) -> Result<(), AllocError> 
     write!(text, "gap {first} {last}\n")
 }
 
-/// Appends the lines of the ranges and of the gaps between them.
 fn push_ranges(text: &mut String, fares: &FareTable) -> Result<(), AllocError> {
     let ranges = fares.ranges();
     let count = ranges.len();
@@ -168,8 +162,7 @@ fn push_ranges(text: &mut String, fares: &FareTable) -> Result<(), AllocError> {
     push_gap(text, next, u64::from(u32::MAX).saturating_add(1))
 }
 
-/// Appends the lines of the riders: their number, and each of them if that is asked for, in the
-/// order of the keys of the text, which may have digits of either case.
+/// Each rider has a line if that is requested, in the order of the keys of the text.
 fn push_riders(
     text: &mut String,
     tree: &Table,
@@ -195,7 +188,6 @@ fn push_riders(
     Ok(())
 }
 
-/// Appends the line of the key `window`, if the table has it.
 fn push_window(text: &mut String, tree: &Table) -> Result<(), AllocError> {
     let Some(value) = tree.get("window") else {
         return Ok(());

@@ -1,4 +1,4 @@
-//! The names of modes and classes by their places.
+//! The names of modes and classes by their indexes.
 
 use fare_table::FareTable;
 

@@ -37,7 +37,7 @@ pub struct Warnings {
 #[derive(Drop)]
 pub enum Refusal {
     NotUtf8,
-    /// It is no TOML, at this line and column, from 1, for this reason.
+    /// It is not TOML, at this line and column, from 1, for this reason.
     NotToml(usize, usize, TomlError),
     WrongValues(String),
     /// It has this fault, and no value was found to be wrong.
@@ -113,7 +113,7 @@ impl<'t> TableText<'t> {
     }
 }
 
-/// Why the text is no TOML, with the line and the column.
+/// Why the text is not TOML, with the line and the column.
 fn not_toml(alloc: Global, text: &str, error: TomlError) -> Result<Refusal, AllocError> {
     let start = match error.span() {
         Some(span) => span.start,

@@ -5,7 +5,7 @@ use std::alloc::{AllocError, Global};
 use std::collections::BTreeSet;
 use tap_views::{MomentSpan, NoMemory, good_batches};
 
-/// The validators of some uploads, each once, rising.
+/// The validators of some uploads, each once, increasing.
 #[derive(Drop)]
 pub struct SeenValidators {
     numbers: BTreeSet<u32>,

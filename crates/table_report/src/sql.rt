@@ -15,7 +15,7 @@ pub enum ReportFault {
     /// The writer failed. Nothing is known of how much of the text went out.
     #[error("cannot write")]
     Write,
-    /// Memory was refused, and nothing was written.
+    /// An allocation failed, and nothing was written.
     #[error("out of memory")]
     NoMemory,
 }
@@ -42,7 +42,7 @@ CREATE TABLE zone (rule TEXT NOT NULL);
 CREATE TABLE window_span (unit TEXT NOT NULL, most_days BIGINT NOT NULL);
 ";
 
-/// A text in quotes, in which an apostrophe stands twice.
+/// A text in quotes, with each apostrophe doubled.
 #[derive(Clone, Copy)]
 struct Quoted<'a>(&'a str);
 
@@ -76,7 +76,6 @@ pub(crate) fn write_sql<W: Write>(
     Ok(())
 }
 
-/// Whether no name has a control character.
 fn are_in_line(names: &[String]) -> bool {
     for name in names {
         for letter in name.chars() {
@@ -88,7 +87,6 @@ fn are_in_line(names: &[String]) -> bool {
     true
 }
 
-/// The text of all statements.
 fn sql_of(alloc: Global, fares: &FareTable) -> Result<String, AllocError> {
     let mut text = String::new(alloc);
     text.push_str("BEGIN;\n")?;

@@ -20,7 +20,6 @@ pub(crate) struct ReadText<'a, 't> {
     pub(crate) fares: &'t FareTable,
 }
 
-/// The path of the table that has a key.
 fn holder_path(alloc: Global, classes: &[String], holder: KeyHolder) -> Result<String, AllocError> {
     match holder {
         KeyHolder::Top => Ok(String::new(alloc)),
@@ -35,7 +34,7 @@ fn holder_path(alloc: Global, classes: &[String], holder: KeyHolder) -> Result<S
     }
 }
 
-/// The beginning of a warning's line, with the line and the column of the key or element at a path.
+/// The prefix of a warning's line, with the line and the column of the key or element at a path.
 fn begin(
     alloc: Global,
     read: &ReadText<'_, '_>,

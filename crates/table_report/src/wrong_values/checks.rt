@@ -13,22 +13,16 @@ use toml::{Table, Value};
 /// How many names a line lists at most if one of them is wanted.
 pub(super) const LISTED_NAMES: usize = 12;
 
-/// What `transfers` has to be.
 const TRANSFERS: &str = "an array of pairs of modes, from and to; [] for none";
 
-/// What an element of `transfers` has to be.
 const PAIR: &str = "a pair of modes, from and to";
 
-/// What `classes` has to be.
 const CLASSES: &str = "a table of at least one rider class, each with fare and rides";
 
-/// What a class has to be.
 const CLASS: &str = "a table with fare, rides and, if it has one, ceiling";
 
-/// What `zone` has to be.
 const ZONE: &str = "a POSIX rule, as \"EST5EDT,M3.2.0,M11.1.0\", not a place";
 
-/// What `window` has to be.
 const WINDOW: &str =
     "1 to 31 days as \"7 days\", or \"calendar day\", \"calendar week\", \"calendar month\"";
 
@@ -71,7 +65,7 @@ pub(super) fn array_at<'t>(
     Ok(Some((value, array)))
 }
 
-/// Whether each element of the array at a key is well. Those that are not are added.
+/// Adds the elements of the array that are wrong.
 pub(super) fn are_all<F: Fn(&Value) -> bool>(
     wrongs: &mut Wrongs,
     array: &Array,
@@ -102,7 +96,7 @@ fn are_letters(bytes: &[u8]) -> bool {
     bytes.iter().all(|byte| byte.is_ascii_lowercase())
 }
 
-/// The strings of an array of strings, or `None` if an element is no string.
+/// `None` if an element is not a string.
 fn strings_of<'t>(
     wrongs: &mut Wrongs,
     array: &'t Array,
@@ -121,7 +115,6 @@ fn strings_of<'t>(
     Ok(Some(names))
 }
 
-/// Looks at the names of the modes.
 fn check_names(wrongs: &mut Wrongs, array: &Array, wanted: &str) -> Result<(), AllocError> {
     let mut earlier: Vec<&str> = Vec::new(wrongs.alloc);
     for (place, value) in array.iter().enumerate() {
@@ -135,7 +128,7 @@ fn check_names(wrongs: &mut Wrongs, array: &Array, wanted: &str) -> Result<(), A
     Ok(())
 }
 
-/// Looks at `modes`. Returns the names, if there are 1 to 32 strings.
+/// Returns the names, if there are 1 to 32 strings.
 fn modes_of<'t>(wrongs: &mut Wrongs, tree: &'t Table) -> Result<Option<Vec<&'t str>>, AllocError> {
     let letters = format!(in wrongs.alloc; "1 to {} letters a to z", MAX_MODE_NAME_BYTES)?;
     let all = format!(in wrongs.alloc;
@@ -165,7 +158,6 @@ fn is_pair(value: &Value) -> bool {
     }
 }
 
-/// Looks at the two names of each pair.
 fn check_pairs(wrongs: &mut Wrongs, array: &Array, modes: &[&str]) -> Result<(), AllocError> {
     let wanted = one_of(wrongs.alloc, "a mode of the table", modes)?;
     for (place, value) in array.iter().enumerate() {
@@ -190,7 +182,6 @@ pub(super) fn is_one_of(value: &Value, names: &[&str]) -> bool {
     }
 }
 
-/// Looks at `transfers`.
 fn check_transfers(
     wrongs: &mut Wrongs,
     tree: &Table,
@@ -206,7 +197,7 @@ fn check_transfers(
     }
 }
 
-/// Looks at the number at a key, which is to lie within its bounds. Returns it if it does.
+/// The number is to be within its bounds. Returns it if it is.
 pub(super) fn check_key(
     wrongs: &mut Wrongs,
     holder: &str,
@@ -228,7 +219,7 @@ pub(super) fn check_key(
     )
 }
 
-/// Looks at the number at a key, which is to lie from `low` to `high`. Returns it if it does.
+/// The number is to be from `low` to `high`. Returns it if it is.
 pub(super) fn check_number(
     wrongs: &mut Wrongs,
     holder: &str,
@@ -253,7 +244,6 @@ pub(super) fn check_number(
     Ok(None)
 }
 
-/// Looks at the number at a key, if the key is there.
 fn check_optional(
     wrongs: &mut Wrongs,
     holder: &str,
@@ -267,7 +257,6 @@ fn check_optional(
     Ok(())
 }
 
-/// Looks at the name of a mode that is a key of the `fares` at a path.
 fn check_fare_mode(
     wrongs: &mut Wrongs,
     path: &str,
@@ -282,7 +271,6 @@ fn check_fare_mode(
     wrongs.key(key, wanted.as_str())
 }
 
-/// Looks at `fares` of the class at a path.
 fn check_fares(
     wrongs: &mut Wrongs,
     path: &str,
@@ -317,7 +305,6 @@ fn check_fares(
     Ok(())
 }
 
-/// Looks at the keys of a class.
 fn check_class(
     wrongs: &mut Wrongs,
     path: &str,
@@ -332,7 +319,6 @@ fn check_class(
     check_optional(wrongs, path, class, Key::TransferMinutes, ", in minutes")
 }
 
-/// Looks at the classes of a table of classes.
 fn check_classes(
     wrongs: &mut Wrongs,
     classes: &Table,
@@ -358,7 +344,7 @@ fn check_classes(
     Ok(())
 }
 
-/// Looks at `classes`. Returns them, if they are a table.
+/// Returns the classes, if they are a table.
 fn classes_of<'t>(
     wrongs: &mut Wrongs,
     tree: &'t Table,
@@ -379,7 +365,6 @@ fn classes_of<'t>(
     Ok(Some(classes))
 }
 
-/// Looks at `zone`.
 fn check_zone(wrongs: &mut Wrongs, tree: &Table) -> Result<(), AllocError> {
     let Some(value) = tree.get("zone") else {
         return Ok(());
@@ -392,7 +377,6 @@ fn check_zone(wrongs: &mut Wrongs, tree: &Table) -> Result<(), AllocError> {
     wrongs.value(top(wrongs.alloc, "zone")?, value, ZONE)
 }
 
-/// Looks at `window`.
 fn check_window(wrongs: &mut Wrongs, tree: &Table) -> Result<(), AllocError> {
     let Some(value) = tree.get("window") else {
         return Ok(());

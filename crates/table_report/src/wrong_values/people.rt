@@ -8,10 +8,8 @@ use std::alloc::AllocError;
 use std::collections::BTreeMap;
 use toml::{Table, Value};
 
-/// What a key of `riders` has to be.
 const TOKEN: &str = "a token of 32 hexadecimal digits";
 
-/// What `riders` has to be.
 const RIDERS: &str = "a table from tokens to classes";
 
 fn one_class(wrongs: &Wrongs, classes: Option<&Table>) -> Result<String, AllocError> {

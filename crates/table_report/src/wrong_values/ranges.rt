@@ -8,10 +8,8 @@ use std::alloc::AllocError;
 use std::collections::BTreeMap;
 use toml::{Table, Value};
 
-/// What `validators` has to be.
 const RANGES: &str = "an array of ranges, each with first, last and mode; [] for none";
 
-/// What an element of `validators` has to be.
 const RANGE: &str = "a range: a table with first, last and mode";
 
 /// The ranges so far, by their first numbers: the last number and the index of each.
