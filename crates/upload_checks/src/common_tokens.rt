@@ -70,8 +70,8 @@ impl CommonTokens {
         Ok(())
     }
 
-    /// Adds the next upload: the tokens of its taps before its first layout fault. Its one error is
-    /// want of memory, and after it the counts are of no use.
+    /// Adds the next upload: the tokens of its taps before its first layout fault. An error is an
+    /// allocation failure, and after it the counts are of no use.
     pub fn add(&mut self, upload: &[u8]) -> Result<(), NoMemory> {
         let number = self.counts.len();
         self.counts.push(CommonCounts { all: 0, shared: 0 })?;

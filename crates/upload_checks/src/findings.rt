@@ -11,7 +11,7 @@ use world::Trace;
 
 #[derive(Drop)]
 pub struct Findings {
-    /// The lists, one behind the other, have the good taps in canonical order.
+    /// The lists, one after the other, have the valid taps in canonical order.
     pub lists: Vec<Vec<TapFields>>,
     pub doubles: Vec<NearDouble>,
     pub before: Vec<TapFields>,
@@ -19,7 +19,7 @@ pub struct Findings {
     pub repeated: Vec<Repeat>,
 }
 
-/// Finds near doubles at most `within` milliseconds apart, taps outside the span, and repeated
+/// Finds near duplicates at most `within` milliseconds apart, taps outside the span, and repeated
 /// uploads. All taps are in memory. `workers` threads, 64 at most, order them.
 pub fn look<R: Threads + Sync>(
     rt: &R,

@@ -1,4 +1,4 @@
-//! Days on which validators of a fare table have no tap.
+//! Days on which validators of a fare table are inactive: they have no tap.
 
 use std::alloc::{AllocError, Global};
 use std::collections::BTreeSet;
@@ -31,7 +31,7 @@ struct TappedDays {
 }
 
 impl SilentDays {
-    /// The run lies behind all others. If it touches the last, they become one.
+    /// The run lies after all others. If it touches the last, they become one.
     fn push(&mut self, run: SilentRun) -> Result<(), AllocError> {
         let validators = u64::from(run.last.saturating_sub(run.first)).saturating_add(1);
         self.number = self.number.saturating_add(validators);
