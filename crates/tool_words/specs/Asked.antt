@@ -63,11 +63,11 @@ pub data Asked : Type 0 where
   -- What only informs: `table`, `bounds`, or `uploads` without a good part. Its words may be wrong.
   shows : Asked
 
--- whether the word stands for standard input
+-- whether the word represents standard input
 abbrev pub is_input : Text → Bool
 is_input word = bytes_eq word (codes "-")
 
--- how many of the words stand for standard input
+-- how many of the words represent standard input
 abbrev pub inputs_in : List Text → ℕ
 inputs_in words = count_by is_input words
 
@@ -75,7 +75,7 @@ inputs_in words = count_by is_input words
 abbrev pub named : Text → List Row → List Text
 named name rows = unwrap_or (all_of name rows) []
 
--- one of the words that are given under this name stands for standard input
+-- one of the words that are given under this name represents standard input
 abbrev pub names_input : Text → List Row → Bool
 names_input name rows = list_any is_input (named name rows)
 

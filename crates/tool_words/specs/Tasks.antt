@@ -13,11 +13,11 @@ use Rattle.tool_words.specs.declared.task.SortingWords.{SortingWords}
 use Rattle.tool_words.specs.declared.task.Task.{Task}
 use Rattle.tool_words.specs.declared.task.Task.TheVariants as task
 
--- the texts behind references
+-- the texts after references
 abbrev pub texts_of : List (Bor Text) → List Text
 texts_of = map (λ word. word.now)
 
--- the text behind a reference, if there is one
+-- the text after a reference, if there is one
 abbrev pub text_in : Option (Bor Text) → Option Text
 text_in word = option_map (λ w. w.now) word
 

@@ -12,7 +12,7 @@ const INPUT_WORD: &str = "-";
 
 const MAX_PARTS: u32 = 65_536;
 
-/// Whether the word stands for standard input.
+/// Whether the word represents standard input.
 pub fn is_input(word: &str) -> bool
     ensures { result ≡ is_input word.now }
 {
@@ -28,7 +28,6 @@ pub(crate) fn is_input_given(word: Option<&str>) -> bool
     }
 }
 
-/// How many of the words stand for standard input.
 pub(crate) fn inputs_in(words: &[&str]) -> usize
     ensures { result ≡ inputs_in (map (λ w. w.now) words.now) }
 {
@@ -41,7 +40,6 @@ pub(crate) fn inputs_in(words: &[&str]) -> usize
     inputs
 }
 
-/// The value that is given under this name.
 pub(crate) fn value_in<'a>(matches: &ArgMatches<'a>, name: &str) -> Option<&'a str>
     ensures { option_map (λ v. v.now) result
         ≡ first_of name.now (rows_of (found_of matches.now)) }
@@ -55,7 +53,6 @@ pub(crate) fn has_value(matches: &ArgMatches<'_>, name: &str) -> bool
     value_in(matches, name).is_some()
 }
 
-/// The number that is given under this name, or else this one.
 pub(crate) fn number_in(matches: &ArgMatches<'_>, name: &str, default: u32) -> u32 {
     matches.get_one(name).unwrap_or(default)
 }
@@ -74,14 +71,12 @@ pub(crate) fn as_parts(number: u32) -> u32
     number
 }
 
-/// Whether one of the words stands for standard input.
 fn is_among(words: &[&str]) -> bool
     ensures { result ≡ list_any (λ w. is_input w.now) words.now }
 {
     words.iter().any(|word| is_input(word))
 }
 
-/// Whether one of the words that are given under this name stands for standard input.
 fn names_input(matches: &ArgMatches<'_>, name: &str) -> bool
     ensures { result ≡ names_input name.now (rows_of (found_of matches.now)) }
 {

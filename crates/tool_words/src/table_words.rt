@@ -1,4 +1,4 @@
-//! What `table` is asked for.
+//! What `table` requests.
 ghost use Rattle.std.specs.Prelude.{◌≡◌, IfOk};
 ghost use Rattle.tool_words.specs.Asked.{shows};
 ghost use Rattle.tool_words.specs.Tasks.{asked_of};
@@ -39,7 +39,6 @@ fn has_later_twice(question: &TableQuestion<'_>) -> bool {
     later > 1 || (later > 0 && others)
 }
 
-/// What `table` is asked for.
 pub(crate) fn table_task<'a>(
     alloc: Global,
     matches: &ArgMatches<'a>,

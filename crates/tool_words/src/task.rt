@@ -1,4 +1,4 @@
-//! What is asked for.
+//! What the words request.
 ghost use Rattle.std.specs.Prelude.{◌≤◌};
 
 use crate::later_table::LaterTable;
@@ -7,7 +7,7 @@ use jiff::Timestamp;
 use program_manners::WrongWord;
 use tap_rows::{Condition, Separator, Unit};
 
-/// How an agency's CSV is read, and what is done with the rows that are no taps.
+/// How an agency's CSV is read, and what is done with the rows that are not taps.
 #[derive(Drop)]
 pub struct RowsWords<'a> {
     pub token: &'a str,
@@ -19,11 +19,11 @@ pub struct RowsWords<'a> {
     /// What a plain number of the column of moments counts.
     pub unit: Unit,
     pub only: Vec<Condition<'a>>,
-    /// The file of the rows that are no taps; none if the first of them ends the encoding.
+    /// The file of the rows that are not taps; none if the first of them ends the encoding.
     pub refused: Option<&'a str>,
 }
 
-/// What `uploads --good-part` is asked for.
+/// What `uploads --good-part` requests.
 #[derive(Clone, Copy, Debug)]
 pub struct GoodPartWords<'a> {
     pub upload: &'a str,
@@ -31,10 +31,10 @@ pub struct GoodPartWords<'a> {
     pub has_tokens: bool,
 }
 
-/// What a look at uploads is asked for, beside the uploads.
+/// What a look at uploads requests, beside the uploads.
 #[derive(Clone, Copy, Debug)]
 pub struct LookWords<'a> {
-    /// How many milliseconds at most a near double is later than the tap before it.
+    /// How many milliseconds at most a near duplicate is later than the tap before it.
     pub within: u64,
     /// The first moment that is looked at, in milliseconds since 1970-01-01T00:00Z, if it is given.
     pub first: Option<u64>,
@@ -46,14 +46,14 @@ pub struct LookWords<'a> {
     pub has_tokens: bool,
 }
 
-/// What `table` is asked for. Files are named by words of the command line.
+/// What `table` requests. Files are named by words of the command line.
 #[derive(Drop)]
 pub struct TableQuestion<'a> {
     /// The table that is valid first.
     pub table: &'a str,
     /// Those that follow it, in order.
     pub later: Vec<LaterTable<'a>>,
-    /// The uploads whose validators are held against the tables.
+    /// The uploads whose validators are compared with the tables.
     pub uploads: Vec<&'a str>,
     /// Whether a warning is a fault.
     pub is_strict: bool,
@@ -64,7 +64,7 @@ pub struct TableQuestion<'a> {
     pub is_sql: bool,
 }
 
-/// What `sort` is asked for.
+/// What `sort` requests.
 #[derive(Drop)]
 pub struct SortingWords<'a> {
     /// Whether the uploads are in canonical order already, and are merged.
@@ -75,7 +75,7 @@ pub struct SortingWords<'a> {
     pub uploads: Vec<&'a str>,
 }
 
-/// What `bounds` is asked for.
+/// What `bounds` requests.
 #[derive(Drop)]
 pub struct BoundsWords<'a> {
     /// How many parts at most, 1 to 65,536.
@@ -85,7 +85,7 @@ pub struct BoundsWords<'a> {
     ghost few_parts: { parts ≤ 65536 },
 }
 
-/// What `corrections` is asked for.
+/// What `corrections` requests.
 #[derive(Clone, Copy, Debug)]
 pub struct CorrectionsWords<'a> {
     /// The ledger of the bill that was issued.
@@ -96,7 +96,7 @@ pub struct CorrectionsWords<'a> {
     pub is_by_token: bool,
 }
 
-/// What the words ask for. A file is named by its word, and `-` is standard input.
+/// What the words request. A file is named by its word, and `-` is standard input.
 #[derive(Drop)]
 pub enum Task<'a> {
     /// The upload of a tap table.
@@ -107,7 +107,7 @@ pub enum Task<'a> {
     Decode(Vec<&'a str>),
     /// What uploads have, and whether their tokens are counted.
     Uploads(Vec<&'a str>, bool),
-    /// What one upload has, and a file of its good part.
+    /// What one upload has, and a file of its valid prefix.
     GoodPart(GoodPartWords<'a>),
     /// What uploads have, and what is found in them.
     Look(LookWords<'a>, Vec<&'a str>),
@@ -115,7 +115,7 @@ pub enum Task<'a> {
     Table(TableQuestion<'a>),
     /// Uploads in one order.
     Sort(SortingWords<'a>),
-    /// The texts of parts as that of the whole.
+    /// The texts of parts as that of the complete run.
     Merge(Vec<&'a str>),
     /// The tokens at which to divide a run over uploads.
     Bounds(BoundsWords<'a>),

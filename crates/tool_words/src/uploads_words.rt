@@ -1,4 +1,4 @@
-//! What `uploads` is asked for with a good part or a look.
+//! What `uploads` requests with a valid prefix or a look.
 ghost use Rattle.std.specs.Prelude.{◌≡◌, IfOk};
 ghost use Rattle.tool_words.specs.Asked.{good_part_asked, shows};
 ghost use Rattle.tool_words.specs.Tasks.{asked_of, texts_of};
@@ -11,10 +11,9 @@ use clap::ArgMatches;
 use program_manners::{flag_in, names_in};
 use std::alloc::{AllocError, Global};
 
-/// How many seconds at most a near double is later than the tap before it, if none are given.
+/// How many seconds at most a near duplicate is later than the tap before it, if none are given.
 const WITHIN_SECONDS: u32 = 5;
 
-/// The good part of one upload.
 pub(crate) fn good_part_task<'a>(out: &'a str, has_tokens: bool, words: &[&'a str]) -> Task<'a>
     ensures { asked_of result ≡ good_part_asked out.entry.now has_tokens (texts_of words.now) }
 {
@@ -28,7 +27,6 @@ pub(crate) fn good_part_task<'a>(out: &'a str, has_tokens: bool, words: &[&'a st
     })
 }
 
-/// A look at uploads.
 pub(crate) fn look_task<'a>(alloc: Global, matches: &ArgMatches<'a>) -> Result<Task<'a>, AllocError>
     ensures { IfOk result (λ task. asked_of task ≡ shows) }
 {

@@ -1,4 +1,4 @@
-//! From the words to what they ask for.
+//! From the words to what they request.
 ghost use Rattle.std.specs.Prelude.{◌≡◌, ◌⊎◌, ◌≢◌, IfErr, IfOk, IfSome, [], codes, map, option_map};
 ghost use Rattle.std.specs.Prelude.{string_bytes};
 ghost use Rattle.clap.specs.Words.{FailsBy, fault_of, found_of, kind_of, matches_of, rows_of};
@@ -25,7 +25,6 @@ use clap::{ArgMatches, Error};
 use program_manners::{flag_in, names_in};
 use std::alloc::{AllocError, Global};
 
-/// What `encode` is asked for.
 fn encode_task<'a>(alloc: Global, matches: &ArgMatches<'a>) -> Result<Task<'a>, AllocError>
     ensures { IfOk result (λ task. asked_of task ≡ encode_asked (rows_of (found_of matches.now))) }
 {
@@ -47,7 +46,7 @@ fn encode_task<'a>(alloc: Global, matches: &ArgMatches<'a>) -> Result<Task<'a>, 
     Ok(Task::Encode(encoded_file(matches)))
 }
 
-/// What `decode` is asked for: standard input if no upload is named.
+/// Standard input, if no upload is named.
 fn decode_task<'a>(alloc: Global, matches: &ArgMatches<'a>) -> Result<Task<'a>, AllocError>
     ensures { IfOk result (λ task. asked_of task
         ≡ decode (or_input (named (codes "FILE") (rows_of (found_of matches.now))))) }
@@ -59,7 +58,6 @@ fn decode_task<'a>(alloc: Global, matches: &ArgMatches<'a>) -> Result<Task<'a>, 
     Ok(Task::Decode(words))
 }
 
-/// What `uploads` is asked for.
 fn uploads_task<'a>(alloc: Global, matches: &ArgMatches<'a>) -> Result<Task<'a>, AllocError>
     ensures { IfOk result (λ task. asked_of task ≡ uploads_asked (rows_of (found_of matches.now))) }
 {
@@ -74,7 +72,7 @@ fn uploads_task<'a>(alloc: Global, matches: &ArgMatches<'a>) -> Result<Task<'a>,
     Ok(Task::Uploads(names_in(alloc, matches, "FILE")?, has_tokens))
 }
 
-/// What `sort` is asked for. Uploads that are merged are read at any offset.
+/// Uploads that are merged are read at any offset.
 fn sort_task<'a>(alloc: Global, matches: &ArgMatches<'a>) -> Result<Task<'a>, AllocError>
     ensures { IfOk result (λ task. asked_of task ≡ sort_asked (rows_of (found_of matches.now))) }
 {
@@ -95,7 +93,6 @@ fn sort_task<'a>(alloc: Global, matches: &ArgMatches<'a>) -> Result<Task<'a>, Al
     }))
 }
 
-/// What `merge` is asked for with these parts.
 fn merge_task<'a>(parts: Vec<&'a str>) -> Task<'a>
     ensures { asked_of result ≡ merge_asked (texts_of parts.entry.items) }
 {
@@ -105,7 +102,7 @@ fn merge_task<'a>(parts: Vec<&'a str>) -> Task<'a>
     Task::Merge(parts)
 }
 
-/// What `bounds` is asked for. Uploads that are sampled are read at any offset, too.
+/// Uploads that are sampled are read at any offset, too.
 fn bounds_task<'a>(alloc: Global, matches: &ArgMatches<'a>) -> Result<Task<'a>, AllocError>
     ensures { IfOk result (λ task. asked_of task ≡ shows) }
 {
@@ -117,7 +114,6 @@ fn bounds_task<'a>(alloc: Global, matches: &ArgMatches<'a>) -> Result<Task<'a>, 
     Ok(Task::Bounds(BoundsWords { parts, uploads }))
 }
 
-/// The ledgers of `corrections`.
 fn ledgers_in<'a>(matches: &ArgMatches<'a>) -> CorrectionsWords<'a>
     ensures { corrections_of result ≡ ledgers_named (rows_of (found_of matches.now)) }
 {
@@ -128,7 +124,6 @@ fn ledgers_in<'a>(matches: &ArgMatches<'a>) -> CorrectionsWords<'a>
     }
 }
 
-/// What `corrections` is asked for with these ledgers.
 fn corrections_task<'a>(words: CorrectionsWords<'a>) -> Task<'a>
     ensures { asked_of result ≡ corrections_asked (corrections_of words.entry) }
 {
@@ -138,7 +133,6 @@ fn corrections_task<'a>(words: CorrectionsWords<'a>) -> Task<'a>
     Task::Corrections(words)
 }
 
-/// What the subcommand of this name is asked for by what it is given.
 fn task_of_name<'a>(
     alloc: Global,
     name: &'a str,
@@ -197,7 +191,7 @@ fn told<'a>(alloc: Global, words: &'a [String], error: Error) -> Error
     }
 }
 
-/// The mistake that clap finds in the words with the rules between arguments.
+/// The usage error that clap finds in the words with the rules between arguments.
 fn whole_error<'a>(alloc: Global, words: &'a [String]) -> Option<Error>
     ensures { IfSome result (λ error. ¬ IsRequest (kind_of error)) }
 {
@@ -215,7 +209,6 @@ fn whole_error<'a>(alloc: Global, words: &'a [String]) -> Option<Error>
     }
 }
 
-/// The subcommand that a parse entered, with what it is given.
 pub(crate) fn entered<'a>(matches: ArgMatches<'a>) -> Option<(&'a str, ArgMatches<'a>)>
     ensures { option_map (λ p. (p.0.now, rows_of (found_of p.1))) result
         ≡ subcommand_rows_of matches.entry }
@@ -224,7 +217,7 @@ pub(crate) fn entered<'a>(matches: ArgMatches<'a>) -> Option<(&'a str, ArgMatche
     matches.remove_subcommand()
 }
 
-/// The same, unless standard input is named twice.
+/// Unless standard input is named twice.
 fn task_in<'a>(
     alloc: Global,
     name: &'a str,
@@ -239,8 +232,8 @@ fn task_in<'a>(
     task_of_name(alloc, name, matches)
 }
 
-/// What the words ask for, of which the first is the program's name; else clap's error, which may
-/// be a call for help.
+/// What the words request, the program's name first; else clap's error, which may be a call for
+/// help.
 pub fn read<'a>(alloc: Global, words: &'a [String]) -> Result<Task<'a>, Error>
     ensures asked { IfOk result (λ task.
         (fault_of program (map string_bytes words.entry.now) ≡ [])
