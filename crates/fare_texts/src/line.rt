@@ -1,19 +1,21 @@
 //! A line that is made from its end to its beginning.
 
-ghost use Rattle.std.specs.Prelude.{◌≡◌, ◌+◌, ◌≤◌, [], ◌++◌, length};
+ghost use Rattle.std.specs.Prelude.{◌≡◌, ◌+◌, ◌≤◌, [], ◌++◌, length, string_bytes, OnOk};
 ghost use Rattle.std.specs.Fmt.{decimal};
 ghost use Rattle.hex.specs.Hex.{encode_lower};
 
 use itoa::{Buffer, write_digits};
+use std::alloc::AllocError;
 use std::marker::Model;
 
-/// More bytes than the longest line has: seven numbers of at most 40 digits, a token and the words.
+/// More bytes than the longest line of a report has: seven numbers of at most 40 digits, a token and
+/// the words.
 const ROOM_BYTES: usize = 384;
 
 /// The end of a line, as far as it is made: what is put there comes before what stands there, so
 /// that digits are written where they stay, the last one first. Contracts see the bytes.
 #[derive(Drop)]
-pub(crate) struct Line {
+pub struct Line {
     /// The room, whose end is the line.
     bytes: [u8; ROOM_BYTES],
     /// Where the line starts.
@@ -31,7 +33,8 @@ impl Model for Line {
 }
 
 impl Line {
-    pub(crate) fn new() -> Self
+    /// An empty line.
+    pub fn new() -> Self
         ensures { result ≡ [] }
     {
         Line {
@@ -40,15 +43,17 @@ impl Line {
         }
     }
 
+    /// Empties the line.
     #[inline(always)]
-    pub(crate) fn clear(&mut self)
+    pub fn clear(&mut self)
         ensures { self.new ≡ [] }
     {
         self.start = ROOM_BYTES;
     }
 
+    /// What the line has.
     #[inline(always)]
-    pub(crate) fn bytes(&self) -> &[u8]
+    pub fn bytes(&self) -> &[u8]
         ensures value { result.now ≡ self.now }
         ensures few { length result.now ≤ 384 }
     {
@@ -57,9 +62,10 @@ impl Line {
 
     /// Puts a text before what stands there.
     #[inline(always)]
-    pub(crate) fn put(&mut self, text: &[u8])
+    pub fn put(&mut self, text: &[u8])
         requires { length text.now + length self.old ≤ 384 }
-        ensures { self.new ≡ text.now ++ self.old }
+        ensures put { self.new ≡ text.now ++ self.old }
+        ensures long { length self.new ≡ length text.now + length self.old }
     {
         let from = self.start - text.len();
         self.bytes[from..self.start].copy_from_slice(text);
@@ -68,7 +74,7 @@ impl Line {
 
     /// Puts a number of 64 bits there.
     #[inline(always)]
-    fn put_short(&mut self, number: u64)
+    pub fn put_short(&mut self, number: u64)
         requires { length self.old + 40 ≤ 384 }
         ensures put { self.new ≡ decimal number ++ self.old }
         ensures short { length self.new ≤ length self.old + 40 }
@@ -78,7 +84,7 @@ impl Line {
 
     /// Puts a number there, which takes 40 digits at most.
     #[inline(always)]
-    pub(crate) fn put_number(&mut self, number: u128)
+    pub fn put_number(&mut self, number: u128)
         requires { length self.old + 40 ≤ 384 }
         ensures put { self.new ≡ decimal number ++ self.old }
         ensures short { length self.new ≤ length self.old + 40 }
@@ -100,8 +106,9 @@ impl Line {
         self.put(digits.format(number).as_bytes());
     }
 
+    /// Puts a word and a number there.
     #[inline(always)]
-    pub(crate) fn put_count(&mut self, word: &[u8], number: u128)
+    pub fn put_count(&mut self, word: &[u8], number: u128)
         requires { length word.now + (40 + length self.old) ≤ 384 }
         ensures put { self.new ≡ word.now ++ (decimal number ++ self.old) }
         ensures short { length self.new ≤ length word.now + (40 + length self.old) }
@@ -112,7 +119,7 @@ impl Line {
 
     /// Puts 16 bytes there as 32 hexadecimal digits.
     #[inline(always)]
-    pub(crate) fn put_digits(&mut self, bytes: &[u8; 16])
+    pub fn put_digits(&mut self, bytes: &[u8; 16])
         requires { length self.old + 32 ≤ 384 }
         ensures put { self.new ≡ encode_lower bytes.now ++ self.old }
         ensures long { length self.new ≡ length self.old + 32 }
@@ -120,5 +127,16 @@ impl Line {
         let from = self.start - 32;
         let _ = hex::encode_to_slice(&bytes[..], &mut self.bytes[from..self.start]);
         self.start = from;
+    }
+
+    /// Appends the line to the text.
+    #[inline(always)]
+    pub(crate) fn append_to(&self, text: &mut String) -> Result<(), AllocError>
+        ensures { OnOk result (string_bytes text.new ≡ string_bytes text.old ++ self.now) }
+    {
+        match std::str::from_utf8(self.bytes()) {
+            Ok(line) => text.push_str(line),
+            Err(_) => Err(AllocError),
+        }
     }
 }
