@@ -4,6 +4,7 @@ pub mod ByToken
 pub mod Closing
 pub mod ExplainedLines
 pub mod LineLists
+pub mod LinePuts
 pub mod LocalLemmas
 mod Modes
 pub mod MomentLemmas

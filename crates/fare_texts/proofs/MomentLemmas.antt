@@ -1,81 +1,26 @@
--- What a clock at UTC shows at a moment in milliseconds.
-use Rattle.std.specs.Prelude.{ℕ, ◌≡◌, ◌*◌, ◌/◌, ◌%◌, ◌<◌, pos, ◌+ℤ◌, ◌*ℤ◌, List, [], ◌∷◌, ◌++◌}
-use Rattle.std.specs.Prelude.{Some}
-use Rattle.std.proofs.Common.{◌∙◌, ap, arith, append_assoc}
-use Rattle.jiff_core.specs.declared.civil.datetime.DateTime.{DateTime}
-use Rattle.jiff_core.specs.declared.civil.time.Time.{Time}
-use Rattle.jiff_core.specs.Date.{epoch_day}
-use Rattle.jiff_core.specs.DateTime.{civil_nanos}
-use Rattle.jiff_core.specs.Time.{time_nanos}
-use Rattle.jiff.proofs.Family.{time_nanos_bound, civil_nanos-parts}
-use Rattle.jiff.proofs.SpanFacts.{signed_arith}
-use Rattle.jiff_fmt.specs.Text.{date_text, pad2, time_text, fraction, places}
-use Rattle.fare_texts.specs.Moments.{clock_text, pad3, IsCivilText}
+-- The digits of dates and times of day.
+use Rattle.std.specs.Prelude.{ℕ, ◌≡◌, ◌+◌, ◌/◌, ◌%◌, pos, [], ◌∷◌, ◌++◌}
+use Rattle.std.proofs.Common.{◌∙◌, ap, sym}
+use Rattle.jiff_core.specs.declared.civil.date.Date.{Date}
+use Rattle.jiff_fmt.specs.Text.{date_text, year_text, pad2, pad4}
+use Rattle.fare_texts.specs.inside.Clocks.{clock_of}
 
--- the day and the time of day
-pub shown_at : (moment : ℕ) (dt : DateTime) → civil_nanos dt ≡ pos moment *ℤ pos 1_000_000
-    → (epoch_day dt.date ≡ pos (moment / 86_400_000))
-    × (time_nanos dt.time ≡ (moment % 86_400_000) * 1_000_000)
-shown_at moment dt e =
-    let parts : civil_nanos dt
-    ≡ epoch_day dt.date *ℤ pos 86_400_000_000_000 +ℤ pos (time_nanos dt.time) =
-    civil_nanos-parts dt in
-    let bound : time_nanos dt.time < 86_400_000_000_000 = time_nanos_bound dt.time in
-    (omega (arith, signed_arith), omega (arith, signed_arith))
+-- the fourteen characters of a time of day
+pub clock_shown : (hour minute second ms a b c d e f g h i : ℕ) → a ≡ 48 + hour / 10
+    → b ≡ 48 + hour % 10 → c ≡ 48 + minute / 10 → d ≡ 48 + minute % 10 → e ≡ 48 + second / 10
+    → f ≡ 48 + second % 10 → g ≡ 48 + ms / 100 → h ≡ 48 + ms % 100 / 10 → i ≡ 48 + ms % 100 % 10
+    → 84 ∷ a ∷ b ∷ 58 ∷ c ∷ d ∷ 58 ∷ e ∷ f ∷ 46 ∷ g ∷ h ∷ i ∷ 90 ∷ []
+    ≡ clock_of hour minute second ms
+clock_shown hour minute second ms a b c d e f g h i ea eb ec ed ee ef eg eh ei = cc
 
--- three places of a fraction
-
-pub three_places : (n ms : ℕ) → ms < 1_000 → n ≡ ms * 1_000_000 → fraction (Some 3) n ≡ pad3 ms
-unfolding places
-three_places n ms small e =
-    let high : n / 100_000_000 ≡ ms / 100 = omega arith in
-    let middle : n % 100_000_000 / 10_000_000 ≡ ms % 100 / 10 = omega arith in
-    let low : n % 100_000_000 % 10_000_000 / 1_000_000 ≡ ms % 100 % 10 = omega arith in
-    cc
-
--- the clock
-pub clock_at : (ms : ℕ) (t : Time) → ms < 86_400_000 → time_nanos t ≡ ms * 1_000_000
-    → (t.hour ≡ ms / 3_600_000) × (t.minute ≡ ms / 60_000 % 60) × (t.second ≡ ms / 1_000 % 60)
-    × (t.subsec_nanosecond ≡ (ms % 1_000) * 1_000_000)
-clock_at ms t small e =
-    let h : t.hour < 24 = t.hour_in in
-    let m : t.minute < 60 = t.minute_in in
-    let s : t.second < 60 = t.second_in in
-    let f : t.subsec_nanosecond < 1_000_000_000 = t.subsec_in in
-    (omega arith, omega arith, omega arith, omega arith)
-
--- a time of day by its parts
-abbrev line : ℕ → ℕ → ℕ → List ℕ → List ℕ
-line hour minute second places =
-    84 ∷ (pad2 hour ++ 58 ∷ pad2 minute ++ 58 ∷ pad2 second ++ 46 ∷ places) ++ 90 ∷ []
-
-line_same : (h h' m m' s s' : ℕ) (p p' : List ℕ) → h ≡ h' → m ≡ m' → s ≡ s' → p ≡ p'
-    → line h m s p ≡ line h' m' s' p'
-line_same h h' m m' s s' p p' a b c d = cc
-
--- the text of a clock
-clock_shown : (ms : ℕ) (t : Time) → ms < 86_400_000 → time_nanos t ≡ ms * 1_000_000
-    → (84 ∷ time_text (Some 3) t) ++ 90 ∷ [] ≡ clock_text ms
-clock_shown ms t small e =
-    let parts = clock_at ms t small e in
-    let below : ms % 1_000 < 1_000 = omega arith in
-    line_same t.hour (ms / 3_600_000) t.minute (ms / 60_000 % 60) t.second (ms / 1_000 % 60)
-    (fraction (Some 3) t.subsec_nanosecond) (pad3 (ms % 1_000))
-    parts.0 parts.1 parts.2 (three_places t.subsec_nanosecond (ms % 1_000) below parts.3)
-
--- the text of a date and a time that a clock at UTC shows at a moment
-pub civil_shown : (moment : ℕ) (text : List ℕ) (dt : DateTime)
-    → civil_nanos dt ≡ pos moment *ℤ pos 1_000_000
-    → text ≡ (date_text dt.date ++ 84 ∷ time_text (Some 3) dt.time) ++ 90 ∷ []
-    → IsCivilText moment text
-civil_shown moment text dt at written =
-    let small : moment % 86_400_000 < 86_400_000 = omega arith in
-    let shown = shown_at moment dt at in
-    record {
-      date = dt.date;
-      day = shown.0;
-      shown = written ∙ (append_assoc (date_text dt.date) (84 ∷ time_text (Some 3) dt.time) (90
-          ∷ [])
-          ∙ ap (λ clock. date_text dt.date ++ clock)
-          (clock_shown (moment % 86_400_000) dt.time small shown.1));
-    }
+-- the ten characters of a date whose year is not negative
+pub date_shown : (date : Date) (year a b c d e f g h : ℕ) → date.year ≡ pos year
+    → a ≡ 48 + year / 100 / 10 → b ≡ 48 + year / 100 % 10 → c ≡ 48 + year % 100 / 10
+    → d ≡ 48 + year % 100 % 10 → e ≡ 48 + date.month / 10 → f ≡ 48 + date.month % 10
+    → g ≡ 48 + date.day / 10 → h ≡ 48 + date.day % 10
+    → a ∷ b ∷ c ∷ d ∷ 45 ∷ e ∷ f ∷ 45 ∷ g ∷ h ∷ [] ≡ date_text date
+date_shown date year a b c d e f g h is ea eb ec ed ee ef eg eh =
+    let digits : a ∷ b ∷ c ∷ d ∷ 45 ∷ e ∷ f ∷ 45 ∷ g ∷ h ∷ []
+    ≡ pad4 year ++ 45 ∷ [] ++ pad2 date.month ++ 45 ∷ [] ++ pad2 date.day = cc in
+    digits
+    ∙ ap (λ y. year_text y ++ 45 ∷ [] ++ pad2 date.month ++ 45 ∷ [] ++ pad2 date.day) (sym is)

@@ -1,12 +1,18 @@
 //! One line of a ledger.
 
-ghost use Rattle.std.specs.Prelude.{◌≡◌, ◌<◌, ◌++◌, length, List, ℕ, OnOk, Some, slice_get};
+ghost use Rattle.std.specs.Prelude.{◌≡◌, ◌+◌, ◌≤◌, ◌++◌, [], length, List, ℕ, OnOk, codes};
 ghost use Rattle.std.specs.Prelude.{string_bytes};
-ghost use Rattle.fare_texts.specs.LedgerLines.{IsLedgerLine, entry_fields, line_head, mode_field};
+ghost use Rattle.std.specs.Fmt.{decimal};
+ghost use Rattle.fare_texts.specs.LedgerLines.{IsLedgerLine, IsReasonFields, line_head};
+ghost use Rattle.fare_texts.specs.LedgerLines.{mode_field};
+ghost use Rattle.fare_texts.specs.Moments.{IsMomentText};
+ghost use Rattle.fare_texts.specs.StatementText.{answer_text};
 
-use crate::reason_fields::write_reason_fields;
-use crate::{Digits, answer_name, write_moment};
-use account_rule::Reason;
+use crate::answer_name;
+use crate::line::Line;
+use crate::moment::put_moment;
+use crate::reason_fields::put_reason_fields;
+use account_rule::{Answer, Reason};
 use histories::Entry;
 use std::alloc::AllocError;
 use tap_views::Token;
@@ -25,35 +31,60 @@ pub fn write_line(
         × IsLedgerLine table.now token number entry.now reason.now line
         × (string_bytes text.new ≡ string_bytes text.old ++ line)) }
 {
-    write_head(text, token, number)?;
-    write_moment(text, entry.moment)?;
-    write_fields(text, table, entry)?;
-    write_reason_fields(text, reason)?;
-    text.push_str("\n")?;
+    let mut line = Line::new();
+    put_start(&mut line, token, number, entry);
+    line.append_to(text)?;
+    text.push_str(mode_field(table, entry.moment, entry.validator))?;
+    line.clear();
+    put_end(&mut line, entry, reason);
+    line.append_to(text)?;
     Ok(())
 }
 
-/// Appends the token and the number.
+/// Puts what a line has before its mode, as `000..0a1,1,2024-03-08T17:00:00.000Z,1000,`.
+#[inline(always)]
 #[tactic(auto, unfolding(crate::specs::LedgerLines::line_head))]
-fn write_head(text: &mut String, token: Token, number: u64) -> Result<(), AllocError>
-    ensures { OnOk result (string_bytes text.new ≡ string_bytes text.old
-        ++ line_head token number) }
+fn put_start(line: &mut Line, token: Token, number: u64, entry: &Entry)
+    requires { line.old ≡ [] }
+    ensures { (moment : List ℕ) × IsMomentText entry.now.moment moment
+        × (line.new ≡ line_head token number
+        ++ (moment ++ (codes "," ++ (decimal entry.now.validator ++ codes ",")))) }
 {
-    let digits = Digits(token);
-    write!(text, "{digits},{number},")
+    line.put(b",");
+    line.put_short(u64::from(entry.validator));
+    line.put(b",");
+    put_moment(line, entry.moment);
+    line.put(b",");
+    line.put_short(number);
+    line.put(b",");
+    line.put_digits(&token.bytes());
 }
 
-/// Appends the entry's fields behind its moment.
-#[tactic(auto, unfolding(crate::specs::LedgerLines::entry_fields))]
-fn write_fields(text: &mut String, table: &FareTable, entry: &Entry) -> Result<(), AllocError>
-    ensures { OnOk result (string_bytes text.new ≡ string_bytes text.old
-        ++ entry_fields table.now entry.now) }
+/// Puts what a line has behind its mode, as `,paid,300,..`.
+#[inline(always)]
+fn put_end(line: &mut Line, entry: &Entry, reason: &Reason)
+    requires { line.old ≡ [] }
+    ensures { (fields : List ℕ) × IsReasonFields reason.now fields
+        × (line.new ≡ codes "," ++ (answer_text entry.now.answer
+        ++ (codes "," ++ (decimal entry.now.cents ++ (codes "," ++ (fields ++ codes "\n")))))) }
 {
-    let validator = entry.validator;
-    let mode = mode_field(table, entry.moment, validator);
-    let answer = answer_name(entry.answer);
-    let cents = entry.cents;
-    write!(text, ",{validator},{mode},{answer},{cents},")
+    line.put(b"\n");
+    put_reason_fields(line, reason);
+    line.put(b",");
+    line.put_short(u64::from(entry.cents));
+    line.put(b",");
+    put_answer(line, entry.answer);
+    line.put(b",");
+}
+
+/// Puts the word of the answer there.
+#[inline(always)]
+fn put_answer(line: &mut Line, answer: Answer)
+    requires { length line.old + 8 ≤ 384 }
+    ensures put { line.new ≡ answer_text answer ++ line.old }
+    ensures short { length line.new ≤ length line.old + 8 }
+{
+    line.put(answer_name(answer).as_bytes());
 }
 
 /// The name of the validator's mode at the moment, or nothing if the table does not know the

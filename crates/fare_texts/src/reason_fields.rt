@@ -1,71 +1,89 @@
 //! The last five fields of a ledger's line: the window, the ride's place, the reason, and the
 //! moment that it points at.
 
-ghost use Rattle.std.specs.Prelude.{◌≡◌, ◌+◌, ◌++◌, List, ℕ, OnOk, string_bytes};
+ghost use Rattle.std.specs.Prelude.{◌≡◌, ◌+◌, ◌≤◌, ◌++◌, List, ℕ, length};
 ghost use Rattle.fare_texts.specs.LedgerLines.{IsReasonFields, IsPointing, IsRideFields};
 ghost use Rattle.fare_texts.specs.LedgerLines.{place_fields};
 ghost use Rattle.fare_texts.specs.LedgerLines.{ride_rest};
 
-use crate::write_moment;
+use crate::line::Line;
+use crate::moment::put_moment;
 use account_rule::{Charge, Reason};
-use std::alloc::AllocError;
 
-/// Appends the fields, as `,,,stale,2024-03-08T18:00:00.000Z`.
-pub(crate) fn write_reason_fields(text: &mut String, reason: &Reason) -> Result<(), AllocError>
-    ensures { OnOk result ((written : List ℕ) × IsReasonFields reason.now written
-        × (string_bytes text.new ≡ string_bytes text.old ++ written)) }
+/// Puts the fields before what the line has, as `,,,stale,2024-03-08T18:00:00.000Z`.
+#[inline(always)]
+pub(crate) fn put_reason_fields(line: &mut Line, reason: &Reason)
+    requires { length line.old + 140 ≤ 384 }
+    ensures put { (fields : List ℕ) × IsReasonFields reason.now fields
+        × (line.new ≡ fields ++ line.old) }
+    ensures short { length line.new ≤ length line.old + 140 }
 {
     match *reason {
-        Reason::Unknown => text.push_str(",,,unknown,"),
-        Reason::Stale { latest } => write_pointing(text, ",,,stale,", latest),
-        Reason::Transfer { moment, mode: _ } => write_pointing(text, ",,,transfer,", moment),
+        Reason::Unknown => line.put(b",,,unknown,"),
+        Reason::Stale { latest } => put_pointing(line, b",,,stale,", latest),
+        Reason::Transfer { moment, mode: _ } => put_pointing(line, b",,,transfer,", moment),
         Reason::Ride {
             start,
             until,
             charge,
-        } => write_ride(text, start, until, charge),
+        } => put_ride(line, start, until, charge),
     }
 }
 
-/// Appends the words and the moment to which they point.
-fn write_pointing(text: &mut String, words: &str, at: u64) -> Result<(), AllocError>
-    ensures { OnOk result ((written : List ℕ) × IsPointing words.now at written
-        × (string_bytes text.new ≡ string_bytes text.old ++ written)) }
+/// Puts the words and the moment to which they point.
+#[inline(always)]
+fn put_pointing(line: &mut Line, words: &[u8], at: u64)
+    requires few { length words.now ≤ 20 }
+    requires room { length line.old + 60 ≤ 384 }
+    ensures put { (written : List ℕ) × IsPointing words.now at written
+        × (line.new ≡ written ++ line.old) }
+    ensures short { length line.new ≤ length line.old + 60 }
 {
-    text.push_str(words)?;
-    write_moment(text, at)
+    put_moment(line, at);
+    line.put(words);
 }
 
-/// Appends the fields of a ride.
-fn write_ride(text: &mut String, start: u64, until: u64, charge: Charge) -> Result<(), AllocError>
-    ensures { OnOk result ((written : List ℕ) × IsRideFields start until charge written
-        × (string_bytes text.new ≡ string_bytes text.old ++ written)) }
+/// Puts the fields of a ride.
+#[inline(always)]
+fn put_ride(line: &mut Line, start: u64, until: u64, charge: Charge)
+    requires { length line.old + 140 ≤ 384 }
+    ensures put { (written : List ℕ) × IsRideFields start until charge written
+        × (line.new ≡ written ++ line.old) }
+    ensures short { length line.new ≤ length line.old + 140 }
 {
-    write_moment(text, start)?;
-    text.push_str(",")?;
-    write_moment(text, until)?;
-    write_ride_rest(text, charge)?;
-    Ok(())
+    put_ride_rest(line, charge);
+    put_moment(line, until);
+    line.put(b",");
+    put_moment(line, start);
 }
 
-/// Appends a ride's place and what decided its cents.
-fn write_ride_rest(text: &mut String, charge: Charge) -> Result<(), AllocError>
-    ensures { OnOk result (string_bytes text.new ≡ string_bytes text.old ++ ride_rest charge) }
+/// Puts a ride's place and what decided its cents.
+#[inline(always)]
+fn put_ride_rest(line: &mut Line, charge: Charge)
+    requires { length line.old + 59 ≤ 384 }
+    ensures put { line.new ≡ ride_rest charge ++ line.old }
+    ensures short { length line.new ≤ length line.old + 59 }
 {
     match charge {
-        Charge::Full { place, cents: _ } => write_placed(text, place, "full"),
-        Charge::CeilingCut { place, cents: _ } => write_placed(text, place, "ceiling-cut"),
-        Charge::CeilingReached { place } => write_placed(text, place, "ceiling"),
-        Charge::RideLimitReached => text.push_str(",,ride-limit,"),
+        Charge::Full { place, cents: _ } => put_placed(line, place, b"full"),
+        Charge::CeilingCut { place, cents: _ } => put_placed(line, place, b"ceiling-cut"),
+        Charge::CeilingReached { place } => put_placed(line, place, b"ceiling"),
+        Charge::RideLimitReached => line.put(b",,ride-limit,"),
     }
 }
 
-/// Appends a ride's place, counted from 1, and a word.
+/// Puts a ride's place, counted from 1, and a word.
+#[inline(always)]
 #[tactic(auto, unfolding(crate::specs::LedgerLines::place_fields))]
-fn write_placed(text: &mut String, place: u32, word: &str) -> Result<(), AllocError>
-    ensures { OnOk result (string_bytes text.new ≡ string_bytes text.old
-        ++ place_fields place word.now) }
+fn put_placed(line: &mut Line, place: u32, word: &[u8])
+    requires few { length word.now ≤ 16 }
+    requires room { length line.old + 59 ≤ 384 }
+    ensures put { line.new ≡ place_fields place word.now ++ line.old }
+    ensures short { length line.new ≤ length line.old + 59 }
 {
-    let ride = u64::from(place) + 1;
-    write!(text, ",{ride},{word},")
+    line.put(b",");
+    line.put(word);
+    line.put(b",");
+    line.put_short(u64::from(place) + 1);
+    line.put(b",");
 }

@@ -4,7 +4,6 @@
 pub mod forms;
 mod front;
 pub mod laws;
-mod line;
 mod report;
 mod token_lines;
 mod wrong;

@@ -13,8 +13,7 @@ ghost use Rattle.fare_texts.specs.ReportLines.{token_line};
 ghost use Rattle.fare_texts.specs.WrittenOut.{Begins, GoesOut};
 ghost use Rattle.fare_texts.specs.declared.print_fault.PrintFault.TheVariants.{Write as ForWrite};
 
-use crate::line::Line;
-use fare_texts::{PrintFault, write_out};
+use fare_texts::{Line, PrintFault, write_out};
 use histories::{TokenSum, TokenSums, Totals};
 use std::io::Write;
 use tap_views::Token;

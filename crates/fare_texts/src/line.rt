@@ -1,18 +1,20 @@
 //! A line that is made from its end to its start.
 
-ghost use Rattle.std.specs.Prelude.{◌≡◌, ◌+◌, ◌≤◌, [], ◌++◌, length};
+ghost use Rattle.std.specs.Prelude.{◌≡◌, ◌+◌, ◌≤◌, [], ◌++◌, length, string_bytes, OnOk};
 ghost use Rattle.std.specs.Fmt.{decimal};
 ghost use Rattle.hex.specs.Hex.{encode_lower};
 
 use itoa::{Buffer, write_digits};
+use std::alloc::AllocError;
 use std::marker::Model;
 
-/// More bytes than the longest line has: seven numbers of at most 40 digits, a token and the words.
+/// More bytes than the longest line of a report has: seven numbers of at most 40 digits, a token and
+/// the words.
 const ROOM_BYTES: usize = 384;
 
 /// The end of a line. Text is put before it, so that digits are written where they stay.
 #[derive(Drop)]
-pub(crate) struct Line {
+pub struct Line {
     /// The room, whose end is the line.
     bytes: [u8; ROOM_BYTES],
     /// Where the line starts.
@@ -30,7 +32,8 @@ impl Model for Line {
 }
 
 impl Line {
-    pub(crate) fn new() -> Self
+    /// An empty line.
+    pub fn new() -> Self
         ensures { result ≡ [] }
     {
         Line {
@@ -39,15 +42,17 @@ impl Line {
         }
     }
 
+    /// Empties the line.
     #[inline(always)]
-    pub(crate) fn clear(&mut self)
+    pub fn clear(&mut self)
         ensures { self.new ≡ [] }
     {
         self.start = ROOM_BYTES;
     }
 
+    /// What the line has.
     #[inline(always)]
-    pub(crate) fn bytes(&self) -> &[u8]
+    pub fn bytes(&self) -> &[u8]
         ensures value { result.now ≡ self.now }
         ensures few { length result.now ≤ 384 }
     {
@@ -55,9 +60,10 @@ impl Line {
     }
 
     #[inline(always)]
-    pub(crate) fn put(&mut self, text: &[u8])
+    pub fn put(&mut self, text: &[u8])
         requires { length text.now + length self.old ≤ 384 }
-        ensures { self.new ≡ text.now ++ self.old }
+        ensures put { self.new ≡ text.now ++ self.old }
+        ensures long { length self.new ≡ length text.now + length self.old }
     {
         let from = self.start - text.len();
         self.bytes[from..self.start].copy_from_slice(text);
@@ -65,7 +71,7 @@ impl Line {
     }
 
     #[inline(always)]
-    fn put_short(&mut self, number: u64)
+    pub fn put_short(&mut self, number: u64)
         requires { length self.old + 40 ≤ 384 }
         ensures put { self.new ≡ decimal number ++ self.old }
         ensures short { length self.new ≤ length self.old + 40 }
@@ -74,7 +80,7 @@ impl Line {
     }
 
     #[inline(always)]
-    pub(crate) fn put_number(&mut self, number: u128)
+    pub fn put_number(&mut self, number: u128)
         requires { length self.old + 40 ≤ 384 }
         ensures put { self.new ≡ decimal number ++ self.old }
         ensures short { length self.new ≤ length self.old + 40 }
@@ -95,8 +101,9 @@ impl Line {
         self.put(digits.format(number).as_bytes());
     }
 
+    /// Puts a word and a number there.
     #[inline(always)]
-    pub(crate) fn put_count(&mut self, word: &[u8], number: u128)
+    pub fn put_count(&mut self, word: &[u8], number: u128)
         requires { length word.now + (40 + length self.old) ≤ 384 }
         ensures put { self.new ≡ word.now ++ (decimal number ++ self.old) }
         ensures short { length self.new ≤ length word.now + (40 + length self.old) }
@@ -106,7 +113,7 @@ impl Line {
     }
 
     #[inline(always)]
-    pub(crate) fn put_digits(&mut self, bytes: &[u8; 16])
+    pub fn put_digits(&mut self, bytes: &[u8; 16])
         requires { length self.old + 32 ≤ 384 }
         ensures put { self.new ≡ encode_lower bytes.now ++ self.old }
         ensures long { length self.new ≡ length self.old + 32 }
@@ -114,5 +121,16 @@ impl Line {
         let from = self.start - 32;
         let _ = hex::encode_to_slice(&bytes[..], &mut self.bytes[from..self.start]);
         self.start = from;
+    }
+
+    /// Appends the line to the text.
+    #[inline(always)]
+    pub(crate) fn append_to(&self, text: &mut String) -> Result<(), AllocError>
+        ensures { OnOk result (string_bytes text.new ≡ string_bytes text.old ++ self.now) }
+    {
+        match std::str::from_utf8(self.bytes()) {
+            Ok(line) => text.push_str(line),
+            Err(_) => Err(AllocError),
+        }
     }
 }

@@ -1,6 +1,6 @@
 use Rattle.std.proofs.Common.{arith}
 use Rattle.std.proofs.lemmas.List.{drop_all}
-use Rattle.report_texts.proofs.line.Line.clear.Goals as goal
+use Rattle.fare_texts.proofs.line.Line.clear.Goals as goal
 
 pub returns : goal.returns
 returns c = drop_all 384 c.self.inside.bytes (omega arith)
