@@ -60,7 +60,7 @@ fn put_start(line: &mut Line, token: Token, number: u64, entry: &Entry)
     line.put_digits(&token.bytes());
 }
 
-/// Puts what a line has behind its mode, as `,paid,300,..`.
+/// Puts what a line has after its mode, as `,paid,300,..`.
 #[inline(always)]
 fn put_end(line: &mut Line, entry: &Entry, reason: &Reason)
     requires { line.old ≡ [] }
