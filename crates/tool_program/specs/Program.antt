@@ -1,15 +1,12 @@
 -- The whole program: what is asked for was done, or why it was not.
-use Rattle.std.specs.Prelude.{◌≡◌, ◌⊎◌, ⊤, ◌++◌, ℕ, Bool, true, false, MatchBool, List, map}
-use Rattle.std.specs.Prelude.{Option, None, Some, codes, is_none}
+use Rattle.std.specs.Prelude.{◌≡◌, ◌⊎◌, ⊤, ℕ, Bool, true, false, MatchBool, List, map}
+use Rattle.std.specs.Prelude.{Option, None, Some}
 use Rattle.tap_views.specs.UploadEnds.{are_posted}
 use Rattle.tap_views.specs.declared.upload_end.UploadEnd.{UploadEnd}
 use Rattle.program_manners.specs.Loads.{Loaded}
-use Rattle.program_manners.specs.TableWords.{date_text}
 use Rattle.world.specs.declared.faults.LoadFault.{LoadFault}
 use Rattle.program_manners.specs.declared.output.WriteEnd.{WriteEnd}
-use Rattle.program_manners.specs.declared.table_words.DateFault.{DateFault}
 use Rattle.tool_program.specs.Merge.{GivesUpMerge, MergesParts}
-use Rattle.tool_tasks.specs.Bounds.{PrintsBounds}
 use Rattle.tool_tasks.specs.Corrections.{Corrects, GivesUpCorrections, IsWarned}
 use Rattle.tool_tasks.specs.Decode.{AreReported, Decoded, Decodes, DecodesFaulty, GivesUpDecode}
 use Rattle.tool_tasks.specs.Decode.{are_whole}
@@ -17,28 +14,20 @@ use Rattle.tool_tasks.specs.Encode.{EncodesTable, GivesUpEncode}
 use Rattle.tool_tasks.specs.EncodeRows.{EncodesWith, GivesUpRows}
 use Rattle.tool_tasks.specs.Fault.{IsFaultReported}
 use Rattle.tool_tasks.specs.GoodPart.{GivesUpGoodPart, KeepsGoodPart}
-use Rattle.tool_tasks.specs.Look.{GivesUpLook, Looks, LooksFaulty}
 use Rattle.tool_tasks.specs.MergeSorted.{GivesUpMergeSorted, Merges}
-use Rattle.tool_tasks.specs.Names.{escaped}
 use Rattle.tool_tasks.specs.Sink.{Made}
 use Rattle.tool_tasks.specs.Sort.{GivesUpSort, Sorts, ends_name, refused_lines}
-use Rattle.tool_tasks.specs.Table.{EndsIll, EndsWell}
-use Rattle.tool_tasks.specs.Uploads.{GivesUpWith, Listed, ListsFaulty, ListsWith, are_sound}
 use Rattle.tool_tasks.specs.declared.encode_rows.RowsOutcome.{RowsOutcome}
 use Rattle.tool_tasks.specs.declared.encode_rows.RowsOutcome.TheVariants as outcomes
 use Rattle.tool_tasks.specs.declared.fault.Fault.{Fault}
-use Rattle.tool_tasks.specs.declared.fault.Fault.TheVariants.{NoMemory}
 use Rattle.tool_tasks.specs.declared.sink.NewFault.{NewFault}
 use Rattle.tool_tasks.specs.declared.sort.SortWords.{SortWords}
-use Rattle.tool_words.specs.Asked.{Asked, RowsAsked, SortAsked, bounds, corrections, decode, encode}
-use Rattle.tool_words.specs.Asked.{encode_rows, good_part, look, merge, mistake, sort, table}
-use Rattle.tool_words.specs.Asked.{uploads, wrong_date}
+use Rattle.tool_words.specs.Asked.{Asked, RowsAsked, SortAsked, corrections, decode, encode}
+use Rattle.tool_words.specs.Asked.{encode_rows, good_part, merge, mistake, shows, sort}
 use Rattle.tool_words.specs.Mistakes.{mistake_text}
-use Rattle.tool_words.specs.Tasks.{good_part_of, look_of, rows_words_of, table_of}
+use Rattle.tool_words.specs.Tasks.{good_part_of, rows_words_of}
 use Rattle.tool_words.specs.declared.task.GoodPartWords.{GoodPartWords}
-use Rattle.tool_words.specs.declared.task.LookWords.{LookWords}
 use Rattle.tool_words.specs.declared.task.RowsWords.{RowsWords}
-use Rattle.tool_words.specs.declared.task.TableQuestion.{TableQuestion}
 
 -- What is known of a run, before it and behind it: what the source loaded and last refused, what
 -- the files have that are read at any offset, what the sink made and last could not begin or make,
@@ -98,7 +87,7 @@ EncodesSo outcome word asked run = IfKept run ((words : RowsWords)
     run.said run.said' run.unsaid)
 
 -- What is asked for was done, with status 0. Of a source that keeps what it loads. `Silent` says
--- that nothing was said.
+-- that nothing was said. Of what only informs nothing is promised.
 abbrev pub IsDone : Asked → Run → Type 0 → Type 0
 IsDone (encode word) run Silent =
     IfKept run (EncodesTable word run.loaded run.loaded' run.out run.out')
@@ -108,31 +97,19 @@ IsDone (encode_rows word asked) run Silent =
 IsDone (decode words) run Silent = ((decoded : List Decoded)
     × Decodes words run.loaded run.loaded' run.out run.out' decoded
     × (are_whole decoded ≡ true)) × (run.is_flushed ≡ true) × Silent
-IsDone (uploads words has_tokens) run Silent = ((listed : List Listed)
-    × ListsWith has_tokens words run.loaded run.loaded' run.out run.out' listed
-    × (are_sound listed ≡ true)) × (run.is_flushed ≡ true) × Silent
-IsDone (good_part asked) run Silent = ((words : GoodPartWords) × (good_part_of words ≡ asked)
-    × (one : Listed)
-    × KeepsGoodPart words run.loaded run.loaded' run.made run.made' run.out run.out' one
-    × (is_none one.facts.fault ≡ true)) × (run.is_flushed ≡ true) × Silent
-IsDone (look asked names) run Silent = ((words : LookWords) × (look_of words ≡ asked)
-    × (listed : List Listed) × Looks words names run.loaded run.loaded' run.out run.out' run.said
-    run.said' run.unsaid listed × (are_sound listed ≡ true)) × (run.is_flushed ≡ true) × Silent
-IsDone (table asked) run Silent = ((question : TableQuestion) × (table_of question ≡ asked)
-    × EndsWell question run.loaded run.loaded' run.out run.out' run.said run.said' run.unsaid
-    Silent) × (run.is_flushed ≡ true)
+IsDone (good_part asked) run Silent = (words : GoodPartWords) × (good_part_of words ≡ asked)
+    × KeepsGoodPart words run.loaded run.loaded' run.made run.made' true
+    × (run.is_flushed ≡ true) × Silent
 IsDone (sort asked) run Silent =
     MatchBool asked.is_merge (MergesAll asked run) (IfKept run (SortsAll asked run true)) × Silent
 IsDone (merge parts) run Silent =
     IfKept run (MergesParts parts run.loaded run.loaded' run.out run.out')
     × (run.is_flushed ≡ true) × Silent
-IsDone (bounds parts words) run Silent =
-    PrintsBounds parts run.out run.out' × (run.is_flushed ≡ true) × Silent
 IsDone (corrections ledgers) run Silent = (run.is_flushed ≡ true) × IfKept run ((removed : ℕ)
     × Corrects ledgers.is_by_token ledgers.old ledgers.new run.loaded run.loaded' run.out run.out'
     removed × IsWarned ledgers.old ledgers.new removed run.said run.said' run.unsaid Silent)
 IsDone (mistake why) run Silent = ⊥
-IsDone (wrong_date word why) run Silent = ⊥
+IsDone shows run Silent = ⊤
 
 -- It was done, with status 3: an upload has a layout fault, which `sort` reports, or rows were
 -- refused.
@@ -161,25 +138,11 @@ IsGivenUp (decode words) run Silent =
     × (run.is_flushed ≡ true))
     ⊎ ((fault : Fault) × GivesUpDecode words run.loaded run.refused run.end fault run.out run.out'
     run.said run.said' run.unsaid)
-IsGivenUp (uploads words has_tokens) run Silent =
-    (ListsFaulty has_tokens words run.loaded run.loaded' run.out run.out'
-    × (run.is_flushed ≡ true) × Silent)
-    ⊎ Faults run (λ fault.
-    GivesUpWith has_tokens words run.loaded run.refused run.end fault run.out run.out')
 IsGivenUp (good_part asked) run Silent = (words : GoodPartWords) × (good_part_of words ≡ asked)
-    × (((one : Listed)
-    × KeepsGoodPart words run.loaded run.loaded' run.made run.made' run.out run.out' one
-    × (is_none one.facts.fault ≡ false) × (run.is_flushed ≡ true) × Silent)
+    × ((KeepsGoodPart words run.loaded run.loaded' run.made run.made' false
+    × (run.is_flushed ≡ true) × Silent)
     ⊎ Faults run (λ fault. GivesUpGoodPart words run.loaded run.loaded' run.refused run.made
-    run.made' run.unmade run.unbegun run.end fault run.out run.out'))
-IsGivenUp (look asked names) run Silent = (words : LookWords) × (look_of words ≡ asked)
-    × ((LooksFaulty words names run.loaded run.loaded' run.out run.out' run.said run.said'
-    run.unsaid × (run.is_flushed ≡ true))
-    ⊎ ((fault : Fault) × GivesUpLook words names run.loaded run.loaded' run.refused
-    run.end fault run.out run.out' run.said run.said' run.unsaid))
-IsGivenUp (table asked) run Silent = (question : TableQuestion) × (table_of question ≡ asked)
-    × EndsIll question run.loaded run.loaded' run.refused run.end run.is_flushed run.out run.out'
-    run.said run.said' run.unsaid
+    run.made' run.unmade run.unbegun run.end fault))
 IsGivenUp (sort asked) run Silent = Faults run (λ fault. (words : SortWords)
     × AreSortWords asked words × MatchBool asked.is_merge
     (GivesUpMergeSorted words asked.uploads (known_of run asked.uploads) run.made run.made'
@@ -188,23 +151,16 @@ IsGivenUp (sort asked) run Silent = Faults run (λ fault. (words : SortWords)
     run.made' run.unmade fault)))
 IsGivenUp (merge parts) run Silent = Faults run (λ fault.
     IfKept run (GivesUpMerge parts run.loaded run.loaded' run.refused run.end fault))
-IsGivenUp (bounds parts words) run Silent = Faults run (λ fault. ⊤)
 IsGivenUp (corrections ledgers) run Silent = Faults run (λ fault. IfKept run
     (GivesUpCorrections ledgers.is_by_token ledgers.old ledgers.new run.loaded run.loaded'
     run.refused run.end fault
     run.out run.out'))
 IsGivenUp (mistake why) run Silent = ⊥
-IsGivenUp (wrong_date word why) run Silent =
-    IsFaultReported NoMemory run.said run.said' run.unsaid
-
--- the line of a later table's word with a wrong date
-abbrev pub wrong_date_text : List ℕ → DateFault → List ℕ
-wrong_date_text word why = codes "error: " ++ date_text (escaped word) why
+IsGivenUp shows run Silent = ⊤
 
 -- the line of a mistake in what is asked for, if there is one
 abbrev pub mistake_line : Asked → Option (List ℕ)
 mistake_line (mistake why) = Some (mistake_text why)
-mistake_line (wrong_date word why) = Some (wrong_date_text word why)
 mistake_line asked = None
 
 -- a run of these fields, in their order

@@ -4,10 +4,10 @@ ghost use Rattle.std.specs.Prelude.{string_bytes};
 ghost use Rattle.program_manners.specs.LineWritten.{LineWritten};
 ghost use Rattle.program_manners.specs.declared.output.WriteEnd.{WriteEnd as AWriteEnd};
 ghost use Rattle.tool_program.specs.Program.{IsDone, IsGivenUp, IsPartlyDone, mistake_line};
-ghost use Rattle.tool_program.specs.Program.{run_of, wrong_date_text};
+ghost use Rattle.tool_program.specs.Program.{run_of};
 ghost use Rattle.tool_tasks.specs.Fault.{IsFaultReported};
 ghost use Rattle.tool_tasks.specs.declared.fault.Fault.TheVariants.{NoMemory};
-ghost use Rattle.tool_words.specs.Asked.{asked_by, sort};
+ghost use Rattle.tool_words.specs.Asked.{asked_by, shows, sort};
 ghost use Rattle.tool_words.specs.Mistakes.{mistake_text};
 ghost use Rattle.tool_words.specs.Tasks.{asked_of, sorting_of};
 ghost use Rattle.tool_words.specs.ToolLine.{AsksForText, Parses};
@@ -40,12 +40,7 @@ fn report_mistake<E: Write>(err: &mut Complaints<E>, mistake: Mistake) -> u8
 
 /// Says which word of a later table has a wrong date, or none, and gives the status.
 fn report_wrong_date<E: Write>(alloc: Global, err: &mut Complaints<E>, wrong: &WrongWord<'_>) -> u8
-    ensures line { result ≡ 2 → LineWritten (E.contents err.old.writer)
-        (E.contents err.new.writer) err.new.failed
-        (wrong_date_text wrong.now.word.now wrong.now.fault) }
-    ensures memory { result ≡ 1 → IsFaultReported NoMemory (E.contents err.old.writer)
-        (E.contents err.new.writer) err.new.failed }
-    ensures status { (result ≡ 1) ⊎ (result ≡ 2) }
+    ensures { (result ≡ 1) ⊎ (result ≡ 2) }
 {
     let shown = Escaped(wrong.word);
     let Ok(word) = format!(in alloc; "{shown}") else {
@@ -131,8 +126,8 @@ fn task_over<R: Threads + Sync, S: Source, D: PlacedFiles, K: Sink, W: Write, E:
         → ((result ≡ 2) × LineWritten (E.contents err.old.writer) (E.contents err.new.writer)
         err.new.failed line) ⊎ ((result ≡ 1) × IsFaultReported NoMemory
         (E.contents err.old.writer) (E.contents err.new.writer) err.new.failed) }
-    ensures right { result ≡ 2
-        → (line : List ℕ) × (mistake_line (asked_of task.entry) ≡ Some line) }
+    ensures right { result ≡ 2 → (asked_of task.entry ≡ shows)
+        ⊎ ((line : List ℕ) × (mistake_line (asked_of task.entry) ≡ Some line)) }
     ensures untouched { result ≡ 2 → (out.new ≡ out.old)
         × (S.loaded source.new ≡ S.loaded source.old) × (K.made sink.new ≡ K.made sink.old) }
     ensures status { result ≤ 3 }
@@ -154,6 +149,7 @@ fn task_over<R: Threads + Sync, S: Source, D: PlacedFiles, K: Sink, W: Write, E:
         Task::Bounds(words) => bounds_over(alloc, &words, files, out, err),
         Task::Corrections(words) => corrections_over(alloc, &words, source, out, err),
         Task::Mistake(mistake) => report_mistake(err, mistake),
+        Task::Unshown(mistake) => report_mistake(err, mistake),
         Task::WrongDate(wrong) => report_wrong_date(alloc, err, &wrong),
     }
 }
@@ -224,9 +220,10 @@ pub fn main_over<R: Threads + Sync, S: Source, D: PlacedFiles, K: Sink, W: Write
         ⊎ ((result ≡ 1) × IsFaultReported NoMemory
         (E.contents err.old.writer) (E.contents err.new.writer) err.new.failed) }
 
-    // Only such words have status 2.
+    // Only such words have status 2, and those of what only informs.
     ensures right { result ≡ 2 → (¬ Parses (map string_bytes words.now))
-        ⊎ ((line : List ℕ) × (mistake_line (asked_by (map string_bytes words.now)) ≡ Some line)) }
+        ⊎ ((asked_by (map string_bytes words.now) ≡ shows)
+        ⊎ ((line : List ℕ) × (mistake_line (asked_by (map string_bytes words.now)) ≡ Some line))) }
 
     // A mistake in the words loads nothing, makes nothing and writes nothing to `out`.
     ensures untouched { result ≡ 2 → (out.new ≡ out.old)

@@ -5,15 +5,7 @@ pub mod Encoded
 pub mod EncodedRows
 pub mod Faults
 pub mod FilesMade
-pub mod FoundRows
 pub mod GoodParts
-pub mod Listing
-pub mod ListingWith
-pub mod LookEnds
-pub mod Looking
 pub mod MergedUploads
 pub mod Opened
-pub mod SeenUploads
 pub mod Sorting
-pub mod TableEnds
-pub mod Tables

@@ -3,9 +3,4 @@ pub mod Decode
 pub mod EncodeRows
 pub mod Fault
 pub mod GoodPart
-pub mod Look
-pub mod LookRows
 pub mod Sort
-pub mod Table
-pub mod UploadTokens
-pub mod Uploads

@@ -1,46 +1,39 @@
 //! `uploads --good-part`: lines of an upload, and a file of its batches before its layout fault.
-ghost use Rattle.std.specs.Prelude.{◌≡◌, ◌≤◌, ◌⊎◌, ◌∷◌, [], IfErr, IfOk, OnOk, Some, false};
-ghost use Rattle.std.specs.Prelude.{is_none, true};
+ghost use Rattle.std.specs.Prelude.{◌≡◌, ◌≤◌, ◌⊎◌, IfErr, IfOk, OnOk, Some, false, true};
 ghost use Rattle.tool_tasks.specs.Fault.{IsFaultReported};
 ghost use Rattle.tool_tasks.specs.GoodPart.{GivesUpGoodPart, IsUnmadeNew, KeepsGoodPart};
 ghost use Rattle.tool_tasks.specs.Sink.{MakesOne};
-ghost use Rattle.tool_tasks.specs.Uploads.{GivesUpWith, Listed, ListsWith};
 ghost use Rattle.tool_tasks.specs.declared.fault.Fault.{Fault as AFault};
+ghost use Rattle.tool_tasks.specs.inside.Decode.{IsOfWriting};
 ghost use Rattle.tool_tasks.specs.inside.GoodPart.{unwritten_as};
 
 use crate::encode_rows::{fault_of_new, fault_of_unfinished};
 use crate::fault::{Fault, finish_after, say};
 use crate::sink::Sink;
-use crate::source::Source;
+use crate::source::{Source, load_upload};
 use crate::upload_tokens::{add_tokens, no_tokens, write_tokens};
-use crate::uploads::{LoadedUpload, list_one};
+use crate::uploads::{upload_text, write_text};
 use fare_texts::write_bytes;
 use program_manners::{Complaints, Output, WriteEnd};
 use std::alloc::Global;
 use std::io::Write;
-use tap_views::good_part;
+use tap_views::{Facts, facts_of, good_part};
 use tool_words::GoodPartWords;
 
 /// Writes the lines of the upload and of its tokens, if these are counted.
-fn list_upload<'a, S: Source, W: Write>(
+fn write_lines<'a, W: Write>(
     alloc: Global,
     words: &GoodPartWords<'a>,
-    source: &mut S,
+    upload: &[u8],
+    facts: &Facts,
     out: &mut Output<W>,
-) -> Result<LoadedUpload, Fault<'a>>
-    ensures done { IfOk result (λ upload. (one : Listed)
-        × ListsWith words.now.has_tokens (words.now.upload.now ∷ []) (S.loaded source.old)
-        (S.loaded source.new) (W.contents out.old.writer) (W.contents out.new.writer) (one ∷ [])
-        × (one.upload ≡ upload.bytes.items) × (upload.is_sound ≡ is_none one.facts.fault)) }
-    ensures stops { IfErr result (λ fault. GivesUpWith words.now.has_tokens
-        (words.now.upload.now ∷ []) (S.loaded source.old) (S.refused source.new) out.new.end
-        fault (W.contents out.old.writer) (W.contents out.new.writer)) }
+) -> Result<(), Fault<'a>>
+    ensures { IfErr result (IsOfWriting out.new.end) }
 {
     let mut tokens = no_tokens(alloc, words.has_tokens);
-    let upload = list_one(alloc, 0, words.upload, source, out)?;
-    add_tokens(&mut tokens, &upload.bytes)?;
-    write_tokens(alloc, &tokens, out)?;
-    Ok(upload)
+    write_text(&upload_text(alloc, 0, words.upload, facts)?, out)?;
+    add_tokens(&mut tokens, upload)?;
+    write_tokens(alloc, &tokens, out)
 }
 
 /// Why a file has not what was to be written to it, as its writer remembers it.
@@ -91,18 +84,18 @@ fn list_and_make<'a, S: Source, K: Sink, W: Write>(
     sink: &mut K,
     out: &mut Output<W>,
 ) -> Result<bool, Fault<'a>>
-    ensures done { IfOk result (λ well. (one : Listed)
-        × KeepsGoodPart words.now (S.loaded source.old) (S.loaded source.new) (K.made sink.old)
-        (K.made sink.new) (W.contents out.old.writer) (W.contents out.new.writer) one
-        × (well ≡ is_none one.facts.fault)) }
+    ensures done { IfOk result (KeepsGoodPart words.now (S.loaded source.old)
+        (S.loaded source.new) (K.made sink.old) (K.made sink.new)) }
+    ensures kept { IfErr result (λ _. K.made sink.new ≡ K.made sink.old) }
     ensures stops { IfErr result (λ fault. GivesUpGoodPart words.now (S.loaded source.old)
         (S.loaded source.new) (S.refused source.new) (K.made sink.old) (K.made sink.new)
-        (K.failed sink.new) (K.unbegun sink.new) out.new.end fault (W.contents out.old.writer)
-        (W.contents out.new.writer)) }
+        (K.failed sink.new) (K.unbegun sink.new) out.new.end fault) }
 {
-    let upload = list_upload(alloc, words, source, out)?;
-    make(alloc, words.out, good_part(&upload.bytes), sink)?;
-    Ok(upload.is_sound)
+    let upload = load_upload(alloc, source, words.upload)?;
+    let facts = facts_of(&upload);
+    write_lines(alloc, words, &upload, &facts, out)?;
+    make(alloc, words.out, good_part(&upload), sink)?;
+    Ok(facts.fault.is_none())
 }
 
 /// Writes to `out` what the upload has that the word names, `-` being standard input: its lines,
@@ -117,27 +110,20 @@ pub fn good_part_over<S: Source, K: Sink, W: Write, E: Write>(
     out: &mut Output<W>,
     err: &mut Complaints<E>,
 ) -> u8
-    // With status 0 the lines were written, the file was made, and the upload has no layout fault.
-    ensures done { result ≡ 0 → (one : Listed)
-        × KeepsGoodPart words.now (S.loaded source.old) (S.loaded source.new) (K.made sink.old)
-        (K.made sink.new) (W.contents out.old.writer) (W.contents out.new.writer) one
-        × (is_none one.facts.fault ≡ true) }
-    // And all that was written was flushed.
-    ensures flushed { result ≡ 0 → out.new.is_flushed ≡ true }
-    // Nothing is reported beside the lines of an upload without a fault.
-    ensures quiet { result ≡ 0 → err.new ≡ err.old }
-    // With status 1 the same was done and flushed for an upload with a layout fault, and nothing
-    // was reported; or a fault ended it, which was reported and is the right one.
-    ensures faults { result ≡ 1 → ((one : Listed)
-        × KeepsGoodPart words.now (S.loaded source.old) (S.loaded source.new) (K.made sink.old)
-        (K.made sink.new) (W.contents out.old.writer) (W.contents out.new.writer) one
-        × (is_none one.facts.fault ≡ false) × (out.new.is_flushed ≡ true)
-        × (err.new ≡ err.old)) ⊎ ((fault : AFault)
+    // With status 0 the file was made, and the upload has no layout fault.
+    ensures done { result ≡ 0 → KeepsGoodPart words.now (S.loaded source.old)
+        (S.loaded source.new) (K.made sink.old) (K.made sink.new) true
+        × (out.new.is_flushed ≡ true) × (err.new ≡ err.old) }
+    // With status 1 the same was done for an upload with a layout fault; or the right fault was
+    // reported.
+    ensures faults { result ≡ 1 → (KeepsGoodPart words.now (S.loaded source.old)
+        (S.loaded source.new) (K.made sink.old) (K.made sink.new) false
+        × (out.new.is_flushed ≡ true) × (err.new ≡ err.old)) ⊎ ((fault : AFault)
+        × IsFaultReported fault (E.contents err.old.writer) (E.contents err.new.writer)
+        err.new.failed
         × GivesUpGoodPart words.now (S.loaded source.old) (S.loaded source.new)
         (S.refused source.new) (K.made sink.old) (K.made sink.new) (K.failed sink.new)
-        (K.unbegun sink.new) out.new.end fault (W.contents out.old.writer)
-        (W.contents out.new.writer) × IsFaultReported fault (E.contents err.old.writer)
-        (E.contents err.new.writer) err.new.failed) }
+        (K.unbegun sink.new) out.new.end fault) }
     ensures status { result ≤ 1 }
 {
     let made = list_and_make(alloc, words, source, sink, out);

@@ -62,5 +62,5 @@ pub use sink::{MakeFault, NewFault, Sink};
 pub use sort::{SortWords, sort_over};
 pub use source::{Shown, Source, open_all};
 pub use table::table_over;
-pub use uploads::{push_moment, upload_text, uploads_over};
+pub use uploads::uploads_over;
 pub use wrong_tables::{WrongDevices, WrongRows, WrongTapTable};

@@ -153,26 +153,6 @@ pub(crate) fn load_upload<'a, S: Source>(
     }
 }
 
-/// Loads the texts that the words name, in their order.
-pub(crate) fn load_all<'a, S: Source>(
-    alloc: Global,
-    source: &mut S,
-    words: &[&'a str],
-) -> Result<Vec<Vec<u8>>, Fault<'a>>
-    ensures loaded { IfOk result (λ texts. HasOpened (map (λ w. w.now) words.now)
-        (S.loaded source.old) (S.loaded source.new) (map (λ t. t.items) texts.items)) }
-    ensures refusal { IfErr result (λ fault. (all : List (List ℕ))
-        → ((word : List ℕ) → IsOneOf word (map (λ w. w.now) words.now) → IsOneOf word all)
-        → IsRefusal (S.refused source.new) all fault) }
-{
-    let mut texts = Vec::new(alloc);
-    for word in words {
-        let text = load_upload(alloc, source, word)?;
-        texts.push(text)?;
-    }
-    Ok(texts)
-}
-
 /// Opens what each word names, in their order.
 pub fn open_all<'a, S: Source>(
     alloc: Global,

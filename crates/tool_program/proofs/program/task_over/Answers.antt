@@ -5,7 +5,7 @@ use Rattle.tool_words.specs.Mistakes.{mistake_text}
 use Rattle.tool_words.specs.Tasks.{asked_of}
 use Rattle.tool_words.proofs.Entered.{some_is}
 use Rattle.tool_program.specs.Merge.{GivesUpMerge}
-use Rattle.tool_program.specs.Program.{mistake_line, wrong_date_text}
+use Rattle.tool_program.specs.Program.{mistake_line}
 use Rattle.tool_program.proofs.program.task_over.Goals as goal
 
 pub returns-in-Sort-clause-done : goal.returns-in-Sort-clause-done
@@ -32,11 +32,6 @@ returns-in-Merge-clause-given_up g c = λ one.
           c.deref-in-Merge.ensures.value (gives kept keeps)),
     )
 
-pub returns-in-Bounds-clause-given_up : goal.returns-in-Bounds-clause-given_up
-returns-in-Bounds-clause-given_up g c = λ one.
-    let (fault, reported) = c.bounds_over.ensures.faults one in
-    rw c.in-Bounds.is (fault, reported, tt)
-
 pub returns-in-EncodeRows-clause-done : goal.returns-in-EncodeRows-clause-done
 returns-in-EncodeRows-clause-done g c = λ zero. rw c.in-EncodeRows.is (
   (λ kept keeps.
@@ -61,47 +56,11 @@ returns-in-EncodeRows-clause-given_up g c = λ one. rw c.in-EncodeRows.is (
 
 pub returns-in-GoodPart-clause-done : goal.returns-in-GoodPart-clause-done
 returns-in-GoodPart-clause-done g c = λ zero.
-    let done = c.good_part_over.ensures.done zero in
-    rw c.in-GoodPart.is (
-      (c.in-GoodPart.words, refl, done.0, done.1, done.2),
-      c.good_part_over.ensures.flushed zero,
-      c.good_part_over.ensures.quiet zero,
-    )
+    rw c.in-GoodPart.is (c.in-GoodPart.words, refl, c.good_part_over.ensures.done zero)
 
 pub returns-in-GoodPart-clause-given_up : goal.returns-in-GoodPart-clause-given_up
 returns-in-GoodPart-clause-given_up g c = λ one.
-    rw c.in-GoodPart.is (
-      c.in-GoodPart.words,
-      refl,
-      elim (c.good_part_over.ensures.faults one) [
-        | inl faulty ↦ inl faulty
-        | inr stopped ↦ inr (stopped.0, stopped.2, stopped.1)
-      ],
-    )
-
-pub returns-in-Look-clause-done : goal.returns-in-Look-clause-done
-returns-in-Look-clause-done g c = λ zero.
-    let done = rw c.deref-in-Look.ensures.value at (c.look_over.ensures.done zero) in
-    rw c.in-Look.is (
-      (c.in-Look.words, refl, done.0, done.1, done.2),
-      c.look_over.ensures.flushed zero,
-      c.look_over.ensures.quiet zero,
-    )
-
-pub returns-in-Look-clause-given_up : goal.returns-in-Look-clause-given_up
-returns-in-Look-clause-given_up g c = λ one.
-    let ends = c.look_over.ensures.faults one in
-    rw c.in-Look.is (c.in-Look.words, refl, rw c.deref-in-Look.ensures.value at ends)
-
-pub returns-in-Table-clause-done : goal.returns-in-Table-clause-done
-returns-in-Table-clause-done g c = λ zero. rw c.in-Table.is (
-  (c.in-Table.question, refl, c.table_over.ensures.done zero),
-  c.table_over.ensures.flushed zero,
-)
-
-pub returns-in-Table-clause-given_up : goal.returns-in-Table-clause-given_up
-returns-in-Table-clause-given_up g c = λ one.
-    rw c.in-Table.is (c.in-Table.question, refl, c.table_over.ensures.faults one)
+    rw c.in-GoodPart.is (c.in-GoodPart.words, refl, c.good_part_over.ensures.faults one)
 
 pub returns-in-Mistake-clause-mistaken : goal.returns-in-Mistake-clause-mistaken
 returns-in-Mistake-clause-mistaken g c = λ line is.
@@ -118,31 +77,10 @@ returns-in-Mistake-clause-mistaken g c = λ line is.
 
 pub returns-in-Mistake-clause-right : goal.returns-in-Mistake-clause-right
 returns-in-Mistake-clause-right g c = λ two.
-    (mistake_text c.in-Mistake.mistake, ap mistake_line (ap asked_of c.in-Mistake.is))
+    inr (mistake_text c.in-Mistake.mistake, ap mistake_line (ap asked_of c.in-Mistake.is))
+
+pub returns-in-Unshown-clause-right : goal.returns-in-Unshown-clause-right
+returns-in-Unshown-clause-right g c = λ two. inl (ap asked_of c.in-Unshown.is)
 
 pub returns-in-WrongDate-clause-right : goal.returns-in-WrongDate-clause-right
-returns-in-WrongDate-clause-right g c = λ two.
-    let wrong = c.in-WrongDate.wrong in (
-      wrong_date_text wrong.word.now wrong.fault,
-      ap mistake_line (ap asked_of c.in-WrongDate.is),
-    )
-
-pub returns-in-WrongDate-clause-mistaken : goal.returns-in-WrongDate-clause-mistaken
-returns-in-WrongDate-clause-mistaken g c = λ line is.
-    let wrong = c.in-WrongDate.wrong in
-    let same = some_is (wrong_date_text wrong.word.now wrong.fault) line
-    (sym (ap mistake_line (ap asked_of c.in-WrongDate.is)) ∙ is) in
-    elim c.report_wrong_date.ensures.status [
-      | inl one ↦ inr (one, c.report_wrong_date.ensures.memory one)
-      | inr two ↦ inl (
-        two,
-        subst (λ (l : List ℕ). LineWritten
-            (g.E.Write.contents c.args.err.now.writer)
-            (g.E.Write.contents c.report_wrong_date.new.err.writer)
-            c.report_wrong_date.new.err.failed l) same (c.report_wrong_date.ensures.line two),
-      )
-    ]
-
-pub returns-in-WrongDate-clause-given_up : goal.returns-in-WrongDate-clause-given_up
-returns-in-WrongDate-clause-given_up g c = λ one.
-    rw c.in-WrongDate.is (c.report_wrong_date.ensures.memory one)
+returns-in-WrongDate-clause-right g c = λ two. inl (ap asked_of c.in-WrongDate.is)

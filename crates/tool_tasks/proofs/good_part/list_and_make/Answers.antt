@@ -1,35 +1,42 @@
-use Rattle.std.proofs.Common.{◌∙◌, ℕ, List, inl, inr, refl, subst, sym}
+use Rattle.std.proofs.Common.{◌≡◌, ◌∷◌, [], ℕ, List, inl, inr, refl, subst, sym}
 use Rattle.std.proofs.lemmas.Result.{err_from_is_err_and}
-use Rattle.tap_views.specs.Facts.{IsGoodPart}
+use Rattle.tap_views.specs.Facts.{AreFacts, IsGoodPart}
+use Rattle.tool_tasks.proofs.GoodParts.{of_lines}
 use Rattle.tool_tasks.proofs.good_part.list_and_make.Goals as goal
 
 pub returns-in_err-upload-clause-stops : goal.returns-in_err-upload-clause-stops
 returns-in_err-upload-clause-stops g c =
     let p = err_from_is_err_and c.from_residual.result c.from_residual.ensures.1 in
-    rw (p.1, p.2) (inl (c.in_err-upload.ensures.stops, refl))
+    rw (p.1, p.2)
+    (inl (refl, inl (c.in_err-upload.ensures.refusal (c.args.words.now.upload.now ∷ []) (inl refl))))
+
+pub returns-in_err-write_lines-clause-stops : goal.returns-in_err-write_lines-clause-stops
+returns-in_err-write_lines-clause-stops g c =
+    let p = err_from_is_err_and c.from_residual-in_err-write_lines.result
+    c.from_residual-in_err-write_lines.ensures.1 in
+    rw (p.1, p.2)
+    (inl (
+      refl,
+      of_lines (c.args.words.now.upload.now ∷ []) c.args.words.now.out.now
+          (g.S.Source.refused c.load_upload.new.source) (g.K.Sink.failed c.args.sink.now)
+          (g.K.Sink.unbegun c.args.sink.now) c.write_lines.new.out.end
+          c.in_err-write_lines.field-0.0 c.in_err-write_lines.ensures,
+    ))
 
 pub returns-in_err-make-clause-stops : goal.returns-in_err-make-clause-stops
 returns-in_err-make-clause-stops g c =
-    let done = c.in_ok-upload.ensures.done in
     let p = err_from_is_err_and c.from_residual-in_err-make.result
     c.from_residual-in_err-make.ensures.1 in
-    rw (p.1, p.2) (inr (inl (record {
-      one = done.0;
-      lists = done.1;
-      none = c.in_err-make.ensures.kept;
-      why = c.in_err-make.ensures.fault;
-    })))
+    rw (p.1, p.2) (inl (c.in_err-make.ensures.kept, inr (inl c.in_err-make.ensures.fault)))
 
 pub returns-clause-done : goal.returns-clause-done
-returns-clause-done g c =
-    let done = c.in_ok-upload.ensures.done in (
-      done.0,
-      record {
-        lists = done.1;
-        file = c.good_part.result.now;
-        good = subst (λ (bytes : List ℕ). IsGoodPart bytes c.good_part.result.now)
-            (c.deref.ensures.value ∙ sym done.2) c.good_part.ensures;
-        is_made = c.in_ok-make.ensures.made;
-      },
-      done.3,
-    )
+returns-clause-done g c = record {
+  upload = c.in_ok-upload.upload.items;
+  is_loaded = c.in_ok-upload.ensures.reported;
+  facts = c.facts_of-facts.result;
+  are_facts = c.facts_of-facts.ensures;
+  whole = refl;
+  file = c.good_part.result.now;
+  good = c.good_part.ensures;
+  is_made = c.in_ok-make.ensures.made;
+}
