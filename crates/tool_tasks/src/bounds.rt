@@ -33,7 +33,7 @@ fn print<'a, D: PlacedFiles, W: Write>(
 }
 
 /// Writes the tokens, one a line, for about as many taps in each part. The uploads are in canonical
-/// order, and are read at any offset. Gives the status: 0 if the tokens are written, 1 after a fault.
+/// order, and are read at any offset. The status is 0 if the tokens are written, 1 after a fault.
 pub fn bounds_over<D: PlacedFiles, W: Write, E: Write>(
     alloc: Global,
     words: &BoundsWords<'_>,

@@ -20,7 +20,6 @@ use std::io::Write;
 use tap_views::{Facts, facts_of, good_part};
 use tool_words::GoodPartWords;
 
-/// Writes the lines of the upload and of its tokens, if these are counted.
 fn write_lines<'a, W: Write>(
     alloc: Global,
     words: &GoodPartWords<'a>,
@@ -36,7 +35,7 @@ fn write_lines<'a, W: Write>(
     write_tokens(alloc, &tokens, out)
 }
 
-/// Why a file has not what was to be written to it, as its writer remembers it.
+/// Why a file lacks what was written to it, as its writer remembers it.
 fn unwritten<'a>(end: Option<WriteEnd>) -> Fault<'a>
     ensures { result ≡ unwritten_as end }
 {
@@ -46,7 +45,6 @@ fn unwritten<'a>(end: Option<WriteEnd>) -> Fault<'a>
     }
 }
 
-/// Makes a new file of these bytes.
 fn make<'a, K: Sink>(
     alloc: Global,
     name: &'a str,
@@ -76,7 +74,7 @@ fn make<'a, K: Sink>(
     }
 }
 
-/// Writes the lines, and makes the file. Says whether the upload has no layout fault.
+/// Returns whether the upload has no layout fault.
 fn list_and_make<'a, S: Source, K: Sink, W: Write>(
     alloc: Global,
     words: &GoodPartWords<'a>,
@@ -98,10 +96,10 @@ fn list_and_make<'a, S: Source, K: Sink, W: Write>(
     Ok(facts.fault.is_none())
 }
 
-/// Writes to `out` what the upload has that the word names, `-` being standard input: its lines,
-/// and if that is asked for, how many different tokens it has. Then makes the file of its batches
-/// before its first layout fault. A fault that ends it is reported on `err`. Gives the status: 0 if
-/// all is written and made and the upload has no layout fault, else 1.
+/// Writes to `out` what the upload has, `-` being standard input: its lines, and if requested, how
+/// many different tokens it has. Then makes the file of its batches before its first layout fault.
+/// A fault is reported on `err`. The status is 0 if all is done and there is no layout fault, else
+/// 1.
 pub fn good_part_over<S: Source, K: Sink, W: Write, E: Write>(
     alloc: Global,
     words: &GoodPartWords<'_>,

@@ -46,8 +46,7 @@ struct Taken {
     is_well: bool,
 }
 
-/// Loads the uploads that the words name, in their order. Writes the lines of each, or if what is
-/// found is listed reports its layout fault.
+/// Writes the lines of each upload, or reports its layout fault if what is found is listed.
 fn take_each<'a, S: Source, W: Write, E: Write>(
     alloc: Global,
     has_list: bool,
@@ -73,8 +72,7 @@ fn take_each<'a, S: Source, W: Write, E: Write>(
     Ok(Taken { uploads, is_well })
 }
 
-/// Finds the validators of the table that have no tap on a day, if there is a table. Each day of
-/// the span is looked at, if both its ends are given.
+/// Validators that are inactive on a day: each day of the span, if both its ends are given.
 fn silent_of(
     alloc: Global,
     words: &LookWords<'_>,
@@ -93,7 +91,7 @@ fn silent_of(
     Ok(Some(silent))
 }
 
-/// Shows the uploads, and writes what is found in them. Says whether no upload has a layout fault.
+/// Returns whether no upload has a layout fault.
 fn look_at<'a, R: Threads + Sync, S: Source, W: Write, E: Write>(
     threads: &R,
     alloc: Global,
@@ -136,9 +134,9 @@ fn look_all<'a, R: Threads + Sync, S: Source, W: Write, E: Write>(
     finish_after(looked, out)
 }
 
-/// Writes what the uploads have, and how much is found in them; or if that is asked for, the list of
-/// all that is found, with the layout faults on `err`. All taps are in memory. Gives the status: 0 if
-/// all is written and no upload has a layout fault, else 1.
+/// Writes what the uploads have, and how much is found in them; or if requested, the list of all
+/// that is found, with the layout faults on `err`. All taps are in memory. The status is 0 if all
+/// is written and no upload has a layout fault, else 1.
 pub fn look_over<R: Threads + Sync, S: Source, W: Write, E: Write>(
     threads: &R,
     alloc: Global,

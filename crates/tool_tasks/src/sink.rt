@@ -19,8 +19,6 @@ pub enum MakeFault {
 }
 
 impl MakeFault {
-    /// Why a file lacks what was written to it, as its writer remembers it: else an allocation
-    /// failed.
     pub(crate) fn of_write(fault: WriteFault, end: Option<WriteEnd>) -> MakeFault
         ensures { result ≡ MakeFault.Unmade → end ≢ None }
     {

@@ -76,7 +76,6 @@ fn load_uploads<'a, S: Source>(
     Ok(files)
 }
 
-/// Returns how each upload ended.
 fn write_sorted<'a, R: Threads + Sync, W: Write>(
     threads: &R,
     alloc: Global,
@@ -194,7 +193,6 @@ pub(crate) fn make_both<'a, K: Sink>(
     }
 }
 
-/// Returns how each upload ended.
 fn sort<'a, R: Threads + Sync, S: Source, K: Sink>(
     threads: &R,
     alloc: Global,

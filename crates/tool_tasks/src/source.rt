@@ -38,15 +38,15 @@ pub trait Source {
     // The last opening that it refused: the name, and why; of a source that keeps it.
     ghost refused: { Self → Option (Option (List ℕ) × AFault) } = { λ _. None };
 
-    /// The file of this name, or standard input if there is none, to be read from its beginning. No
-    /// clause says what a fault leaves opened.
+    /// The file of this name, or standard input, to be read from its start. No clause says what a
+    /// fault leaves opened.
     fn open(&mut self, name: Option<&str>) -> Result<Self::Text, LoadFault>
         ensures reported { IfOk result (λ text. OpensOne (loaded self.old) (loaded self.new)
             (option_map (λ n. n.now) name.entry) (Self.Text.remaining text)) }
         ensures fault { IfErr result (λ fault. Refuses (refused self.new)
             (option_map (λ n. n.now) name.entry) fault) };
 
-    /// The same, and whoever watches the run may be shown how much of it was read.
+    /// As `open`, and whoever watches the run may be shown how much of it was read.
     fn open_shown(&mut self, name: Option<&str>, shown: Shown) -> Result<Self::Text, LoadFault>
         ensures reported { IfOk result (λ text. OpensOne (loaded self.old) (loaded self.new)
             (option_map (λ n. n.now) name.entry) (Self.Text.remaining text)) }
@@ -68,28 +68,26 @@ pub trait Source {
         ensures loaded { loaded self.new ≡ loaded self.old }
         ensures refused { refused self.new ≡ refused self.old };
 
-    /// All bytes of the file of this name, or of standard input if there is none, however many.
-    /// No clause says what a fault leaves loaded.
+    /// All bytes of the file of this name, or of standard input, however many. No clause says what
+    /// a fault leaves loaded.
     fn load_any(&mut self, alloc: Global, name: Option<&str>) -> Result<Vec<u8>, LoadFault>
         ensures reported { IfOk result (λ bytes. LoadsOne (loaded self.old) (loaded self.new)
             (option_map (λ n. n.now) name.entry) bytes.items) }
         ensures fault { IfErr result (λ fault. Refuses (refused self.new)
             (option_map (λ n. n.now) name.entry) fault) };
 
-    /// All bytes of the file of this name, or of standard input if there is none. One of more than
-    /// 64 MiB is refused. No clause says what a fault leaves loaded.
+    /// All bytes of the file of this name, or of standard input. More than 64 MiB are refused. No
+    /// clause says what a fault leaves loaded.
     fn load(&mut self, alloc: Global, name: Option<&str>) -> Result<Vec<u8>, LoadFault>
         ensures reported { IfOk result (λ bytes. LoadsOne (loaded self.old) (loaded self.new)
             (option_map (λ n. n.now) name.entry) bytes.items) }
         ensures fault { IfErr result (λ fault. Refuses (refused self.new)
             (option_map (λ n. n.now) name.entry) fault) };
 
-    /// The number of bytes, if the same ones can be read twice: not of standard input, nor of a
-    /// pipe.
+    /// The number of bytes, if the same ones can be read twice: not of standard input or a pipe.
     fn plain_bytes(&self, name: Option<&str>) -> Option<u64>;
 }
 
-/// Opens the file that the word names, or standard input.
 pub(crate) fn open_text<'a, S: Source>(source: &mut S, word: &'a str) -> Result<S::Text, Fault<'a>>
     ensures reported { IfOk result (λ text. OpensOne (S.loaded source.old) (S.loaded source.new)
         (file_named word.entry.now) (S.Text.remaining text)) }
@@ -102,7 +100,7 @@ pub(crate) fn open_text<'a, S: Source>(source: &mut S, word: &'a str) -> Result<
     }
 }
 
-/// Opens the file that the word names, or standard input. How much of it was read may be shown.
+/// How much of it was read may be shown.
 pub(crate) fn open_text_shown<'a, S: Source>(
     source: &mut S,
     word: &'a str,
@@ -119,7 +117,6 @@ pub(crate) fn open_text_shown<'a, S: Source>(
     }
 }
 
-/// Loads the file that the word names, or standard input, however long it is.
 pub(crate) fn load_text<'a, S: Source>(
     alloc: Global,
     source: &mut S,
@@ -136,7 +133,6 @@ pub(crate) fn load_text<'a, S: Source>(
     }
 }
 
-/// Loads the upload that the word names, or standard input.
 pub(crate) fn load_upload<'a, S: Source>(
     alloc: Global,
     source: &mut S,

@@ -38,12 +38,11 @@ impl<'a> From<Fault<'a>> for Stopped<'a> {
     }
 }
 
-/// Reports lines, each of which ends in a line feed. The last one may lack it.
+/// The last line may lack a line feed.
 fn say_lines<E: Write>(err: &mut Complaints<E>, lines: &str) {
     err.report_line(lines.strip_suffix("\n").unwrap_or(lines));
 }
 
-/// The words of the tables' files, in order.
 fn files_of<'a>(alloc: Global, question: &TableQuestion<'a>) -> Result<Vec<&'a str>, AllocError> {
     let mut files = Vec::new(alloc);
     files.push(question.table)?;
@@ -65,8 +64,7 @@ fn load_all<'a, S: Source>(
     Ok(texts)
 }
 
-/// Writes what the table is understood as that is valid at these moments, whose file has this word,
-/// and reports its warnings. Says whether there is none. `place` is its place, from 0.
+/// `place` counts the tables from 0. Returns whether there is no warning.
 fn write_at<'a, W: Write, E: Write>(
     alloc: Global,
     question: &TableQuestion<'_>,
@@ -100,8 +98,8 @@ fn write_at<'a, W: Write, E: Write>(
     Ok(false)
 }
 
-/// Loads the tables and the uploads, and writes what the tables are understood as, or reports why
-/// they are none. Says whether all is well.
+/// Writes what the tables are understood as, or reports why they are none. Returns whether all is
+/// right.
 fn load_and_write<'a, S: Source, W: Write, E: Write>(
     alloc: Global,
     question: &TableQuestion<'a>,
@@ -145,9 +143,9 @@ fn say_stopped<E: Write>(err: &mut Complaints<E>, word: &str, stopped: Stopped<'
 }
 
 /// Writes what the tables are understood as, and on `err` what their rules ignore and the layout
-/// faults of the uploads. If a text is no table, or cannot follow those before it, only that is
-/// reported. Changes of clocks are those after `now`, unless the words name a moment. Gives the
-/// status: 0 if all is well, else 1.
+/// faults of the uploads; or only why a text is not a table or cannot follow those before it.
+/// Changes of clocks are those after `now`, unless the words name a moment. The status is 0 if
+/// nothing is wrong, else 1.
 pub fn table_over<S: Source, W: Write, E: Write>(
     alloc: Global,
     question: &TableQuestion<'_>,

@@ -18,7 +18,7 @@ pub(crate) fn no_tokens(alloc: Global, is_counted: bool) -> Option<CommonTokens>
     }
 }
 
-/// Adds those of an upload's taps before its first layout fault, if tokens are counted.
+/// Adds the tokens of taps before the first layout fault, if tokens are counted.
 pub(crate) fn add_tokens<'a>(
     tokens: &mut Option<CommonTokens>,
     upload: &[u8],
@@ -31,7 +31,6 @@ pub(crate) fn add_tokens<'a>(
     Ok(())
 }
 
-/// The lines of the uploads, numbered from 0.
 pub(crate) fn tokens_text(alloc: Global, counts: &[CommonCounts]) -> Result<String, AllocError> {
     let mut text = String::new(alloc);
     for (number, counts) in counts.iter().enumerate() {

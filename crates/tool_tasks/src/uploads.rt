@@ -15,7 +15,7 @@ use std::io::Write;
 use tap_views::{Facts, facts_of};
 use upload_checks::CommonTokens;
 
-/// Appends a moment, in milliseconds since 1970-01-01T00:00Z, or `-` if there is none.
+/// In milliseconds since 1970-01-01T00:00Z, or `-` if there is none.
 pub(crate) fn push_moment(text: &mut String, moment: Option<u64>) -> Result<(), AllocError>
     ensures { OnOk result ((written : List ℕ) × IsMomentOrDash moment written
         × (string_bytes text.new ≡ string_bytes text.old ++ written)) }
@@ -26,7 +26,6 @@ pub(crate) fn push_moment(text: &mut String, moment: Option<u64>) -> Result<(), 
     }
 }
 
-/// The lines of the upload that the word names, with its number on the command line, from 0.
 pub(crate) fn upload_text(
     alloc: Global,
     number: usize,
@@ -53,7 +52,6 @@ pub(crate) fn upload_text(
     Ok(text)
 }
 
-/// Writes a text.
 pub(crate) fn write_text<'a, W: Write>(text: &str, out: &mut Output<W>) -> Result<(), Fault<'a>>
     ensures { IfErr result (λ fault. fault ≡ failed_as out.new.end) }
 {
@@ -63,8 +61,7 @@ pub(crate) fn write_text<'a, W: Write>(text: &str, out: &mut Output<W>) -> Resul
     }
 }
 
-/// Writes the lines of the uploads that the words name, in their order, and adds their tokens, if
-/// these are counted. Says whether none has a layout fault.
+/// Adds their tokens, if these are counted. Returns whether no upload has a layout fault.
 fn list_each<'a, S: Source, W: Write>(
     alloc: Global,
     words: &[&'a str],
@@ -84,7 +81,7 @@ fn list_each<'a, S: Source, W: Write>(
     Ok(is_well)
 }
 
-/// The same, and then the lines of the tokens, if these are counted.
+/// Then writes the lines of the tokens, if these are counted.
 fn list_all<'a, S: Source, W: Write>(
     alloc: Global,
     words: &[&'a str],
@@ -100,10 +97,9 @@ fn list_all<'a, S: Source, W: Write>(
     Ok(is_well)
 }
 
-/// Writes to `out` what the uploads have that the words name, `-` being standard input: the lines
-/// of each, in their order; and if `has_tokens` is set, then a line for each, of how many different
-/// tokens it has and how many of these another one has, too. A fault that ends it is reported on
-/// `err`. Gives the status: 0 if all is written and no upload has a layout fault, else 1.
+/// Writes the lines of each upload to `out`, `-` being standard input; and if `has_tokens` is set,
+/// how many different tokens each has and shares. A fault is reported on `err`. The status is 0 if
+/// all is written and no upload has a layout fault, else 1.
 pub fn uploads_over<S: Source, W: Write, E: Write>(
     alloc: Global,
     words: &[&str],

@@ -7,8 +7,7 @@ use tap_views::{NoMemory, TapFields};
 use tool_words::LookWords;
 use upload_checks::{CommonTokens, Findings, Repeat, SilentDays};
 
-/// Appends the line of how many taps of a kind are found, with the first of them, or `-` if there
-/// is none.
+/// Appends how many taps of a kind are found, with the first of them, or `-` if there is none.
 fn push_count(
     text: &mut String,
     kind: &str,
@@ -23,7 +22,6 @@ fn push_count(
     text.push_str("\n")
 }
 
-/// Appends the line of repeated uploads.
 fn push_repeated(text: &mut String, repeats: &[Repeat]) -> Result<(), AllocError> {
     let number = repeats.len();
     match repeats.first() {
@@ -35,7 +33,6 @@ fn push_repeated(text: &mut String, repeats: &[Repeat]) -> Result<(), AllocError
     }
 }
 
-/// Appends the line of validators without a tap, with the first of them.
 fn push_silent(text: &mut String, silent: &SilentDays) -> Result<(), AllocError> {
     let number = silent.number;
     write!(text, "silent {number} first ")?;
@@ -49,7 +46,6 @@ fn push_silent(text: &mut String, silent: &SilentDays) -> Result<(), AllocError>
     }
 }
 
-/// Appends the lines of how many different tokens the uploads have and share.
 fn push_tokens(text: &mut String, alloc: Global, uploads: &[Vec<u8>]) -> Result<(), NoMemory> {
     let mut common = CommonTokens::new(alloc);
     for upload in uploads {
@@ -59,8 +55,7 @@ fn push_tokens(text: &mut String, alloc: Global, uploads: &[Vec<u8>]) -> Result<
     Ok(())
 }
 
-/// The lines of how many tokens the uploads have, if that is asked for, and of how much is found of
-/// each kind that is looked for, with the first of it.
+/// How many tokens the uploads have, if requested, and how much is found of each requested kind.
 pub(crate) fn counts_of(
     alloc: Global,
     words: &LookWords<'_>,

@@ -14,8 +14,7 @@ use upload_checks::{Findings, Repeat, SilentDays, SilentRun};
 /// The names of the fields.
 const HEAD_LINE: &str = "check,token,moment,validator,earlier,day,upload,first,last\n";
 
-/// Appends what the file of this number is called, as a field of CSV: between double quotes if it
-/// has one or a comma.
+/// A field of CSV: between double quotes if it has one or a comma.
 fn push_name(
     text: &mut String,
     alloc: Global,
@@ -41,7 +40,7 @@ fn push_name(
     text.push_str("\"")
 }
 
-/// The row of a tap, with the moment of an earlier one, if there is one.
+/// With the moment of an earlier tap, if there is one.
 fn tap_row(
     alloc: Global,
     check: &str,
@@ -58,7 +57,7 @@ fn tap_row(
     Ok(text)
 }
 
-/// The row of a repeated upload, with the names of it and of the first one with its bytes.
+/// With the names of the upload and of the first one with its bytes.
 fn repeat_row(alloc: Global, names: &[&str], repeat: &Repeat) -> Result<String, AllocError> {
     let mut text = String::from_str(alloc, "repeated,,,,,,")?;
     push_name(&mut text, alloc, names, repeat.upload)?;
@@ -68,7 +67,6 @@ fn repeat_row(alloc: Global, names: &[&str], repeat: &Repeat) -> Result<String, 
     Ok(text)
 }
 
-/// The row of validators without a tap on a day.
 fn silent_row(alloc: Global, run: &SilentRun) -> Result<String, AllocError> {
     let (first, last) = (run.first, run.last);
     let mut text = format!(in alloc; "silent,,,{first},,")?;
@@ -77,7 +75,7 @@ fn silent_row(alloc: Global, run: &SilentRun) -> Result<String, AllocError> {
     Ok(text)
 }
 
-/// Writes the head line, and the row of each that is found in the uploads that these words name.
+/// Writes the header line, and the row of each that is found in the uploads.
 pub(crate) fn write_table<'a, W: Write>(
     alloc: Global,
     names: &[&str],

@@ -11,7 +11,6 @@ use table_report::TableText;
 use tap_views::MomentSpan;
 use tool_words::{LaterTable, TableQuestion};
 
-/// Says why the table of this word does not follow those before it.
 fn say_next<'a, E: Write>(
     alloc: Global,
     word: &'a str,
@@ -36,7 +35,7 @@ fn say_next<'a, E: Write>(
     Ok(())
 }
 
-/// The fares and the table of a text behind them. Nothing if it does not follow, which is said.
+/// Nothing if it does not follow, which is reported.
 fn table_next<'a, E: Write>(
     alloc: Global,
     fares: FareTable,
@@ -56,8 +55,7 @@ fn table_next<'a, E: Write>(
     }
 }
 
-/// The tables of these texts as one, if each follows those before it. Nothing if one does not,
-/// which is said.
+/// The tables of these texts as one; nothing if one does not follow, which is reported.
 pub(crate) fn joined<'a, E: Write>(
     alloc: Global,
     question: &TableQuestion<'a>,
@@ -78,7 +76,6 @@ pub(crate) fn joined<'a, E: Write>(
     Ok(Some(fares))
 }
 
-/// The moments at which each of the tables is valid, in their order.
 pub(crate) fn spans_of(alloc: Global, fares: &FareTable) -> Result<Vec<MomentSpan>, AllocError> {
     let mut spans = Vec::new(alloc);
     let mut first = 0;

@@ -11,7 +11,7 @@ use tap_views::{MomentSpan, facts_of};
 
 #[derive(Drop)]
 pub(crate) struct SeenUploads {
-    /// Their validators at the moments of each table; none if there are no uploads.
+    /// At the moments of each table; none if there are no uploads.
     seen: Vec<SeenValidators>,
     /// Whether none has a layout fault.
     pub(crate) is_well: bool,
@@ -23,8 +23,8 @@ impl SeenUploads {
     }
 }
 
-/// Adds those before the first layout fault of each upload, which is reported. Says whether none has
-/// one.
+/// Adds those before the first layout fault of each upload, which is reported. Returns whether none
+/// has one.
 fn add_each<'a, S: Source, E: Write>(
     alloc: Global,
     words: &[&'a str],
@@ -45,7 +45,6 @@ fn add_each<'a, S: Source, E: Write>(
     Ok(is_well)
 }
 
-/// The validators of the uploads that the words name, at the moments of each table.
 pub(crate) fn seen_in<'a, S: Source, E: Write>(
     alloc: Global,
     words: &[&'a str],

@@ -9,7 +9,7 @@ use std::alloc::Global;
 use std::io::Write;
 use table_report::{Refusal, TableText};
 
-/// The lines that say why a text is no table.
+/// Why a text is not a table.
 fn lines_of<'a>(alloc: Global, word: &'a str, refusal: Refusal) -> Result<String, Fault<'a>> {
     let refused = match refusal {
         Refusal::WrongValues(lines) => return Ok(lines),
@@ -24,7 +24,7 @@ fn lines_of<'a>(alloc: Global, word: &'a str, refusal: Refusal) -> Result<String
     Ok(format!(in alloc; "{refused}")?)
 }
 
-/// What the text of a file means. Nothing if it is no table, which is said.
+/// Nothing if it is not a table, which is reported.
 fn read_text<'a, 't, E: Write>(
     alloc: Global,
     word: &'a str,
@@ -42,8 +42,7 @@ fn read_text<'a, 't, E: Write>(
     }
 }
 
-/// What the texts of these files mean. Nothing if one is no table; why each of these is none is
-/// reported.
+/// What the texts mean; nothing if one is not a table. Why each of these is none is reported.
 pub(crate) fn read_texts<'a, 't, E: Write>(
     alloc: Global,
     words: &[&'a str],
