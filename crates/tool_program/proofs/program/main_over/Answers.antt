@@ -1,4 +1,4 @@
-use Rattle.std.proofs.Common.{◌∙◌, Some, ap, arith, inl, inr, map, string_bytes, subst}
+use Rattle.std.proofs.Common.{◌∙◌, Some, ap, arith, inl, inr, map, string_bytes, subst, sym}
 use Rattle.tool_words.specs.Asked.{Asked}
 use Rattle.tool_words.specs.Mistakes.{mistake_text}
 use Rattle.tool_words.specs.declared.mistake.Mistake.TheVariants.{Arguments}
@@ -39,3 +39,11 @@ returns-in-Ok-clause-unframed g c = λ not_so.
     (g.X.Inputs.run c.args.world.now) (g.X.Inputs.run c.task_over.new.world) c.task_over.result)
     (asked.1 ∙ unparsed (map string_bytes c.args.words.now) asked.0 not_so)
     c.task_over.ensures.framed
+
+pub returns-in-Ok-clause-right : goal.returns-in-Ok-clause-right
+returns-in-Ok-clause-right g c = λ two.
+    let same = sym c.in-Ok.ensures.asked.1 in
+    inr (elim (c.task_over.ensures.right two) [
+      | inl is ↦ inl (same ∙ is)
+      | inr line ↦ inr (line.0, ap mistake_line same ∙ line.1)
+    ])
