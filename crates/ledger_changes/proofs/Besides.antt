@@ -1,7 +1,7 @@
 -- Two bills side by side: the pairs are those of both lists, in order, as long as both have one.
 use Rattle.std.proofs.Common.{◌≡◌, ◌<◌, ◌≤◌, ◌+◌, ℕ, zero, suc, List, [], ◌∷◌, ◌++◌, Option, Some}
 use Rattle.std.proofs.Common.{None, Bool, true, false, refl, sym, ap, subst, ◌∙◌, arith, length}
-use Rattle.std.proofs.Common.{All, filter, flat_map, get_or, map}
+use Rattle.std.proofs.Common.{All, flat_map, get_or, map}
 use Rattle.std.specs.Prelude.{⊤}
 use Rattle.std.specs.List.{AllByRecursion}
 use Rattle.std.specs.List.Sorted.{IsSorted}
@@ -13,7 +13,7 @@ use Rattle.std.proofs.lemmas.List.Sorted.{ranks_by}
 use Rattle.ledger_changes.specs.Changes.{AreCorrections, AreSideBySide, IsSameOrListed, IsSomeLine}
 use Rattle.ledger_changes.specs.Changes.{Pair, UseUp, UsesUp}
 use Rattle.ledger_changes.specs.Changes.{afters, befores, beside, both_rows, changes_between}
-use Rattle.ledger_changes.specs.Changes.{is_changed, only_new, only_old, pairs_by, pairs_with, row_of}
+use Rattle.ledger_changes.specs.Changes.{only_new, only_old, pairs_by, pairs_with, row_of}
 use Rattle.ledger_fields.specs.Rows.{Charge, Key, Row}
 use Rattle.ledger_changes.specs.Rows.{key_cmp}
 use Rattle.ledger_changes.proofs.Keys.{key_cmp_total, same_key}

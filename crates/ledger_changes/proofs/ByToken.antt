@@ -1,5 +1,5 @@
 -- The sums of each token: corrections in order are cut where the token changes.
-use Rattle.std.proofs.Common.{◌≡◌, ◌+◌, ℕ, suc, List, [], ◌∷◌, ◌++◌, Option, Some, None, Bool, true}
+use Rattle.std.proofs.Common.{◌≡◌, ◌+◌, ℕ, suc, List, [], ◌∷◌, ◌++◌, Some, Bool, true}
 use Rattle.std.proofs.Common.{false, cond, refl, sym, ap, subst, ◌∙◌, arith, length, length-append}
 use Rattle.std.proofs.Common.{append_assoc, append-nil, filter, get_or, All}
 use Rattle.std.specs.Prelude.{⊤, Contains}
@@ -19,7 +19,7 @@ use Rattle.ledger_changes.specs.Changes.{AreCorrections, Pair, is_changed}
 use Rattle.ledger_fields.specs.Rows.{Key, Row}
 use Rattle.ledger_changes.specs.Rows.{is_same_text, key_cmp, text_cmp}
 use Rattle.ledger_changes.specs.Texts.{cents_of, is_removed}
-use Rattle.ledger_changes.specs.Tokens.{AreTokensOf, Sums, is_added}
+use Rattle.ledger_changes.specs.Tokens.{Sums, is_added}
 use Rattle.ledger_changes.specs.Tokens.{is_kept, is_of_token, of_token, sums_of, token_line}
 use Rattle.ledger_changes.specs.Tokens.{tokens_lines}
 use Rattle.ledger_changes.specs.Tokens.{TokenSum, add_changes, add_sums, all_lines, last_sums}

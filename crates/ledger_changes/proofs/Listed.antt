@@ -1,6 +1,6 @@
 -- What no correction names is charged the same.
 use Rattle.std.proofs.Common.{◌≡◌, suc, Bool, true, false, not, cond, List, [], ◌∷◌, filter, refl}
-use Rattle.std.proofs.Common.{sym, ap, subst, ◌∙◌, arith, All, Option, None, Some, inl, inr}
+use Rattle.std.proofs.Common.{ap, arith, All, Option, None, Some, inl, inr}
 use Rattle.std.proofs.lemmas.List.Elements.{All-cons, All-nil, All-weaker}
 use Rattle.ledger_changes.specs.Changes.{IsSameOrListed, Pair, agree}
 use Rattle.ledger_changes.specs.Changes.{is_changed}

@@ -1,31 +1,29 @@
--- Two ledgers that are read side by side: what was written, and what is left.
-use Rattle.std.proofs.Common.{◌≡◌, ◌+◌, ℕ, Bool, true, false, List, [], ◌∷◌, ◌++◌, length, Option, Some, None, Result, Ok, Err}
-use Rattle.std.proofs.Common.{refl, sym, ap, subst, ◌∙◌, arith, append-nil, append_assoc, filter, if◌then◌else◌, length-append, map, IfSome, option_map}
-use Rattle.std.specs.Io.KnownBytes.{Appends}
+-- Two ledgers that are read side by side: what was given, and what is left.
+use Rattle.std.proofs.Common.{◌≡◌, ◌+◌, ℕ, Bool, true, false, List, [], ◌∷◌, ◌++◌, length, Option, Some, None, Ok, Err}
+use Rattle.std.proofs.Common.{refl, sym, ap, subst, ◌∙◌, arith, append-nil, append_assoc, filter, if◌then◌else◌, length-append, IfSome, option_map, inl, inr, ◌⊎◌}
 use Rattle.std.specs.declared.cmp.Ordering.{Ordering}
 use Rattle.std.specs.declared.cmp.Ordering.TheVariants.{Less, Equal, Greater}
-use Rattle.std.proofs.KnownBytes.{Appends-nil, Appends-trans}
 use Rattle.std.proofs.lemmas.List.Elements.{filter-append}
-use Rattle.fare_texts.specs.WrittenOut.{Begins}
-use Rattle.fare_texts.proofs.Beginnings.{begins_behind, begins_front, begins_nothing}
 use Rattle.ledger_fields.specs.Rows.{Row}
 use Rattle.ledger_changes.specs.Changes.{Pair, beside, changes_between, is_changed, pairs_by, pairs_with}
+use Rattle.ledger_changes.specs.Given.{Behind, IsGivenAfter, Left, Said, Walked, Wrote}
+use Rattle.ledger_changes.specs.inside.Walks.{GoesOn, IsWhole, StopsAt}
 use Rattle.ledger_changes.specs.inside.Pairs.{next_sides, pairs_of, sides_by}
 use Rattle.line_folds.specs.Folds.{lines_of}
-use Rattle.ledger_changes.specs.inside.Faults.{IsNoLine}
 use Rattle.ledger_changes.specs.Ledgers.{NamesFirstWrong, cons_row, rows_from, rows_of}
 use Rattle.ledger_changes.specs.Rows.{key_cmp}
 use Rattle.ledger_changes.specs.Texts.{correction_line, corrections_lines, is_removed, removed_in}
-use Rattle.ledger_changes.specs.Tokens.{TokenSum, all_lines, change_lines, changes_of_both, corrections_of, head_of, last_sums}
+use Rattle.ledger_changes.specs.Tokens.{TokenSum, all_lines, change_lines, changes_of_both, head_of, last_sums}
 use Rattle.ledger_changes.specs.Tokens.{lines_of_changes, sums_line, sums_with, text_of}
+use Rattle.ledger_changes.specs.declared.changes.Corrections.{Corrections}
+use Rattle.ledger_changes.specs.declared.fault.Bill.{Bill}
 use Rattle.ledger_changes.specs.declared.fault.Bill.TheVariants.{New, Old}
 use Rattle.ledger_changes.specs.declared.fault.CorrectionsFault.{CorrectionsFault}
-use Rattle.ledger_changes.specs.declared.fault.CorrectionsFault.TheVariants.{Line, Unread, Write, NoMemory}
+use Rattle.ledger_changes.specs.declared.fault.CorrectionsFault.TheVariants.{Line, Unread, NoMemory}
 use Rattle.ledger_changes.specs.declared.fault.WrongLine.{WrongLine}
 use Rattle.ledger_changes.specs.declared.row.LedgerRow.{LedgerRow}
-use Rattle.ledger_changes.specs.inside.Readings.{IsWrongAs, Moves, rows_with, with_row}
-use Rattle.ledger_changes.specs.inside.Views.{row_in}
-use Rattle.ledger_changes.specs.inside.Walks.{AreWritten, IsBegun, IsNamed, OfBoth, Said}
+use Rattle.ledger_changes.specs.inside.Readings.{IsWrongAs, Moves, rows_at, rows_with, with_row}
+use Rattle.ledger_changes.specs.inside.Views.{row_in, sum_in}
 
 -- ---- the text of corrections, in two parts
 lines_more : (by_token : Bool) (last : Option TokenSum) (done more : List Pair)
@@ -64,9 +62,6 @@ plain_lines changes =
     ∙ append-nil (lines_of_changes false None changes) ∙ plain_from changes
 
 -- ---- the next pair
-abbrev pub Behind : List Pair → Option (List Pair) → Option (List Pair)
-Behind done rest = option_map (λ pairs. done ++ pairs) rest
-
 abbrev rows_in : Option Row → List Row
 rows_in None = []
 rows_in (Some row) = row ∷ []
@@ -153,27 +148,6 @@ changes_more b a (Ok olds) (Ok news) each =
     ∙ ap (λ (pairs : List Pair). Some (filter is_changed pairs)) (each olds news refl refl)
     ∙ ap (λ (changes : List Pair). Some changes) (filter-append is_changed (pairs_of b a) (beside olds news))
 
--- ---- what is left of both, and what was written
-pub record Left (old0 new0 old new : Said) (done : List Pair) : Type 0 where
-  pub left : changes_of_both old0 new0 ≡ Behind done (changes_of_both old new)
-  pub wrong_old : (wrong : ℕ × WrongLine) → old ≡ Err wrong → old0 ≡ Err wrong
-  pub wrong_new : (wrong : ℕ × WrongLine) → new ≡ Err wrong → new0 ≡ Err wrong
-
-pub record Wrote (by_token : Bool) (before after : Option (List ℕ)) (removed : ℕ) (last : Option TokenSum) (done : List Pair) : Type 0 where
-  pub written : Appends before after (lines_of_changes by_token None done)
-  pub open_sums : last ≡ last_sums by_token None done
-  pub counted : removed ≡ removed_in done
-
-pub record Walked (by_token : Bool) (before after : Option (List ℕ)) (removed : ℕ) (last : Option TokenSum)
-    (o n : Option Said) (old0 new0 : Said) : Type 0 where
-  pub old : Said
-  pub new : Said
-  pub is_old : o ≡ Some old
-  pub is_new : n ≡ Some new
-  pub done : List Pair
-  pub rest : Left old0 new0 old new done
-  pub wrote : Wrote by_token before after removed last done
-
 behind_none : (rest : Option (List Pair)) → rest ≡ Behind [] rest
 behind_none None = refl
 behind_none (Some pairs) = refl
@@ -182,28 +156,20 @@ behind_more : (done more : List Pair) (rest : Option (List Pair)) → Behind don
 behind_more done more None = refl
 behind_more done more (Some pairs) = ap (λ (l : List Pair). Some l) (sym (append_assoc done more pairs))
 
--- of both that are known
-pub both : (O N : Option Said) (P Q : Said → Said → Type 0) → ((a b : Said) → P a b → Q a b) → OfBoth O N P → OfBoth O N Q
-both None N P Q f h = tt
-both (Some a) None P Q f h = tt
-both (Some a) (Some b) P Q f h = f a b h
-
-pub walk_first : (by_token : Bool) (out : Option (List ℕ)) (O N : Option Said)
-    → OfBoth O N (Walked by_token out out 0 None O N)
-walk_first by_token out None N = tt
-walk_first by_token out (Some a) None = tt
-walk_first by_token out (Some a) (Some b) = record {
-  old = a;
-  new = b;
-  is_old = refl;
-  is_new = refl;
+pub walk_first : (by_token : Bool) (o n : Option Said) (old new : Said) → o ≡ Some old → n ≡ Some new
+    → Walked by_token (head_of by_token) 0 None o n old new
+walk_first by_token o n old new is_old is_new = record {
+  old = old;
+  new = new;
+  is_old = is_old;
+  is_new = is_new;
   done = [];
   rest = record {
-    left = behind_none (changes_of_both a b);
+    left = behind_none (changes_of_both old new);
     wrong_old = λ wrong is. is;
     wrong_new = λ wrong is. is;
   };
-  wrote = record { written = Appends-nil out; open_sums = refl; counted = refl };
+  wrote = record { written = sym (append-nil (head_of by_token)); open_sums = refl; counted = refl };
 }
 
 wrong_with : (row : Option Row) (said rest : Said) (wrong : ℕ × WrongLine) → said ≡ with_row row rest → rest ≡ Err wrong
@@ -242,24 +208,25 @@ left_more o n old0 new0 old new old' new' done b a h k sides is_b is_a row_o row
         (subst (λ (r : Option Row). beside (rows_in (taken_if (next_sides o n).0 o) ++ olds) (rows_in r ++ news)
         ≡ pairs_of (taken_if (next_sides o n).0 o) r ++ beside olds news) (sym a_is) now)
 
-pub wrote_more : (by_token : Bool) (before after new : Option (List ℕ)) (removed counted : ℕ) (last last' : Option TokenSum)
-    (done now : List Pair) → Wrote by_token before after removed last done
-    → Appends after new (lines_of_changes by_token last now) → last' ≡ last_sums by_token last now
-    → counted ≡ removed + removed_in now → Wrote by_token before new counted last' (done ++ now)
-wrote_more by_token before after new removed counted last last' done now wrote more sums count =
+wrote_more : (by_token : Bool) (text more full : List ℕ) (removed counted : ℕ) (last last' : Option TokenSum)
+    (done now : List Pair) → Wrote by_token text removed last done → full ≡ text ++ more
+    → more ≡ lines_of_changes by_token last now → last' ≡ last_sums by_token last now
+    → counted ≡ removed + removed_in now → Wrote by_token full counted last' (done ++ now)
+wrote_more by_token text more full removed counted last last' done now wrote is_full lines sums count =
     let sum = removed_more done now in
     let so_far = wrote.counted in
     record {
-      written = subst (Appends before new)
-          (ap (λ (l : Option TokenSum). lines_of_changes by_token None done ++ lines_of_changes by_token l now) wrote.open_sums
-          ∙ sym (lines_more by_token None done now))
-          (Appends-trans before after new (lines_of_changes by_token None done) (lines_of_changes by_token last now) wrote.written more);
+      written = is_full ∙ ap (λ (t : List ℕ). t ++ more) wrote.written
+          ∙ append_assoc (head_of by_token) (lines_of_changes by_token None done) more
+          ∙ ap (λ (t : List ℕ). head_of by_token ++ (lines_of_changes by_token None done ++ t))
+          (lines ∙ ap (λ (l : Option TokenSum). lines_of_changes by_token l now) wrote.open_sums)
+          ∙ ap (λ (t : List ℕ). head_of by_token ++ t) (sym (lines_more by_token None done now));
       open_sums = sums ∙ ap (λ (l : Option TokenSum). last_sums by_token l now) wrote.open_sums
           ∙ sym (sums_more by_token None done now);
       counted = omega (arith, sum, so_far, count);
     }
 
--- ---- the end, and faults
+-- ---- the end
 no_pair : (o n : Option Row) (sides : Bool × Bool) → sides ≡ next_sides o n
     → [] ≡ pairs_of (taken_if sides.0 o) (taken_if sides.1 n) → (o ≡ None) × (n ≡ None)
 no_pair None None sides is none = (refl, refl)
@@ -286,56 +253,63 @@ no_rows o n b a h k sides is_b is_a none =
     no_pair o n (h, k) sides
     (none ∙ ap (λ (r : Option Row). pairs_of r a) is_b ∙ ap (λ (r : Option Row). pairs_of (taken_if h o) r) is_a)
 
-pub all_written : (by_token : Bool) (before after new : Option (List ℕ)) (removed : ℕ) (last : Option TokenSum)
+all_given : (by_token : Bool) (text full : List ℕ) (removed : ℕ) (last : Option TokenSum)
     (old0 new0 old new_said : Said) (done : List Pair) → Left old0 new0 old new_said done
-    → Wrote by_token before after removed last done → old ≡ Ok [] → new_said ≡ Ok []
-    → Appends after new (sums_line last) → AreWritten by_token removed before new old0 new0
-all_written by_token before after new removed last old0 new0 old new_said done left wrote no_old no_new more = (
-  done,
-  left.left ∙ ap (λ (s : Said). Behind done (changes_of_both s new_said)) no_old
-      ∙ ap (λ (s : Said). Behind done (changes_of_both (Ok []) s)) no_new
-      ∙ ap (λ (l : List Pair). Some l) (append-nil done),
-  wrote.counted,
-  subst (λ (l : Option TokenSum). Appends before new (lines_of_changes by_token None done ++ sums_line l)) wrote.open_sums
-      (Appends-trans before after new (lines_of_changes by_token None done) (sums_line last) wrote.written more),
-)
-
--- what was written behind the corrections so far is a prefix of what is left
-pub is_begun : (by_token : Bool) (before after new : Option (List ℕ)) (removed : ℕ) (last : Option TokenSum)
-    (old0 new0 old new_said : Said) (done now : List Pair) → Left old0 new0 old new_said (done ++ now)
-    → Wrote by_token before after removed last done → Begins after new (lines_of_changes by_token last now)
-    → IsBegun by_token before new old0 new0
-is_begun by_token before after new removed last old0 new0 old new_said done now left wrote begun =
-    subst (λ (all : Option (List Pair)). IfSome all (λ changes. Begins before new (all_lines by_token changes))) (sym left.left)
-    (by_rest (changes_of_both old new_said))
+    → Wrote by_token text removed last done → old ≡ Ok [] → new_said ≡ Ok []
+    → full ≡ text ++ sums_line last → IsWhole by_token full removed old0 new0
+all_given by_token text full removed last old0 new0 old new_said done left wrote no_old no_new is_full =
+    ap (option_map (text_of by_token)) (left.left
+    ∙ ap (λ (s : Said). Behind done (changes_of_both s new_said)) no_old
+    ∙ ap (λ (s : Said). Behind done (changes_of_both (Ok []) s)) no_new
+    ∙ ap (λ (l : List Pair). Some l) (append-nil done))
+    ∙ ap (λ (t : List ℕ). Some (t, removed_in done)) (sym whole)
+    ∙ ap (λ (n : ℕ). Some (full, n)) (sym wrote.counted)
   where
-    so_far : Begins before new (lines_of_changes by_token None (done ++ now))
-    so_far = subst (Begins before new)
-        (ap (λ (l : Option TokenSum). lines_of_changes by_token None done ++ lines_of_changes by_token l now) wrote.open_sums
-        ∙ sym (lines_more by_token None done now))
-        (begins_behind before after new (lines_of_changes by_token None done) (lines_of_changes by_token last now) wrote.written begun)
+    whole : full ≡ head_of by_token ++ all_lines by_token done
+    whole = is_full ∙ ap (λ (t : List ℕ). t ++ sums_line last) wrote.written
+        ∙ append_assoc (head_of by_token) (lines_of_changes by_token None done) (sums_line last)
+        ∙ ap (λ (l : Option TokenSum). head_of by_token ++ (lines_of_changes by_token None done ++ sums_line l)) wrote.open_sums
 
-    by_rest : (rest : Option (List Pair))
-        → IfSome (Behind (done ++ now) rest) (λ changes. Begins before new (all_lines by_token changes))
-    by_rest None = tt
-    by_rest (Some rest) =
-        begins_front before new (lines_of_changes by_token None ((done ++ now) ++ rest))
-        (sums_line (last_sums by_token None ((done ++ now) ++ rest)))
-        (subst (Begins before new) (sym (lines_more by_token None (done ++ now) rest))
-        (begins_front before new (lines_of_changes by_token None (done ++ now))
-        (lines_of_changes by_token (last_sums by_token None (done ++ now)) rest) so_far))
+-- ---- what is to come
+-- More would make the text whole, or a line of a ledger is wrong.
+abbrev pub Outlook : Bool → List ℕ → Said → Said → Type 0
+Outlook by_token text old new =
+    ((rest : List ℕ) × (removed : ℕ) × IsWhole by_token (text ++ rest) removed old new)
+    ⊎ (((wrong : ℕ × WrongLine) × (old ≡ Err wrong)) ⊎ ((wrong : ℕ × WrongLine) × (new ≡ Err wrong)))
 
--- the same, at the end
-pub end_begun : (by_token : Bool) (before after new : Option (List ℕ)) (removed : ℕ) (last : Option TokenSum)
-    (old0 new0 old new_said : Said) (done : List Pair) → Left old0 new0 old new_said done
-    → Wrote by_token before after removed last done → old ≡ Ok [] → new_said ≡ Ok []
-    → Begins after new (sums_line last) → IsBegun by_token before new old0 new0
-end_begun by_token before after new removed last old0 new0 old new_said done left wrote no_old no_new begun =
-    let all = left.left ∙ ap (λ (s : Said). Behind done (changes_of_both s new_said)) no_old
-    ∙ ap (λ (s : Said). Behind done (changes_of_both (Ok []) s)) no_new ∙ ap (λ (l : List Pair). Some l) (append-nil done) in
-    subst (λ (all : Option (List Pair)). IfSome all (λ changes. Begins before new (all_lines by_token changes))) (sym all)
-    (subst (λ (l : Option TokenSum). Begins before new (lines_of_changes by_token None done ++ sums_line l)) wrote.open_sums
-    (begins_behind before after new (lines_of_changes by_token None done) (sums_line last) wrote.written begun))
+rest_of : (by_token : Bool) (text : List ℕ) (removed : ℕ) (last : Option TokenSum) (done more : List Pair) → Wrote by_token text removed last done
+    → (rest : List ℕ) × (head_of by_token ++ all_lines by_token (done ++ more) ≡ text ++ rest)
+rest_of by_token text removed last done more wrote = (
+  lines ++ sums,
+  ap (λ (t : List ℕ). head_of by_token ++ (t ++ sums)) (lines_more by_token None done more)
+      ∙ ap (λ (t : List ℕ). head_of by_token ++ t) (append_assoc (lines_of_changes by_token None done) lines sums)
+      ∙ sym (append_assoc (head_of by_token) (lines_of_changes by_token None done) (lines ++ sums))
+      ∙ ap (λ (t : List ℕ). t ++ (lines ++ sums)) (sym wrote.written),
+)
+  where
+    lines : List ℕ
+    lines = lines_of_changes by_token (last_sums by_token None done) more
+
+    sums : List ℕ
+    sums = sums_line (last_sums by_token None (done ++ more))
+
+pub outlook : (by_token : Bool) (text : List ℕ) (removed : ℕ) (last : Option TokenSum) (o n : Option Said) (old0 new0 : Said)
+    → Walked by_token text removed last o n old0 new0 → Outlook by_token text old0 new0
+outlook by_token text removed last o n (Err wrong) new0 w = inr (inl (wrong, refl))
+outlook by_token text removed last o n (Ok olds) (Err wrong) w = inr (inr (wrong, refl))
+outlook by_token text removed last o n (Ok olds) (Ok news) w = by (changes_of_both w.old w.new) w.rest.left
+  where
+    by : (rest : Option (List Pair)) → Some (changes_between olds news) ≡ Behind w.done rest
+        → Outlook by_token text (Ok olds) (Ok news)
+    by None is = absurd (cc)
+    by (Some more) is =
+        let (rest, whole) = rest_of by_token text removed last w.done more w.wrote in
+        inl (
+          rest,
+          removed_in (w.done ++ more),
+          ap (option_map (text_of by_token)) is
+              ∙ ap (λ (t : List ℕ). Some (t, removed_in (w.done ++ more))) whole,
+        )
 
 -- ---- behind both rows
 taken_row : (is_taken : Bool) (row : Option LedgerRow) → row_in (if is_taken then row else None) ≡ taken_if is_taken (row_in row)
@@ -349,7 +323,7 @@ taken_none false row none = refl
 abbrev SaidBy : Option LedgerRow → ℕ → Option (List ℕ) → Option Said
 SaidBy row number left = option_map (rows_with (row_in row) number) left
 
-pub record Moved (by_token : Bool) (before after : Option (List ℕ)) (removed : ℕ) (last : Option TokenSum)
+pub record Moved (by_token : Bool) (text : List ℕ) (removed : ℕ) (last : Option TokenSum)
     (o n : Option Said) (pairs : List Pair) (old0 new0 : Said) : Type 0 where
   pub old : Said
   pub new : Said
@@ -357,25 +331,22 @@ pub record Moved (by_token : Bool) (before after : Option (List ℕ)) (removed :
   pub is_new : n ≡ Some new
   pub done : List Pair
   pub rest : Left old0 new0 old new (done ++ filter is_changed pairs)
-  pub wrote : Wrote by_token before after removed last done
+  pub wrote : Wrote by_token text removed last done
   pub over : [] ≡ pairs → (old ≡ Ok []) × (new ≡ Ok [])
 
-pub moved : (by_token : Bool) (before after : Option (List ℕ)) (removed : ℕ) (last : Option TokenSum)
-    (O N o n : Option Said) (old_row new_row b a : Option LedgerRow) (old_number new_number : ℕ)
-    (old_left new_left : Option (List ℕ)) (sides : Bool × Bool)
+pub moved : (by_token : Bool) (text : List ℕ) (removed : ℕ) (last : Option TokenSum)
+    (o n : Option Said) (old_row new_row b a : Option LedgerRow) (old_number new_number : ℕ)
+    (old_left new_left : Option (List ℕ)) (sides : Bool × Bool) (old0 new0 : Said)
     → sides ≡ next_sides (row_in old_row) (row_in new_row)
     → b ≡ (if sides.0 then old_row else None) → a ≡ (if sides.1 then new_row else None)
     → IfSome (option_map (rows_with (row_in old_row) old_number) old_left) (Moves (row_in b) o)
     → IfSome (option_map (rows_with (row_in new_row) new_number) new_left) (Moves (row_in a) n)
-    → OfBoth O N (Walked by_token before after removed last
+    → Walked by_token text removed last
     (option_map (rows_with (row_in old_row) old_number) old_left)
-    (option_map (rows_with (row_in new_row) new_number) new_left))
-    → OfBoth O N (Moved by_token before after removed last o n (pairs_of (row_in b) (row_in a)))
-moved by_token before after removed last O N o n old_row new_row b a old_number new_number old_left new_left sides
-    is_sides is_b is_a old_moves new_moves walked =
-    both O N _ _ (λ old0 new0 w.
-    let old_said = SaidBy old_row old_number old_left in
-    let new_said = SaidBy new_row new_number new_left in
+    (option_map (rows_with (row_in new_row) new_number) new_left) old0 new0
+    → Moved by_token text removed last o n (pairs_of (row_in b) (row_in a)) old0 new0
+moved by_token text removed last o n old_row new_row b a old_number new_number old_left new_left sides old0 new0
+    is_sides is_b is_a old_moves new_moves w =
     let was : Moves (row_in b) o w.old = subst (λ x. IfSome x (Moves (row_in b) o)) w.is_old old_moves in
     let (old', is_old, old_is) = was in
     let now : Moves (row_in a) n w.new = subst (λ x. IfSome x (Moves (row_in a) n)) w.is_new new_moves in
@@ -400,124 +371,39 @@ moved by_token before after removed last O N o n old_row new_row b a old_number 
             ap (λ (r : Option Row). with_row r new') (sym (a_is ∙ taken_none sides.1 (row_in new_row) no_new))
                 ∙ sym new_is ∙ no_row (row_in new_row) w.new row_n no_new,
           );
-    }) walked
+    }
 
-pub moved_next : (by_token : Bool) (before after new : Option (List ℕ)) (removed counted : ℕ) (last last' : Option TokenSum)
-    (O N o n : Option Said) (pairs : List Pair) (pair : Pair) → pair ∷ [] ≡ pairs
-    → Appends after new (lines_of_changes by_token last (filter is_changed (pair ∷ [])))
+pub moved_next : (by_token : Bool) (text more full : List ℕ) (removed counted : ℕ) (last last' : Option TokenSum)
+    (o n : Option Said) (pairs : List Pair) (pair : Pair) (old0 new0 : Said) → pair ∷ [] ≡ pairs → full ≡ text ++ more
+    → more ≡ lines_of_changes by_token last (filter is_changed (pair ∷ []))
     → last' ≡ last_sums by_token last (filter is_changed (pair ∷ []))
     → counted ≡ removed + removed_in (filter is_changed (pair ∷ []))
-    → OfBoth O N (Moved by_token before after removed last o n pairs)
-    → OfBoth O N (Walked by_token before new counted last' o n)
-moved_next by_token before after new removed counted last last' O N o n pairs pair is more sums count at =
-    both O N _ _ (λ old0 new0 m. record {
-      old = m.old;
-      new = m.new;
-      is_old = m.is_old;
-      is_new = m.is_new;
-      done = m.done ++ filter is_changed (pair ∷ []);
-      rest = subst (λ (l : List Pair). Left old0 new0 m.old m.new (m.done ++ filter is_changed l)) (sym is) m.rest;
-      wrote = wrote_more by_token before after new removed counted last last' m.done (filter is_changed (pair ∷ [])) m.wrote more sums count;
-    }) at
-
-pub moved_begun : (by_token : Bool) (before after new : Option (List ℕ)) (removed : ℕ) (last : Option TokenSum)
-    (O N o n : Option Said) (pairs : List Pair) (pair : Pair) → pair ∷ [] ≡ pairs
-    → Begins after new (lines_of_changes by_token last (filter is_changed (pair ∷ [])))
-    → OfBoth O N (Moved by_token before after removed last o n pairs) → OfBoth O N (IsBegun by_token before new)
-moved_begun by_token before after new removed last O N o n pairs pair is more at =
-    both O N _ _ (λ old0 new0 m.
-    is_begun by_token before after new removed last old0 new0 m.old m.new m.done (filter is_changed (pair ∷ []))
-    (subst (λ (l : List Pair). Left old0 new0 m.old m.new (m.done ++ filter is_changed l)) (sym is) m.rest) m.wrote more) at
+    → Moved by_token text removed last o n pairs old0 new0
+    → Walked by_token full counted last' o n old0 new0
+moved_next by_token text more full removed counted last last' o n pairs pair old0 new0 is is_full lines sums count m = record {
+  old = m.old;
+  new = m.new;
+  is_old = m.is_old;
+  is_new = m.is_new;
+  done = m.done ++ filter is_changed (pair ∷ []);
+  rest = subst (λ (l : List Pair). Left old0 new0 m.old m.new (m.done ++ filter is_changed l)) (sym is) m.rest;
+  wrote = wrote_more by_token text more full removed counted last last' m.done (filter is_changed (pair ∷ [])) m.wrote is_full lines sums count;
+}
 
 at_end : (old0 new0 old new : Said) (done pairs : List Pair) → [] ≡ pairs → Left old0 new0 old new (done ++ filter is_changed pairs)
     → Left old0 new0 old new done
 at_end old0 new0 old new done pairs none left =
     subst (Left old0 new0 old new) (ap (λ (l : List Pair). done ++ filter is_changed l) (sym none) ∙ append-nil done) left
 
-pub moved_end : (by_token : Bool) (before after new : Option (List ℕ)) (removed : ℕ) (last : Option TokenSum)
-    (O N o n : Option Said) (pairs : List Pair) → [] ≡ pairs → Appends after new (sums_line last)
-    → OfBoth O N (Moved by_token before after removed last o n pairs) → OfBoth O N (AreWritten by_token removed before new)
-moved_end by_token before after new removed last O N o n pairs none more at =
-    both O N _ _ (λ old0 new0 m.
+pub moved_end : (by_token : Bool) (text full : List ℕ) (removed : ℕ) (last : Option TokenSum)
+    (o n : Option Said) (pairs : List Pair) (old0 new0 : Said) → [] ≡ pairs → full ≡ text ++ sums_line last
+    → Moved by_token text removed last o n pairs old0 new0 → IsWhole by_token full removed old0 new0
+moved_end by_token text full removed last o n pairs old0 new0 none is_full m =
     let (no_old, no_new) = m.over none in
-    all_written by_token before after new removed last old0 new0 m.old m.new m.done
-    (at_end old0 new0 m.old m.new m.done pairs none m.rest) m.wrote no_old no_new more) at
-
-pub moved_end_begun : (by_token : Bool) (before after new : Option (List ℕ)) (removed : ℕ) (last : Option TokenSum)
-    (O N o n : Option Said) (pairs : List Pair) → [] ≡ pairs → Begins after new (sums_line last)
-    → OfBoth O N (Moved by_token before after removed last o n pairs) → OfBoth O N (IsBegun by_token before new)
-moved_end_begun by_token before after new removed last O N o n pairs none more at =
-    both O N _ _ (λ old0 new0 m.
-    let (no_old, no_new) = m.over none in
-    end_begun by_token before after new removed last old0 new0 m.old m.new m.done
-    (at_end old0 new0 m.old m.new m.done pairs none m.rest) m.wrote no_old no_new more) at
-
-pub walked_begun : (by_token : Bool) (before after : Option (List ℕ)) (removed : ℕ) (last : Option TokenSum)
-    (O N o n : Option Said) → OfBoth O N (Walked by_token before after removed last o n)
-    → OfBoth O N (IsBegun by_token before after)
-walked_begun by_token before after removed last O N o n at =
-    both O N _ _ (λ old0 new0 w.
-    is_begun by_token before after after removed last old0 new0 w.old w.new w.done []
-    (subst (Left old0 new0 w.old w.new) (sym (append-nil w.done)) w.rest) w.wrote
-    (begins_nothing after (lines_of_changes by_token last []))) at
-
--- ---- the whole text
-of_both_at : (O N : Option Said) (old new : Said) (P : Said → Said → Type 0) → O ≡ Some old → N ≡ Some new → OfBoth O N P → P old new
-of_both_at O N old new P is_old is_new h =
-    subst (λ x. IfSome x (P old)) is_new (subst (λ x. IfSome x (λ a. IfSome N (λ b. P a b))) is_old h)
-
-pub whole_text : (by_token : Bool) (out mid end : Option (List ℕ)) (removed : ℕ) (old_text new_text : List ℕ) (O N : Option Said)
-    → O ≡ Some (rows_of old_text) → N ≡ Some (rows_of new_text) → Appends out mid (head_of by_token)
-    → OfBoth O N (AreWritten by_token removed mid end)
-    → (text : List ℕ) × (corrections_of by_token old_text new_text ≡ Some (text, removed)) × Appends out end text
-whole_text by_token out mid end removed old_text new_text O N is_old is_new head written =
-    let (changes, is, counted, wrote) =
-    of_both_at O N (rows_of old_text) (rows_of new_text) (AreWritten by_token removed mid end) is_old is_new written in (
-      head_of by_token ++ all_lines by_token changes,
-      ap (option_map (text_of by_token)) is
-          ∙ ap (λ (n : ℕ). Some (head_of by_token ++ all_lines by_token changes, n)) (sym counted),
-      Appends-trans out mid end (head_of by_token) (all_lines by_token changes) head wrote,
-    )
-
-pub head_begun : (by_token : Bool) (out mid : Option (List ℕ)) (old_text new_text : List ℕ) → Begins out mid (head_of by_token)
-    → IfSome (corrections_of by_token old_text new_text) (λ made. Begins out mid made.0)
-head_begun by_token out mid old_text new_text begun = by (changes_of_both (rows_of old_text) (rows_of new_text))
-  where
-    by : (changes : Option (List Pair)) → IfSome (option_map (text_of by_token) changes) (λ made. Begins out mid made.0)
-    by None = tt
-    by (Some changes) = begins_front out mid (head_of by_token) (all_lines by_token changes) begun
-
-pub nothing_begun : (by_token : Bool) (out : Option (List ℕ)) (old_text new_text : List ℕ)
-    → IfSome (corrections_of by_token old_text new_text) (λ made. Begins out out made.0)
-nothing_begun by_token out old_text new_text = head_begun by_token out out old_text new_text (begins_nothing out (head_of by_token))
-
-pub whole_begun : (by_token : Bool) (out mid end : Option (List ℕ)) (old_text new_text : List ℕ) (O N : Option Said)
-    → O ≡ Some (rows_of old_text) → N ≡ Some (rows_of new_text) → Appends out mid (head_of by_token)
-    → OfBoth O N (IsBegun by_token mid end)
-    → IfSome (corrections_of by_token old_text new_text) (λ made. Begins out end made.0)
-whole_begun by_token out mid end old_text new_text O N is_old is_new head begun =
-    by (changes_of_both (rows_of old_text) (rows_of new_text))
-    (of_both_at O N (rows_of old_text) (rows_of new_text) (IsBegun by_token mid end) is_old is_new begun)
-  where
-    by : (changes : Option (List Pair)) → IfSome changes (λ changes. Begins mid end (all_lines by_token changes))
-        → IfSome (option_map (text_of by_token) changes) (λ made. Begins out end made.0)
-    by None begun = tt
-    by (Some changes) begun = begins_behind out mid end (head_of by_token) (all_lines by_token changes) head begun
+    all_given by_token text full removed last old0 new0 m.old m.new m.done
+    (at_end old0 new0 m.old m.new m.done pairs none m.rest) m.wrote no_old no_new is_full
 
 -- ---- which line is the first wrong one
-pub named_of_both : (old_text new_text : List ℕ) (O N : Option Said) (fault : CorrectionsFault)
-    → O ≡ Some (rows_of old_text) → N ≡ Some (rows_of new_text) → OfBoth O N (IsNamed fault)
-    → NamesFirstWrong old_text new_text fault
-named_of_both old_text new_text O N fault is_old is_new named =
-    by fault (of_both_at O N (rows_of old_text) (rows_of new_text) (IsNamed fault) is_old is_new named)
-  where
-    by : (fault : CorrectionsFault) → IsNamed fault (rows_of old_text) (rows_of new_text) → NamesFirstWrong old_text new_text fault
-    by (Line Old number why) is = is
-    by (Line New number why) is = is
-    by (Unread bill) is = tt
-    by Write is = tt
-    by NoMemory is = tt
-
 other_bill : {A : Type 0} → Old ≡ New → A
 other_bill e = absurd (cc)
 
@@ -526,7 +412,6 @@ pub named_old : (old_text new_text : List ℕ) (fault : CorrectionsFault) → Is
 named_old old_text new_text (Line Old number why) is = is.1
 named_old old_text new_text (Line New number why) is = other_bill (sym is.0)
 named_old old_text new_text (Unread bill) is = tt
-named_old old_text new_text Write is = tt
 named_old old_text new_text NoMemory is = tt
 
 pub named_new : (old_text new_text : List ℕ) (fault : CorrectionsFault) → IsWrongAs New (rows_of new_text) fault
@@ -534,11 +419,49 @@ pub named_new : (old_text new_text : List ℕ) (fault : CorrectionsFault) → Is
 named_new old_text new_text (Line Old number why) is = other_bill is.0
 named_new old_text new_text (Line New number why) is = is.1
 named_new old_text new_text (Unread bill) is = tt
-named_new old_text new_text Write is = tt
 named_new old_text new_text NoMemory is = tt
 
-pub named_none : (old_text new_text : List ℕ) (fault : CorrectionsFault) → IsNoLine fault → NamesFirstWrong old_text new_text fault
-named_none old_text new_text (Line bill number why) is = absurd is
-named_none old_text new_text (Unread bill) is = tt
-named_none old_text new_text Write is = tt
-named_none old_text new_text NoMemory is = tt
+-- the line of the old ledger, of which this is left
+pub stops_old : (fault : CorrectionsFault) (bill : Bill) (by_token : Bool) (text : List ℕ) (removed : ℕ) (last : Option TokenSum)
+    (o n : Option Said) (old0 new0 : Said) → bill ≡ Old → IfSome o (λ said. IsWrongAs bill said fault)
+    → Walked by_token text removed last o n old0 new0 → StopsAt fault old0 new0
+stops_old fault bill by_token text removed last o n old0 new0 is_old wrong w =
+    by fault (subst (λ (b : Bill). IsWrongAs b w.old fault) is_old
+    (subst (λ x. IfSome x (λ said. IsWrongAs bill said fault)) w.is_old wrong))
+  where
+    by : (fault : CorrectionsFault) → IsWrongAs Old w.old fault → StopsAt fault old0 new0
+    by (Line Old number why) is = w.rest.wrong_old (number, why) is.1
+    by (Line New number why) is = other_bill (sym is.0)
+    by (Unread bill) is = tt
+    by NoMemory is = tt
+
+pub stops_new : (fault : CorrectionsFault) (bill : Bill) (by_token : Bool) (text : List ℕ) (removed : ℕ) (last : Option TokenSum)
+    (o n : Option Said) (old0 new0 : Said) → bill ≡ New → IfSome n (λ said. IsWrongAs bill said fault)
+    → Walked by_token text removed last o n old0 new0 → StopsAt fault old0 new0
+stops_new fault bill by_token text removed last o n old0 new0 is_new wrong w =
+    by fault (subst (λ (b : Bill). IsWrongAs b w.new fault) is_new
+    (subst (λ x. IfSome x (λ said. IsWrongAs bill said fault)) w.is_new wrong))
+  where
+    by : (fault : CorrectionsFault) → IsWrongAs New w.new fault → StopsAt fault old0 new0
+    by (Line Old number why) is = other_bill is.0
+    by (Line New number why) is = w.rest.wrong_new (number, why) is.1
+    by (Unread bill) is = tt
+    by NoMemory is = tt
+
+-- the same of the texts of both
+pub named_by : (fault : CorrectionsFault) (old_text new_text : List ℕ) → StopsAt fault (rows_of old_text) (rows_of new_text)
+    → NamesFirstWrong old_text new_text fault
+named_by (Line Old number why) old_text new_text is = is
+named_by (Line New number why) old_text new_text is = is
+named_by (Unread bill) old_text new_text is = tt
+named_by NoMemory old_text new_text is = tt
+
+-- ---- corrections that are given in pieces
+pub given_after : {R : Type 0} (remaining : R → Option (List ℕ)) (c : Corrections R) (by_token : Bool) (old_text new_text : List ℕ)
+    (end : Option ℕ) (text : List ℕ) → c.is_by_token ≡ by_token → c.old.bill ≡ Old → c.new.bill ≡ New
+    → GoesOn by_token end text c.tally.removed (sum_in c.tally.last) (rows_at remaining c.old) (rows_at remaining c.new)
+    (rows_of old_text) (rows_of new_text)
+    → IsGivenAfter remaining c by_token old_text new_text end text
+given_after remaining c by_token old_text new_text None text by of_old of_new on =
+    record { by = by; of_old = of_old; of_new = of_new; walked = on }
+given_after remaining c by_token old_text new_text (Some removed) text by of_old of_new on = on

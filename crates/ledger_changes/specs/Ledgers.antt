@@ -10,7 +10,7 @@ use Rattle.ledger_fields.specs.Rows.{Row}
 use Rattle.ledger_changes.specs.Rows.{key_cmp}
 use Rattle.ledger_changes.specs.declared.fault.Bill.TheVariants.{New, Old}
 use Rattle.ledger_changes.specs.declared.fault.CorrectionsFault.{CorrectionsFault}
-use Rattle.ledger_changes.specs.declared.fault.CorrectionsFault.TheVariants.{Line, Unread, Write, NoMemory}
+use Rattle.ledger_changes.specs.declared.fault.CorrectionsFault.TheVariants.{Line, Unread, NoMemory}
 use Rattle.ledger_changes.specs.declared.fault.WrongLine.{WrongLine}
 use Rattle.ledger_changes.specs.declared.fault.WrongLine.TheVariants.{Form, Order}
 
@@ -52,5 +52,4 @@ abbrev pub NamesFirstWrong : List ℕ → List ℕ → CorrectionsFault → Type
 NamesFirstWrong old new (Line Old number why) = rows_of old ≡ Err (number, why)
 NamesFirstWrong old new (Line New number why) = rows_of new ≡ Err (number, why)
 NamesFirstWrong old new (Unread bill) = Unit {0}
-NamesFirstWrong old new Write = Unit {0}
 NamesFirstWrong old new NoMemory = Unit {0}

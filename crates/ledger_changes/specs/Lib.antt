@@ -1,4 +1,5 @@
 pub mod Changes
+pub mod Given
 pub mod Ledgers
 pub mod Rows
 pub mod Texts

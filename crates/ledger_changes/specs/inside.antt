@@ -1,5 +1,4 @@
 -- What only private functions cite. Who reads the contracts of public calls need not read it.
-pub mod Faults
 pub mod Pairs
 pub mod Readings
 pub mod Views

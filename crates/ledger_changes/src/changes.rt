@@ -1,27 +1,29 @@
-//! The corrections from one settled ledger to another.
+//! The corrections from one settled ledger to another, given in pieces.
 
-ghost use Rattle.std.specs.Prelude.{◌≡◌, ◌+◌, ◌∷◌, [], ℕ, List, Some, IfErr, IfOk, IfSome, OnErr};
-ghost use Rattle.std.specs.Prelude.{OnOk, filter};
-ghost use Rattle.std.specs.Io.KnownBytes.{Appends};
-ghost use Rattle.fare_texts.specs.WrittenOut.{Begins};
+ghost use Rattle.std.specs.Prelude.{◌≡◌, ◌+◌, ◌++◌, ◌∷◌, [], ℕ, Bool, List, Some, IfErr, IfOk};
+ghost use Rattle.std.specs.Prelude.{IfSome, OnOk, filter};
 ghost use Rattle.ledger_changes.specs.Changes.{is_changed};
-ghost use Rattle.ledger_changes.specs.inside.Faults.{IsNoLine};
-ghost use Rattle.ledger_changes.specs.Ledgers.{NamesFirstWrong};
+ghost use Rattle.ledger_changes.specs.Given.{HasGiven, IsGivenAfter, Said, Walked};
+ghost use Rattle.ledger_changes.specs.Ledgers.{NamesFirstWrong, rows_of};
 ghost use Rattle.ledger_changes.specs.Texts.{removed_in};
-ghost use Rattle.ledger_changes.specs.Tokens.{corrections_of, last_sums, lines_of_changes};
-ghost use Rattle.ledger_changes.specs.Tokens.{head_of, change_lines, sums_with};
+ghost use Rattle.ledger_changes.specs.Tokens.{change_lines, head_of, last_sums, lines_of_changes};
+ghost use Rattle.ledger_changes.specs.Tokens.{sums_with};
 ghost use Rattle.ledger_changes.specs.declared.fault.Bill.TheVariants.{New, Old};
 ghost use Rattle.ledger_changes.specs.inside.Readings.{rows_at};
 ghost use Rattle.ledger_changes.specs.inside.Views.{pair_of, sum_in};
-ghost use Rattle.ledger_changes.specs.inside.Walks.{AreWritten, IsBegun, IsNamed, OfBoth};
+ghost use Rattle.ledger_changes.specs.inside.Walks.{GoesOn, StopsAt};
 
-use crate::correction_text::{correction_line, write_text};
+use crate::correction_text::correction_line;
 use crate::fault::{Bill, CorrectionsFault};
 use crate::ledger_rows::LedgerRows;
 use crate::pairs::{LinePair, next_sides};
-use crate::token_sums::{TokenSums, sums_for, write_sums};
-use std::alloc::Global;
-use std::io::{BufRead, Write};
+use crate::token_sums::{TokenSums, push_sums, sums_for};
+use std::alloc::{AllocError, Global};
+use std::io::BufRead;
+use std::mem;
+
+/// At how many bytes a piece is given.
+const PIECE_BYTES: usize = 65_536;
 
 const HEAD_LINE: &[u8] =
     b"token,moment,validator,change,answer_before,cents_before,reason_before,answer_after,cents_after,reason_after,cents_change\n";
@@ -29,7 +31,8 @@ const HEAD_LINE: &[u8] =
 const TOKENS_HEAD_LINE: &[u8] =
     b"token,added,removed,changed,cents_before,cents_after,cents_change\n";
 
-fn head_of(is_by_token: bool) -> &'static [u8]
+/// The header line, which is the first piece.
+pub fn corrections_head(is_by_token: bool) -> &'static [u8]
     ensures { result.now ≡ head_of is_by_token }
 {
     if is_by_token {
@@ -49,32 +52,29 @@ fn count_removed(removed: u64, pair: &LinePair) -> Option<u64>
     }
 }
 
-/// Writes the line of the correction, or adds it to the sums of its token: if the open sums are of
-/// another token, their line is written, and new ones begin.
-fn write_change<W: Write>(
+/// Appends the line of the correction, or adds it to the sums of its token: if the open sums are of
+/// another token, their line is appended, and new ones begin.
+fn push_change(
     alloc: Global,
     is_by_token: bool,
     last: Option<TokenSums>,
     pair: &LinePair,
-    out: &mut W,
-) -> Result<Option<TokenSums>, CorrectionsFault>
-    ensures written { OnOk result (Appends (W.contents out.old) (W.contents out.new)
-        (change_lines is_by_token (sum_in last) (pair_of pair.now))) }
-    ensures begun { OnErr result (Begins (W.contents out.old) (W.contents out.new)
-        (change_lines is_by_token (sum_in last) (pair_of pair.now))) }
+    piece: &mut Vec<u8>,
+) -> Result<Option<TokenSums>, AllocError>
+    ensures lines { OnOk result (piece.new.items ≡ piece.old.items
+        ++ change_lines is_by_token (sum_in last) (pair_of pair.now)) }
     ensures sums { IfOk result (λ sums. sum_in sums
         ≡ sums_with is_by_token (sum_in last) (pair_of pair.now)) }
-    ensures fault { IfErr result IsNoLine }
 {
     if !is_by_token {
         let line = correction_line(alloc, pair)?;
-        write_text(out, &line)?;
+        piece.extend_from_slice(&line)?;
         return Ok(last);
     }
-    let sums = sums_for(alloc, out, last, &pair.key.token)?;
+    let sums = sums_for(alloc, last, &pair.key.token, piece)?;
     match sums.with(pair) {
         Some(sums) => Ok(Some(sums)),
-        None => Err(CorrectionsFault::Write),
+        None => Err(AllocError),
     }
 }
 
@@ -87,103 +87,142 @@ struct Tally {
     last: Option<TokenSums>,
 }
 
-/// Writes what the pair brings, if it is a correction.
-fn take_pair<W: Write>(
+/// Appends what the pair brings, if it is a correction.
+fn take_pair(
     alloc: Global,
     is_by_token: bool,
-    so_far: Tally,
+    tally: &mut Tally,
     pair: &LinePair,
-    out: &mut W,
-) -> Result<Tally, CorrectionsFault>
-    ensures written { OnOk result (Appends (W.contents out.old) (W.contents out.new)
-        (lines_of_changes is_by_token (sum_in so_far.last)
-        (filter is_changed (pair_of pair.now ∷ [])))) }
-    ensures begun { OnErr result (Begins (W.contents out.old) (W.contents out.new)
-        (lines_of_changes is_by_token (sum_in so_far.last)
-        (filter is_changed (pair_of pair.now ∷ [])))) }
-    ensures sums { IfOk result (λ tally. sum_in tally.last
-        ≡ last_sums is_by_token (sum_in so_far.last)
+    piece: &mut Vec<u8>,
+) -> Result<(), AllocError>
+    ensures lines { OnOk result (piece.new.items ≡ piece.old.items
+        ++ lines_of_changes is_by_token (sum_in tally.old.last)
         (filter is_changed (pair_of pair.now ∷ []))) }
-    ensures removed { IfOk result (λ tally. tally.removed
-        ≡ so_far.removed + removed_in (filter is_changed (pair_of pair.now ∷ []))) }
-    ensures fault { IfErr result IsNoLine }
+    ensures sums { OnOk result (sum_in tally.new.last
+        ≡ last_sums is_by_token (sum_in tally.old.last)
+        (filter is_changed (pair_of pair.now ∷ []))) }
+    ensures removed { OnOk result (tally.new.removed
+        ≡ tally.old.removed + removed_in (filter is_changed (pair_of pair.now ∷ []))) }
 {
     if pair.agrees() {
-        return Ok(so_far);
+        return Ok(());
     }
-    let removed = so_far.removed;
-    let last = write_change(alloc, is_by_token, so_far.last, pair, out)?;
-    match count_removed(removed, pair) {
-        Some(removed) => Ok(Tally { removed, last }),
-        None => Err(CorrectionsFault::Write),
+    let last = mem::replace(&mut tally.last, None);
+    tally.last = push_change(alloc, is_by_token, last, pair, piece)?;
+    match count_removed(tally.removed, pair) {
+        Some(removed) => {
+            tally.removed = removed;
+            Ok(())
+        }
+        None => Err(AllocError),
     }
 }
 
-/// Writes the lines of all corrections from the rows of the one ledger to those of the other. Gives
-/// how many lines are removed.
-fn write_changes<R: BufRead + Drop, W: Write>(
+/// Appends the lines of the next corrections, until they are a piece or none is left. At the end it
+/// gives how many lines are removed.
+fn push_changes<R: BufRead + Drop>(
     alloc: Global,
     is_by_token: bool,
     old: &mut LedgerRows<R>,
     new: &mut LedgerRows<R>,
-    out: &mut W,
-) -> Result<u64, CorrectionsFault>
-    requires old { old.old.bill ≡ Old }
-    requires new { new.old.bill ≡ New }
-    ensures written { IfOk result (λ removed.
-        OfBoth (rows_at R.remaining old.old) (rows_at R.remaining new.old)
-        (AreWritten is_by_token removed (W.contents out.old) (W.contents out.new))) }
-    ensures begun { OnErr result (OfBoth (rows_at R.remaining old.old)
-        (rows_at R.remaining new.old)
-        (IsBegun is_by_token (W.contents out.old) (W.contents out.new))) }
-    ensures wrong { IfErr result (λ fault. OfBoth (rows_at R.remaining old.old)
-        (rows_at R.remaining new.old) (IsNamed fault)) }
+    tally: &mut Tally,
+    piece: &mut Vec<u8>,
+) -> Result<Option<u64>, CorrectionsFault>
+    requires { piece.old.items ≡ [] }
+    ensures old { new.new.bill ≡ new.old.bill }
+    ensures new { old.new.bill ≡ old.old.bill }
+    ensures given { IfOk result (λ end. (a b : Said) (text : List ℕ) → Walked is_by_token text
+        tally.old.removed (sum_in tally.old.last) (rows_at R.remaining old.old)
+        (rows_at R.remaining new.old) a b → GoesOn is_by_token end (text ++ piece.new.items)
+        tally.new.removed (sum_in tally.new.last) (rows_at R.remaining old.new)
+        (rows_at R.remaining new.new) a b) }
+    ensures stopped { IfErr result (λ fault. (a b : Said) (text : List ℕ) → old.old.bill ≡ Old
+        → new.old.bill ≡ New → Walked is_by_token text tally.old.removed (sum_in tally.old.last)
+        (rows_at R.remaining old.old) (rows_at R.remaining new.old) a b → StopsAt fault a b) }
 {
-    let mut tally = Tally {
-        removed: 0,
-        last: None,
-    };
     for _ in 0..u64::MAX {
+        if piece.len() >= PIECE_BYTES {
+            return Ok(None);
+        }
         let (has_old, has_new) = next_sides(old.row(), new.row());
         let before = old.row_if(alloc, has_old)?;
         let after = new.row_if(alloc, has_new)?;
         let Some(pair) = LinePair::of_rows(before, after) else {
-            write_sums(alloc, out, &tally.last)?;
-            return Ok(tally.removed);
+            push_sums(alloc, &tally.last, piece)?;
+            return Ok(Some(tally.removed));
         };
-        tally = take_pair(alloc, is_by_token, tally, &pair, out)?;
+        take_pair(alloc, is_by_token, tally, &pair, piece)?;
     }
-    Err(CorrectionsFault::Write)
+    Ok(None)
 }
 
-/// Writes the corrections from the one settled ledger to the other: the head line, and a line for
-/// each line of either that is charged otherwise in the other; or, by token, a line for each token
-/// that has a correction. Gives how many lines are removed: the old ledger has them, and the new one
-/// does not. The ledgers are read side by side, a row of each and the sums of one token in memory.
-pub fn corrections<R: BufRead + Drop, W: Write>(
-    alloc: Global,
+/// The corrections from the one settled ledger to the other, given in pieces: the header line, and a
+/// line for each line of either that is charged otherwise in the other; or, by token, a line for
+/// each token that has a correction. The ledgers are read side by side, a row of each and the sums
+/// of one token in memory.
+#[derive(Drop)]
+pub struct Corrections<R: BufRead + Drop> {
     is_by_token: bool,
-    old: R,
-    new: R,
-    out: &mut W,
-) -> Result<u64, CorrectionsFault>
-    ensures written { IfOk result (λ removed. (old_text new_text : List ℕ)
-        → R.remaining old ≡ Some old_text → R.remaining new ≡ Some new_text
-        → (text : List ℕ)
-        × (corrections_of is_by_token old_text new_text ≡ Some (text, removed))
-        × Appends (W.contents out.old) (W.contents out.new) text) }
-    // What was written before a fault is a prefix of the right text, if there is one.
-    ensures begun { OnErr result ((old_text new_text : List ℕ)
-        → R.remaining old ≡ Some old_text → R.remaining new ≡ Some new_text
-        → IfSome (corrections_of is_by_token old_text new_text)
-        (λ made. Begins (W.contents out.old) (W.contents out.new) made.0)) }
-    // The line that is refused is the first wrong one of its ledger, for the reason of the fault.
-    ensures wrong { IfErr result (λ fault. (old_text new_text : List ℕ)
-        → R.remaining old ≡ Some old_text → R.remaining new ≡ Some new_text
-        → NamesFirstWrong old_text new_text fault) }
-{
-    let mut old = LedgerRows::begin(alloc, old, Bill::Old)?;
-    let mut new = LedgerRows::begin(alloc, new, Bill::New)?;
-    write_text(out, head_of(is_by_token))?;
-    write_changes(alloc, is_by_token, &mut old, &mut new, out)
+    old: LedgerRows<R>,
+    new: LedgerRows<R>,
+    tally: Tally,
+}
+
+impl<R: BufRead + Drop> Corrections<R> {
+    /// The corrections after their header line.
+    pub fn begin(
+        alloc: Global,
+        is_by_token: bool,
+        old: R,
+        new: R,
+    ) -> Result<Corrections<R>, CorrectionsFault>
+        ensures given { IfOk result (λ corrections. (old_text new_text : List ℕ)
+            → R.remaining old ≡ Some old_text → R.remaining new ≡ Some new_text
+            → HasGiven R.remaining corrections is_by_token (rows_of old_text) (rows_of new_text)
+            (head_of is_by_token)) }
+        // The line that is refused is the first wrong one of its ledger, for the reason of the fault.
+        ensures wrong { IfErr result (λ fault. (old_text new_text : List ℕ)
+            → R.remaining old ≡ Some old_text → R.remaining new ≡ Some new_text
+            → NamesFirstWrong old_text new_text fault) }
+    {
+        let old = LedgerRows::begin(alloc, old, Bill::Old)?;
+        let new = LedgerRows::begin(alloc, new, Bill::New)?;
+        Ok(Corrections {
+            is_by_token,
+            old,
+            new,
+            tally: Tally {
+                removed: 0,
+                last: None,
+            },
+        })
+    }
+
+    /// Appends the next lines, some 64 KiB of them, and gives none; or the last lines, and gives how
+    /// many lines are removed: the old ledger has them, and the new one does not. After a fault of a
+    /// line, the lines before it were appended.
+    pub fn next(
+        &mut self,
+        alloc: Global,
+        piece: &mut Vec<u8>,
+    ) -> Result<Option<u64>, CorrectionsFault>
+        requires { piece.old.items ≡ [] }
+        ensures given { IfOk result (λ end. (by_token : Bool) (old_text new_text text : List ℕ)
+            → HasGiven R.remaining self.entry.now by_token (rows_of old_text) (rows_of new_text)
+            text → IsGivenAfter R.remaining self.exit.now by_token old_text new_text end
+            (text ++ piece.new.items)) }
+        ensures wrong { IfErr result (λ fault. (by_token : Bool)
+            (old_text new_text text : List ℕ) → HasGiven R.remaining self.entry.now by_token
+            (rows_of old_text) (rows_of new_text) text
+            → NamesFirstWrong old_text new_text fault) }
+    {
+        push_changes(
+            alloc,
+            self.is_by_token,
+            &mut self.old,
+            &mut self.new,
+            &mut self.tally,
+            piece,
+        )
+    }
 }

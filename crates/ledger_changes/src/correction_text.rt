@@ -1,21 +1,15 @@
 //! The line of a correction.
 
-ghost use Rattle.std.specs.Prelude.{◌≡◌, ◌++◌, IfErr, IfOk, OnErr, OnOk, codes, option_map};
+ghost use Rattle.std.specs.Prelude.{◌≡◌, ◌++◌, IfOk, OnOk, codes, option_map};
 ghost use Rattle.std.specs.Fmt.{decimal};
-ghost use Rattle.std.specs.Io.KnownBytes.{Appends};
-ghost use Rattle.fare_texts.specs.WrittenOut.{Begins};
-ghost use Rattle.ledger_changes.specs.inside.Faults.{IsNoLine};
 ghost use Rattle.ledger_changes.specs.Texts.{cents_of, change_word, charge_fields};
 ghost use Rattle.ledger_changes.specs.Texts.{correction_line, difference};
 ghost use Rattle.ledger_changes.specs.inside.Views.{charge_of, pair_of};
 
-use crate::fault::CorrectionsFault;
 use crate::pairs::LinePair;
 use crate::row::LineCharge;
-use fare_texts::write_bytes;
 use itoa::Buffer;
 use std::alloc::{AllocError, Global};
-use std::io::Write;
 
 /// What was done to the line.
 fn change_word(before: &Option<LineCharge>, after: &Option<LineCharge>) -> &'static [u8]
@@ -108,15 +102,4 @@ pub(crate) fn correction_line(alloc: Global, pair: &LinePair) -> Result<Vec<u8>,
     )?;
     line.extend_from_slice(b"\n")?;
     Ok(line)
-}
-
-pub(crate) fn write_text<W: Write>(out: &mut W, text: &[u8]) -> Result<(), CorrectionsFault>
-    ensures written { OnOk result (Appends (W.contents out.old) (W.contents out.new) text.now) }
-    ensures begun { OnErr result (Begins (W.contents out.old) (W.contents out.new) text.now) }
-    ensures fault { IfErr result IsNoLine }
-{
-    match write_bytes(text, out) {
-        Ok(()) => Ok(()),
-        Err(_) => Err(CorrectionsFault::Write),
-    }
 }

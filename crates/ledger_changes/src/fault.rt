@@ -27,7 +27,7 @@ pub enum CorrectionsFault {
     Line(Bill, u64, WrongLine),
     /// A read of this bill's ledger failed, or the number of a line exceeds 64 bits.
     Unread(Bill),
-    Write,
+    /// A growth of memory was refused, or a sum exceeds 64 bits, which no ledger reaches.
     NoMemory,
 }
 

@@ -11,5 +11,5 @@ mod pairs;
 mod row;
 mod token_sums;
 
-pub use changes::corrections;
+pub use changes::{Corrections, corrections_head};
 pub use fault::{Bill, CorrectionsFault, WrongLine};

@@ -1,21 +1,16 @@
 //! The corrections of one token, summed, and their line.
 
-ghost use Rattle.std.specs.Prelude.{◌≡◌, ◌∷◌, [], IfErr, IfOk, IfSome, OnErr, OnOk, option_map};
-ghost use Rattle.std.specs.Io.KnownBytes.{Appends};
-ghost use Rattle.fare_texts.specs.WrittenOut.{Begins};
-ghost use Rattle.ledger_changes.specs.inside.Faults.{IsNoLine};
+ghost use Rattle.std.specs.Prelude.{◌≡◌, ◌++◌, ◌∷◌, [], IfOk, IfSome, OnOk, option_map};
 ghost use Rattle.ledger_changes.specs.Rows.{is_same_text};
 ghost use Rattle.ledger_changes.specs.Texts.{is_only_before};
 ghost use Rattle.ledger_changes.specs.Tokens.{add_changes, ended_line, is_in_both, no_sums};
 ghost use Rattle.ledger_changes.specs.Tokens.{sums_for, sums_line, token_line};
 ghost use Rattle.ledger_changes.specs.inside.Views.{charge_of, pair_of, sum_in, token_sum_of};
 
-use crate::correction_text::{cents_of, write_difference, write_number, write_text};
-use crate::fault::CorrectionsFault;
+use crate::correction_text::{cents_of, write_difference, write_number};
 use crate::pairs::LinePair;
 use crate::row::{LineCharge, owned};
 use std::alloc::{AllocError, Global};
-use std::io::Write;
 
 /// The corrections of one token, summed.
 #[derive(Drop)]
@@ -113,50 +108,44 @@ impl TokenSums {
     }
 }
 
-/// Writes the line of these sums, if there are some.
-pub(crate) fn write_sums<W: Write>(
+/// Appends the line of these sums, if there are some.
+pub(crate) fn push_sums(
     alloc: Global,
-    out: &mut W,
     sums: &Option<TokenSums>,
-) -> Result<(), CorrectionsFault>
-    ensures written { OnOk result (Appends (W.contents out.old) (W.contents out.new)
-        (sums_line (sum_in sums.now))) }
-    ensures begun { OnErr result (Begins (W.contents out.old) (W.contents out.new)
-        (sums_line (sum_in sums.now))) }
-    ensures fault { IfErr result IsNoLine }
+    text: &mut Vec<u8>,
+) -> Result<(), AllocError>
+    ensures { OnOk result (text.new.items ≡ text.old.items ++ sums_line (sum_in sums.now)) }
 {
     match sums {
         Some(sums) => {
             let line = sums.line(alloc)?;
-            write_text(out, &line)
+            text.extend_from_slice(&line)?;
+            Ok(())
         }
         None => Ok(()),
     }
 }
 
-/// The open sums, if they are the token's. Else their line is written, and sums of no correction
+/// The open sums, if they are the token's. Else their line is appended, and sums of no correction
 /// begin.
-pub(crate) fn sums_for<W: Write>(
+pub(crate) fn sums_for(
     alloc: Global,
-    out: &mut W,
     last: Option<TokenSums>,
     token: &[u8],
-) -> Result<TokenSums, CorrectionsFault>
-    ensures written { OnOk result (Appends (W.contents out.old) (W.contents out.new)
-        (ended_line (sum_in last) token.now)) }
-    ensures begun { OnErr result (Begins (W.contents out.old) (W.contents out.new)
-        (ended_line (sum_in last) token.now)) }
+    text: &mut Vec<u8>,
+) -> Result<TokenSums, AllocError>
+    ensures line { OnOk result
+        (text.new.items ≡ text.old.items ++ ended_line (sum_in last) token.now) }
     ensures sums { IfOk result (λ sums. token_sum_of sums ≡ sums_for (sum_in last) token.now) }
-    ensures fault { IfErr result IsNoLine }
 {
     let Some(sums) = last else {
-        return Ok(TokenSums::begin(alloc, token)?);
+        return TokenSums::begin(alloc, token);
     };
     if sums.is_of(token) {
         return Ok(sums);
     }
     let next = TokenSums::begin(alloc, token)?;
     let line = sums.line(alloc)?;
-    write_text(out, &line)?;
+    text.extend_from_slice(&line)?;
     Ok(next)
 }

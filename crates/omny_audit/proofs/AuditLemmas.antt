@@ -6,11 +6,11 @@ use Rattle.std.proofs.lemmas.Bool.{and_parts}
 use Rattle.tariffs.specs.Fares.{Fares}
 use Rattle.histories.specs.declared.entry.Entry.{Entry}
 use Rattle.tap_views.specs.declared.encoder.TapFields.{TapFields}
-use Rattle.ledger_check.specs.Columns.{read_as}
 use Rattle.ledger_check.specs.Ledger.{IsLedgerOf}
 use Rattle.omny_audit.specs.Findings.{FindingsDecide, FullFindingsDecide, IsFindingOf}
 use Rattle.omny_audit.specs.Findings.{IsRightLedger}
 use Rattle.omny_audit.specs.Reports.{AuditsDecide, HasOwnReport, IsReportLine, are_whole}
+use Rattle.omny_audit.specs.Reports.{ledger_in}
 use Rattle.tap_views.specs.declared.upload_end.UploadEnd.{UploadEnd}
 use Rattle.omny_audit.specs.Traced.{AreColumnsReported, HasRightColumns, HasRightPlaces}
 use Rattle.omny_audit.specs.Traced.{IsFaultBehind}
@@ -120,37 +120,38 @@ looked_at true legal is = refl
 looked_at false legal is = is
 
 pub decides : FindingsDecide → FullFindingsDecide → ReportVerdictsDecide → AuditsDecide
-decides some full verdicts how fares wanted file read good report text well audit =
-    let ledger = read_as (is_some wanted) file in
-    let sound = sound_is some full how.all how.live fares ledger good audit.found audit.sound
-    audit.finding in
-    let looked = how.all || audit.legal in
+decides some full verdicts given file read text well audit =
+    let ledger = ledger_in given file in
+    let sound = sound_is some full given.all given.live given.fares ledger given.good audit.found
+    audit.sound audit.finding in
+    let looked = given.all || audit.legal in
     let last = audit.last in (
       λ is.
           let parts = and_parts audit.sound (audit.right && audit.fits) (sym audit.both ∙ is) in
           let ends = and_parts audit.right audit.fits parts.1 in
-          let lasts = and_parts last.fits (are_whole how.ends) (sym last.both ∙ ends.1) in
+          let lasts = and_parts last.fits (are_whole given.ends) (sym last.both ∙ ends.1) in
           let right = sound.0 parts.0 in (
             right.0,
             right.1,
             right.2,
             right.3,
-            columns_right wanted looked file read audit.columns audit.right audit.are_columns
+            columns_right given.wanted looked file read audit.columns audit.right audit.are_columns
                 ends.0,
-            own_of verdicts how.ends fares ledger report (audit.legal && audit.right) last.line
-                last.fits right.0 last.report_line lasts.0 right.1,
+            own_of verdicts given.ends given.fares ledger given.report (audit.legal && audit.right)
+                last.line last.fits right.0 last.report_line lasts.0 right.1,
             lasts.1,
           ),
       λ right.
           let legal = audit.is_legal.1 (right.0, right.1) in
-          let columns = right_columns wanted looked file read audit.columns audit.right
-          (looked_at how.all audit.legal legal) audit.are_columns right.4 in
+          let columns = right_columns given.wanted looked file read audit.columns audit.right
+          (looked_at given.all audit.legal legal) audit.are_columns right.4 in
           let both : (audit.legal && audit.right) ≡ true = ap (λ (x : Bool). x && audit.right) legal
           ∙ columns in
-          let fits = fits_of verdicts how.ends fares ledger report (audit.legal && audit.right)
-          last.line last.fits right.0 both last.report_line right.1 right.5 in
+          let fits = fits_of verdicts given.ends given.fares ledger given.report
+          (audit.legal && audit.right) last.line last.fits right.0 both last.report_line right.1
+          right.5 in
           audit.both ∙ ap (λ (x : Bool). x && (audit.right && audit.fits))
           (sound.1 (right.0, right.1, right.2, right.3))
           ∙ ap (λ (x : Bool). x && audit.fits) columns
-          ∙ last.both ∙ ap (λ (x : Bool). x && are_whole how.ends) fits ∙ right.6,
+          ∙ last.both ∙ ap (λ (x : Bool). x && are_whole given.ends) fits ∙ right.6,
     )

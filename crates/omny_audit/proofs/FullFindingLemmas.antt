@@ -119,14 +119,15 @@ recount_legal recounts fares text taken is =
 
 pub end_alone : (good taps : List TapFields) (has legal : Bool) (text : List ℕ) → has ≡ false
     → text ≡ []
-    → IsDifferencesEnd (if has then Some good else None) taps legal text legal
-end_alone good taps false legal text none empty = (empty, refl)
+    → IsDifferencesEnd (if has then Some good else None) taps legal text (legal && true)
+end_alone good taps false true text none empty = (empty, refl)
+end_alone good taps false false text none empty = (empty, refl)
 end_alone good taps true legal text none empty = absurd cc
 
-pub end_beside : (good taps missing surplus : List TapFields) (has legal well : Bool)
+pub end_beside : (good taps missing surplus : List TapFields) (has legal even : Bool)
     (text : List ℕ) → has ≡ true → AreLacking good taps missing → AreLacking taps good surplus
-    → IsDifferencesText missing surplus text → well ≡ (legal && are_none missing surplus)
-    → IsDifferencesEnd (if has then Some good else None) taps legal text well
-end_beside good taps missing surplus true legal well text some lacks lacks_too shown is =
-    (missing, surplus, lacks, lacks_too, shown, is)
-end_beside good taps missing surplus false legal well text some lacks lacks_too shown is = absurd cc
+    → IsDifferencesText missing surplus text → even ≡ are_none missing surplus
+    → IsDifferencesEnd (if has then Some good else None) taps legal text (legal && even)
+end_beside good taps missing surplus true legal even text some lacks lacks_too shown is =
+    (missing, surplus, lacks, lacks_too, shown, ap (λ (b : Bool). legal && b) is)
+end_beside good taps missing surplus false legal even text some lacks lacks_too shown is = absurd cc

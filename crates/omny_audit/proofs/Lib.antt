@@ -1,13 +1,11 @@
 pub mod AuditLemmas
-pub mod BegunAudits
+pub mod Audits
+pub mod Causes
 pub mod Damage
 pub mod FindingLemmas
-pub mod Finished
 pub mod FullFindingLemmas
 pub mod LoadedTables
 pub mod ProgramLemmas
 pub mod ReadLemmas
-pub mod RightFaults
-pub mod TableFaults
 pub mod TapLines
 pub mod TraceLemmas

@@ -8,24 +8,11 @@ use Rattle.std.specs.Prelude.{◌≢◌, unwrap_or}
 use Rattle.std.specs.Io.KnownBytes.{Consumes, IsAtEnd, ReadConsumes, prepend_known}
 use Rattle.omny_audit.specs.inside.Source.{IsAllOf}
 
-is_all : (old new : Option (List ℕ)) (read : List ℕ) → Consumes old new read → IsAtEnd new
-    → IsAllOf old read
-is_all None new read consumed end = tt
-is_all (Some xs) None read consumed end = absurd consumed
-is_all (Some xs) (Some ys) read consumed end =
-    consumed ∙ ap (λ (t : List ℕ). read ++ t) end ∙ append-nil read
-
-is_front : (old new : Option (List ℕ)) (read : List ℕ) → Consumes old new read
+pub is_front : (old new : Option (List ℕ)) (read : List ℕ) → Consumes old new read
     → IsAllOf old (read ++ unwrap_or new [])
 is_front None new read consumed = tt
 is_front (Some xs) None read consumed = absurd consumed
 is_front (Some xs) (Some ys) read consumed = consumed
-
--- what was read is all that there was
-pub at_end : (P : List ℕ → Type 0) (old new : Option (List ℕ)) (read : List ℕ)
-    → Consumes old new read → IsAtEnd new → P read
-    → (text : List ℕ) × IsAllOf old text × P text
-at_end P old new read consumed end is = (read, is_all old new read consumed end, is)
 
 -- what was read is a front of all that there was
 pub whatever_follows : (P : List ℕ → Type 0) (old new : Option (List ℕ)) (read : List ℕ)

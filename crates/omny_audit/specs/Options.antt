@@ -85,6 +85,10 @@ audit_asked_by words = record {
   ledger = option_and_then not_dash (first_of (codes "LEDGER") (matches_of audit_program words));
 }
 
+-- what the ledger is called: standard input, if no file of it is named
+abbrev pub ledger_name : AuditAsked → Text
+ledger_name asked = unwrap_or asked.ledger (codes "standard input")
+
 -- the file that is named, if any
 abbrev pub named_file : Option Text → List Text
 named_file None = []
@@ -94,4 +98,4 @@ named_file (Some name) = name ∷ []
 abbrev pub files_of : AuditAsked → List Text
 files_of asked =
     table_files asked.table ++ ((asked.uploads ++ named_file asked.report)
-    ++ unwrap_or asked.ledger (codes "standard input") ∷ [])
+    ++ ledger_name asked ∷ [])

@@ -1,7 +1,7 @@
--- What a run of the program does.
-use Rattle.std.specs.Prelude.{◌≡◌, ◌↔◌, ◌⊎◌, ⊤, ℕ, Bool, true, false, List, [], ◌∷◌, ◌++◌, map}
-use Rattle.std.specs.Prelude.{MatchBool, Option, None, Some}
-use Rattle.std.specs.Io.KnownBytes.{Appends, Keeps}
+-- What a run of the program finds.
+use Rattle.std.specs.Prelude.{◌≡◌, ◌↔◌, ⊤, ℕ, Bool, true, false, List, [], ◌∷◌, ◌++◌, map}
+use Rattle.std.specs.Prelude.{Option, None, Some}
+use Rattle.std.specs.Io.KnownBytes.{Appends}
 use Rattle.clap.specs.Words.{Text}
 use Rattle.tariffs.specs.Fares.{Fares}
 use Rattle.ledger_check.specs.Balances.{AreGoodFields}
@@ -11,17 +11,11 @@ use Rattle.toml.specs.Data.{Members}
 use Rattle.tap_views.specs.UploadEnds.{ArePlainEnds}
 use Rattle.tap_views.specs.declared.encoder.TapFields.{TapFields}
 use Rattle.tap_views.specs.declared.upload_end.UploadEnd.{UploadEnd}
-use Rattle.omny_audit.specs.Reports.{HasBegunAudit, IsAudit, IsRightAudit, manner}
-use Rattle.omny_audit.specs.Fault.{IsRightFault, IsTold, audit_fault_text, is_quiet, is_unwritten}
+use Rattle.omny_audit.specs.Reports.{Given, IsAudit, IsAuditText, IsRightAudit}
 use Rattle.omny_audit.specs.Options.{AuditAsked}
-use Rattle.fare_texts.specs.WrittenOut.{Begins}
 use Rattle.omny_audit.specs.Traced.{ReadLine, Wanted}
 use Rattle.program_manners.specs.Loads.{Loaded, LoadsAll, LoadsOne}
-use Rattle.program_manners.specs.LineWritten.{LineWritten}
 use Rattle.program_manners.specs.TableLoads.{LoadsTables}
-use Rattle.world.specs.declared.faults.LoadFault.{LoadFault}
-use Rattle.program_manners.specs.declared.output.WriteEnd.{WriteEnd}
-use Rattle.omny_audit.specs.declared.fault.Fault.{Fault}
 
 -- A file of each of these names was loaded, in their order.
 pub record LoadsNamedFiles (names : List Text) (loaded loaded' : Option (List Loaded))
@@ -102,20 +96,30 @@ pub record HasLoaded (asked : AuditAsked) (loaded loaded' : Option (List Loaded)
   pub wanted : Option Wanted
   pub are_wanted : AreWanted fares texts traced (compared asked.uploads lists) wanted
 
+-- what the ledger is audited by, of these files
+abbrev pub given_of : (asked : AuditAsked) {loaded loaded' : Option (List Loaded)}
+    → HasLoaded asked loaded loaded' → Given
+given_of asked files = record {
+  all = asked.all;
+  live = asked.live;
+  fares = files.fares;
+  wanted = files.wanted;
+  good = compared asked.uploads files.good;
+  ends = compared asked.uploads files.ends;
+  report = files.report;
+}
+
 -- The files were loaded, and the text is what is found of the ledger beside the good taps of the
 -- uploads, if uploads are named, and of the report. It says that all is well, or not.
 pub record HasFound (asked : AuditAsked) (loaded loaded' : Option (List Loaded)) (text : List ℕ)
     (well : Bool) : Type 0 where
   pub files : HasLoaded asked loaded loaded'
   pub read : List ReadLine
-  pub audit : IsAudit (manner asked.all asked.live (compared asked.uploads files.ends)) files.fares
-      files.wanted files.ledger read (compared asked.uploads files.good) files.report text well
+  pub audit : IsAudit (given_of asked files) files.ledger read text well
   -- well exactly if the text is, whole, a ledger of legal histories, settled unless a live one is
   -- asked for, with the taps of the uploads, of which none has a layout fault, and the columns of a
   -- traced one are right, and the report is its own
-  pub right : (well ≡ true) ↔ IsRightAudit
-      (manner asked.all asked.live (compared asked.uploads files.ends)) files.fares files.wanted
-      files.ledger read (compared asked.uploads files.good) files.report
+  pub right : (well ≡ true) ↔ IsRightAudit (given_of asked files) files.ledger read
 
 -- what was appended to the writer is the text of what was found
 pub record Audits (asked : AuditAsked) (loaded loaded' : Option (List Loaded))
@@ -124,45 +128,8 @@ pub record Audits (asked : AuditAsked) (loaded loaded' : Option (List Loaded))
   pub found : HasFound asked loaded loaded' text well
   pub written : Appends out out' text
 
--- what was appended to the writer is a beginning of that text
-pub record BeginsAudit (asked : AuditAsked) (loaded loaded' : Option (List Loaded))
-    (out out' : Option (List ℕ)) : Type 0 where
-  pub text : List ℕ
-  pub well : Bool
-  pub found : HasFound asked loaded loaded' text well
-  pub begun : Begins out out' text
-
--- The files were loaded, and what was appended to the writer is a beginning of what is found of
--- them, if anything is found of them.
-pub record BeginsFound (asked : AuditAsked) (loaded loaded' : Option (List Loaded))
-    (out out' : Option (List ℕ)) : Type 0 where
+-- the files were loaded, and the text is one that an audit of them may leave
+pub record IsTextOf (asked : AuditAsked) (loaded loaded' : Option (List Loaded)) (text : List ℕ)
+    : Type 0 where
   pub files : HasLoaded asked loaded loaded'
-  pub begun : HasBegunAudit (manner asked.all asked.live (compared asked.uploads files.ends))
-      files.fares files.wanted files.ledger (compared asked.uploads files.good) files.report out out'
-
--- The fault's line was reported, unless a write of it failed. If who reads the text has closed it,
--- nothing is reported.
-abbrev pub IsFaultReported : Fault → Option (List ℕ) → Option (List ℕ) → Bool → Type 0
-IsFaultReported fault said said' failed = MatchBool (is_quiet fault) (said' ≡ said)
-    (LineWritten said said' failed (audit_fault_text fault))
-
--- The program gave up: the fault was reported, and nothing was written, unless a write failed or
--- all wrong lines are asked for, which are written as they are found.
-pub record AuditGaveUp (all : Bool) (fault : Fault) (said said' : Option (List ℕ)) (failed : Bool)
-    (out out' : Option (List ℕ)) : Type 0 where
-  pub line_reported : IsFaultReported fault said said' failed
-  pub kept : all ≡ false → is_unwritten fault ≡ false → Keeps out out'
-
--- The fault is the right one, beside what the output remembers of a write that failed, and tells
--- what the source refused, if it refused anything. If a write failed, what it left is a beginning
--- of the right text. If all wrong lines are asked for, any fault leaves such a beginning, or nothing
--- if no write failed.
-pub record IsRightAuditFault (asked : AuditAsked) (loaded loaded' : Option (List Loaded))
-    (refused refused' : Option (Option (List ℕ) × LoadFault)) (remembered : Option WriteEnd)
-    (fault : Fault) (out out' : Option (List ℕ)) : Type 0 where
-  pub right : IsRightFault asked.table asked.ledger loaded loaded' refused' remembered fault
-  pub told : IsTold refused refused' fault
-  pub begun : asked.all ≡ false → is_unwritten fault ≡ true
-      → BeginsAudit asked loaded loaded' out out'
-  pub begun_of_all : asked.all ≡ true → ((is_unwritten fault ≡ false) × Keeps out out')
-      ⊎ BeginsFound asked loaded loaded' out out'
+  pub right : IsAuditText (given_of asked files) files.ledger text

@@ -1,10 +1,11 @@
 -- What is found of a ledger and of the report that is held beside it.
-use Rattle.std.specs.Prelude.{◌≡◌, ◌↔◌, ◌&&◌, ◌||◌, ℕ, Bool, true, false, List, [], ◌++◌, codes}
+use Rattle.std.specs.Prelude.{◌≡◌, ◌↔◌, ◌⊎◌, ◌&&◌, ◌||◌, ℕ, Bool, true, false, List, [], ◌++◌, codes}
 use Rattle.std.specs.Prelude.{◌+◌, ◌∷◌, if◌then◌else◌, is_some, Option, None, Some}
 use Rattle.std.specs.Fmt.{decimal}
 use Rattle.tariffs.specs.Fares.{Fares}
-use Rattle.fare_texts.specs.WrittenOut.{Begins}
 use Rattle.ledger_check.specs.Columns.{read_as}
+use Rattle.ledger_check.specs.FirstLines.{AreFirstTaken}
+use Rattle.ledger_check.specs.Recounts.{TakenLine, remark_lines}
 use Rattle.ledger_check.specs.Ledger.{IsLedger, IsLedgerOf}
 use Rattle.omny_audit.specs.Findings.{HasGoodTaps, HasOrder, IsFindingOf}
 use Rattle.omny_audit.specs.Traced.{AreColumnsReported, HasRightColumns, ReadLine, Wanted}
@@ -18,15 +19,22 @@ use Rattle.report_check.specs.declared.verdict.ReportVerdict.TheVariants.{Taps}
 use Rattle.histories.specs.declared.entry.Entry.{Entry}
 use Rattle.tap_views.specs.declared.encoder.TapFields.{TapFields}
 
--- How a ledger is audited: whether all its wrong lines are asked for, whether one that is not
--- settled is well, and how the uploads end, if there are uploads.
-pub record Manner : Type 0 where
+-- What a ledger is audited by: whether all its wrong lines are asked for, and whether one that is
+-- not settled is well; the fares; what the columns are held against, if it is a traced one; the good
+-- taps of the uploads, and how the uploads end, if there are uploads; and the report, if there is
+-- one.
+pub record Given : Type 0 where
   pub all : Bool
   pub live : Bool
+  pub fares : Fares
+  pub wanted : Option Wanted
+  pub good : Option (List TapFields)
   pub ends : Option (List UploadEnd)
+  pub report : Option (List ℕ)
 
-abbrev pub manner : Bool → Bool → Option (List UploadEnd) → Manner
-manner all live ends = record { all = all; live = live; ends = ends }
+-- what is read of a ledger's file
+abbrev pub ledger_in : Given → List ℕ → List ℕ
+ledger_in given file = read_as (is_some given.wanted) file
 
 -- the line of an upload, if it has a layout fault
 abbrev pub damage_line : ℕ → UploadEnd → List ℕ
@@ -99,38 +107,32 @@ pub record AreLastLines (ends : Option (List UploadEnd)) (fares : Fares) (ledger
 -- behind it what is found of the columns, if the ledger is traced, and legal or asked for all its
 -- lines; and after it what is found of the report, if there is one, and of the uploads. All is well
 -- if all of this is.
-pub record IsAudit (how : Manner) (fares : Fares) (wanted : Option Wanted) (file : List ℕ)
-    (read : List ReadLine) (good : Option (List TapFields)) (report : Option (List ℕ))
-    (text : List ℕ) (well : Bool) : Type 0 where
+pub record IsAudit (given : Given) (file : List ℕ) (read : List ReadLine) (text : List ℕ)
+    (well : Bool) : Type 0 where
   pub found : List ℕ
   pub sound : Bool
-  pub finding : IsFindingOf how.all how.live fares (read_as (is_some wanted) file) good found sound
+  pub finding : IsFindingOf given.all given.live given.fares (ledger_in given file) given.good found
+      sound
   pub legal : Bool
-  pub is_legal : (legal ≡ true) ↔ IsLedger fares (read_as (is_some wanted) file)
+  pub is_legal : (legal ≡ true) ↔ IsLedger given.fares (ledger_in given file)
   pub columns : List ℕ
   pub right : Bool
-  pub are_columns : AreColumnsReported wanted (how.all || legal) file read columns right
+  pub are_columns : AreColumnsReported given.wanted (given.all || legal) file read columns right
   pub rest : List ℕ
   pub fits : Bool
-  pub last : AreLastLines how.ends fares (read_as (is_some wanted) file) report (legal && right)
-      rest fits
+  pub last : AreLastLines given.ends given.fares (ledger_in given file) given.report
+      (legal && right) rest fits
   pub shown : text ≡ found ++ (columns ++ rest)
   pub both : well ≡ (sound && (right && fits))
 
--- what is found of a ledger's file, of which some lines were read
-abbrev pub IsAuditOf : Manner → Fares → Option Wanted → List ℕ → Option (List TapFields)
-    → Option (List ℕ) → List ℕ → Bool → Type 0
-IsAuditOf how fares wanted file good report text well =
-    (read : List ReadLine) × IsAudit how fares wanted file read good report text well
-
--- What was written is a beginning of a text of what is found of a ledger's file, if there is such a
--- text: if an audit of the file can come to its end.
-abbrev pub HasBegunAudit : Manner → Fares → Option Wanted → List ℕ → Option (List TapFields)
-    → Option (List ℕ) → Option (List ℕ) → Option (List ℕ) → Type 0
-HasBegunAudit how fares wanted file good report out out' = (some : List ℕ) (is_well : Bool)
-    → IsAuditOf how fares wanted file good report some is_well
-    → (text : List ℕ) × (well : Bool) × IsAuditOf how fares wanted file good report text well
-    × Begins out out' text
+-- What an audit that fails may leave: a beginning of what is found of the file, or of the remarks on
+-- its first lines, which are a beginning of it if all wrong lines are asked for
+-- (`ledger_check::laws::recounts_go_on`).
+abbrev pub IsAuditText : Given → List ℕ → List ℕ → Type 0
+IsAuditText given file text =
+    ((read : List ReadLine) × (well : Bool) × IsAudit given file read text well)
+    ⊎ ((given.all ≡ true) × (first : List TakenLine)
+    × AreFirstTaken given.fares (ledger_in given file) first × (text ≡ remark_lines first))
 
 -- the report is that of the ledger's entries, and of uploads that end so, if their ends are known;
 -- if there is a report
@@ -141,18 +143,15 @@ HasOwnReport ends (Some report) entries = IsReportBeside ends entries report
 -- what is read of the file is, whole, a ledger of legal histories, settled if a live one is not
 -- well, has the taps of the uploads, and right columns, if it is traced, the report is its own, and
 -- no upload has a layout fault
-abbrev pub IsRightAudit : Manner → Fares → Option Wanted → List ℕ → List ReadLine
-    → Option (List TapFields) → Option (List ℕ) → Type 0
-IsRightAudit how fares wanted file read good report =
-    (entries : List Entry) × IsLedgerOf fares entries (read_as (is_some wanted) file)
-    × HasGoodTaps good entries × HasOrder how.live entries × HasRightColumns wanted file read
-    × HasOwnReport how.ends report entries × (are_whole how.ends ≡ true)
+abbrev pub IsRightAudit : Given → List ℕ → List ReadLine → Type 0
+IsRightAudit given file read =
+    (entries : List Entry) × IsLedgerOf given.fares entries (ledger_in given file)
+    × HasGoodTaps given.good entries × HasOrder given.live entries
+    × HasRightColumns given.wanted file read
+    × HasOwnReport given.ends given.report entries × (are_whole given.ends ≡ true)
 
 -- all is well exactly if all is right
 abbrev pub AuditsDecide : Type 0
 AuditsDecide =
-    (how : Manner) (fares : Fares) (wanted : Option Wanted) (file : List ℕ)
-    (read : List ReadLine) (good : Option (List TapFields)) (report : Option (List ℕ))
-    (text : List ℕ) (well : Bool)
-    → IsAudit how fares wanted file read good report text well
-    → (well ≡ true) ↔ IsRightAudit how fares wanted file read good report
+    (given : Given) (file : List ℕ) (read : List ReadLine) (text : List ℕ) (well : Bool)
+    → IsAudit given file read text well → (well ≡ true) ↔ IsRightAudit given file read

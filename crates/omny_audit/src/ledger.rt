@@ -1,20 +1,20 @@
 //! The ledger, read from its beginning.
 
-ghost use Rattle.std.specs.Prelude.{◌≡◌, ◌⊎◌, ◌≤◌, IfErr, IfOk, List, None, OnErr, OnOk, Option, ℕ};
-ghost use Rattle.std.specs.Prelude.{IfSome, codes, false, length, option_map, unwrap_or};
+ghost use Rattle.std.specs.Prelude.{◌≡◌, ◌⊎◌, ◌≤◌, IfErr, IfOk, OnErr, Option, codes, length};
+ghost use Rattle.std.specs.Prelude.{option_map, unwrap_or};
 ghost use Rattle.std.specs.Io.{ReadsAtMost};
 ghost use Rattle.std.specs.Io.KnownBytes.{Consumes, IsAtEnd, ReadConsumes, prepend_known};
 ghost use Rattle.ledger_check.specs.Columns.{traced_head};
 ghost use Rattle.program_manners.specs.Refusals.{Refuses};
 ghost use Rattle.world.specs.declared.faults.LoadFault.TheVariants.{Unread};
-ghost use Rattle.omny_audit.specs.Fault.{IsTold, is_unwritten, named_by};
 ghost use Rattle.program_manners.specs.Loads.{OpensOne};
-ghost use Rattle.omny_audit.specs.inside.Fault.{IsLedgerFault, IsRefusal};
+ghost use Rattle.program_manners.specs.declared.output.WriteEnd.{WriteEnd};
+ghost use Rattle.omny_audit.specs.inside.Fault.{IsFileFault, IsStreamFault};
 
 use crate::fault::Fault;
 use crate::source::Source;
 use ledger_check::traced_head_line;
-use program_manners::STANDARD_INPUT;
+use program_manners::{FileFault, STANDARD_INPUT};
 use std::alloc::Global;
 use std::io;
 use std::io::Read;
@@ -46,7 +46,6 @@ pub(crate) fn read_on<S: Source>(
         (prepend_known ledger.new.head.now (S.Ledger.remaining ledger.new.rest)) result piece.new }
     ensures name { ledger.new.name ≡ ledger.old.name }
     ensures loaded { S.loaded source.new ≡ S.loaded source.old }
-    ensures well { OnOk result (S.refused source.new ≡ S.refused source.old) }
     ensures fault { OnErr result (Refuses (S.refused source.new)
         (option_map (λ n. n.now) ledger.old.name) Unread) }
 {
@@ -60,19 +59,18 @@ pub(crate) fn read_on<S: Source>(
 pub(crate) fn open_ledger<'a, S: Source>(
     name: Option<&'a str>,
     source: &mut S,
-) -> Result<S::Ledger, Fault<'a>>
+) -> Result<S::Ledger, FileFault<'a>>
     ensures ok { IfOk result (λ ledger. OpensOne (S.loaded source.old) (S.loaded source.new)
         (option_map (λ n. n.now) name.entry) (S.Ledger.remaining ledger)) }
-    ensures fault { IfErr result (λ fault. is_unwritten fault ≡ false) }
-    ensures named { IfErr result (λ fault. IfSome (named_by fault) (λ reported. reported
-        ≡ unwrap_or (option_map (λ n. n.now) name.entry) (codes "standard input"))) }
-    ensures well { IfOk result (λ _. S.refused source.new ≡ S.refused source.old) }
-    ensures right { IfErr result (IsRefusal (S.refused source.new)) }
-    ensures told { IfErr result (IsTold (S.refused source.old) (S.refused source.new)) }
+    ensures fault { IfErr result (IsFileFault (S.refused source.new)
+        (unwrap_or (option_map (λ n. n.now) name.entry) (codes "standard input"))) }
 {
     match source.open(name) {
         Ok(ledger) => Ok(ledger),
-        Err(fault) => Err(Fault::of_load(name.unwrap_or(STANDARD_INPUT), fault)),
+        Err(fault) => Err(FileFault {
+            name: name.unwrap_or(STANDARD_INPUT),
+            fault,
+        }),
     }
 }
 
@@ -88,11 +86,8 @@ pub(crate) fn read_head<S: Source>(
     ensures enough { IfOk result (λ head. IsAtEnd (S.Ledger.remaining ledger.new)
         ⊎ (length traced_head ≤ length head.items)) }
     ensures loaded { S.loaded source.new ≡ S.loaded source.old }
-    ensures well { IfOk result (λ _. S.refused source.new ≡ S.refused source.old) }
-    ensures fault { IfErr result (λ fault. is_unwritten fault ≡ false) }
-    ensures named { IfErr result (λ fault. named_by fault ≡ None) }
-    ensures later { IfErr result (IsLedgerFault (S.refused source.old) (S.refused source.new)
-        (option_map (λ n. n.now) name.entry)) }
+    ensures fault { IfErr result (λ fault. (ended : Option WriteEnd)
+        → IsStreamFault (S.refused source.new) (option_map (λ n. n.now) name.entry) ended fault) }
 {
     let needed = traced_head_line().len();
     let mut head = Vec::new(alloc);
@@ -101,7 +96,9 @@ pub(crate) fn read_head<S: Source>(
         let Ok(count) = source.read_ledger(name, ledger, &mut step) else {
             return Err(Fault::Ledger);
         };
-        head.extend_from_slice(&step[..count])?;
+        let Ok(()) = head.extend_from_slice(&step[..count]) else {
+            return Err(Fault::NoMemory);
+        };
         if count == 0 || head.len() >= needed {
             return Ok(head);
         }

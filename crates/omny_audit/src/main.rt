@@ -4,8 +4,8 @@
 //!
 //! | module | what it does |
 //! |---|---|
-//! | `audit` | the finding on all that a reader gives, up to the first wrong line |
-//! | `full_audit` | the finding on all lines |
+//! | `audit` | the audit of a ledger that comes in pieces |
+//! | `check` | its lines, up to the first wrong one, or all of them |
 //! | `report` | the report that is held beside the ledger |
 //! | `laws` | what follows of a finding |
 //! | `source` | where the table, the uploads, the report and the ledger come from |
@@ -14,19 +14,17 @@
 //! | `options` | the words of the command line, as `clap` reads them |
 //! | `text` | the lines of a finding |
 //! | `traced` | a traced ledger, read as a ledger, and its columns |
-//! | `output` | texts, written whole |
 //! | `fault` | why the program gives up, and the line that says so |
 //! | `program` | the whole |
 #![tactic(auto)]
 
 mod audit;
+mod check;
 mod fault;
 mod files;
-mod full_audit;
 mod laws;
 mod ledger;
 mod options;
-mod output;
 mod program;
 mod report;
 mod source;

@@ -1,10 +1,9 @@
 //! The command line.
-ghost use Rattle.std.specs.Prelude.{◌≡◌, ◌⊎◌, IfErr, IfOk, [], codes, false, is_some, map, true};
-ghost use Rattle.std.specs.Prelude.{None, option_and_then, option_map, string_bytes, unwrap_or};
-ghost use Rattle.clap.specs.Words.{FailsBy, all_of, app_of, fault_of, found_of, matches_of};
+ghost use Rattle.std.specs.Prelude.{◌≡◌, IfOk, Some, false, map, option_and_then, option_map};
+ghost use Rattle.std.specs.Prelude.{string_bytes, true};
+ghost use Rattle.clap.specs.Words.{FailsBy, app_of, fault_of, found_of, matches_of};
 ghost use Rattle.clap.specs.Words.{rows_of, rule_of};
 ghost use Rattle.omny_audit.specs.Options.{ParsesForAudit, audit_asked_by, not_dash, audit_program};
-ghost use Rattle.omny_audit.specs.inside.Options.{IsRightList, IsWrongList, are_input};
 ghost use Rattle.omny_audit.specs.inside.Options.{audit_asked_of};
 ghost use Rattle.omny_audit.specs.Options.{required_table_option, tables_or_none};
 ghost use Rattle.program_manners.specs.TableViews.{names_of};
@@ -224,11 +223,7 @@ fn unless_both_input<'a>(
     list: ListWords<'a>,
     ledger: Option<&'a str>,
 ) -> Result<Option<ListWords<'a>>, ListFault>
-    ensures list { IfOk result (λ named. named ≡ Some list.entry) }
-    ensures right { IfOk result (λ _.
-        are_input list.entry.name.now (is_some ledger.entry) ≡ false) }
-    ensures wrong { IfErr result (λ fault. (fault ≡ ListFault.InputTwice)
-        × (are_input list.entry.name.now (is_some ledger.entry) ≡ true)) }
+    ensures { IfOk result (λ named. named ≡ Some list.entry) }
 {
     let is_input = list.is_input();
     let has_ledger = ledger.is_some();
@@ -241,10 +236,8 @@ fn unless_both_input<'a>(
 /// The list of uploads that clap's matches name, if they name one. The error is `NullAlone` or
 /// `InputTwice`.
 fn list_in<'a>(matches: &ArgMatches<'a>) -> Result<Option<ListWords<'a>>, ListFault>
-    ensures list { IfOk result (λ list. option_map view_of list
+    ensures { IfOk result (λ list. option_map view_of list
         ≡ list_asked (rows_of (found_of matches.now))) }
-    ensures right { IfOk result (λ _. IsRightList (rows_of (found_of matches.now))) }
-    ensures wrong { IfErr result (λ fault. IsWrongList fault (rows_of (found_of matches.now))) }
 {
     let named = match ListWords::of(matches) {
         Ok(named) => named,
@@ -267,17 +260,9 @@ pub(crate) fn list_words<'a>(
     alloc: Global,
     words: &'a [String],
 ) -> Result<Option<ListWords<'a>>, ListFault>
-    ensures list { ParsesForAudit (map string_bytes words.entry.now)
+    ensures { ParsesForAudit (map string_bytes words.entry.now)
         → IfOk result (λ list. option_map view_of list
         ≡ list_asked (matches_of audit_program (map string_bytes words.entry.now))) }
-    ensures right { ParsesForAudit (map string_bytes words.entry.now)
-        → IfOk result (λ _.
-        IsRightList (matches_of audit_program (map string_bytes words.entry.now))) }
-    ensures wrong { IfErr result (λ fault. (ParsesForAudit (map string_bytes words.entry.now)
-        × IsWrongList fault (matches_of audit_program (map string_bytes words.entry.now)))
-        ⊎ (fault ≡ ListFault.NoMemory)) }
-    ensures unread { (¬ ParsesForAudit (map string_bytes words.entry.now))
-        → IfOk result (λ list. list ≡ None) }
 {
     match matched(alloc, words) {
         Ok(matches) => list_in(&matches),

@@ -1,7 +1,7 @@
 //! The report that is held beside the ledger.
 
-ghost use Rattle.std.specs.Prelude.{◌≡◌, ◌&&◌, ◌++◌, ℕ, List, [], IfOk, OnOk, codes, string_bytes};
-ghost use Rattle.std.specs.Prelude.{◌||◌, None, Some, if◌then◌else◌, option_map, true};
+ghost use Rattle.std.specs.Prelude.{◌≡◌, ◌++◌, ℕ, List, [], IfOk, OnOk, codes, string_bytes};
+ghost use Rattle.std.specs.Prelude.{option_map, true};
 ghost use Rattle.std.specs.Fmt.{decimal};
 ghost use Rattle.tariffs.specs.Fares.{Fares};
 ghost use Rattle.ledger_check.specs.Ledger.{IsLedger};
@@ -9,11 +9,11 @@ ghost use Rattle.omny_audit.specs.Reports.{AreLastLines, IsReportFinding, IsRepo
 ghost use Rattle.omny_audit.specs.Reports.{damage_line, damage_lines, damage_text, report_text};
 ghost use Rattle.omny_audit.specs.Reports.{uncompared_text};
 ghost use Rattle.tap_views.specs.UploadEnds.{are_posted};
-ghost use Rattle.tap_views.specs.declared.upload_end.UploadEnd.{UploadEnd as AnEnd};
 ghost use Rattle.omny_audit.specs.inside.Reports.{HasSummedFor, text_of};
 ghost use Rattle.report_check.specs.LedgerSums.{HasSummed};
 ghost use Rattle.report_check.specs.Reports.{is_of_ledger};
 
+use crate::check::are_both;
 use fare_table::FareTable;
 use histories::HashSeed;
 use report_check::{LedgerSums, ReportVerdict, check_report};
@@ -142,23 +142,16 @@ fn is_of_ledger(verdict: &ReportVerdict) -> bool
     }
 }
 
-/// The ends of the uploads, if there are uploads.
-fn known_if(has_uploads: bool, ends: &[UploadEnd]) -> Option<&[UploadEnd]>
-    ensures { option_map (λ e. e.now) result ≡ (if has_uploads then Some ends.now else None) }
-{
-    if has_uploads { Some(ends) } else { None }
-}
-
 /// Appends that the lines of uploads were not compared, if no uploads are named.
 #[tactic(auto, unfolding(crate::specs::Reports::uncompared_text))]
-fn write_uncompared(text: &mut Vec<u8>, has_uploads: bool) -> Result<(), AllocError>
-    ensures { OnOk result ((ends : List AnEnd) → text.new.items
-        ≡ text.old.items ++ uncompared_text (if has_uploads then Some ends else None)) }
+fn write_uncompared(text: &mut Vec<u8>, ends: Option<&[UploadEnd]>) -> Result<(), AllocError>
+    ensures { OnOk result
+        (text.new.items ≡ text.old.items ++ uncompared_text (option_map (λ e. e.now) ends.entry)) }
 {
-    if has_uploads {
-        return Ok(());
+    match ends {
+        Some(_) => Ok(()),
+        None => text.extend_from_slice(b"upload lines not compared\n"),
     }
-    text.extend_from_slice(b"upload lines not compared\n")
 }
 
 /// Appends what is found of the report, beside a ledger that was read whole. Says whether the
@@ -167,24 +160,21 @@ fn write_finding(
     alloc: Global,
     text: &mut Vec<u8>,
     report: ReportWithSums,
-    has_uploads: bool,
-    ends: &[UploadEnd],
+    ends: Option<&[UploadEnd]>,
 ) -> Result<bool, NoMemory>
     requires { (fares : Fares) × (ledger : List ℕ) × HasSummed fares report.sums ledger
         × IsLedger fares ledger }
     ensures { IfOk result (λ fits. (rest : List ℕ) × (text.new.items ≡ text.old.items ++ rest)
         × ((fares : Fares) (ledger : List ℕ) → HasSummed fares report.sums ledger
-        → IsReportFinding (if has_uploads then Some ends.now else None) fares ledger
-        report.text.items rest fits)) }
+        → IsReportFinding (option_map (λ e. e.now) ends.entry) fares ledger report.text.items rest fits)) }
 {
     let ReportWithSums { text: lines, sums } = report;
     let Some(sums) = sums.finish(alloc)? else {
         unreachable!();
     };
-    let known = known_if(has_uploads, ends);
-    let verdict = check_report(alloc, known, &sums, &lines)?;
+    let verdict = check_report(alloc, ends, &sums, &lines)?;
     write_verdict(alloc, text, &verdict)?;
-    write_uncompared(text, has_uploads)?;
+    write_uncompared(text, ends)?;
     Ok(is_of_ledger(&verdict))
 }
 
@@ -195,15 +185,14 @@ fn write_report_line(
     text: &mut Vec<u8>,
     is_legal: bool,
     report: Option<ReportWithSums>,
-    has_uploads: bool,
-    ends: &[UploadEnd],
+    ends: Option<&[UploadEnd]>,
 ) -> Result<bool, NoMemory>
     requires { is_legal ≡ true → (fares : Fares) × (ledger : List ℕ)
         × HasSummedFor fares report ledger × IsLedger fares ledger }
     ensures { IfOk result (λ fits. (rest : List ℕ) × (text.new.items ≡ text.old.items ++ rest)
         × ((fares : Fares) (ledger : List ℕ)
         → (is_legal ≡ true → HasSummedFor fares report ledger)
-        → IsReportLine (if has_uploads then Some ends.now else None) fares ledger
+        → IsReportLine (option_map (λ e. e.now) ends.entry) fares ledger
         (text_of report) is_legal rest fits)) }
 {
     let Some(report) = report else {
@@ -212,7 +201,7 @@ fn write_report_line(
     if !is_legal {
         return Ok(false);
     }
-    write_finding(alloc, text, report, has_uploads, ends)
+    write_finding(alloc, text, report, ends)
 }
 
 /// Appends the line of an upload that has a layout fault.
@@ -250,17 +239,15 @@ fn are_posted(ends: &[UploadEnd]) -> bool
 fn write_damage(
     alloc: Global,
     text: &mut Vec<u8>,
-    has_uploads: bool,
-    ends: &[UploadEnd],
+    ends: Option<&[UploadEnd]>,
 ) -> Result<bool, AllocError>
     ensures text { OnOk result (text.new.items ≡ text.old.items
-        ++ damage_text (if has_uploads then Some ends.now else None)) }
-    ensures whole { IfOk result (λ whole.
-        whole ≡ are_whole (if has_uploads then Some ends.now else None)) }
+        ++ damage_text (option_map (λ e. e.now) ends.entry)) }
+    ensures whole { IfOk result (λ whole. whole ≡ are_whole (option_map (λ e. e.now) ends.entry)) }
 {
-    if !has_uploads {
+    let Some(ends) = ends else {
         return Ok(true);
-    }
+    };
     let lines = damage_lines(alloc, ends)?;
     text.extend_from_slice(lines.as_bytes())?;
     Ok(are_posted(ends))
@@ -273,32 +260,17 @@ pub(crate) fn write_last_lines(
     text: &mut Vec<u8>,
     is_legal: bool,
     report: Option<ReportWithSums>,
-    has_uploads: bool,
-    ends: &[UploadEnd],
+    ends: Option<&[UploadEnd]>,
 ) -> Result<bool, NoMemory>
     requires { is_legal ≡ true → (fares : Fares) × (ledger : List ℕ)
         × HasSummedFor fares report ledger × IsLedger fares ledger }
     ensures { IfOk result (λ well. (rest : List ℕ) × (text.new.items ≡ text.old.items ++ rest)
         × ((fares : Fares) (ledger : List ℕ)
         → (is_legal ≡ true → HasSummedFor fares report ledger)
-        → AreLastLines (if has_uploads then Some ends.now else None) fares ledger
+        → AreLastLines (option_map (λ e. e.now) ends.entry) fares ledger
         (text_of report) is_legal rest well)) }
 {
-    let fits = write_report_line(alloc, text, is_legal, report, has_uploads, ends)?;
-    let is_whole = write_damage(alloc, text, has_uploads, ends)?;
+    let fits = write_report_line(alloc, text, is_legal, report, ends)?;
+    let is_whole = write_damage(alloc, text, ends)?;
     Ok(are_both(fits, is_whole))
-}
-
-/// Whether a live ledger is well, or this one is settled.
-pub(crate) fn is_either(live: bool, is_settled: bool) -> bool
-    ensures { result ≡ (live || is_settled) }
-{
-    live || is_settled
-}
-
-/// Whether the ledger and the report are right.
-pub(crate) fn are_both(is_sound: bool, fits: bool) -> bool
-    ensures { result ≡ (is_sound && fits) }
-{
-    is_sound && fits
 }

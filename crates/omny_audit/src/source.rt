@@ -6,7 +6,7 @@ use std::io::Read;
 
 /// Where the program's bytes come from.
 pub trait Source: FileSource {
-    ghost use Rattle.std.specs.Prelude.{◌≡◌, IfErr, IfOk, OnErr, OnOk, option_map};
+    ghost use Rattle.std.specs.Prelude.{◌≡◌, IfErr, IfOk, OnErr, option_map};
     ghost use Rattle.std.specs.Io.{ReadsAtMost};
     ghost use Rattle.std.specs.Io.KnownBytes.{ReadConsumes};
     ghost use Rattle.program_manners.specs.Refusals.{Refuses};
@@ -22,7 +22,6 @@ pub trait Source: FileSource {
         ensures reported { IfOk result (λ ledger. OpensOne (Self.loaded self.old)
             (Self.loaded self.new) (option_map (λ n. n.now) name.entry)
             (Self.Ledger.remaining ledger)) }
-        ensures well { IfOk result (λ _. Self.refused self.new ≡ Self.refused self.old) }
         ensures fault { IfErr result (λ fault. Refuses (Self.refused self.new)
             (option_map (λ n. n.now) name.entry) fault) };
 
@@ -38,7 +37,6 @@ pub trait Source: FileSource {
         ensures bytes { ReadConsumes (Self.Ledger.remaining ledger.old)
             (Self.Ledger.remaining ledger.new) result piece.new }
         ensures loaded { Self.loaded self.new ≡ Self.loaded self.old }
-        ensures well { OnOk result (Self.refused self.new ≡ Self.refused self.old) }
         ensures fault { OnErr result (Refuses (Self.refused self.new)
             (option_map (λ n. n.now) name.entry) Unread) };
 }

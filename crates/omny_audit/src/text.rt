@@ -1,6 +1,6 @@
 //! The lines of a finding.
 
-ghost use Rattle.std.specs.Prelude.{◌≡◌, ◌++◌, ℕ, List, IfOk, OnOk, codes, string_bytes};
+ghost use Rattle.std.specs.Prelude.{◌≡◌, ◌++◌, ℕ, List, OnOk, codes, string_bytes};
 ghost use Rattle.omny_audit.specs.Text.{AreTapLinesOf, IsDifferenceText, IsDifferencesText};
 ghost use Rattle.omny_audit.specs.Text.{IsTapLineOf, IsTapText, are_none, token_and_space};
 ghost use Rattle.omny_audit.specs.Text.{space_and_validator};
@@ -8,22 +8,19 @@ ghost use Rattle.omny_audit.specs.Text.{verdict_text};
 
 use fare_texts::{Digits, write_moment};
 use ledger_check::{Difference, Verdict, write_legal};
-use std::alloc::{AllocError, Global};
+use std::alloc::AllocError;
 use tap_views::{TapFields, Token};
 
-/// The line of the verdict, with its line feed.
+/// Appends the line of the verdict, with its newline.
 #[tactic(auto, unfolding(crate::specs::Text::verdict_text))]
-pub(crate) fn verdict_line(alloc: Global, verdict: &Verdict) -> Result<String, AllocError>
-    ensures { IfOk result (λ text. string_bytes text ≡ verdict_text verdict.now) }
+pub(crate) fn write_verdict(text: &mut String, verdict: &Verdict) -> Result<(), AllocError>
+    ensures { OnOk result
+        (string_bytes text.new ≡ string_bytes text.old ++ verdict_text verdict.now) }
 {
     match verdict {
-        Verdict::Legal(entries, early) => {
-            let mut text = String::new(alloc);
-            write_legal(&mut text, *entries, *early)?;
-            Ok(text)
-        }
-        Verdict::Wants(line, wanted) => format!(in alloc; "line {line} wants {wanted}"),
-        Verdict::NoLine(line) => format!(in alloc; "line {line} is no ledger line\n"),
+        Verdict::Legal(entries, early) => write_legal(text, *entries, *early),
+        Verdict::Wants(line, wanted) => write!(text, "line {line} wants {wanted}"),
+        Verdict::NoLine(line) => write!(text, "line {line} is no ledger line\n"),
     }
 }
 

@@ -23,7 +23,7 @@ ghost use Rattle.omny_audit.specs.inside.Traced.{HasColumns, HasLines, HasPlaces
 ghost use Rattle.omny_audit.specs.inside.Traced.{HasReadAs, HasTraced, HaveNamed, IsKeptOf};
 ghost use Rattle.omny_audit.specs.inside.Traced.{uploads_in, wanted_by, wanted_of, wrong_place_in};
 
-use crate::report::are_both;
+use crate::check::are_both;
 use class_names::ClassNames;
 use fare_texts::head_line;
 use ledger_check::{

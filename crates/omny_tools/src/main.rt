@@ -11,10 +11,12 @@
 //! | `texts` | files and standard input of the system |
 //! | `placed` | files of the system that are read at any offset |
 //! | `files_made` | files of the system that are made |
+//! | `framed` | the system, for what the frame runs |
 //! | `run` | the whole program over the system |
 #![tactic(auto)]
 
 mod files_made;
+mod framed;
 mod lines;
 mod manner;
 mod output;

@@ -1,6 +1,7 @@
 //! The whole program over the system, from the words to the status.
 
 use crate::files_made::FilesMade;
+use crate::framed::Framed;
 use crate::manner::{Manner, manner_of};
 use crate::output::collect;
 use crate::placed::FilesByName;
@@ -68,10 +69,10 @@ pub(crate) fn run<R: Threads + Sync, E: Write>(
         return 2;
     }
     let shows = Shows::of(words);
-    let progress = if shows.text {
-        Progress::beside_text(rt)
+    let (progress, framed_progress) = if shows.text {
+        (Progress::beside_text(rt), Progress::beside_text(rt))
     } else {
-        Progress::hidden(rt)
+        (Progress::hidden(rt), Progress::hidden(rt))
     };
     let Ok(seed) = RandomState::new(rt) else {
         say(err, &Fault::NoMemory);
@@ -84,6 +85,7 @@ pub(crate) fn run<R: Threads + Sync, E: Write>(
     };
     let mut source = texts_of(rt, manner, shows);
     let mut sink = FilesMade::new(rt);
+    let mut framed = Framed::new(rt, framed_progress, io::writer(rt), rt.stderr());
     main_over(
         threads,
         rt.alloc(),
@@ -95,5 +97,6 @@ pub(crate) fn run<R: Threads + Sync, E: Write>(
         &mut sink,
         &mut out,
         err,
+        &mut framed,
     )
 }

@@ -1,13 +1,15 @@
 -- The whole program: what is asked for was done, or why it was not.
-use Rattle.std.specs.Prelude.{◌≡◌, ◌⊎◌, ⊤, ℕ, Bool, true, false, MatchBool, List, map}
+use Rattle.std.specs.Prelude.{◌≡◌, ◌⊎◌, ⊤, ℕ, Bool, true, false, MatchBool, List, ◌∷◌, [], map}
 use Rattle.std.specs.Prelude.{Option, None, Some}
 use Rattle.tap_views.specs.UploadEnds.{are_posted}
 use Rattle.tap_views.specs.declared.upload_end.UploadEnd.{UploadEnd}
 use Rattle.program_manners.specs.Loads.{Loaded}
+use Rattle.frame.specs.Ends.{Ends}
+use Rattle.world.specs.Run.{Run as WorldRun}
 use Rattle.world.specs.declared.faults.LoadFault.{LoadFault}
 use Rattle.program_manners.specs.declared.output.WriteEnd.{WriteEnd}
 use Rattle.tool_program.specs.Merge.{GivesUpMerge, MergesParts}
-use Rattle.tool_tasks.specs.Corrections.{Corrects, GivesUpCorrections, IsWarned}
+use Rattle.tool_tasks.specs.Corrections.{IsCorrected}
 use Rattle.tool_tasks.specs.Decode.{AreReported, Decoded, Decodes, DecodesFaulty, GivesUpDecode}
 use Rattle.tool_tasks.specs.Decode.{are_whole}
 use Rattle.tool_tasks.specs.Encode.{EncodesTable, GivesUpEncode}
@@ -86,6 +88,17 @@ EncodesSo outcome word asked run = IfKept run ((words : RowsWords)
     × EncodesWith outcome words word run.loaded run.loaded' run.made run.made' run.out run.out'
     run.said run.said' run.unsaid)
 
+-- nothing was done but in the world of the frame
+abbrev pub IsIdle : Run → Type 0 → Type 0
+IsIdle run Silent = (run.loaded' ≡ run.loaded) × (run.made' ≡ run.made) × (run.out' ≡ run.out)
+    × Silent
+
+-- What the frame runs ends so in its world. Anything else does nothing there.
+abbrev pub IsFramed : (List ℕ → Option (List ℕ)) → Asked → WorldRun → WorldRun → ℕ → Type 0
+IsFramed bytes_under (corrections ledgers) old new status =
+    Ends (IsCorrected bytes_under ledgers) (ledgers.old ∷ ledgers.new ∷ []) old new status
+IsFramed bytes_under asked old new status = new ≡ old
+
 -- What is asked for was done, with status 0. Of a source that keeps what it loads. `Silent` says
 -- that nothing was said. Of what only informs nothing is promised.
 abbrev pub IsDone : Asked → Run → Type 0 → Type 0
@@ -105,9 +118,7 @@ IsDone (sort asked) run Silent =
 IsDone (merge parts) run Silent =
     IfKept run (MergesParts parts run.loaded run.loaded' run.out run.out')
     × (run.is_flushed ≡ true) × Silent
-IsDone (corrections ledgers) run Silent = (run.is_flushed ≡ true) × IfKept run ((removed : ℕ)
-    × Corrects ledgers.is_by_token ledgers.old ledgers.new run.loaded run.loaded' run.out run.out'
-    removed × IsWarned ledgers.old ledgers.new removed run.said run.said' run.unsaid Silent)
+IsDone (corrections ledgers) run Silent = IsIdle run Silent
 IsDone (mistake why) run Silent = ⊥
 IsDone shows run Silent = ⊤
 
@@ -151,10 +162,7 @@ IsGivenUp (sort asked) run Silent = Faults run (λ fault. (words : SortWords)
     run.made' run.unmade fault)))
 IsGivenUp (merge parts) run Silent = Faults run (λ fault.
     IfKept run (GivesUpMerge parts run.loaded run.loaded' run.refused run.end fault))
-IsGivenUp (corrections ledgers) run Silent = Faults run (λ fault. IfKept run
-    (GivesUpCorrections ledgers.is_by_token ledgers.old ledgers.new run.loaded run.loaded'
-    run.refused run.end fault
-    run.out run.out'))
+IsGivenUp (corrections ledgers) run Silent = IsIdle run Silent
 IsGivenUp (mistake why) run Silent = ⊥
 IsGivenUp shows run Silent = ⊤
 

@@ -3,8 +3,8 @@ ghost use Rattle.std.specs.Prelude.{◌≡◌, ◌⊎◌, ◌≤◌, ℕ, Bool, 
 ghost use Rattle.std.specs.Prelude.{string_bytes};
 ghost use Rattle.program_manners.specs.LineWritten.{LineWritten};
 ghost use Rattle.program_manners.specs.declared.output.WriteEnd.{WriteEnd as AWriteEnd};
-ghost use Rattle.tool_program.specs.Program.{IsDone, IsGivenUp, IsPartlyDone, mistake_line};
-ghost use Rattle.tool_program.specs.Program.{run_of};
+ghost use Rattle.tool_program.specs.Program.{IsDone, IsFramed, IsGivenUp, IsPartlyDone};
+ghost use Rattle.tool_program.specs.Program.{mistake_line, run_of};
 ghost use Rattle.tool_tasks.specs.Fault.{IsFaultReported};
 ghost use Rattle.tool_tasks.specs.declared.fault.Fault.TheVariants.{NoMemory};
 ghost use Rattle.tool_words.specs.Asked.{asked_by, shows, sort};
@@ -14,6 +14,7 @@ ghost use Rattle.tool_words.specs.ToolLine.{AsksForText, Parses};
 
 use crate::answers::show;
 use crate::merge::merge_over;
+use frame::Streams;
 use jiff::Timestamp;
 use program_manners::{Complaints, Output, WrongWord};
 use std::alloc::Global;
@@ -27,6 +28,7 @@ use tool_tasks::{
     sort_over, table_over, uploads_over,
 };
 use tool_words::{Mistake, SortingWords, Task, read};
+use world::World;
 
 /// Says what is wrong with the words, and gives the status.
 fn report_mistake<E: Write>(err: &mut Complaints<E>, mistake: Mistake) -> u8
@@ -95,7 +97,15 @@ fn sort_task<R: Threads + Sync, S: Source, D: PlacedFiles, K: Sink, E: Write>(
 }
 
 /// Does what is asked for, and gives the status.
-fn task_over<R: Threads + Sync, S: Source, D: PlacedFiles, K: Sink, W: Write, E: Write>(
+fn task_over<
+    R: Threads + Sync,
+    S: Source,
+    D: PlacedFiles,
+    K: Sink,
+    W: Write,
+    E: Write,
+    X: World + Streams,
+>(
     threads: &R,
     alloc: Global,
     seed: RandomState,
@@ -106,7 +116,11 @@ fn task_over<R: Threads + Sync, S: Source, D: PlacedFiles, K: Sink, W: Write, E:
     sink: &mut K,
     out: &mut Output<W>,
     err: &mut Complaints<E>,
+    world: &mut X,
 ) -> u8
+    // What the frame runs ends as it says. Anything else does nothing in its world.
+    ensures framed { IsFramed X.bytes_under (asked_of task.entry) (X.run world.old)
+        (X.run world.new) result }
     ensures done { result ≡ 0 → IsDone (asked_of task.entry) (run_of (S.loaded source.old)
         (S.loaded source.new) (S.refused source.new) (D.bytes_under files.now) (K.made sink.old)
         (K.made sink.new) (K.unbegun sink.new) (K.failed sink.new) (W.contents out.old.writer)
@@ -147,7 +161,7 @@ fn task_over<R: Threads + Sync, S: Source, D: PlacedFiles, K: Sink, W: Write, E:
         Task::Sort(words) => sort_task(threads, alloc, &words, source, files, sink, err),
         Task::Merge(parts) => merge_over(alloc, &parts, source, out, err),
         Task::Bounds(words) => bounds_over(alloc, &words, files, out, err),
-        Task::Corrections(words) => corrections_over(alloc, &words, source, out, err),
+        Task::Corrections(words) => corrections_over(alloc, &words, world),
         Task::Mistake(mistake) => report_mistake(err, mistake),
         Task::Unshown(mistake) => report_mistake(err, mistake),
         Task::WrongDate(wrong) => report_wrong_date(alloc, err, &wrong),
@@ -157,11 +171,19 @@ fn task_over<R: Threads + Sync, S: Source, D: PlacedFiles, K: Sink, W: Write, E:
 /// The whole program: reads the words, of which the first is the program's name, and does what they
 /// ask for. What uploads and texts have comes from the source, and files that are merged are read
 /// at any offset. Files are made in the sink, text goes to `out`, and mistakes, faults and warnings
-/// to `err`. `seed` is random, so that no file can choose names of devices that are found slowly.
+/// to `err`. `corrections` reads and writes in `world`. `seed` is random, so that no file can choose names of devices that are found slowly.
 /// `table` prints the changes of clocks after `moment`, unless the words name another one. Gives
 /// the status: 0 if all is well, 1 after a fault or if no row is a tap, 2 if the words are no
 /// command line, 3 if an upload has a layout fault or rows were refused, and yet all is written.
-pub fn main_over<R: Threads + Sync, S: Source, D: PlacedFiles, K: Sink, W: Write, E: Write>(
+pub fn main_over<
+    R: Threads + Sync,
+    S: Source,
+    D: PlacedFiles,
+    K: Sink,
+    W: Write,
+    E: Write,
+    X: World + Streams,
+>(
     threads: &R,
     alloc: Global,
     seed: RandomState,
@@ -172,7 +194,16 @@ pub fn main_over<R: Threads + Sync, S: Source, D: PlacedFiles, K: Sink, W: Write
     sink: &mut K,
     out: &mut Output<W>,
     err: &mut Complaints<E>,
+    world: &mut X,
 ) -> u8
+    // `corrections` is run by the frame in its world, and ends as it says. Only being out of memory,
+    // while the words are read, may come before it. Anything else does nothing in that world.
+    ensures framed { Parses (map string_bytes words.now)
+        → IsFramed X.bytes_under (asked_by (map string_bytes words.now)) (X.run world.old)
+        (X.run world.new) result
+        ⊎ ((result ≡ 1) × (X.run world.new ≡ X.run world.old)) }
+    ensures unframed { ¬ Parses (map string_bytes words.now) → X.run world.new ≡ X.run world.old }
+
     // With status 0 what the words ask for was done.
     ensures done { Parses (map string_bytes words.now) → result ≡ 0
         → IsDone (asked_by (map string_bytes words.now)) (run_of (S.loaded source.old)
@@ -232,7 +263,7 @@ pub fn main_over<R: Threads + Sync, S: Source, D: PlacedFiles, K: Sink, W: Write
 {
     match read(alloc, words) {
         Ok(task) => task_over(
-            threads, alloc, seed, moment, task, source, files, sink, out, err,
+            threads, alloc, seed, moment, task, source, files, sink, out, err, world,
         ),
         Err(error) => show(alloc, &error, out, err),
     }

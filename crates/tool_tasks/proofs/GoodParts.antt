@@ -1,7 +1,7 @@
 -- The file of an upload's good part.
-use Rattle.std.proofs.Common.{◌≡◌, ◌≢◌, ◌⊎◌, ℕ, Bool, List, Option, Err, Ok, Result}
-use Rattle.std.proofs.Common.{inl, inr, refl, subst, sym}
-use Rattle.std.specs.Prelude.{IfErr, IfOk}
+use Rattle.std.proofs.Common.{◌≡◌, ◌≢◌, ◌⊎◌, ℕ, Bool, true, false, List, Option, None, Some, Err, Ok}
+use Rattle.std.proofs.Common.{Result, inl, inr, refl, subst, sym, true≢false}
+use Rattle.std.specs.Prelude.{IfErr, IfOk, is_none, is_some, not}
 use Rattle.program_manners.specs.Loads.{Loaded}
 use Rattle.world.specs.declared.faults.LoadFault.{LoadFault}
 use Rattle.program_manners.specs.declared.output.WriteEnd.{WriteEnd}
@@ -17,6 +17,13 @@ use Rattle.tool_tasks.specs.declared.sink.NewFault.{NewFault}
 use Rattle.tool_tasks.specs.declared.sink.NewFault.TheVariants as newly
 use Rattle.tool_tasks.specs.inside.Decode.{IsOfWriting}
 use Rattle.tool_tasks.specs.inside.EncodeRows.{IsNewFault, IsUnfinished}
+
+pub is_whole : {T : Type 0} (fault : Option T) (whole : Bool) → is_some fault ≡ not whole
+    → whole ≡ is_none fault
+is_whole {T} None true is = refl
+is_whole {T} None false is = absurd (true≢false (sym is))
+is_whole {T} (Some fault) false is = refl
+is_whole {T} (Some fault) true is = absurd (true≢false is)
 
 -- ---- the new file
 -- it was not begun

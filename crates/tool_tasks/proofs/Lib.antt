@@ -1,4 +1,3 @@
-pub mod Corrected
 pub mod DecodedTables
 pub mod Decoding
 pub mod Encoded

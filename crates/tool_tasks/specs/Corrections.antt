@@ -1,88 +1,76 @@
--- What `corrections` does: of the words of the old ledger and of the new one.
-use Rattle.std.specs.Prelude.{◌≡◌, ◌⊎◌, ⊤, ℕ, Bool, List, [], ◌∷◌, ◌++◌, Option, Some, Err, IfSome}
-use Rattle.std.specs.Prelude.{MatchBool, codes, decimal, nat_eq}
-use Rattle.std.specs.Io.KnownBytes.{Appends, Keeps}
-use Rattle.fare_texts.specs.WrittenOut.{Begins}
+-- What `corrections` does.
+use Rattle.std.specs.Prelude.{◌≡◌, ◌⊎◌, ◌≤◌, ℕ, List, [], ◌∷◌, ◌++◌, Option, None, Some, Err}
+use Rattle.std.specs.Prelude.{codes, decimal, if◌then◌else◌, nat_eq}
+use Rattle.std.specs.Str.{bytes_eq}
+use Rattle.frame.specs.Ends.{Answer}
 use Rattle.ledger_changes.specs.Ledgers.{rows_of}
 use Rattle.ledger_changes.specs.Tokens.{corrections_of}
+use Rattle.ledger_changes.specs.declared.fault.Bill.{Bill}
+use Rattle.ledger_changes.specs.declared.fault.Bill.TheVariants.{New, Old}
 use Rattle.ledger_changes.specs.declared.fault.WrongLine.{WrongLine}
 use Rattle.ledger_changes.specs.declared.fault.WrongLine.TheVariants.{Form, Order}
-use Rattle.report_texts.specs.declared.wrong.Wrong.TheVariants as wrong
-use Rattle.program_manners.specs.LineWritten.{LineWritten}
-use Rattle.program_manners.specs.Loads.{Loaded}
-use Rattle.program_manners.specs.Refusals.{IsOneOf}
-use Rattle.world.specs.declared.faults.LoadFault.{LoadFault}
-use Rattle.program_manners.specs.declared.output.WriteEnd.{WriteEnd}
-use Rattle.program_manners.specs.declared.output.WriteEnd.TheVariants as writes
-use Rattle.tool_tasks.specs.Fault.{IsRefusal}
 use Rattle.tool_tasks.specs.Names.{called}
-use Rattle.tool_tasks.specs.Source.{HasOpened}
-use Rattle.tool_tasks.specs.declared.fault.Fault.{Fault}
-use Rattle.tool_tasks.specs.declared.fault.Fault.TheVariants.{Closed, Line, NoMemory}
-use Rattle.tool_tasks.specs.declared.fault.Fault.TheVariants.{Unread, Unsettled, Write}
+use Rattle.tool_words.specs.Asked.{CorrectionsAsked}
+use Rattle.world.specs.Run.{Load}
 
--- the word is that of a ledger whose line of this number is the first wrong one, for this reason
-abbrev pub NamesWrong : WrongLine → ℕ → List ℕ → List ℕ → List ℕ → List ℕ → List ℕ → Type 0
-NamesWrong why number old new old_text new_text word =
-    ((word ≡ old) × (rows_of old_text ≡ Err (number, why)))
-    ⊎ ((word ≡ new) × (rows_of new_text ≡ Err (number, why)))
+-- what the file of this word has, if that is known: nothing is known of standard input
+abbrev pub known_of : (List ℕ → Option (List ℕ)) → List ℕ → Option (List ℕ)
+known_of bytes_under word = if bytes_eq word (codes "-") then None else bytes_under word
 
--- The old ledger was opened and then the new one, and what was written is, whole, the text of the
--- corrections between them.
-pub record Corrects (by_token : Bool) (old new : List ℕ) (loaded loaded' : Option (List Loaded))
-    (out out' : Option (List ℕ)) (removed : ℕ) : Type 0 where
-  pub old_text : List ℕ
-  pub new_text : List ℕ
-  pub opened : HasOpened (old ∷ new ∷ []) loaded loaded' (old_text ∷ new_text ∷ [])
-  pub text : List ℕ
-  pub corrections : corrections_of by_token old_text new_text ≡ Some (text, removed)
-  pub written : Appends out out' text
-
--- That lines are removed was reported, with their number, unless a write of it failed. If none is,
--- this holds: `Silent`.
-abbrev pub IsWarned : List ℕ → List ℕ → ℕ → Option (List ℕ) → Option (List ℕ) → Bool → Type 0
+-- this is so of both ledgers, if they are known
+abbrev pub OfKnown : (List ℕ → Option (List ℕ)) → CorrectionsAsked → (List ℕ → List ℕ → Type 0)
     → Type 0
-IsWarned old new removed said said' failed Silent = MatchBool (nat_eq removed 0) Silent
-    (LineWritten said said' failed (codes "warning: " ++ (called new
-    ++ (codes ": missing lines of " ++ (called old ++ (codes ": " ++ decimal removed))))))
+OfKnown bytes_under asked Holds = (old new : List ℕ) → known_of bytes_under asked.old ≡ Some old
+    → known_of bytes_under asked.new ≡ Some new → Holds old new
 
--- The fault is the right one of ledgers that were opened: it names one that is no settled ledger,
--- and the first wrong line of it, by its form or by its order; or one that could not be read to its
--- end; or a write failed, as the writer remembers it. Memory may be refused at any time.
-abbrev pub IsRightCorrectionsFault : List ℕ → List ℕ → List ℕ → List ℕ → Option WriteEnd → Fault
-    → Type 0
-IsRightCorrectionsFault old new old_text new_text end (Line word number why) =
-    NamesWrong Form number old new old_text new_text word.now × (why ≡ wrong.Form)
-IsRightCorrectionsFault old new old_text new_text end (Unsettled word number) =
-    NamesWrong Order number old new old_text new_text word.now
-IsRightCorrectionsFault old new old_text new_text end (Unread word) =
-    IsOneOf word.now (old ∷ new ∷ [])
-IsRightCorrectionsFault old new old_text new_text end Write = end ≡ Some writes.Refused
-IsRightCorrectionsFault old new old_text new_text end Closed = end ≡ Some writes.Closed
-IsRightCorrectionsFault old new old_text new_text end NoMemory = ⊤
-IsRightCorrectionsFault old new old_text new_text end fault = ⊥
+-- that of the bill
+abbrev pub of_bill : List ℕ → List ℕ → Bill → List ℕ
+of_bill old new Old = old
+of_bill old new New = new
 
--- The fault is the right one of ledgers that were opened. What was written is a prefix of the text
--- of the corrections between them, if there is one.
-pub record StopsCorrections (by_token : Bool) (old new old_text new_text : List ℕ)
-    (end : Option WriteEnd) (fault : Fault) (out out' : Option (List ℕ)) : Type 0 where
-  pub right : IsRightCorrectionsFault old new old_text new_text end fault
-  pub begun : IfSome (corrections_of by_token old_text new_text) (λ made. Begins out out' made.0)
+-- the line that says how many lines are removed; none if none is
+abbrev pub removed_note : CorrectionsAsked → ℕ → List ℕ
+removed_note asked removed = if nat_eq removed 0 then [] else codes "warning: "
+    ++ (called asked.new ++ (codes ": missing lines of " ++ (called asked.old ++ (codes ": "
+    ++ (decimal removed ++ codes "\n")))))
 
--- both ledgers were opened, and the corrections were broken off
-pub record BreaksOffCorrections (by_token : Bool) (old new : List ℕ)
-    (loaded loaded' : Option (List Loaded)) (end : Option WriteEnd) (fault : Fault)
-    (out out' : Option (List ℕ)) : Type 0 where
-  pub old_text : List ℕ
-  pub new_text : List ℕ
-  pub opened : HasOpened (old ∷ new ∷ []) loaded loaded' (old_text ∷ new_text ∷ [])
-  pub stops : StopsCorrections by_token old new old_text new_text end fault out out'
+abbrev pub wrong_text : WrongLine → List ℕ
+wrong_text Form = codes "no such line stands there"
+wrong_text Order = codes "out of order; is the ledger settled?"
 
--- The corrections were given up: a ledger was not opened, or memory was refused before, and nothing
--- was written; or both were opened, and they were broken off.
-abbrev pub GivesUpCorrections : Bool → List ℕ → List ℕ → Option (List Loaded)
-    → Option (List Loaded) → Option (Option (List ℕ) × LoadFault) → Option WriteEnd → Fault
-    → Option (List ℕ) → Option (List ℕ) → Type 0
-GivesUpCorrections by_token old new loaded loaded' refused end fault out out' =
-    (IsRefusal refused (old ∷ new ∷ []) fault × Keeps out out')
-    ⊎ BreaksOffCorrections by_token old new loaded loaded' end fault out out'
+-- the fault line of a line of a bill's ledger
+abbrev pub wrong_note : CorrectionsAsked → Bill → ℕ → WrongLine → List ℕ
+wrong_note asked bill number why = codes "fault: " ++ (called (of_bill asked.old asked.new bill)
+    ++ (codes " line " ++ (decimal number ++ (codes ": " ++ (wrong_text why ++ codes "\n")))))
+
+-- The text is that of the corrections between the ledgers, and it is noted how many lines are
+-- removed, if any are.
+pub record IsWhole (asked : CorrectionsAsked) (old new : List ℕ) (answer : Answer) (status : ℕ)
+    : Type 0 where
+  pub removed : ℕ
+  pub text : corrections_of asked.is_by_token old new ≡ Some (answer.text, removed)
+  pub note : answer.note ≡ removed_note asked removed
+  pub well : status ≡ 0
+
+-- One of them is no settled ledger: its first wrong line is noted.
+pub record IsRefused (asked : CorrectionsAsked) (old new : List ℕ) (answer : Answer) (status : ℕ)
+    : Type 0 where
+  pub bill : Bill
+  pub number : ℕ
+  pub why : WrongLine
+  pub first : rows_of (of_bill old new bill) ≡ Err (number, why)
+  pub note : answer.note ≡ wrong_note asked bill number why
+  pub failed : status ≡ 1
+
+-- the answer of ledgers with these texts
+abbrev pub IsAnswer : CorrectionsAsked → Answer → ℕ → List ℕ → List ℕ → Type 0
+IsAnswer asked answer status old new =
+    IsWhole asked old new answer status ⊎ IsRefused asked old new answer status
+
+-- THE rule of `corrections`: no file is loaded, the status is 0 or 1, and the answer is right of both
+-- ledgers, if they are known.
+pub record IsCorrected (bytes_under : List ℕ → Option (List ℕ)) (asked : CorrectionsAsked)
+    (loads : List Load) (answer : Answer) (status : ℕ) : Type 0 where
+  pub unloaded : loads ≡ []
+  pub bound : status ≤ 1
+  pub right : OfKnown bytes_under asked (IsAnswer asked answer status)

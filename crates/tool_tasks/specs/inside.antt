@@ -1,4 +1,6 @@
 -- What only private functions cite. Who reads the contracts of public calls need not read it.
+pub mod Corrected
+pub mod Corrections
 pub mod Decode
 pub mod EncodeRows
 pub mod Fault

@@ -1,164 +1,272 @@
 //! `corrections`.
-ghost use Rattle.std.specs.Prelude.{◌≡◌, ◌≤◌, ℕ, List, IfErr, IfOk, OnOk, Some, true};
-ghost use Rattle.std.specs.Io.KnownBytes.{Appends};
-ghost use Rattle.ledger_changes.specs.Tokens.{corrections_of};
-ghost use Rattle.program_manners.specs.Loads.{Loaded};
-ghost use Rattle.tool_tasks.specs.Corrections.{Corrects, GivesUpCorrections, IsWarned};
-ghost use Rattle.tool_tasks.specs.Corrections.{StopsCorrections};
-ghost use Rattle.tool_tasks.specs.Fault.{IsFaultReported};
-ghost use Rattle.tool_tasks.specs.declared.fault.Fault.{Fault as AFault};
-ghost use Rattle.tool_tasks.specs.inside.Fault.{IsCorrectionsFault, word_of};
+ghost use Rattle.std.specs.Prelude.{◌≡◌, ◌≤◌, ◌++◌, ◌∷◌, [], ℕ, List, IfErr, IfOk, OnOk, Some};
+ghost use Rattle.frame.specs.Ends.{Answer, Ends};
+ghost use Rattle.frame.specs.Stops.{IsOfStream};
+ghost use Rattle.ledger_changes.specs.Ledgers.{NamesFirstWrong};
+ghost use Rattle.tool_tasks.specs.Corrections.{IsCorrected, OfKnown, known_of, of_bill};
+ghost use Rattle.tool_tasks.specs.Corrections.{removed_note, wrong_note, wrong_text};
+ghost use Rattle.tool_tasks.specs.declared.corrections.Stage.TheVariants.{Going};
+ghost use Rattle.tool_tasks.specs.inside.Corrections.{HasGivenAt};
+ghost use Rattle.tool_words.specs.Tasks.{corrections_of};
 
-use crate::fault::{Fault, finish, say};
-use crate::names::Name;
-use crate::source::{Source, open_text};
-use ledger_changes::{Bill, CorrectionsFault, WrongLine};
-use program_manners::{Complaints, Output, WriteEnd};
-use report_texts::Wrong;
-use std::alloc::Global;
-use std::io::{BufRead, Write};
+use crate::fault::Fault;
+use crate::names::{Name, file_of};
+use crate::stops::fault_of;
+use frame::{For, Step, Stop, Streams, Task, run_task};
+use ledger_changes::{Bill, Corrections, CorrectionsFault, WrongLine, corrections_head};
+use std::alloc::{AllocError, Global};
+use std::io::BufRead;
+use std::mem;
 use tool_words::CorrectionsWords;
+use world::{LoadFault, World};
+
+/// How far the corrections are.
+#[derive(Drop)]
+pub enum Stage<T: BufRead + Drop> {
+    /// No ledger is opened.
+    Unopened,
+    /// The header line was given.
+    Going(Corrections<T>),
+    /// The text was given, and so many lines are removed.
+    Given(u64),
+    /// This line of this bill's ledger is the first wrong one.
+    Wrong(Bill, u64, WrongLine),
+    /// All is given, with this status.
+    End(u8),
+}
 
 /// The word of a bill's ledger.
-fn word_of<'a>(ledgers: &CorrectionsWords<'a>, bill: Bill) -> &'a str
-    ensures { result.now ≡ word_of ledgers.now.old.now ledgers.now.new.now bill }
+fn word_of<'a>(words: &CorrectionsWords<'a>, bill: Bill) -> &'a str
+    ensures { result.now ≡ of_bill words.now.old.now words.now.new.now bill }
 {
     match bill {
-        Bill::Old => ledgers.old,
-        Bill::New => ledgers.new,
+        Bill::Old => words.old,
+        Bill::New => words.new,
     }
 }
 
-/// Why the corrections were not written. The writer remembers `end`.
-fn fault_of<'a>(
-    ledgers: &CorrectionsWords<'a>,
+/// Opens the ledger of the word, which has this number.
+fn open<I: Streams>(files: &mut I, word: &str, number: usize) -> Result<I::Text, Stop>
+    requires { number ≤ 1 }
+    ensures unchanged { I.run files.new ≡ I.run files.old }
+    ensures known { IfOk result (λ text. (bytes : List ℕ)
+        → known_of I.bytes_under word.now ≡ Some bytes → I.Text.remaining text ≡ Some bytes) }
+    ensures stopped { IfErr result (λ why. (old new : List ℕ) → IsOfStream (old ∷ new ∷ []) why) }
+{
+    match files.open(file_of(word)) {
+        Ok(text) => Ok(text),
+        Err(why) => Err(Stop::Unread(number, why)),
+    }
+}
+
+/// What follows a fault: a wrong line is noted, and any other fault stops the run.
+fn after_fault<I: Streams>(
+    words: &CorrectionsWords<'_>,
     fault: CorrectionsFault,
-    end: Option<WriteEnd>,
-) -> Fault<'a>
-    ensures { IsCorrectionsFault ledgers.now.old.now ledgers.now.new.now end fault result }
+) -> Result<Stage<I::Text>, Stop>
+    ensures wrong { IfOk result (λ stage. (a : Answer) → a.note ≡ []
+        → OfKnown I.bytes_under (corrections_of words.now) (λ old new. NamesFirstWrong old new fault)
+        → HasGivenAt I.Text.remaining I.bytes_under (corrections_of words.now) stage a) }
+    ensures stopped { IfErr result
+        (IsOfStream (words.now.old.now ∷ words.now.new.now ∷ [])) }
 {
+    let _ = words;
     match fault {
-        CorrectionsFault::Line(bill, number, WrongLine::Form) => {
-            Fault::Line(word_of(ledgers, bill), number, Wrong::Form)
-        }
-        CorrectionsFault::Line(bill, number, WrongLine::Order) => {
-            Fault::Unsettled(word_of(ledgers, bill), number)
-        }
-        CorrectionsFault::Unread(bill) => Fault::Unread(word_of(ledgers, bill)),
-        CorrectionsFault::Write => Fault::of_write(end),
-        CorrectionsFault::NoMemory => Fault::NoMemory,
+        CorrectionsFault::Line(bill, number, why) => Ok(Stage::Wrong(bill, number, why)),
+        CorrectionsFault::Unread(Bill::Old) => Err(Stop::Unread(0, LoadFault::Unread)),
+        CorrectionsFault::Unread(Bill::New) => Err(Stop::Unread(1, LoadFault::Unread)),
+        CorrectionsFault::NoMemory => Err(Stop::NoMemory),
     }
 }
 
-/// Writes the corrections between the ledgers, and lets all that was written go out. Gives how many
-/// lines are removed.
-fn correct_texts<'a, R: BufRead + Drop, W: Write>(
+/// Opens both ledgers and reads their first lines. The piece is the header line.
+fn begin<I: Streams>(
     alloc: Global,
-    ledgers: &CorrectionsWords<'a>,
-    old: R,
-    new: R,
-    out: &mut Output<W>,
-) -> Result<u64, Fault<'a>>
-    ensures written { IfOk result (λ removed. (old_text new_text : List ℕ)
-        → R.remaining old ≡ Some old_text → R.remaining new ≡ Some new_text
-        → (text : List ℕ)
-        × (corrections_of ledgers.now.is_by_token old_text new_text ≡ Some (text, removed))
-        × Appends (W.contents out.old.writer) (W.contents out.new.writer) text) }
-    ensures fault { IfErr result (λ fault. (old_text new_text : List ℕ)
-        → R.remaining old ≡ Some old_text → R.remaining new ≡ Some new_text
-        → StopsCorrections ledgers.now.is_by_token ledgers.now.old.now ledgers.now.new.now old_text
-        new_text out.new.end fault (W.contents out.old.writer) (W.contents out.new.writer)) }
-    ensures flushed { OnOk result (out.new.is_flushed ≡ true) }
+    words: &CorrectionsWords<'_>,
+    files: &mut I,
+    piece: &mut Vec<u8>,
+) -> Result<Stage<I::Text>, Stop>
+    requires { piece.old.items ≡ [] }
+    ensures unchanged { I.run files.new ≡ I.run files.old }
+    ensures given { IfOk result (λ stage. HasGivenAt I.Text.remaining I.bytes_under
+        (corrections_of words.now) stage (record { text = piece.new.items; note = [] })) }
+    ensures stopped { IfErr result
+        (IsOfStream (words.now.old.now ∷ words.now.new.now ∷ [])) }
 {
-    match ledger_changes::corrections(alloc, ledgers.is_by_token, old, new, out) {
-        Ok(removed) => match finish(out) {
-            Ok(()) => Ok(removed),
-            Err(unwritten) => Err(unwritten),
+    let old = match open(files, words.old, 0) {
+        Ok(text) => text,
+        Err(why) => return Err(why),
+    };
+    let new = match open(files, words.new, 1) {
+        Ok(text) => text,
+        Err(why) => return Err(why),
+    };
+    match Corrections::begin(alloc, words.is_by_token, old, new) {
+        Ok(corrections) => match piece.extend_from_slice(corrections_head(words.is_by_token)) {
+            Ok(()) => Ok(Stage::Going(corrections)),
+            Err(AllocError) => Err(Stop::NoMemory),
         },
-        Err(fault) => match finish(out) {
-            Ok(()) => Err(fault_of(ledgers, fault, out.end())),
-            Err(unwritten) => Err(unwritten),
-        },
+        Err(fault) => after_fault::<I>(words, fault),
     }
 }
 
-/// Opens both ledgers and writes the corrections between them. Gives how many lines are removed:
-/// the old ledger has them, and the new one does not.
-fn correct<'a, S: Source, W: Write>(
+/// Gives the next lines.
+fn go_on<I: Streams>(
     alloc: Global,
-    ledgers: &CorrectionsWords<'a>,
-    source: &mut S,
-    out: &mut Output<W>,
-) -> Result<u64, Fault<'a>>
-    ensures done { IfOk result (λ removed. (kept : List Loaded)
-        → S.loaded source.old ≡ Some kept
-        → Corrects ledgers.now.is_by_token ledgers.now.old.now ledgers.now.new.now
-        (S.loaded source.old) (S.loaded source.new) (W.contents out.old.writer)
-        (W.contents out.new.writer) removed) }
-    ensures fault { IfErr result (λ fault. (kept : List Loaded)
-        → S.loaded source.old ≡ Some kept
-        → GivesUpCorrections ledgers.now.is_by_token ledgers.now.old.now ledgers.now.new.now
-        (S.loaded source.old) (S.loaded source.new) (S.refused source.new) out.new.end fault
-        (W.contents out.old.writer) (W.contents out.new.writer)) }
-    ensures flushed { OnOk result (out.new.is_flushed ≡ true) }
+    words: &CorrectionsWords<'_>,
+    corrections: Corrections<I::Text>,
+    piece: &mut Vec<u8>,
+) -> Result<Stage<I::Text>, Stop>
+    requires { piece.old.items ≡ [] }
+    ensures given { IfOk result (λ stage. (a : Answer) → HasGivenAt I.Text.remaining I.bytes_under
+        (corrections_of words.now) (Going corrections) a → HasGivenAt I.Text.remaining I.bytes_under
+        (corrections_of words.now) stage (record a { text = a.text ++ piece.new.items })) }
+    ensures stopped { IfErr result
+        (IsOfStream (words.now.old.now ∷ words.now.new.now ∷ [])) }
 {
-    let old = open_text(source, ledgers.old)?;
-    let new = open_text(source, ledgers.new)?;
-    correct_texts(alloc, ledgers, old, new, out)
+    let mut corrections = corrections;
+    match corrections.next(alloc, piece) {
+        Ok(None) => Ok(Stage::Going(corrections)),
+        Ok(Some(removed)) => Ok(Stage::Given(removed)),
+        Err(fault) => after_fault::<I>(words, fault),
+    }
 }
 
-/// Says how many lines are removed, if there are such.
-fn warn<E: Write>(ledgers: &CorrectionsWords<'_>, removed: u64, err: &mut Complaints<E>)
-    ensures { IsWarned ledgers.now.old.now ledgers.now.new.now removed
-        (E.contents err.old.writer) (E.contents err.new.writer) err.new.failed
-        (err.new ≡ err.old) }
+/// Appends the line that says how many lines are removed, if any are.
+fn note_removed(
+    alloc: Global,
+    words: &CorrectionsWords<'_>,
+    removed: u64,
+    piece: &mut Vec<u8>,
+) -> Result<(), AllocError>
+    ensures { OnOk result (piece.new.items ≡ piece.old.items
+        ++ removed_note (corrections_of words.now) removed) }
 {
-    if removed > 0 {
-        let old = Name(ledgers.old);
-        let new = Name(ledgers.new);
-        err.report_line(format_args!("warning: {new}: missing lines of {old}: {removed}"));
+    if removed == 0 {
+        return Ok(());
     }
+    let (old, new) = (Name(words.old), Name(words.new));
+    let line = format!(in alloc; "warning: {new}: missing lines of {old}: {removed}\n")?;
+    piece.extend_from_slice(line.as_bytes())
+}
+
+/// Why a line is wrong, in words.
+fn wrong_text(why: WrongLine) -> &'static str
+    ensures { result.now ≡ wrong_text why }
+{
+    match why {
+        WrongLine::Form => "no such line stands there",
+        WrongLine::Order => "out of order; is the ledger settled?",
+    }
+}
+
+/// Appends the fault line of the wrong line of the bill's ledger.
+fn note_wrong(
+    alloc: Global,
+    words: &CorrectionsWords<'_>,
+    bill: Bill,
+    number: u64,
+    why: WrongLine,
+    piece: &mut Vec<u8>,
+) -> Result<(), AllocError>
+    ensures { OnOk result (piece.new.items ≡ piece.old.items
+        ++ wrong_note (corrections_of words.now) bill number why) }
+{
+    let (name, why) = (Name(word_of(words, bill)), wrong_text(why));
+    let line = format!(in alloc; "fault: {name} line {number}: {why}\n")?;
+    piece.extend_from_slice(line.as_bytes())
+}
+
+/// The corrections from the old ledger to the new one, or their sums by token.
+#[derive(Drop)]
+struct CorrectionsTask<'a, T: BufRead + Drop> {
+    words: CorrectionsWords<'a>,
+    stage: Stage<T>,
+}
+
+impl<'a, I: Streams> Task<I> for CorrectionsTask<'a, I::Text> {
+    ghost use Rattle.std.specs.Prelude.{◌≡◌, ◌∷◌, []};
+    ghost use Rattle.tool_tasks.specs.Corrections.{IsCorrected};
+    ghost use Rattle.tool_tasks.specs.inside.Corrections.{HasGivenAt};
+    ghost use Rattle.tool_words.specs.Tasks.{corrections_of};
+
+    type Asked = CorrectionsWords<'a>;
+
+    type Line = Fault<'a>;
+
+    ghost asked = { λ task. task.words };
+
+    ghost right = { λ words. IsCorrected I.bytes_under (corrections_of words) };
+
+    ghost names = { λ words. words.old.now ∷ words.new.now ∷ [] };
+
+    ghost has_given = { λ task loads a. (loads ≡ []) × HasGivenAt I.Text.remaining I.bytes_under
+        (corrections_of task.words) task.stage a };
+
+    fn line(&self, why: Stop) -> Fault<'a> {
+        fault_of(why, self.words.old, self.words.new)
+    }
+
+    fn next(&mut self, alloc: Global, files: &mut I, piece: &mut Vec<u8>) -> Result<Step, Stop> {
+        match mem::replace(&mut self.stage, Stage::Unopened) {
+            Stage::Unopened => match begin(alloc, &self.words, files, piece) {
+                Ok(stage) => {
+                    self.stage = stage;
+                    Ok(Step::More(For::Text))
+                }
+                Err(why) => Err(why),
+            },
+            Stage::Going(corrections) => {
+                match go_on::<I>(alloc, &self.words, corrections, piece) {
+                    Ok(stage) => {
+                        self.stage = stage;
+                        Ok(Step::More(For::Text))
+                    }
+                    Err(why) => Err(why),
+                }
+            }
+            Stage::Given(removed) => match note_removed(alloc, &self.words, removed, piece) {
+                Ok(()) => {
+                    self.stage = Stage::End(0);
+                    Ok(Step::More(For::Note))
+                }
+                Err(AllocError) => Err(Stop::NoMemory),
+            },
+            Stage::Wrong(bill, number, why) => {
+                match note_wrong(alloc, &self.words, bill, number, why, piece) {
+                    Ok(()) => {
+                        self.stage = Stage::End(1);
+                        Ok(Step::More(For::Note))
+                    }
+                    Err(AllocError) => Err(Stop::NoMemory),
+                }
+            }
+            Stage::End(status) => Ok(Step::End(status)),
+        }
+    }
+
+    ghost use Rattle.tool_tasks.specs.inside.Corrected.{stage_started};
+
+    ghost started = { λ task loads a given. stage_started I.Text.remaining I.bytes_under
+        (corrections_of task.words) task.stage loads a given.0 given.1 };
 }
 
 /// Writes the corrections from the old ledger to the new one, or their sums by token: opens both,
-/// `-` being standard input, and writes the text to `out`. Then says on `err` how many lines are
-/// removed, if there are such: the old ledger has them, and the new one does not. A fault is said
-/// on `err`, too. Gives the status: 0 if all is written, 1 after a fault.
-pub fn corrections_over<S: Source, W: Write, E: Write>(
+/// `-` being standard input, and reads them in pieces. Then says how many lines are removed, if any
+/// are: the old ledger has them, and the new one does not. Gives the status: 0 if all is written, 1
+/// after a fault, of which a line says what it is.
+pub fn corrections_over<W: World + Streams>(
     alloc: Global,
-    ledgers: &CorrectionsWords<'_>,
-    source: &mut S,
-    out: &mut Output<W>,
-    err: &mut Complaints<E>,
+    words: &CorrectionsWords<'_>,
+    world: &mut W,
 ) -> u8
-    // Of a source that keeps what it opened: with status 0 the whole text was written, and it was
-    // reported how many lines are removed, if any are.
-    ensures done { (kept : List Loaded) → S.loaded source.old ≡ Some kept → result ≡ 0
-        → (removed : ℕ) × Corrects ledgers.now.is_by_token ledgers.now.old.now
-        ledgers.now.new.now (S.loaded source.old) (S.loaded source.new)
-        (W.contents out.old.writer) (W.contents out.new.writer) removed
-        × IsWarned ledgers.now.old.now ledgers.now.new.now removed (E.contents err.old.writer)
-        (E.contents err.new.writer) err.new.failed (err.new ≡ err.old) }
-    // And all that was written was flushed.
-    ensures flushed { result ≡ 0 → out.new.is_flushed ≡ true }
-    // With status 1 the line of a fault was reported, which is the right one. What was written is a
-    // prefix of the right text, if there is one.
-    ensures faults { result ≡ 1 → (fault : AFault) × IsFaultReported fault
-        (E.contents err.old.writer) (E.contents err.new.writer) err.new.failed
-        × ((kept : List Loaded) → S.loaded source.old ≡ Some kept
-        → GivesUpCorrections ledgers.now.is_by_token ledgers.now.old.now ledgers.now.new.now
-        (S.loaded source.old) (S.loaded source.new) (S.refused source.new) out.new.end fault
-        (W.contents out.old.writer) (W.contents out.new.writer)) }
     ensures status { result ≤ 1 }
+    ensures ends { Ends (IsCorrected W.bytes_under (corrections_of words.now))
+        (words.now.old.now ∷ words.now.new.now ∷ []) (W.run world.old) (W.run world.new) result }
 {
-    match correct(alloc, ledgers, source, out) {
-        Ok(removed) => {
-            warn(ledgers, removed, err);
-            0
-        }
-        Err(fault) => {
-            say(err, &fault);
-            1
-        }
-    }
+    let mut task = CorrectionsTask {
+        words: *words,
+        stage: Stage::Unopened,
+    };
+    run_task(alloc, &mut task, world)
 }

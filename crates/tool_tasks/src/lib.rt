@@ -8,6 +8,7 @@
 //! | `source` | where texts come from |
 //! | `sink` | where files are made |
 //! | `fault` | why a subcommand is given up, and the line that says so |
+//! | `stops` | fault lines of what stops a task from outside |
 //! | `layout`, `wrong_tables` | what is wrong with an upload, or with a table, in words |
 //! | `encode` | `encode` of a tap table |
 //! | `encode_rows` | `encode` of an agency's own CSV |
@@ -41,6 +42,7 @@ mod refused_text;
 mod sink;
 mod sort;
 mod source;
+mod stops;
 mod table;
 mod upload_tokens;
 mod uploads;

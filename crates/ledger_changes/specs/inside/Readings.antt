@@ -2,11 +2,10 @@
 use Rattle.std.specs.Prelude.{◌≡◌, ◌+◌, ℕ, List, [], Option, None, Some, Result, Ok, Err, option_map}
 use Rattle.line_folds.specs.Folds.{lines_of}
 use Rattle.ledger_fields.specs.Rows.{Row}
-use Rattle.ledger_changes.specs.inside.Faults.{IsNoLine}
 use Rattle.ledger_changes.specs.Ledgers.{cons_row, rows_from}
 use Rattle.ledger_changes.specs.declared.fault.Bill.{Bill}
 use Rattle.ledger_changes.specs.declared.fault.CorrectionsFault.{CorrectionsFault}
-use Rattle.ledger_changes.specs.declared.fault.CorrectionsFault.TheVariants.{Line, Unread, Write, NoMemory}
+use Rattle.ledger_changes.specs.declared.fault.CorrectionsFault.TheVariants.{Line, Unread, NoMemory}
 use Rattle.ledger_changes.specs.declared.fault.WrongLine.{WrongLine}
 use Rattle.ledger_changes.specs.declared.ledger_rows.LedgerRows.{LedgerRows}
 use Rattle.ledger_changes.specs.declared.row.LedgerRow.{LedgerRow}
@@ -26,7 +25,6 @@ rows_at remaining ledger = option_map (rows_with (row_in ledger.row) ledger.numb
 abbrev pub IsWrongAs : Bill → Result (List Row) (ℕ × WrongLine) → CorrectionsFault → Type 0
 IsWrongAs bill said (Line which number why) = (which ≡ bill) × (said ≡ Err (number, why))
 IsWrongAs bill said (Unread which) = Unit {0}
-IsWrongAs bill said Write = Unit {0}
 IsWrongAs bill said NoMemory = Unit {0}
 
 -- the line of this number was read, of lines that say this, and its row and the text left do

@@ -1,113 +1,155 @@
-use Rattle.std.proofs.Common.{ℕ, Bool, List, Option, Some, None, false, if◌then◌else◌, subst}
-use Rattle.std.specs.Prelude.{is_some}
-use Rattle.std.specs.Io.KnownBytes.{Appends}
-use Rattle.ledger_check.specs.Columns.{read_as}
-use Rattle.omny_audit.specs.Reports.{IsAudit, Manner, manner}
-use Rattle.tap_views.specs.declared.upload_end.UploadEnd.{UploadEnd}
+-- What is written is a prefix of what is found, whenever the run ends.
+use Rattle.std.proofs.Common.{◌≡◌, ◌∙◌, ◌++◌, ℕ, ◌≤◌, Bor, List, [], None, Option, arith, length}
+use Rattle.std.proofs.Common.{option_map, refl, rules, subst, sym, take, tests}
+use Rattle.std.specs.Prelude.{◌⊎◌, unwrap_or}
+use Rattle.std.proofs.KnownBytes.{Appends-nil, Appends-trans, Consumes-nil, Consumes-trans}
+use Rattle.std.proofs.lemmas.List.{length-take-le}
+use Rattle.fare_texts.proofs.Beginnings.{begins_behind}
 use Rattle.fare_texts.specs.WrittenOut.{Begins}
-use Rattle.omny_audit.specs.Traced.{Wanted}
-use Rattle.omny_audit.specs.inside.Reports.{text_of}
-use Rattle.omny_audit.specs.inside.Traced.{wanted_by}
-use Rattle.omny_audit.proofs.ProgramLemmas.{unwritten_on}
-use Rattle.omny_audit.proofs.RightFaults.{end_on, later_on, memory_end, memory_on, written_on}
+use Rattle.program_manners.specs.Refusals.{Refuses}
+use Rattle.program_manners.specs.declared.output.WriteEnd.{WriteEnd}
+use Rattle.std.specs.Io.KnownBytes.{Appends, IsAtEnd, prepend_known}
+use Rattle.world.specs.declared.faults.LoadFault.TheVariants.{Unread}
+use Rattle.omny_audit.specs.Reports.{Given, IsAudit, IsAuditText}
+use Rattle.omny_audit.specs.declared.fault.Fault.TheVariants.{Ledger, NoMemory}
+use Rattle.omny_audit.specs.inside.Audits.{given_in}
+use Rattle.omny_audit.specs.inside.Fault.{IsWriteFault}
+use Rattle.omny_audit.proofs.Audits.{begun_of, broken_off, next_text, none_left, stream_of_write}
+use Rattle.omny_audit.proofs.ReadLemmas.{is_front}
 use Rattle.omny_audit.proofs.audit.audit_over.Goals as goal
 
-abbrev how : Bool → Bool → List UploadEnd → Manner
-how live has ends = manner false live (if has then Some ends else None)
+pub loop-piece-init : goal.loop-piece-init
+loop-piece-init g c = record {
+  file = [];
+  read = Consumes-nil _;
+  name = refl;
+  loaded = refl;
+  so_far = λ good has. ([], refl, has, Appends-nil _);
+}
 
-pub audit_text-requires : goal.audit_text-requires
-audit_text-requires g c = λ yes.
-    let found = c.in_ok-verdict.ensures.reported in
-    let ledger = read_as (is_some (wanted_by c.verdict_of.new.trace)) found.0 in
-    let decide = c.verdicts_decide.ensures c.args.table.now ledger c.in_ok-verdict.verdict
-    found.2 in
-    (c.args.table.now, ledger, found.4 yes, decide.0 yes)
+pub next-requires : goal.next-requires
+next-requires g c =
+    let now = c.loop-piece.invariant.so_far c.requires.0 c.requires.1 in
+    (c.requires.0, c.loop-piece.invariant.file, now.0, now.2)
 
-pub returns-clause-reported : goal.returns-clause-reported
-returns-clause-reported g c =
-    let found = c.in_ok-verdict.ensures.reported in
-    let fares = c.args.table.now in
-    let reported = c.in_ok-reported.reported in
-    let ledger = read_as (is_some (wanted_by c.verdict_of.new.trace)) found.0 in
-    let decide = c.verdicts_decide.ensures fares ledger c.in_ok-verdict.verdict found.2 in
-    let wrote = subst (λ (t : List ℕ). Appends (g.W.Write.contents c.args.out.now.writer)
-    (g.W.Write.contents c.write_text.new.out.writer) t) c.as_slice.ensures.value
-    c.in_ok-write_text.ensures.text in (
-      found.0,
-      found.1,
-      λ good balanced.
-          let audit = c.in_ok-reported.ensures fares found.0 good found.2 decide
-          (found.3 good balanced)
-          found.4 found.5 in (
-            reported.0.items,
-            audit.0,
-            subst (λ (cs : Option Wanted). IsAudit (how c.args.live c.args.has_uploads c.args.ends.now) fares cs found.0 audit.0
-                (if c.args.has_uploads then Some good else None) (text_of c.args.report)
-                reported.0.items reported.1)
-                c.verdict_of.ensures.wanted
-                (subst (λ (r : Option (List ℕ)). IsAudit (how c.args.live c.args.has_uploads c.args.ends.now) fares
-                (wanted_by c.verdict_of.new.trace) found.0 audit.0
-                (if c.args.has_uploads then Some good else None) r reported.0.items reported.1)
-                c.verdict_of.ensures.report audit.1),
-            wrote,
+pub loop-piece-preserved : goal.loop-piece-preserved
+loop-piece-preserved g c =
+    let before = c.loop-piece.invariant in
+    record {
+      file = before.file ++ take c.in-Ok.count c.read_on.new.piece;
+      read = Consumes-trans _ _ _ before.file (take c.in-Ok.count c.read_on.new.piece) before.read
+          c.in-Ok.ensures.bytes.0;
+      name = c.read_on.ensures.name ∙ before.name;
+      loaded = c.read_on.ensures.loaded ∙ before.loaded;
+      so_far = λ good has.
+          let now = before.so_far good has in
+          let none : c.in-Ok-next.next.1 ≡ None = first_of (cc, search (rules, tests)) in
+          let next = rw none at (c.in-Ok-next.ensures good before.file now.0 now.2) in (
+            now.0 ++ c.in-Ok-next.next.0.items,
+            next.0 ∙ now.1,
+            next.1,
+            Appends-trans _ _ _ now.0 c.in-Ok-next.next.0.items now.3
+                (subst (λ (t : List ℕ). Appends (g.W.Write.contents c.loop-piece.out.writer)
+                (g.W.Write.contents c.put.new.self.writer) t) c.as_slice.ensures.value
+                c.in_default-put.ensures.whole),
+          );
+    }
+
+-- a read failed, or memory was refused
+pub returns-in_default-clause-ends : goal.returns-in_default-clause-ends
+returns-in_default-clause-ends g c =
+    let before = c.loop-piece.invariant in
+    broken_off c.args.audit.now c.loop-piece.audit before.file _ _ _ _
+    (g.S.FileSource.refused c.read_on.new.source)
+    (option_map (λ (n : Bor (List ℕ)). n.now) c.args.ledger.now.name) c.loop-piece.out.end Ledger
+    before.read before.so_far
+    (subst (λ (n : Option (Bor (List ℕ))). Refuses (g.S.FileSource.refused c.read_on.new.source)
+    (option_map (λ (b : Bor (List ℕ)). b.now) n) Unread) before.name c.in_default.ensures.fault)
+
+pub returns-clause-ends : goal.returns-clause-ends
+returns-clause-ends g c =
+    let before = c.loop-piece.invariant in
+    broken_off c.args.audit.now c.loop-piece.audit before.file _ _ _ _
+    (g.S.FileSource.refused c.loop-piece.source)
+    (option_map (λ (n : Bor (List ℕ)). n.now) c.args.ledger.now.name) c.loop-piece.out.end NoMemory
+    before.read before.so_far tt
+
+pub returns-in_default-next-clause-ends : goal.returns-in_default-next-clause-ends
+returns-in_default-next-clause-ends g c =
+    let before = c.loop-piece.invariant in
+    broken_off c.args.audit.now c.loop-piece.audit before.file _ _ _ _
+    (g.S.FileSource.refused c.read_on.new.source)
+    (option_map (λ (n : Bor (List ℕ)). n.now) c.args.ledger.now.name) c.loop-piece.out.end NoMemory
+    before.read before.so_far tt
+
+-- nothing is left behind an empty piece
+ended_at : (count : ℕ) (piece : List ℕ) (left : Option (List ℕ)) → count ≤ length piece
+    → (count ≡ 0 → IsAtEnd left) → length (take count piece) ≡ 0 → unwrap_or left [] ≡ []
+ended_at count piece left within at_end none =
+    none_left left (at_end (sym (length-take-le count piece within) ∙ none))
+
+-- a write failed
+pub returns-in-Err-clause-ends : goal.returns-in-Err-clause-ends
+returns-in-Err-clause-ends g c =
+    let before = c.loop-piece.invariant in
+    let got = c.in-Ok.ensures.bytes in
+    let piece = take c.in-Ok.count c.read_on.new.piece in
+    let left = prepend_known c.read_on.new.ledger.head.now
+    (g.S.Ledger.Read.remaining c.read_on.new.ledger.rest) in
+    let more = unwrap_or left [] in
+    let whole = (before.file ++ piece) ++ more in
+    let text = c.in-Ok-next.next.0.items in (
+      whole,
+      is_front _ left (before.file ++ piece)
+          (Consumes-trans _ _ _ before.file piece before.read got.0),
+      λ good has.
+          let now = before.so_far good has in (
+            stream_of_write (g.S.FileSource.refused c.read_on.new.source)
+                (option_map (λ (n : Bor (List ℕ)). n.now) c.args.ledger.now.name) c.put.new.self.end
+                c.of_end.result
+                (subst (λ (e : Option WriteEnd). IsWriteFault e c.of_end.result)
+                (sym c.in-Err.ensures.noted) c.of_end.ensures),
+            begun_of (IsAuditText (given_in c.args.audit.now good) whole) _ _ (now.0 ++ text)
+                (subst (λ (x : Given). (now.0 ++ text ≡ []) ⊎ IsAuditText x whole (now.0 ++ text))
+                now.1
+                (next_text c.loop-piece.audit c.next.new.self good before.file piece (now.0 ++ text)
+                c.in-Ok-next.next.1 more
+                (ended_at c.in-Ok.count c.read_on.new.piece left c.in-Ok.ensures.bound.0
+                (λ zero. got.1 zero (omega arith)))
+                (c.in-Ok-next.ensures good before.file now.0 now.2)))
+                (begins_behind _ _ _ now.0 text now.3
+                (subst (λ (t : List ℕ). Begins (g.W.Write.contents c.loop-piece.out.writer)
+                (g.W.Write.contents c.put.new.self.writer) t) c.as_slice.ensures.value
+                c.in-Err.ensures.begun)),
           ),
     )
 
--- a beginning of what was to be reported
-pub returns-in_err-write_text-clause-begun : goal.returns-in_err-write_text-clause-begun
-returns-in_err-write_text-clause-begun g c =
-    let found = c.in_ok-verdict.ensures.reported in
-    let fares = c.args.table.now in
-    let reported = c.in_ok-reported.reported in
-    let ledger = read_as (is_some (wanted_by c.verdict_of.new.trace)) found.0 in
-    let decide = c.verdicts_decide.ensures fares ledger c.in_ok-verdict.verdict found.2 in
-    unwritten_on c.from_residual-in_err-write_text.result _ (
-      found.0,
-      found.1,
-      λ good balanced.
-          let audit = c.in_ok-reported.ensures fares found.0 good found.2 decide
-          (found.3 good balanced)
-          found.4 found.5 in (
-            reported.0.items,
-            reported.1,
-            audit.0,
-            subst (λ (cs : Option Wanted). IsAudit (how c.args.live c.args.has_uploads c.args.ends.now) fares cs found.0 audit.0
-                (if c.args.has_uploads then Some good else None) (text_of c.args.report)
-                reported.0.items reported.1)
-                c.verdict_of.ensures.wanted
-                (subst (λ (r : Option (List ℕ)). IsAudit (how c.args.live c.args.has_uploads c.args.ends.now) fares
-                (wanted_by c.verdict_of.new.trace) found.0 audit.0
-                (if c.args.has_uploads then Some good else None) r reported.0.items reported.1)
-                c.verdict_of.ensures.report audit.1),
-            subst (λ (t : List ℕ). Begins (g.W.Write.contents c.args.out.now.writer)
-                (g.W.Write.contents c.write_text.new.out.writer) t) c.as_slice.ensures.value
-                c.in_err-write_text.ensures.begun,
+-- all that is found was written
+pub returns-in-Some-clause-ends : goal.returns-in-Some-clause-ends
+returns-in-Some-clause-ends g c =
+    let before = c.loop-piece.invariant in
+    let got = c.in-Ok.ensures.bytes in
+    let piece = take c.in-Ok.count c.read_on.new.piece in
+    let left = prepend_known c.read_on.new.ledger.head.now
+    (g.S.Ledger.Read.remaining c.read_on.new.ledger.rest) in
+    let more = unwrap_or left [] in
+    let whole = (before.file ++ piece) ++ more in
+    let text = c.in-Ok-next.next.0.items in (
+      whole,
+      is_front _ left (before.file ++ piece)
+          (Consumes-trans _ _ _ before.file piece before.read got.0),
+      λ good has.
+          let now = before.so_far good has in
+          let found = rw c.in-Some.is at (c.in-Ok-next.ensures good before.file now.0 now.2) more
+          (ended_at c.in-Ok.count c.read_on.new.piece left c.in-Ok.ensures.bound.0
+          (λ zero. got.1 zero (omega arith))) in (
+            now.0 ++ text,
+            found.0,
+            subst (λ (x : Given). IsAudit x whole found.0 (now.0 ++ text) c.in-Some.is_well) now.1
+                found.1,
+            Appends-trans _ _ _ now.0 text now.3
+                (subst (λ (t : List ℕ). Appends (g.W.Write.contents c.loop-piece.out.writer)
+                (g.W.Write.contents c.put.new.self.writer) t) c.as_slice.ensures.value
+                c.in_default-put.ensures.whole),
           ),
     )
-
-pub returns-in_err-reported-clause-later : goal.returns-in_err-reported-clause-later
-returns-in_err-reported-clause-later g c =
-    memory_on _ _ _ c.from_residual-in_err-reported.result
-    c.from_residual-in_err-reported.ensures.1 c.in_ok-verdict.ensures.well
-
-pub returns-in_err-write_text-clause-later : goal.returns-in_err-write_text-clause-later
-returns-in_err-write_text-clause-later g c =
-    later_on _ _ _ c.from_residual-in_err-write_text.result c.in_err-write_text.field-0.0
-    c.from_residual-in_err-write_text.ensures.1
-    c.in_err-write_text.ensures.later c.in_ok-verdict.ensures.well
-
--- no write failed
-pub returns-in_err-verdict-clause-end : goal.returns-in_err-verdict-clause-end
-returns-in_err-verdict-clause-end g c =
-    written_on _ c.from_residual.result c.in_err-verdict.field-0.0 c.from_residual.ensures.1
-    c.in_err-verdict.ensures.fault
-
-pub returns-in_err-reported-clause-end : goal.returns-in_err-reported-clause-end
-returns-in_err-reported-clause-end g c =
-    memory_end _ c.from_residual-in_err-reported.result c.from_residual-in_err-reported.ensures.1
-
--- the output remembers why
-pub returns-in_err-write_text-clause-end : goal.returns-in_err-write_text-clause-end
-returns-in_err-write_text-clause-end g c =
-    end_on _ c.from_residual-in_err-write_text.result c.in_err-write_text.field-0.0
-    c.from_residual-in_err-write_text.ensures.1 c.in_err-write_text.ensures.end

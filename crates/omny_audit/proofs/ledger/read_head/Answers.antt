@@ -1,7 +1,6 @@
-use Rattle.std.proofs.Common.{ℕ, List, take, refl, sym, subst, ◌∙◌}
+use Rattle.std.proofs.Common.{List, refl, subst, sym, take, ℕ, ◌∙◌}
 use Rattle.std.specs.Io.KnownBytes.{Consumes}
 use Rattle.std.proofs.KnownBytes.{Consumes-trans, Consumes-nil}
-use Rattle.omny_audit.proofs.RightFaults.{memory_on}
 use Rattle.omny_audit.proofs.ledger.read_head.Goals as goal
 
 pub loop-piece-init : goal.loop-piece-init
@@ -10,7 +9,6 @@ loop-piece-init g c = record {
       (g.S.Ledger.Read.remaining c.args.ledger.now) t) (sym c.new-head.ensures.items)
       (Consumes-nil _);
   loaded = refl;
-  refused = refl;
 }
 
 pub loop-piece-preserved : goal.loop-piece-preserved
@@ -20,15 +18,8 @@ loop-piece-preserved g c =
     record {
       read = subst (λ (t : List ℕ). Consumes (g.S.Ledger.Read.remaining c.args.ledger.now)
           (g.S.Ledger.Read.remaining c.read_ledger.new.ledger) t)
-          (sym c.in_ok-extend_from_slice.ensures.items)
+          (sym c.in-Ok-extend_from_slice.ensures.items)
           (Consumes-trans _ _ _ c.loop-piece.head.items
           (take c.in-Ok.count c.read_ledger.new.piece) before.read got.0);
       loaded = c.read_ledger.ensures.loaded ∙ before.loaded;
-      refused = c.in-Ok.ensures.well ∙ before.refused;
     }
-
-pub returns-in_err-extend_from_slice-clause-later :
-    goal.returns-in_err-extend_from_slice-clause-later
-returns-in_err-extend_from_slice-clause-later g c =
-    memory_on _ _ _ c.from_residual.result c.from_residual.ensures.1
-    (c.in-Ok.ensures.well ∙ c.loop-piece.invariant.refused)

@@ -1,27 +1,14 @@
-use Rattle.std.proofs.Common.{[], ◌∷◌, refl}
-use Rattle.omny_audit.specs.Fault.{NamesOneOf}
-use Rattle.omny_audit.proofs.ProgramLemmas.{names_single}
-use Rattle.omny_audit.proofs.RightFaults.{told_on, told_same}
-use Rattle.tap_views.proofs.Choices.{IfErr_handed_on}
+use Rattle.std.proofs.Common.{◌∷◌, []}
+use Rattle.std.proofs.lemmas.List.Elements.{Contains-push}
+use Rattle.omny_audit.proofs.Causes.{file_fault}
 use Rattle.omny_audit.proofs.program.load_report.Goals as goal
 
 pub returns-clause-ok : goal.returns-clause-ok
 returns-clause-ok g c =
-    rw c.in-Some.is (c.in_ok-text.text.items, c.in_ok-text.ensures.ok, rw c.new-held.ensures.text)
+    rw c.in-Some.is (c.in-Ok.text.items, c.in-Ok.ensures.ok, rw c.new-held.ensures.text)
 
-pub returns-in_err-text-clause-named : goal.returns-in_err-text-clause-named
-returns-in_err-text-clause-named g c =
-    let fault = c.in_err-text.field-0.0 in
-    rw c.in-Some.is
-    (IfErr_handed_on c.from_residual.result fault (λ f. NamesOneOf (c.in-Some.name.now ∷ []) f)
-    c.from_residual.ensures.1
-    (names_single c.in-Some.name.now fault c.in_err-text.ensures.named))
-
-pub returns-in_err-text-clause-told : goal.returns-in_err-text-clause-told
-returns-in_err-text-clause-told g c =
-    told_on _ _ c.from_residual.result c.in_err-text.field-0.0 _ c.from_residual.ensures.1 refl
-    c.in_err-text.ensures.told
-
-pub returns-in_err-seed-clause-told : goal.returns-in_err-seed-clause-told
-returns-in_err-seed-clause-told g c =
-    told_same _ _ c.from_residual-in_err-seed.result c.in_ok-text.ensures.well
+pub returns-in-Err-clause-fault : goal.returns-in-Err-clause-fault
+returns-in-Err-clause-fault g c =
+    rw c.in-Some.is (file_fault (g.S.FileSource.refused c.load_named.new.source) c.in-Some.name.now
+    c.in-Err.file (c.in-Some.name.now ∷ []) (g.S.FileSource.loaded c.load_named.new.source)
+    c.in-Err.ensures.fault (Contains-push [] c.in-Some.name.now))

@@ -1,98 +1,118 @@
-use Rattle.std.proofs.Common.{[], ◌≡◌, inl, inr, map, refl, string_bytes, subst, sym, ⊎_elim}
-use Rattle.std.proofs.Common.{Bool, ◌∙◌, true, false}
-use Rattle.clap.specs.Words.{IsAmong, Kinds}
+use Rattle.std.proofs.Common.{◌≡◌, ◌∙◌, ◌≤◌, ℕ, List, [], ap, arith, inl, inr, map, refl, string_bytes, subst, suc}
+use Rattle.std.proofs.Common.{sym, zero}
+use Rattle.std.specs.Prelude.{◌⊎◌}
+use Rattle.std.proofs.KnownBytes.{Appends-kept, Appends-nil}
+use Rattle.clap.specs.Words.{HasKind, IsAmong, Kinds, Text, kind_of}
+use Rattle.clap.specs.declared.error.Error.{Error}
 use Rattle.clap.specs.declared.error.kind.ErrorKind.{ErrorKind}
-use Rattle.omny_audit.specs.Options.{AuditAsked, audit_asked_by, files_of}
-use Rattle.omny_audit.specs.Program.{Audits}
-use Rattle.omny_audit.specs.inside.Options.{audit_asked_of}
-use Rattle.omny_audit.proofs.Finished.{audits_kept, unflushed}
+use Rattle.clap.specs.declared.error.kind.ErrorKind.TheVariants.{DisplayHelp, DisplayVersion}
+use Rattle.program_manners.proofs.Refusals.{only_memory}
+use Rattle.program_manners.specs.Words.{IsRequest}
+use Rattle.omny_audit.specs.Ends.{EndsAnswer, Run, Said}
+use Rattle.omny_audit.specs.Options.{AuditAsked, audit_asked_by}
 use Rattle.omny_audit.specs.declared.fault.Fault.TheVariants.{NoMemory}
-use Rattle.omny_audit.proofs.ProgramLemmas.{names_none}
+use Rattle.omny_audit.specs.inside.Options.{audit_asked_of}
+use Rattle.omny_audit.proofs.Causes.{answer_cause}
 use Rattle.omny_audit.proofs.program.main_over.Goals as goal
 
-none_among : (kind : ErrorKind) (kinds : Kinds) → kinds ≡ [] → IsAmong kind kinds → ⊥
-none_among kind kinds none among = subst (IsAmong kind) none among
-
-apart : false ≡ true → ⊥
-apart same = cc
-
 -- words that are a command line are refused for want of memory alone
-pub returns-in-Err-clause-faults : goal.returns-in-Err-clause-faults
-returns-in-Err-clause-faults g c = λ one.
-    ⊎_elim
-    (λ memory.
-    let reported = c.show.ensures.memory memory in
-    inr (
+pub returns-in-Err-clause-ends : goal.returns-in-Err-clause-ends
+returns-in-Err-clause-ends g c = λ parses dated.
+    let refused = c.show.ensures.memory
+    (only_memory _ c.in-Err.error parses c.in-Err.ensures.kinds) in
+    rw refused.0
+    (inr (
       NoMemory,
-      tt,
-      λ parses. record {
-        right = tt;
-        told = λ no. refl;
-        begun = λ all un. absurd (cc);
-        begun_of_all = λ all. inl (refl, reported.1.kept refl refl);
-      },
-      λ no. tt,
-      record { line_reported = reported.1.line_reported; kept = λ all un. reported.1.kept refl un },
-    ))
-    (λ among.
-    let reported = c.show.ensures.fault one in
-    inr (
-      reported.0,
-      names_none (files_of (audit_asked_by (map string_bytes c.args.words.now))) reported.0
-          reported.1,
-      λ parses. absurd (none_among _ _ parses among),
-      λ no. reported.2,
-      record { line_reported = reported.3.line_reported; kept = λ all un. reported.3.kept refl un },
-    ))
-    c.in-Err.ensures.kinds
-
--- the finding was written, and was flushed or not
-pub returns-in-Ok-audit-clause-done : goal.returns-in-Ok-audit-clause-done
-returns-in-Ok-audit-clause-done g c = λ parses zero.
-    let loaded = g.S.FileSource.loaded c.args.source.now in
-    let loaded' = g.S.FileSource.loaded c.audit.new.source in
-    let out = g.W.Write.contents c.args.out.now.writer in
-    let mid = g.W.Write.contents c.audit.new.out.writer in
-    let last = g.W.Write.contents c.finish.new.out.writer in
-    let mine = audit_asked_of c.in-Ok.options in
-    let well = c.finish.ensures.well zero in
-    subst (λ (asked : AuditAsked). Audits asked loaded loaded' out last true) c.in-Ok.ensures.asked
-    (audits_kept mine loaded loaded' out mid last true c.finish.ensures.kept
-    (subst (λ (b : Bool). Audits mine loaded loaded' out mid b) well.0 c.in-Ok-audit.ensures.ok))
-
-pub returns-in-Ok-audit-clause-faults : goal.returns-in-Ok-audit-clause-faults
-returns-in-Ok-audit-clause-faults g c = λ one.
-    let loaded = g.S.FileSource.loaded c.args.source.now in
-    let loaded' = g.S.FileSource.loaded c.audit.new.source in
-    let out = g.W.Write.contents c.args.out.now.writer in
-    let mid = g.W.Write.contents c.audit.new.out.writer in
-    let last = g.W.Write.contents c.finish.new.out.writer in
-    let mine = audit_asked_of c.in-Ok.options in
-    let asked = audit_asked_by (map string_bytes c.args.words.now) in
-    let well = c.in-Ok-audit.is_well in
-    let done = subst (λ (a : AuditAsked). Audits a loaded loaded' out last well)
-    c.in-Ok.ensures.asked
-    (audits_kept mine loaded loaded' out mid last well c.finish.ensures.kept
-    c.in-Ok-audit.ensures.ok)
-    in
-    ⊎_elim
-    (λ ill. inl (
-      c.in-Ok.ensures.kinds,
-      subst (λ (b : Bool). Audits asked loaded loaded' out last b) ill.0 done,
-      ill.1,
-      ill.2,
-      c.in-Ok-audit.ensures.well,
-    ))
-    (λ failed. inr (
-      failed.0,
-      names_none (files_of asked) failed.0 failed.2,
-      λ parses. unflushed asked loaded loaded' (g.S.FileSource.refused c.args.source.now)
-          (g.S.FileSource.refused c.audit.new.source) c.finish.new.out.end failed.0 out last well
-          failed.3 failed.4 c.in-Ok-audit.ensures.well done,
-      λ no. absurd (no c.in-Ok.ensures.kinds),
       record {
-        line_reported = failed.5;
-        kept = λ all un. absurd (apart (sym un ∙ failed.1));
+        is_cause = tt;
+        begun = record {
+          front = [];
+          grown = Appends-kept (g.W.Write.contents c.args.out.now.writer)
+              (g.W.Write.contents c.args.out.now.writer) (g.W.Write.contents c.show.new.out.writer) []
+              (Appends-nil (g.W.Write.contents c.args.out.now.writer)) refused.2;
+          rest = [];
+          right = inl refl;
+        };
       },
+      refused.1,
     ))
-    (c.finish.ensures.ill one)
+
+pub returns-clause-ends : goal.returns-clause-ends
+returns-clause-ends g c = λ parses dated.
+    rw (sym c.in-Ok.ensures.asked)
+    (c.end_run.ensures.ends (audit_asked_of c.in-Ok.options)
+    (g.S.FileSource.loaded c.args.source.now) (g.S.FileSource.loaded c.audit-ended.new.source)
+    (g.S.FileSource.refused c.audit-ended.new.source) (g.W.Write.contents c.args.out.now.writer)
+    c.audit-ended.ensures)
+
+-- help or the version is asked for
+asked_for : (kinds : Kinds) (e : Error) → HasKind kinds e → IsRequest (kind_of e)
+    → IsAmong DisplayHelp kinds ⊎ IsAmong DisplayVersion kinds
+asked_for kinds e has (inl help) = elim has [
+  | inl memory ↦ absurd (cc)
+  | inr among ↦ inl (subst (λ (k : ErrorKind). IsAmong k kinds) help among)
+]
+asked_for kinds e has (inr version) = elim has [
+  | inl memory ↦ absurd (cc)
+  | inr among ↦ inr (subst (λ (k : ErrorKind). IsAmong k kinds) version among)
+]
+
+answer_is : (words : List Text) (asked : AuditAsked) (run : Run) (said : Said) (n : ℕ) → n ≤ 2
+    → (n ≡ 0 → EndsAnswer words asked run said 0) → (n ≡ 1 → EndsAnswer words asked run said 1)
+    → (n ≡ 2 → EndsAnswer words asked run said 2) → EndsAnswer words asked run said n
+answer_is words asked run said zero few none one two = none refl
+answer_is words asked run said (suc zero) few none one two = one refl
+answer_is words asked run said (suc (suc zero)) few none one two = two refl
+answer_is words asked run said (suc (suc (suc n))) few none one two = absurd (omega (arith, few))
+
+pub returns-in-Err-clause-answers : goal.returns-in-Err-clause-answers
+returns-in-Err-clause-answers g c = λ unread.
+    answer_is (map string_bytes c.args.words.now)
+    (audit_asked_by (map string_bytes c.args.words.now)) (record {
+      loaded = g.S.FileSource.loaded c.args.source.now;
+      loaded' = g.S.FileSource.loaded c.args.source.now;
+      refused = g.S.FileSource.refused c.args.source.now;
+      ended = c.show.new.out.end;
+      out = g.W.Write.contents c.args.out.now.writer;
+      out' = g.W.Write.contents c.show.new.out.writer;
+    }) (record {
+      said = g.E.Write.contents c.args.err.now.writer;
+      said' = g.E.Write.contents c.show.new.err.writer;
+      failed = c.show.new.err.failed;
+      flushed = c.show.new.out.is_flushed;
+    }) c.show.result c.show.ensures.status
+    (λ none. (
+      asked_for _ c.in-Err.error c.in-Err.ensures.kinds (c.show.ensures.help none).0,
+      ap (λ e. g.E.Write.contents e.writer) (c.show.ensures.help none).1,
+    ))
+    (λ one.
+    let failed = c.show.ensures.fault one in (
+      failed.0,
+      answer_cause (audit_asked_by (map string_bytes c.args.words.now)) (g.S.FileSource.loaded c.args.source.now)
+          (g.S.FileSource.loaded c.args.source.now) (g.S.FileSource.refused c.args.source.now)
+          c.show.new.out.end failed.0 failed.1,
+      failed.2,
+    ))
+    (λ two. (c.show.ensures.mistake two).1)
+
+pub returns-in-Err-clause-dated : goal.returns-in-Err-clause-dated
+returns-in-Err-clause-dated g c = λ parses dated none.
+    let refused = c.show.ensures.memory
+    (only_memory _ c.in-Err.error parses c.in-Err.ensures.kinds) in
+    absurd (apart (sym none ∙ refused.0))
+  where
+    apart : ◌≡◌ {A = ℕ} 0 1 → ⊥
+    apart is = omega (arith, is)
+
+pub returns-in-Err-clause-mistaken : goal.returns-in-Err-clause-mistaken
+returns-in-Err-clause-mistaken g c = λ two. (
+  inl (λ parses.
+      let refused = c.show.ensures.memory
+      (only_memory _ c.in-Err.error parses c.in-Err.ensures.kinds) in
+      absurd (apart (sym two ∙ refused.0))),
+  refl,
+  (c.show.ensures.mistake two).1,
+)
+  where
+    apart : ◌≡◌ {A = ℕ} 2 1 → ⊥
+    apart is = omega (arith, is)

@@ -8,6 +8,8 @@ use Rattle.program_manners.proofs.NextTables.{tables_counted}
 use Rattle.program_manners.specs.TableViews.{names_of}
 use Rattle.class_names.proofs.Classes.{class_kept}
 use Rattle.class_names.specs.Classes.{AreTrees}
+use Rattle.class_names.specs.ClassFaults.{IsWrongAt}
+use Rattle.omny_audit.proofs.Causes.{unplain_class}
 use Rattle.omny_audit.specs.Program.{AreWanted}
 use Rattle.omny_audit.specs.Traced.{Wanted}
 use Rattle.omny_audit.specs.inside.Traced.{uploads_in, wanted_of}
@@ -49,3 +51,9 @@ returns-in-Ok-clause-wanted c =
       λ moment token. class_kept c.in-Ok.names named.0 named.1 named.3 moment token,
       refl,
     ))
+
+pub returns-in-Err-clause-fault : goal.returns-in-Err-clause-fault
+returns-in-Err-clause-fault c =
+    unplain_class (names_of c.args.words.now) _ c.in-Err.wrong c.of_names.result
+    (subst (λ (ts : List (Vec ℕ Global)). IsWrongAt (map (λ t. t.items) ts) c.in-Err.wrong)
+    c.deref.ensures.value c.in-Err.ensures.fault) c.of_names.ensures

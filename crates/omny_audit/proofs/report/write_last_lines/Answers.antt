@@ -1,5 +1,4 @@
-use Rattle.std.proofs.Common.{◌++◌, ◌∙◌, Bool, List, ℕ, Some, None, ap, append_assoc, refl}
-use Rattle.std.proofs.Common.{if◌then◌else◌}
+use Rattle.std.proofs.Common.{◌++◌, ◌∙◌, Bool, List, ℕ, ap, append_assoc, option_map, refl}
 use Rattle.std.specs.Prelude.{◌&&◌}
 use Rattle.omny_audit.specs.Reports.{damage_text}
 use Rattle.omny_audit.proofs.report.write_last_lines.Goals as goal
@@ -7,7 +6,7 @@ use Rattle.omny_audit.proofs.report.write_last_lines.Goals as goal
 pub returns : goal.returns
 returns c =
     let wrote = c.in_ok-fits.ensures in
-    let damage = damage_text (if c.args.has_uploads then Some c.args.ends.now else None) in (
+    let damage = damage_text (option_map (λ e. e.now) c.args.ends) in (
       wrote.0 ++ damage,
       c.in_ok-is_whole.ensures.text ∙ ap (λ (t : List ℕ). t ++ damage) wrote.1
           ∙ append_assoc c.args.text.now.items wrote.0 damage,

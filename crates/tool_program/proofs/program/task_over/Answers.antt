@@ -56,7 +56,8 @@ returns-in-EncodeRows-clause-given_up g c = λ one. rw c.in-EncodeRows.is (
 
 pub returns-in-GoodPart-clause-done : goal.returns-in-GoodPart-clause-done
 returns-in-GoodPart-clause-done g c = λ zero.
-    rw c.in-GoodPart.is (c.in-GoodPart.words, refl, c.good_part_over.ensures.done zero)
+    let done = c.good_part_over.ensures.done zero in
+    rw c.in-GoodPart.is (c.in-GoodPart.words, refl, done.0, done.1, done.2)
 
 pub returns-in-GoodPart-clause-given_up : goal.returns-in-GoodPart-clause-given_up
 returns-in-GoodPart-clause-given_up g c = λ one.

@@ -1,7 +1,7 @@
 use Rattle.std.proofs.Common.{◌≡◌, ◌∷◌, [], ℕ, List, inl, inr, refl, subst, sym}
 use Rattle.std.proofs.lemmas.Result.{err_from_is_err_and}
 use Rattle.tap_views.specs.Facts.{AreFacts, IsGoodPart}
-use Rattle.tool_tasks.proofs.GoodParts.{of_lines}
+use Rattle.tool_tasks.proofs.GoodParts.{is_whole, of_lines}
 use Rattle.tool_tasks.proofs.good_part.list_and_make.Goals as goal
 
 pub returns-in_err-upload-clause-stops : goal.returns-in_err-upload-clause-stops
@@ -34,9 +34,11 @@ returns-clause-done g c = record {
   upload = c.in_ok-upload.upload.items;
   is_loaded = c.in_ok-upload.ensures.reported;
   facts = c.facts_of-facts.result;
-  are_facts = c.facts_of-facts.ensures;
-  whole = refl;
+  are_facts = subst (λ (bytes : List ℕ). AreFacts bytes c.facts_of-facts.result)
+      c.deref.ensures.value c.facts_of-facts.ensures;
+  whole = is_whole c.facts_of-facts.result.fault c.is_none.result c.is_none.ensures;
   file = c.good_part.result.now;
-  good = c.good_part.ensures;
+  good = subst (λ (bytes : List ℕ). IsGoodPart bytes c.good_part.result.now)
+      c.deref-3.ensures.value c.good_part.ensures;
   is_made = c.in_ok-make.ensures.made;
 }

@@ -1,0 +1,96 @@
+use Rattle.std.proofs.Common.{◌≡◌, ◌++◌, ◌∙◌, ℕ, Bool, List, Option, ap, append_assoc, option_map}
+use Rattle.std.proofs.Common.{Global, Vec, refl, string_bytes, subst, sym, true, false}
+use Rattle.std.specs.Prelude.{◌&&◌, ◌||◌}
+use Rattle.std.proofs.lemmas.Bool.{and_parts}
+use Rattle.omny_audit.specs.Reports.{AreLastLines, ledger_in}
+use Rattle.omny_audit.specs.Traced.{AreColumnsReported}
+use Rattle.omny_audit.specs.declared.report.ReportWithSums.{ReportWithSums}
+use Rattle.omny_audit.specs.inside.Audits.{given_in}
+use Rattle.omny_audit.specs.inside.Checks.{is_all}
+use Rattle.omny_audit.specs.inside.Reports.{HasSummedFor, text_of}
+use Rattle.omny_audit.specs.inside.Traced.{wanted_by}
+use Rattle.omny_audit.proofs.Audits.{undecided}
+use Rattle.omny_audit.proofs.audit.Audit.end.Goals as goal
+
+legal_looked : (all : Bool) → (all || true) ≡ true
+legal_looked true = refl
+legal_looked false = refl
+
+pub finish-requires : goal.finish-requires
+finish-requires c =
+    let has = c.requires.3 in record {
+      fed = (c.args.self.now.table.now, c.requires.0, _, c.requires.2, has.checked);
+    }
+
+pub write_last_lines-requires : goal.write_last_lines-requires
+write_last_lines-requires c = λ yes.
+    let audit = c.args.self.now in
+    let has = c.requires.3 in
+    let found = c.in_ok-found.ensures.found audit.table.now c.requires.0 _ c.requires.2 has.checked
+    in
+    let legal = (and_parts c.in_ok-found.found.is_legal c.in_ok-is_right.is_right
+    (sym c.are_both-is_whole.ensures ∙ yes)).0 in
+    let summed = has.summed (undecided audit.check true
+    (λ is. sym legal ∙ c.in_ok-found.ensures.decided is) (legal_looked (is_all audit.check))) in (
+      audit.table.now,
+      ledger_in (given_in audit c.requires.0) c.requires.1,
+      subst (λ (r : Option ReportWithSums). HasSummedFor audit.table.now r
+          (ledger_in (given_in audit c.requires.0) c.requires.1)) (sym c.take-report.ensures.value)
+          summed,
+      found.3.0 legal,
+    )
+
+pub returns : goal.returns
+returns c = λ good file before has.
+    let audit = c.args.self.now in
+    let written = before ++ string_bytes c.args.reported in
+    let given = given_in audit good in
+    let legal = c.in_ok-found.found.is_legal in
+    let right = c.in_ok-is_right.is_right in
+    let fits = c.in_ok-fits.fits in
+    let found = c.in_ok-found.ensures.found audit.table.now good (ledger_in given file) written
+    has.checked in
+    let columns = c.in_ok-is_right.ensures in
+    let wrote = c.in_ok-fits.ensures in
+    let looked = c.is_either-is_looked_at.ensures ∙ ap (λ (b : Bool). b || legal) c.is_all.ensures
+    in
+    let whole = c.are_both-is_whole.ensures in
+    let reported = columns.2 file (λ look. has.all (undecided audit.check legal
+    c.in_ok-found.ensures.decided (sym looked ∙ look))) in
+    let last = wrote.2 audit.table.now (ledger_in given file) (λ yes.
+    subst (λ (r : Option ReportWithSums). HasSummedFor audit.table.now r (ledger_in given file))
+    (sym c.take-report.ensures.value)
+    (has.summed (undecided audit.check legal c.in_ok-found.ensures.decided
+    (ap (λ (b : Bool). is_all audit.check || b) (and_parts legal right (sym whole ∙ yes)).0
+    ∙ legal_looked (is_all audit.check))))) in (
+      reported.0,
+      record {
+        found = written ++ found.0;
+        sound = c.in_ok-found.found.is_sound;
+        finding = found.2;
+        legal = legal;
+        is_legal = found.3;
+        columns = columns.0;
+        right = right;
+        are_columns = subst (λ (b : Bool). AreColumnsReported (wanted_by audit.trace) b file
+            reported.0 columns.0 right) looked reported.1;
+        rest = wrote.0;
+        fits = fits;
+        last = subst (λ (b : Bool). AreLastLines given.ends audit.table.now (ledger_in given file)
+            (text_of audit.report) b wrote.0 fits) whole
+            (subst (λ (r : Option ReportWithSums). AreLastLines given.ends audit.table.now
+            (ledger_in given file) (text_of r) c.are_both-is_whole.result wrote.0 fits)
+            c.take-report.ensures.value last);
+        shown = ap (λ (t : List ℕ). before ++ t)
+            (wrote.1 ∙ ap (λ (t : List ℕ). t ++ wrote.0)
+            (columns.1 ∙ ap (λ (t : List ℕ). t ++ columns.0)
+            (ap (λ (v : Vec ℕ Global). v.items) c.into_bytes-text.ensures.value ∙ found.1))
+            ∙ append_assoc (string_bytes c.args.reported ++ found.0) columns.0 wrote.0
+            ∙ append_assoc (string_bytes c.args.reported) found.0 (columns.0 ++ wrote.0))
+            ∙ sym (append_assoc before (string_bytes c.args.reported)
+            (found.0 ++ (columns.0 ++ wrote.0)))
+            ∙ sym (append_assoc written found.0 (columns.0 ++ wrote.0));
+        both = c.are_both.ensures ∙ ap (λ (b : Bool). c.in_ok-found.found.is_sound && b)
+            c.are_both-is_behind.ensures;
+      },
+    )

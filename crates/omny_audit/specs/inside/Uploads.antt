@@ -1,0 +1,17 @@
+-- Uploads that were loaded: what private functions alone cite.
+use Rattle.std.specs.Prelude.{ℕ, List, []}
+use Rattle.ledger_check.specs.Balances.{IsBalance}
+use Rattle.ledger_check.specs.Places.{HasUploads}
+use Rattle.tap_views.specs.UploadEnds.{ArePlainEnds}
+use Rattle.tap_views.specs.declared.encoder.TapFields.{TapFields}
+use Rattle.omny_audit.specs.Program.{AreGoodFieldsOfAll, AreGoodFieldsOfEach}
+use Rattle.omny_audit.specs.declared.program.Uploads.{Uploads}
+
+-- these are the good taps of these files, together and of each, and their ends
+pub record AreUploads (files : List (List ℕ)) (good : List TapFields)
+    (lists : List (List TapFields)) (uploads : Uploads) : Type 0 where
+  pub are_good : AreGoodFieldsOfAll files good
+  pub balance : IsBalance uploads.balance good []
+  pub are_lists : AreGoodFieldsOfEach files lists
+  pub places : HasUploads uploads.places lists
+  pub ends : ArePlainEnds files uploads.ends.items

@@ -1,0 +1,309 @@
+//! The lines of a ledger, checked up to the first wrong one, or all of them.
+
+ghost use Rattle.std.specs.Prelude.{◌≡◌, ◌++◌, ◌↔◌, ◌&&◌, ◌||◌, ℕ, List, [], IfOk, IsTrue};
+ghost use Rattle.std.specs.Prelude.{None, OnOk, Bool, Some, if◌then◌else◌, is_some, map};
+ghost use Rattle.std.specs.Prelude.{string_bytes, true, false};
+ghost use Rattle.tariffs.specs.Fares.{Fares};
+ghost use Rattle.histories.specs.declared.entry.Entry.{Entry};
+ghost use Rattle.ledger_check.specs.Balances.{IsBalance};
+ghost use Rattle.ledger_check.specs.FullBalances.{IsFullBalance};
+ghost use Rattle.ledger_check.specs.Ledger.{IsLedger, IsLedgerOf};
+ghost use Rattle.ledger_check.specs.Orders.{tap_of_entry};
+ghost use Rattle.ledger_check.specs.RecountStates.{HasRecounted};
+ghost use Rattle.ledger_check.specs.Verdicts.{IsVerdict, early_in, is_legal};
+ghost use Rattle.tap_views.specs.declared.encoder.TapFields.{TapFields as ATap};
+ghost use Rattle.omny_audit.specs.Findings.{IsDifferencesEnd, IsFinding, IsFindingOf, IsFullFinding};
+ghost use Rattle.omny_audit.specs.Findings.{agrees};
+ghost use Rattle.omny_audit.specs.inside.Checks.{HasChecked, is_all, is_decided};
+
+use crate::text::{are_none, write_difference, write_differences, write_verdict};
+use fare_table::{Clock, FareTable};
+use ledger_check::laws::{recounts_decide, verdicts_decide};
+use ledger_check::{Balance, Checker, Difference, FullBalance, Recount, Verdict};
+use std::alloc::{AllocError, Global};
+use tap_views::NoMemory;
+
+/// What is found of the lines that were checked, and of their taps.
+#[derive(Clone, Copy)]
+pub(crate) struct Found {
+    /// Whether they are right, and the taps those of the uploads.
+    pub(crate) is_sound: bool,
+    /// Whether they are a legal ledger.
+    pub(crate) is_legal: bool,
+}
+
+/// What checks the lines of a ledger.
+#[derive(Drop)]
+pub(crate) enum Check {
+    /// Up to the first wrong line, of which it has the verdict.
+    First(Checker, Balance, Option<Verdict>),
+    /// All lines.
+    All(Recount, FullBalance),
+}
+
+impl Check {
+    /// Nothing was read. The taps of the ledger are to be struck out of the balance.
+    pub(crate) fn new(alloc: Global, all: bool, balance: Balance) -> Check
+        ensures all { is_all result ≡ all }
+        ensures checked { (fares : Fares) (strikes : Bool) (good : List ATap)
+            → IsBalance balance good [] → HasChecked fares strikes good result [] [] }
+    {
+        if all {
+            Check::All(Recount::new(alloc), FullBalance::of(alloc, balance))
+        } else {
+            Check::First(Checker::new(alloc), balance, None)
+        }
+    }
+
+    /// Whether all lines are checked.
+    pub(crate) fn is_all(&self) -> bool
+        ensures { result ≡ is_all self.now }
+    {
+        match self {
+            Check::First(_, _, _) => false,
+            Check::All(_, _) => true,
+        }
+    }
+
+    /// Whether nothing that follows can change what is found.
+    pub(crate) fn is_decided(&self) -> bool
+        ensures { result ≡ is_decided self.now }
+    {
+        match self {
+            Check::First(_, _, verdict) => verdict.is_some(),
+            Check::All(_, _) => false,
+        }
+    }
+
+    /// Reads the next piece of the ledger, and appends what is reported of its lines. The taps are
+    /// struck out, if there are uploads.
+    pub(crate) fn feed(
+        &mut self,
+        table: &FareTable,
+        clock: &Clock,
+        piece: &[u8],
+        strikes: bool,
+        reported: &mut String,
+    ) -> Result<(), NoMemory>
+        requires clock { clock.now ≡ table.now.zone }
+        requires fed { (good : List ATap) × (text written : List ℕ)
+            × HasChecked table.now strikes good self.old text written }
+        ensures all { is_all self.new ≡ is_all self.old }
+        ensures fed { OnOk result ((good : List ATap) (text written : List ℕ)
+            → HasChecked table.now strikes good self.old text written → (more : List ℕ)
+            × (string_bytes reported.new ≡ string_bytes reported.old ++ more)
+            × HasChecked table.now strikes good self.new (text ++ piece.now) (written ++ more)) }
+    {
+        match self {
+            Check::First(checker, balance, verdict) => {
+                if verdict.is_none() {
+                    *verdict = checker.feed(table, clock, piece, balance)?;
+                }
+                Ok(())
+            }
+            Check::All(recount, full) => {
+                recount.feed(table, clock, piece, strikes, full, reported)?;
+                Ok(())
+            }
+        }
+    }
+
+    /// Ends the ledger, and appends the rest of what is found of its lines and, if there are
+    /// uploads, of their taps.
+    pub(crate) fn finish(
+        &self,
+        alloc: Global,
+        strikes: bool,
+        live: bool,
+        reported: &mut String,
+    ) -> Result<Found, NoMemory>
+        requires fed { (fares : Fares) × (good : List ATap) × (text written : List ℕ)
+            × HasChecked fares strikes good self.now text written }
+        ensures found { IfOk result (λ found. (fares : Fares) (good : List ATap)
+            (text written : List ℕ) → HasChecked fares strikes good self.now text written
+            → (more : List ℕ) × (string_bytes reported.new ≡ string_bytes reported.old ++ more)
+            × IsFindingOf (is_all self.now) live fares text (if strikes then Some good else None)
+            (written ++ more) found.is_sound
+            × ((found.is_legal ≡ true) ↔ IsLedger fares text)) }
+        ensures decided { IfOk result
+            (λ found. is_decided self.now ≡ true → found.is_legal ≡ false) }
+    {
+        match self {
+            Check::First(checker, balance, verdict) => {
+                let found = first_found(checker, balance, verdict, strikes, live, reported)?;
+                Ok(found)
+            }
+            Check::All(recount, full) => {
+                let found = full_finding(alloc, recount, full, strikes, live, reported)?;
+                Ok(found)
+            }
+        }
+    }
+}
+
+/// Whether the verdict is `legal`.
+fn is_legal(verdict: &Verdict) -> bool
+    ensures { result ≡ is_legal verdict.now }
+{
+    matches!(verdict, Verdict::Legal(_, _))
+}
+
+/// Whether a line of the legal ledger is earlier than the line before it.
+fn has_early(verdict: &Verdict) -> bool
+    ensures { result ≡ is_some (early_in verdict.now) }
+{
+    match verdict {
+        Verdict::Legal(_, early) => early.is_some(),
+        Verdict::Wants(_, _) | Verdict::NoLine(_) => false,
+    }
+}
+
+/// Whether one of both holds.
+pub(crate) fn is_either(live: bool, is_settled: bool) -> bool
+    ensures { result ≡ (live || is_settled) }
+{
+    live || is_settled
+}
+
+/// Whether both are right.
+pub(crate) fn are_both(is_sound: bool, fits: bool) -> bool
+    ensures { result ≡ (is_sound && fits) }
+{
+    is_sound && fits
+}
+
+/// Whether there is no difference.
+fn is_even(difference: &Option<Difference>) -> bool
+    ensures { result ≡ agrees difference.now }
+{
+    difference.is_none()
+}
+
+/// Appends what is found of the verdict and, if it is legal and there are uploads, of their taps.
+fn finding(
+    verdict: &Verdict,
+    balance: &Balance,
+    strikes: bool,
+    live: bool,
+    reported: &mut String,
+) -> Result<Found, AllocError>
+    ensures found { IfOk result (λ found. (fares : Fares) (text : List ℕ) (good : List ATap)
+        → IsVerdict fares text verdict.now
+        → (IsTrue (is_legal verdict.now) → (entries : List Entry) → IsLedgerOf fares entries text
+        → IsBalance balance.now good (map tap_of_entry entries))
+        → (more : List ℕ) × (string_bytes reported.new ≡ string_bytes reported.old ++ more)
+        × IsFinding live fares text (if strikes then Some good else None) more found.is_sound) }
+    ensures legal { IfOk result (λ found. found.is_legal ≡ is_legal verdict.now) }
+{
+    write_verdict(reported, verdict)?;
+    if !is_legal(verdict) {
+        return Ok(Found {
+            is_sound: false,
+            is_legal: false,
+        });
+    }
+    let in_order = is_either(live, !has_early(verdict));
+    if !strikes {
+        return Ok(Found {
+            is_sound: in_order,
+            is_legal: true,
+        });
+    }
+    let difference = balance.difference();
+    write_difference(reported, &difference)?;
+    Ok(Found {
+        is_sound: are_both(is_even(&difference), in_order),
+        is_legal: true,
+    })
+}
+
+/// Appends what is found up to the first wrong line, or of all lines, if none is.
+fn first_found(
+    checker: &Checker,
+    balance: &Balance,
+    verdict: &Option<Verdict>,
+    strikes: bool,
+    live: bool,
+    reported: &mut String,
+) -> Result<Found, AllocError>
+    requires { (fares : Fares) × (good : List ATap) × (text written : List ℕ)
+        × HasChecked fares strikes good (Check.First checker.now balance.now verdict.now) text
+        written }
+    ensures found { IfOk result (λ found. (fares : Fares) (good : List ATap)
+        (text written : List ℕ)
+        → HasChecked fares strikes good (Check.First checker.now balance.now verdict.now) text
+        written → (more : List ℕ)
+        × (string_bytes reported.new ≡ string_bytes reported.old ++ more)
+        × IsFinding live fares text (if strikes then Some good else None) (written ++ more)
+        found.is_sound × ((found.is_legal ≡ true) ↔ IsLedger fares text)) }
+    ensures decided { IfOk result (λ found. is_some verdict.now ≡ true
+        → ((fares : Fares) × (good : List ATap) × (text written : List ℕ)
+        × HasChecked fares strikes good (Check.First checker.now balance.now verdict.now) text
+        written) → found.is_legal ≡ false) }
+{
+    // proof: the verdict is `legal` exactly if the text is a ledger
+    verdicts_decide();
+    match verdict {
+        Some(verdict) => {
+            let found = finding(verdict, balance, strikes, live, reported)?;
+            Ok(found)
+        }
+        None => {
+            let verdict = checker.finish();
+            let found = finding(&verdict, balance, strikes, live, reported)?;
+            Ok(found)
+        }
+    }
+}
+
+/// Appends how the taps that the lines name differ from those of the uploads, if there are uploads.
+/// Says whether they are the same.
+fn write_lacking(
+    alloc: Global,
+    full: &FullBalance,
+    strikes: bool,
+    reported: &mut String,
+) -> Result<bool, AllocError>
+    ensures { IfOk result (λ even. (rest : List ℕ)
+        × (string_bytes reported.new ≡ string_bytes reported.old ++ rest)
+        × ((good taps : List ATap) (legal : Bool)
+        → (strikes ≡ true → IsFullBalance full.now good taps)
+        → IsDifferencesEnd (if strikes then Some good else None) taps legal rest (legal && even))) }
+{
+    if !strikes {
+        return Ok(true);
+    }
+    let missing = full.missing(alloc)?;
+    let surplus = full.surplus(alloc)?;
+    let missing_taps = missing.as_slice();
+    let surplus_taps = surplus.as_slice();
+    write_differences(reported, missing_taps, surplus_taps)?;
+    Ok(are_none(missing_taps, surplus_taps))
+}
+
+/// Appends the rest of what is found of all lines and, if there are uploads, of their taps.
+fn full_finding(
+    alloc: Global,
+    recount: &Recount,
+    full: &FullBalance,
+    strikes: bool,
+    live: bool,
+    reported: &mut String,
+) -> Result<Found, AllocError>
+    ensures { IfOk result (λ found. (fares : Fares) (good : List ATap) (text written : List ℕ)
+        → HasRecounted fares recount.now strikes full.now text written good → (more : List ℕ)
+        × (string_bytes reported.new ≡ string_bytes reported.old ++ more)
+        × IsFullFinding live fares text (if strikes then Some good else None) (written ++ more)
+        found.is_sound × ((found.is_legal ≡ true) ↔ IsLedger fares text)) }
+{
+    // proof: no line is wrong exactly if the text is a ledger
+    recounts_decide();
+    let recounted = recount.finish(reported)?;
+    let is_even = write_lacking(alloc, full, strikes, reported)?;
+    let in_order = is_either(live, recounted.is_settled);
+    let is_right = are_both(recounted.is_legal, is_even);
+    Ok(Found {
+        is_sound: are_both(is_right, in_order),
+        is_legal: recounted.is_legal,
+    })
+}

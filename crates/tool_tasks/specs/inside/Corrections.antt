@@ -1,0 +1,26 @@
+-- What `corrections` has given at each of its stages.
+use Rattle.std.specs.Prelude.{◌≡◌, ◌≤◌, ℕ, List, [], Option, Some, Err}
+use Rattle.frame.specs.Ends.{Answer, no_answer}
+use Rattle.ledger_changes.specs.Given.{HasGiven}
+use Rattle.ledger_changes.specs.Ledgers.{rows_of}
+use Rattle.ledger_changes.specs.Tokens.{corrections_of}
+use Rattle.tool_tasks.specs.Corrections.{IsAnswer, OfKnown, of_bill}
+use Rattle.tool_tasks.specs.declared.corrections.Stage.{Stage}
+use Rattle.tool_tasks.specs.declared.corrections.Stage.TheVariants.{Unopened, End, Given, Going, Wrong}
+use Rattle.tool_words.specs.Asked.{CorrectionsAsked}
+
+-- What was given at a stage, of ledgers whose readers have this left.
+abbrev pub HasGivenAt : {T : Type 0} → (T → Option (List ℕ)) → (List ℕ → Option (List ℕ))
+    → CorrectionsAsked → Stage T → Answer → Type 0
+HasGivenAt remaining bytes_under asked Unopened a = a ≡ no_answer
+HasGivenAt remaining bytes_under asked (Going c) a =
+    (a.note ≡ []) × OfKnown bytes_under asked (λ old new.
+    HasGiven remaining c asked.is_by_token (rows_of old) (rows_of new) a.text)
+HasGivenAt remaining bytes_under asked (Given removed) a =
+    (a.note ≡ []) × OfKnown bytes_under asked (λ old new.
+    corrections_of asked.is_by_token old new ≡ Some (a.text, removed))
+HasGivenAt remaining bytes_under asked (Wrong bill number why) a =
+    (a.note ≡ []) × OfKnown bytes_under asked (λ old new.
+    rows_of (of_bill old new bill) ≡ Err (number, why))
+HasGivenAt remaining bytes_under asked (End status) a =
+    (status ≤ 1) × OfKnown bytes_under asked (IsAnswer asked a status)
