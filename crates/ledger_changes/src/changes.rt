@@ -22,7 +22,7 @@ use std::alloc::{AllocError, Global};
 use std::io::BufRead;
 use std::mem;
 
-/// At how many bytes a piece is given.
+/// How many bytes make a piece.
 const PIECE_BYTES: usize = 65_536;
 
 const HEAD_LINE: &[u8] =
@@ -42,7 +42,7 @@ pub fn corrections_head(is_by_token: bool) -> &'static [u8]
     }
 }
 
-/// The number of removed lines, with this correction. None beyond 2^64 - 1, which no ledger reaches.
+/// `None` beyond 2^64 - 1, which no ledger reaches.
 fn count_removed(removed: u64, pair: &LinePair) -> Option<u64>
     ensures { IfSome result (λ counted. counted ≡ removed + removed_in (pair_of pair.now ∷ [])) }
 {
@@ -52,8 +52,8 @@ fn count_removed(removed: u64, pair: &LinePair) -> Option<u64>
     }
 }
 
-/// Appends the line of the correction, or adds it to the sums of its token: if the open sums are of
-/// another token, their line is appended, and new ones begin.
+/// Appends the correction's line, or adds it to the sums of its token: the open sums of another
+/// token are appended, and new ones begin.
 fn push_change(
     alloc: Global,
     is_by_token: bool,
@@ -81,13 +81,11 @@ fn push_change(
 /// What is known of the pairs so far.
 #[derive(Drop)]
 struct Tally {
-    /// How many lines are removed.
     removed: u64,
     /// The open sums of a token.
     last: Option<TokenSums>,
 }
 
-/// Appends what the pair brings, if it is a correction.
 fn take_pair(
     alloc: Global,
     is_by_token: bool,
@@ -118,8 +116,8 @@ fn take_pair(
     }
 }
 
-/// Appends the lines of the next corrections, until they are a piece or none is left. At the end it
-/// gives how many lines are removed.
+/// Appends the next corrections until they are a piece. At the end it gives how many lines are
+/// removed.
 fn push_changes<R: BufRead + Drop>(
     alloc: Global,
     is_by_token: bool,
@@ -156,10 +154,9 @@ fn push_changes<R: BufRead + Drop>(
     Ok(None)
 }
 
-/// The corrections from the one settled ledger to the other, given in pieces: the header line, and a
-/// line for each line of either that is charged otherwise in the other; or, by token, a line for
-/// each token that has a correction. The ledgers are read side by side, a row of each and the sums
-/// of one token in memory.
+/// The corrections from one settled ledger to another, in pieces: the header line, and a line for
+/// each line of either that the other charges otherwise; or, by token, a line for each token with a
+/// correction. Both are read side by side: a row of each and the sums of one token are in memory.
 #[derive(Drop)]
 pub struct Corrections<R: BufRead + Drop> {
     is_by_token: bool,
@@ -180,7 +177,8 @@ impl<R: BufRead + Drop> Corrections<R> {
             → R.remaining old ≡ Some old_text → R.remaining new ≡ Some new_text
             → HasGiven R.remaining corrections is_by_token (rows_of old_text) (rows_of new_text)
             (head_of is_by_token)) }
-        // The line that is refused is the first wrong one of its ledger, for the reason of the fault.
+        // The line that is refused is the first wrong one of its ledger, for the reason of the
+        // fault.
         ensures wrong { IfErr result (λ fault. (old_text new_text : List ℕ)
             → R.remaining old ≡ Some old_text → R.remaining new ≡ Some new_text
             → NamesFirstWrong old_text new_text fault) }
@@ -198,9 +196,9 @@ impl<R: BufRead + Drop> Corrections<R> {
         })
     }
 
-    /// Appends the next lines, some 64 KiB of them, and gives none; or the last lines, and gives how
-    /// many lines are removed: the old ledger has them, and the new one does not. After a fault of a
-    /// line, the lines before it were appended.
+    /// Appends the next lines, some 64 KiB of them, and gives none; or the last ones, and gives how
+    /// many lines are removed: only the old ledger has them. A fault of a line comes after the
+    /// lines before it.
     pub fn next(
         &mut self,
         alloc: Global,

@@ -11,7 +11,6 @@ use crate::row::LineCharge;
 use itoa::Buffer;
 use std::alloc::{AllocError, Global};
 
-/// What was done to the line.
 fn change_word(before: &Option<LineCharge>, after: &Option<LineCharge>) -> &'static [u8]
     ensures { result.now
         ≡ change_word (option_map charge_of before.now) (option_map charge_of after.now) }
@@ -23,7 +22,6 @@ fn change_word(before: &Option<LineCharge>, after: &Option<LineCharge>) -> &'sta
     }
 }
 
-/// The cents of a line, and 0 if there is no line.
 pub(crate) fn cents_of(charge: &Option<LineCharge>) -> u32
     ensures { result ≡ cents_of (option_map charge_of charge.now) }
 {
@@ -33,7 +31,6 @@ pub(crate) fn cents_of(charge: &Option<LineCharge>) -> u32
     }
 }
 
-/// Appends a comma and the field.
 fn write_field(text: &mut Vec<u8>, field: &[u8]) -> Result<(), AllocError>
     ensures { OnOk result (text.new.items ≡ text.old.items ++ (codes "," ++ field.now)) }
 {
@@ -42,7 +39,6 @@ fn write_field(text: &mut Vec<u8>, field: &[u8]) -> Result<(), AllocError>
     Ok(())
 }
 
-/// Appends a comma and the number.
 pub(crate) fn write_number(text: &mut Vec<u8>, number: u64) -> Result<(), AllocError>
     ensures { OnOk result (text.new.items ≡ text.old.items ++ (codes "," ++ decimal number)) }
 {
@@ -50,7 +46,7 @@ pub(crate) fn write_number(text: &mut Vec<u8>, number: u64) -> Result<(), AllocE
     write_field(text, buffer.format(number).as_bytes())
 }
 
-/// Appends the answer, the cents and the reason of a line; three empty fields if there is none.
+/// Three empty fields if there is no line.
 fn write_charge(text: &mut Vec<u8>, charge: &Option<LineCharge>) -> Result<(), AllocError>
     ensures { OnOk result (text.new.items ≡ text.old.items
         ++ charge_fields (option_map charge_of charge.now)) }
@@ -65,7 +61,6 @@ fn write_charge(text: &mut Vec<u8>, charge: &Option<LineCharge>) -> Result<(), A
     }
 }
 
-/// Appends a comma and what the cents of a line are more than before.
 pub(crate) fn write_difference(
     text: &mut Vec<u8>,
     before: u64,
@@ -83,7 +78,6 @@ pub(crate) fn write_difference(
     }
 }
 
-/// The line of the correction.
 #[tactic(auto, unfolding(crate::specs::Texts::correction_line))]
 pub(crate) fn correction_line(alloc: Global, pair: &LinePair) -> Result<Vec<u8>, AllocError>
     ensures { IfOk result (λ line. line.items ≡ correction_line (pair_of pair.now)) }

@@ -1,4 +1,4 @@
-//! Why corrections are given up.
+//! Why corrections are aborted.
 
 use std::alloc::{AllocError, AllocFailed};
 
@@ -20,14 +20,14 @@ pub enum WrongLine {
     Order,
 }
 
-/// Why corrections are given up.
+/// Why corrections are aborted.
 #[derive(Clone, Copy, Debug, PartialEq, Eq)]
 pub enum CorrectionsFault {
     /// In this bill's ledger the line of this number, from 1, is the first wrong one.
     Line(Bill, u64, WrongLine),
     /// A read of this bill's ledger failed, or the number of a line exceeds 64 bits.
     Unread(Bill),
-    /// A growth of memory was refused, or a sum exceeds 64 bits, which no ledger reaches.
+    /// An allocation failed, or a sum exceeds 64 bits, which no ledger reaches.
     NoMemory,
 }
 

@@ -15,7 +15,6 @@ use std::alloc::{AllocError, Global};
 /// The corrections of one token, summed.
 #[derive(Drop)]
 pub(crate) struct TokenSums {
-    /// The token's digits.
     token: Vec<u8>,
     /// How many lines only the new bill has.
     added: u64,
@@ -29,7 +28,7 @@ pub(crate) struct TokenSums {
     after: u64,
 }
 
-/// Whether the first bill has the line, and the second has none beside it.
+/// Whether only the first bill has the line.
 fn is_only_before(before: &Option<LineCharge>, after: &Option<LineCharge>) -> bool
     ensures { result
         ≡ is_only_before (option_map charge_of before.now) (option_map charge_of after.now) }
@@ -51,7 +50,6 @@ fn is_in_both(before: &Option<LineCharge>, after: &Option<LineCharge>) -> bool
 }
 
 impl TokenSums {
-    /// The sums of no correction of this token.
     fn begin(alloc: Global, token: &[u8]) -> Result<TokenSums, AllocError>
         ensures { IfOk result (λ sums. token_sum_of sums ≡ no_sums token.now) }
     {
@@ -72,7 +70,7 @@ impl TokenSums {
         self.token.as_slice().cmp(token).is_eq()
     }
 
-    /// The sums with the correction. No ledger is so long that there are none.
+    /// No ledger is so long that there are none.
     pub(crate) fn with(self, pair: &LinePair) -> Option<TokenSums>
         ensures { IfSome result (λ sums. token_sum_of sums
             ≡ add_changes (token_sum_of self) (pair_of pair.now ∷ [])) }
@@ -108,7 +106,6 @@ impl TokenSums {
     }
 }
 
-/// Appends the line of these sums, if there are some.
 pub(crate) fn push_sums(
     alloc: Global,
     sums: &Option<TokenSums>,
@@ -126,8 +123,7 @@ pub(crate) fn push_sums(
     }
 }
 
-/// The open sums, if they are the token's. Else their line is appended, and sums of no correction
-/// begin.
+/// The open sums, if they are the token's. Else their line is appended, and new ones begin.
 pub(crate) fn sums_for(
     alloc: Global,
     last: Option<TokenSums>,
