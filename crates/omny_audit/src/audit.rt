@@ -26,11 +26,10 @@ use tap_views::{NoMemory, UploadEnd};
 #[derive(Drop)]
 pub(crate) struct Audit<'a> {
     pub(crate) table: &'a FareTable,
-    /// The clock of the table.
     pub(crate) clock: &'a Clock,
-    /// Whether a ledger that is not settled is well.
+    /// Whether a ledger that is not settled is right.
     pub(crate) live: bool,
-    /// Whether uploads are named, so that the taps of the ledger are struck out.
+    /// Whether uploads are named, so that the taps of the ledger are subtracted.
     pub(crate) strikes: bool,
     /// How the uploads end, if uploads are named.
     pub(crate) ends: Option<&'a [UploadEnd]>,
@@ -43,8 +42,7 @@ pub(crate) struct Audit<'a> {
 }
 
 impl Audit<'_> {
-    /// Checks what was read of the last piece, adds it to the sums, and appends what is reported
-    /// of it.
+    /// Adds what was read of the last piece to the sums, and appends what is reported of it.
     fn take(&mut self, alloc: Global, reported: &mut String) -> Result<(), NoMemory>
         requires { (good : List TapFields) × (text written : List ℕ)
             × HasTaken self.old good text written }
@@ -62,7 +60,6 @@ impl Audit<'_> {
         Ok(())
     }
 
-    /// Reads the next piece of the file, and appends what is reported of it.
     fn read(&mut self, alloc: Global, piece: &[u8], reported: &mut String) -> Result<(), NoMemory>
         requires { (good : List TapFields) × (file written : List ℕ)
             × HasAudited self.old good file written }
@@ -77,7 +74,6 @@ impl Audit<'_> {
         Ok(())
     }
 
-    /// Ends the file, and appends what is reported of what its end leaves.
     fn read_end(&mut self, alloc: Global, reported: &mut String) -> Result<(), NoMemory>
         requires { (good : List TapFields) × (file written : List ℕ)
             × HasAudited self.old good file written }
@@ -92,8 +88,7 @@ impl Audit<'_> {
         Ok(())
     }
 
-    /// What is found of the ledger after what was reported of its last piece, and whether all is
-    /// well.
+    /// Returns whether all is right.
     fn end(&mut self, alloc: Global, mut reported: String) -> Result<(Vec<u8>, bool), NoMemory>
         requires { (good : List TapFields) × (file written : List ℕ)
             × HasEnded self.old good file written }
@@ -114,9 +109,8 @@ impl Audit<'_> {
         Ok((text, are_both(found.is_sound, is_behind)))
     }
 
-    /// Reads the next piece of the file, which is its end if there are no bytes. Gives what is
-    /// reported of it and, if that is the end of what is found, whether all is well: behind the
-    /// first wrong line nothing is read.
+    /// A piece without bytes is the file's end. At the end of the finding, returns whether all is
+    /// right: after the first wrong line nothing is read.
     fn next(&mut self, alloc: Global, piece: &[u8]) -> Result<(Vec<u8>, Option<bool>), NoMemory>
         requires { (good : List TapFields) × (file written : List ℕ)
             × HasAudited self.old good file written }
@@ -139,8 +133,8 @@ impl Audit<'_> {
     }
 }
 
-/// Audits what the ledger has left, and writes the finding, as it comes if all wrong lines are
-/// asked for. Says whether all is well. It keeps no more of the ledger than one read gives.
+/// Writes the finding as it comes, if all wrong lines are requested. Returns whether all is right.
+/// No more of the ledger than one read is in memory.
 pub(crate) fn audit_over<'a, S: Source, W: Write>(
     alloc: Global,
     source: &mut S,

@@ -37,12 +37,11 @@ pub(crate) struct Found {
 pub(crate) enum Check {
     /// Up to the first wrong line, of which it has the verdict.
     First(Checker, Balance, Option<Verdict>),
-    /// All lines.
     All(Recount, FullBalance),
 }
 
 impl Check {
-    /// Nothing was read. The taps of the ledger are to be struck out of the balance.
+    /// The taps of the ledger are to be subtracted from the balance.
     pub(crate) fn new(alloc: Global, all: bool, balance: Balance) -> Check
         ensures all { is_all result ≡ all }
         ensures checked { (fares : Fares) (strikes : Bool) (good : List ATap)
@@ -55,7 +54,6 @@ impl Check {
         }
     }
 
-    /// Whether all lines are checked.
     pub(crate) fn is_all(&self) -> bool
         ensures { result ≡ is_all self.now }
     {
@@ -75,8 +73,7 @@ impl Check {
         }
     }
 
-    /// Reads the next piece of the ledger, and appends what is reported of its lines. The taps are
-    /// struck out, if there are uploads.
+    /// Appends what is reported of the lines. The taps are subtracted, if there are uploads.
     pub(crate) fn feed(
         &mut self,
         table: &FareTable,
@@ -108,8 +105,7 @@ impl Check {
         }
     }
 
-    /// Ends the ledger, and appends the rest of what is found of its lines and, if there are
-    /// uploads, of their taps.
+    /// Appends the rest of what is found of the lines and, if there are uploads, of their taps.
     pub(crate) fn finish(
         &self,
         alloc: Global,
@@ -141,14 +137,12 @@ impl Check {
     }
 }
 
-/// Whether the verdict is `legal`.
 fn is_legal(verdict: &Verdict) -> bool
     ensures { result ≡ is_legal verdict.now }
 {
     matches!(verdict, Verdict::Legal(_, _))
 }
 
-/// Whether a line of the legal ledger is earlier than the line before it.
 fn has_early(verdict: &Verdict) -> bool
     ensures { result ≡ is_some (early_in verdict.now) }
 {
@@ -158,28 +152,24 @@ fn has_early(verdict: &Verdict) -> bool
     }
 }
 
-/// Whether one of both holds.
 pub(crate) fn is_either(live: bool, is_settled: bool) -> bool
     ensures { result ≡ (live || is_settled) }
 {
     live || is_settled
 }
 
-/// Whether both are right.
 pub(crate) fn are_both(is_sound: bool, fits: bool) -> bool
     ensures { result ≡ (is_sound && fits) }
 {
     is_sound && fits
 }
 
-/// Whether there is no difference.
 fn is_even(difference: &Option<Difference>) -> bool
     ensures { result ≡ agrees difference.now }
 {
     difference.is_none()
 }
 
-/// Appends what is found of the verdict and, if it is legal and there are uploads, of their taps.
 fn finding(
     verdict: &Verdict,
     balance: &Balance,
@@ -217,7 +207,6 @@ fn finding(
     })
 }
 
-/// Appends what is found up to the first wrong line, or of all lines, if none is.
 fn first_found(
     checker: &Checker,
     balance: &Balance,
@@ -256,8 +245,7 @@ fn first_found(
     }
 }
 
-/// Appends how the taps that the lines name differ from those of the uploads, if there are uploads.
-/// Says whether they are the same.
+/// Returns whether the taps are the same.
 fn write_lacking(
     alloc: Global,
     full: &FullBalance,
@@ -281,7 +269,6 @@ fn write_lacking(
     Ok(are_none(missing_taps, surplus_taps))
 }
 
-/// Appends the rest of what is found of all lines and, if there are uploads, of their taps.
 fn full_finding(
     alloc: Global,
     recount: &Recount,

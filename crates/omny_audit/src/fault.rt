@@ -1,4 +1,4 @@
-//! Why the program gives up, with the line that says so.
+//! Why the program fails, with the line that says so.
 ghost use Rattle.std.specs.Prelude.{◌≡◌, Some};
 ghost use Rattle.omny_audit.specs.Fault.{audit_fault_text, is_quiet};
 ghost use Rattle.omny_audit.specs.inside.Fault.{IsWriteFault, unloaded_as};
@@ -10,7 +10,7 @@ use program_manners::{
 };
 use std::fmt;
 
-/// The line of a word of a fare table that has a wrong date, or none if one is wanted.
+/// The line of a word of a fare table that has a wrong date, or lacks one.
 #[derive(Clone, Copy, Debug)]
 pub(crate) struct DateLine<'a>(pub(crate) WrongWord<'a>);
 
@@ -20,16 +20,16 @@ impl fmt::Display for DateLine<'_> {
     }
 }
 
-/// Why the program gives up. Its `Display` is the fault line without its newline.
+/// Why the program fails. Its `Display` is the fault line without its line feed.
 #[derive(Clone, Copy, Debug)]
 pub(crate) enum Fault<'a> {
     /// A file was not loaded, or the ledger not opened.
     File(FileFault<'a>),
     /// A read of the ledger failed.
     Ledger,
-    /// The fare table's text is no table.
+    /// The fare table's text is not a fare table.
     Table(TableFault),
-    /// The text of one of several fare tables is no table.
+    /// The text of one of several fare tables is not a fare table.
     NamedTable(NamedTableLine<'a>),
     /// A fare table cannot follow those before it.
     Follow(FollowLine<'a>),
@@ -39,17 +39,15 @@ pub(crate) enum Fault<'a> {
     ClassName,
     /// The text of one of several fare tables names a class that no traced ledger can have.
     NamedClass(NamedClassLine<'a>),
-    /// A write failed.
     Write,
-    /// Who reads the text has closed it.
+    /// The reader of the text is gone.
     Closed,
-    /// A growth of memory was refused.
+    /// An allocation failed.
     NoMemory,
 }
 
 impl<'a> Fault<'a> {
-    /// Why a write failed, that ended so. Nothing is reported of it exactly if whoever reads the
-    /// text has closed it.
+    /// Nothing is reported of it exactly if the reader of the text is gone.
     pub(crate) fn of_end(end: WriteEnd) -> Fault<'a>
         ensures { IsWriteFault (Some end) result }
     {
@@ -59,7 +57,6 @@ impl<'a> Fault<'a> {
         }
     }
 
-    /// Why fare tables were not loaded.
     pub(crate) fn of_tables(fault: TablesFault<'a>) -> Fault<'a>
         ensures { result ≡ unloaded_as fault.entry }
     {
@@ -72,7 +69,7 @@ impl<'a> Fault<'a> {
         }
     }
 
-    /// Whether who reads the text has closed it, so that nothing is reported.
+    /// Whether the reader of the text is gone, so that nothing is reported.
     pub(crate) fn is_quiet(&self) -> bool
         ensures { result ≡ is_quiet self.now }
     {

@@ -1,4 +1,4 @@
-//! The ledger, read from its beginning.
+//! The ledger, read from its start.
 
 ghost use Rattle.std.specs.Prelude.{◌≡◌, ◌⊎◌, ◌≤◌, IfErr, IfOk, OnErr, Option, codes, length};
 ghost use Rattle.std.specs.Prelude.{option_map, unwrap_or};
@@ -19,22 +19,20 @@ use std::alloc::Global;
 use std::io;
 use std::io::Read;
 
-/// How many bytes one read asks for.
+/// How many bytes one read requests.
 pub(crate) const PIECE_BYTES: usize = 65_536;
 
-/// A ledger that is read again from its beginning: first the bytes that were read of it, and then
-/// the rest.
+/// A ledger that is read again from its start: first the bytes that were read of it, and then the
+/// rest.
 #[derive(Drop)]
 pub(crate) struct WholeLedger<'a, L: Drop> {
     /// Its name. Standard input has none.
     pub(crate) name: Option<&'a str>,
     /// The bytes that were read, but for those that were given again.
     pub(crate) head: &'a [u8],
-    /// What is read behind them.
     pub(crate) rest: L,
 }
 
-/// Reads on in the ledger, which the source opened.
 pub(crate) fn read_on<S: Source>(
     source: &mut S,
     ledger: &mut WholeLedger<'_, S::Ledger>,
@@ -55,7 +53,6 @@ pub(crate) fn read_on<S: Source>(
     source.read_ledger(ledger.name, &mut ledger.rest, piece)
 }
 
-/// The ledger of this name, or standard input if none is named.
 pub(crate) fn open_ledger<'a, S: Source>(
     name: Option<&'a str>,
     source: &mut S,
@@ -74,7 +71,7 @@ pub(crate) fn open_ledger<'a, S: Source>(
     }
 }
 
-/// The first bytes of the ledger of this name, which show whether it is a traced one.
+/// The first bytes show whether it is a traced ledger.
 pub(crate) fn read_head<S: Source>(
     alloc: Global,
     name: Option<&str>,

@@ -1,21 +1,6 @@
-//! The program for auditors: checks a ledger under a fare table, and says whether it is, whole, the
-//! ledger of legal histories, or which of its lines is the first that no such ledger has there; and
-//! whether its taps are those of some uploads, and a report its own.
-//!
-//! | module | what it does |
-//! |---|---|
-//! | `audit` | the audit of a ledger that comes in pieces |
-//! | `check` | its lines, up to the first wrong one, or all of them |
-//! | `report` | the report that is held beside the ledger |
-//! | `laws` | what follows of a finding |
-//! | `source` | where the table, the uploads, the report and the ledger come from |
-//! | `files` | the files and the standard input of the system as a source |
-//! | `ledger` | the ledger, read from its beginning |
-//! | `options` | the words of the command line, as `clap` reads them |
-//! | `text` | the lines of a finding |
-//! | `traced` | a traced ledger, read as a ledger, and its columns |
-//! | `fault` | why the program gives up, and the line that says so |
-//! | `program` | the whole |
+//! The program for auditors: checks a ledger under a fare table. It says whether the whole is the
+//! ledger of legal histories, or which line is the first that no such ledger has there; and whether
+//! its taps are those of some uploads, and a report its own.
 #![tactic(auto)]
 
 mod audit;
@@ -39,8 +24,8 @@ use std::io::{IsTerminal, Write};
 use std::process::ExitCode;
 use world::Recorded;
 
-/// The words of the command line with the names of the list that they name, if they name one. The
-/// error is the status, when it was reported why there are none.
+/// The words, with the names of the list that they name. On an error it was reported, and the error
+/// is the status.
 fn words_with_list<E: Write>(rt: &HostRuntime, err: &mut Complaints<E>) -> Result<Vec<String>, u8> {
     let words = match words_of(rt) {
         Ok(words) => words,
@@ -51,14 +36,13 @@ fn words_with_list<E: Write>(rt: &HostRuntime, err: &mut Complaints<E>) -> Resul
     Ok(more.unwrap_or(words))
 }
 
-/// Says on the standard error that the ledger is read from the terminal, if no file of it is named.
+/// A person at a terminal sees what is waited for, if no file of the ledger is named.
 fn note_input(rt: &HostRuntime, words: &[String]) {
     if rt.reader().is_terminal() && reads_input(rt.alloc(), words) {
         Complaints::new(rt.stderr()).report_line("reading the ledger from the standard input");
     }
 }
 
-/// The program.
 fn main(rt: HostRuntime) -> ExitCode {
     let mut err = Complaints::new(Escaping::new(rt.stderr()));
     let status = match words_with_list(&rt, &mut err) {

@@ -16,7 +16,6 @@ use program_manners::{
 };
 use std::alloc::{AllocError, Global};
 
-/// What the program is for, as the help says it first.
 const ABOUT: &str = "Checks a ledger under a fare table, and against uploads.
 
 A ledger has a head line, and for each token, rising, a line for each of its taps: what it cost and
@@ -27,7 +26,6 @@ With --report the report must be that of its sums, and of the uploads. With --al
 the first wrong line. Of a traced ledger the classes are checked too, and with --uploads the places
 of the taps.";
 
-/// What the help says last: what is printed, and the exit status.
 const NOTES: &str = "What is printed:
   legal N lines, settled     the text is, whole, a ledger; N does not count the head line
   legal N lines, not settled: line L is earlier than the line before
@@ -83,45 +81,38 @@ Exit status:
      the standard error tells
   2  the command line is wrong";
 
-/// What the words ask for.
+/// What the words request.
 #[derive(Drop)]
 pub(crate) struct Options<'a> {
     /// The words of the fare table and of those that follow it.
     pub(crate) table: TableWords<'a>,
-    /// Whether all wrong lines are asked for.
+    /// Whether all wrong lines are requested.
     pub(crate) all: bool,
-    /// Whether a ledger that is not settled is well.
+    /// Whether a ledger that is not settled is right.
     pub(crate) live: bool,
-    /// The files of the uploads whose taps the ledger should have; none asks for no such check.
+    /// The files of the uploads whose taps the ledger should have; none requests no such check.
     pub(crate) uploads: Vec<&'a str>,
-    /// The file of the report; none asks for no such check.
+    /// The file of the report; none requests no such check.
     pub(crate) report: Option<&'a str>,
-    /// The file of the ledger; none stands for standard input.
+    /// The file of the ledger; none represents standard input.
     pub(crate) ledger: Option<&'a str>,
 }
 
-/// The help of `--table`.
 const TABLE_HELP: &str =
     "The fare table, a TOML file; again, as G@2026-01-04, for the fares from that day on";
 
-/// The help of `--all`.
 const ALL_HELP: &str = "Print each wrong line, each missing and each surplus tap";
 
-/// The help of `--live`.
 const LIVE_HELP: &str = "Take a ledger that is not settled, as a run without --settle writes it";
 
-/// The help of `--uploads`.
 const UPLOADS_HELP: &str =
     "Uploads of at most 67108864 bytes, whose taps the ledger should have; the list ends at the \
      next option, at --, or with the line";
 
-/// The help of `--report`.
 const REPORT_HELP: &str = "The report of the ledger, of at most 67108864 bytes";
 
-/// The help of the ledger.
 const LEDGER_HELP: &str = "The ledger, a CSV file of any length [default: standard input, as -]";
 
-/// `--table F`.
 fn table_arg<'a>(alloc: Global) -> Arg<'a>
     ensures rule { rule_of result ≡ required_table_option }
     ensures local { result.global ≡ false }
@@ -129,7 +120,6 @@ fn table_arg<'a>(alloc: Global) -> Arg<'a>
     repeated_arg(alloc, "table", "F", TABLE_HELP).required(true)
 }
 
-/// The command line, as clap reads it.
 fn command<'a>(alloc: Global) -> Result<Command<'a>, AllocError>
     ensures { IfOk result (λ command. app_of command ≡ audit_program) }
 {
@@ -148,7 +138,6 @@ fn command<'a>(alloc: Global) -> Result<Command<'a>, AllocError>
     add_list_args(alloc, command)?.arg(ledger)
 }
 
-/// The words read by clap.
 fn matched<'a>(alloc: Global, words: &'a [String]) -> Result<ArgMatches<'a>, Error>
     ensures rows { IfOk result (λ matches. rows_of (found_of matches)
         ≡ matches_of audit_program (map string_bytes words.entry.now)) }
@@ -163,7 +152,6 @@ fn unless_dash<'a>(name: &'a str) -> Option<&'a str>
     if name == "-" { None } else { Some(name) }
 }
 
-/// The file of the ledger, if one is named.
 fn ledger_in<'a>(named: Option<&'a str>) -> Option<&'a str>
     ensures { option_map (λ n. n.now) result
         ≡ option_and_then not_dash (option_map (λ n. n.now) named.entry) }
@@ -174,7 +162,7 @@ fn ledger_in<'a>(named: Option<&'a str>) -> Option<&'a str>
     }
 }
 
-/// These words of `--table`. There is one at least on each command line.
+/// Each command line has one at least.
 fn tables_of<'a>(alloc: Global, words: &[&'a str]) -> Result<TableWords<'a>, AllocError>
     ensures { IfOk result (λ tables. names_of tables
         ≡ tables_or_none (map (λ w. w.now) words.now)) }
@@ -189,7 +177,7 @@ fn tables_of<'a>(alloc: Global, words: &[&'a str]) -> Result<TableWords<'a>, All
 }
 
 impl<'a> Options<'a> {
-    /// What the words ask for; else clap's error, which may be a call for help.
+    /// What the words request; else clap's error, which may be a call for help.
     pub(crate) fn read(alloc: Global, words: &'a [String]) -> Result<Options<'a>, Error>
         ensures asked { IfOk result
             (λ options. audit_asked_of options
@@ -209,8 +197,7 @@ impl<'a> Options<'a> {
     }
 }
 
-/// Whether the words are a command line that names no file of the ledger, so that standard input is
-/// read.
+/// Whether the words are a command line that names no file of the ledger.
 pub(crate) fn reads_input(alloc: Global, words: &[String]) -> bool {
     match matched(alloc, words) {
         Ok(matches) => ledger_in(matches.get_str("LEDGER")).is_none(),
@@ -218,7 +205,7 @@ pub(crate) fn reads_input(alloc: Global, words: &[String]) -> bool {
     }
 }
 
-/// The list. The error is `InputTwice`: the list and the ledger are standard input.
+/// `InputTwice`, if the list and the ledger are standard input.
 fn unless_both_input<'a>(
     list: ListWords<'a>,
     ledger: Option<&'a str>,
@@ -233,8 +220,7 @@ fn unless_both_input<'a>(
     Ok(Some(list))
 }
 
-/// The list of uploads that clap's matches name, if they name one. The error is `NullAlone` or
-/// `InputTwice`.
+/// An error is `NullAlone` or `InputTwice`.
 fn list_in<'a>(matches: &ArgMatches<'a>) -> Result<Option<ListWords<'a>>, ListFault>
     ensures { IfOk result (λ list. option_map view_of list
         ≡ list_asked (rows_of (found_of matches.now))) }
@@ -249,13 +235,9 @@ fn list_in<'a>(matches: &ArgMatches<'a>) -> Result<Option<ListWords<'a>>, ListFa
     }
 }
 
-/// The list of uploads that the words name, if they name one. Words that are no command line name
-/// none: the program says why, or shows its help.
-///
-/// # Errors
-///
-/// `NullAlone`, if the words say what ends the names of a list and name none; `InputTwice`, if the
-/// list and the ledger are standard input; `NoMemory`.
+/// The list of uploads that the words name; words that are not a command line name none. An error
+/// is `NullAlone`, if they only say what ends its names, `InputTwice`, if the list and the ledger
+/// are standard input, or `NoMemory`.
 pub(crate) fn list_words<'a>(
     alloc: Global,
     words: &'a [String],

@@ -47,7 +47,6 @@ use std::io::Write;
 use std::random::RandomSource;
 use tap_views::{NoMemory, UploadEnd, facts_of};
 
-/// All bytes of the file of this name.
 fn load_named<'a, S: Source>(source: &mut S, name: &'a str) -> Result<Vec<u8>, FileFault<'a>>
     ensures ok { IfOk result (λ bytes. LoadsOne (S.loaded source.old) (S.loaded source.new)
         (Some name.entry.now) bytes.items) }
@@ -59,7 +58,7 @@ fn load_named<'a, S: Source>(source: &mut S, name: &'a str) -> Result<Vec<u8>, F
     }
 }
 
-/// All bytes of the upload of this name, which is no ledger.
+/// A ledger is refused as an upload.
 fn load_upload<'a, S: Source>(source: &mut S, name: &'a str) -> Result<Vec<u8>, Fault<'a>>
     ensures ok { IfOk result (λ bytes. LoadsOne (S.loaded source.old) (S.loaded source.new)
         (Some name.entry.now) bytes.items) }
@@ -77,7 +76,8 @@ fn load_upload<'a, S: Source>(source: &mut S, name: &'a str) -> Result<Vec<u8>, 
     Ok(upload)
 }
 
-/// The good taps of uploads: how often each is there, and by their places; and how the uploads end.
+/// The valid taps of uploads: how often each is there, and by their indexes; and how the uploads
+/// end.
 #[derive(Drop)]
 struct Uploads {
     balance: Balance,
@@ -85,7 +85,6 @@ struct Uploads {
     ends: Vec<UploadEnd>,
 }
 
-/// Adds the good taps of an upload, and how it ends.
 fn add_upload(alloc: Global, uploads: &mut Uploads, upload: &[u8]) -> Result<(), NoMemory>
     ensures { OnOk result ((files : List (List ℕ)) (good : List TapFields)
         (lists : List (List TapFields)) → AreUploads files good lists uploads.old
@@ -101,7 +100,7 @@ fn add_upload(alloc: Global, uploads: &mut Uploads, upload: &[u8]) -> Result<(),
     Ok(())
 }
 
-/// The uploads of these names. It holds one upload at a time.
+/// One upload is in memory at a time.
 fn load_uploads<'a, S: Source>(
     alloc: Global,
     names: &[&'a str],
@@ -130,14 +129,12 @@ fn load_uploads<'a, S: Source>(
     Ok(uploads)
 }
 
-/// The value, if it is kept.
 fn kept_if<T: Drop>(is_kept: bool, value: T) -> Option<T>
     ensures { result ≡ (if is_kept then Some value else None) }
 {
     if is_kept { Some(value) } else { None }
 }
 
-/// The report of the file of this name, if one is named.
 fn load_report<'a, R: RandomSource, S: Source>(
     rt: &R,
     alloc: Global,
@@ -164,8 +161,7 @@ fn load_report<'a, R: RandomSource, S: Source>(
     Ok(Some(held))
 }
 
-/// Why the names of the classes are not had. The texts were read as fare tables before, so that
-/// each is TOML and names a default class.
+/// The texts were read as fare tables before, so each is TOML and names a default class.
 fn of_names<'a>(words: &TableWords<'a>, wrong: WrongNames) -> Fault<'a>
     requires { wrong.place ≤ length (names_of words.now).later }
     ensures { IsNamedClass (names_of words.now) wrong.fault result }
@@ -181,8 +177,7 @@ fn of_names<'a>(words: &TableWords<'a>, wrong: WrongNames) -> Fault<'a>
     }
 }
 
-/// What reads the columns of the ledger that begins so, if it is a traced one, under the fare
-/// tables of these words, and beside the places of the uploads' taps, if there are uploads.
+/// None if the ledger is not traced. The indexes of taps are checked, if there are uploads.
 fn trace_of<'a>(
     alloc: Global,
     head: &[u8],
@@ -210,8 +205,8 @@ fn trace_of<'a>(
     }
 }
 
-/// Checks the ledger and writes the finding. Says whether all is well. The tables are loaded first,
-/// then the uploads and the report, and then the ledger is read.
+/// Returns whether all is right. The tables are loaded first, then the uploads and the report, and
+/// then the ledger is read.
 fn audit<'a, R: RandomSource, S: Source, W: Write>(
     rt: &R,
     alloc: Global,
@@ -286,7 +281,7 @@ fn audit<'a, R: RandomSource, S: Source, W: Write>(
     audit_over(alloc, source, &mut whole, &mut audit, out)
 }
 
-/// Says why the program gives up, unless the reader has gone, and gives the status.
+/// Nothing is reported if the reader is gone.
 fn report_fault<E: Write>(err: &mut Complaints<E>, fault: &Fault) -> u8
     ensures status { result ≡ 1 }
     ensures reported { IsFaultReported fault.now (E.contents err.old.writer)
@@ -298,8 +293,7 @@ fn report_fault<E: Write>(err: &mut Complaints<E>, fault: &Fault) -> u8
     1
 }
 
-/// Shows what clap answers when there is nothing to run: help and version on `out`, else the
-/// mistake on `err`.
+/// Help and version go to `out`, else the usage error to `err`.
 fn show<W: Write, E: Write>(
     alloc: Global,
     error: &Error,
@@ -323,8 +317,7 @@ fn show<W: Write, E: Write>(
     }
 }
 
-/// Flushes the output after the finding, or reports why there is none, and gives the status. A
-/// flush that fails is reported as a write is.
+/// Flushes the output after the finding. A flush that fails is reported as a write is.
 fn end_run<W: Write, E: Write>(
     ended: Result<bool, Fault<'_>>,
     out: &mut Output<W>,
@@ -365,10 +358,9 @@ fn end_run<W: Write, E: Write>(
     }
 }
 
-/// The whole program: reads the words, of which the first is the program's name, checks the ledger
-/// that they name, from the source, and writes the finding to `out`, mistakes and faults to `err`.
-/// Gives the status: 0 if all is well, 1 if it is not or something failed, 2 if the words are no
-/// command line.
+/// The whole program: reads the words, the program's name first, checks the ledger that they name,
+/// from the source, and writes the finding to `out`, usage errors and faults to `err`. The status
+/// is 0 if all is right, 1 if it is not or something failed, 2 if the words are not a command line.
 pub fn main_over<R: RandomSource, S: Source, W: Write, E: Write>(
     rt: &R,
     alloc: Global,
@@ -394,7 +386,7 @@ pub fn main_over<R: RandomSource, S: Source, W: Write, E: Write>(
           flushed = out.new.is_flushed;
         }) result }
 
-    // Words that are no command line end well only if they ask for help or the version.
+    // Words that are not a command line succeed only if they request help or the version.
     ensures answers { (¬ ParsesForAudit (map string_bytes words.now))
         → EndsAnswer (map string_bytes words.now) (audit_asked_by (map string_bytes words.now))
         (record {
@@ -411,7 +403,7 @@ pub fn main_over<R: RandomSource, S: Source, W: Write, E: Write>(
           flushed = out.new.is_flushed;
         }) result }
 
-    // Nor does one in which a fare table has a wrong date, or has none if one is wanted.
+    // Nor does one in which a fare table has a wrong date, or lacks one.
     ensures dated { ParsesForAudit (map string_bytes words.now)
         → is_some (wrong_word (audit_asked_by (map string_bytes words.now)).table) ≡ true
         → result ≢ 0 }

@@ -1,4 +1,4 @@
-//! The report that is held beside the ledger.
+//! The report that is compared with the ledger.
 
 ghost use Rattle.std.specs.Prelude.{◌≡◌, ◌++◌, ℕ, List, [], IfOk, OnOk, codes, string_bytes};
 ghost use Rattle.std.specs.Prelude.{option_map, true};
@@ -24,15 +24,12 @@ use tap_views::{NoMemory, UploadEnd};
 /// A report, and the sums of the ledger that is read beside it.
 #[derive(Drop)]
 pub(crate) struct ReportWithSums {
-    /// The text of the report.
     text: Vec<u8>,
-    /// The sums of the ledger so far.
     sums: LedgerSums,
 }
 
 impl ReportWithSums {
-    /// The report of this text, before anything of the ledger was read. The seed serves to hash the
-    /// validators' numbers.
+    /// Before anything of the ledger was read. The seed is for hashing the validators' numbers.
     pub(crate) fn new(alloc: Global, seed: HashSeed, text: Vec<u8>) -> ReportWithSums
         ensures text { result.text ≡ text }
         ensures sums { (fares : Fares) → HasSummed fares result.sums [] }
@@ -43,7 +40,6 @@ impl ReportWithSums {
         }
     }
 
-    /// Adds the next piece of the ledger to the sums.
     fn add(&mut self, alloc: Global, table: &FareTable, piece: &[u8]) -> Result<(), NoMemory>
         requires { (text : List ℕ) × HasSummed table.now self.old.sums text }
         ensures text { self.new.text ≡ self.old.text }
@@ -54,7 +50,6 @@ impl ReportWithSums {
     }
 }
 
-/// Adds the next piece of the ledger to the sums, if there is a report.
 pub(crate) fn add_piece(
     alloc: Global,
     table: &FareTable,
@@ -72,7 +67,7 @@ pub(crate) fn add_piece(
     }
 }
 
-/// What stands before the wanted line.
+/// What comes before the expected line.
 fn wants_words(alloc: Global, line: u64) -> Result<String, AllocError>
     ensures { IfOk result (λ text. string_bytes text
         ≡ codes "wrong report line " ++ (decimal line ++ codes ": wants ")) }
@@ -80,7 +75,6 @@ fn wants_words(alloc: Global, line: u64) -> Result<String, AllocError>
     format!(in alloc; "wrong report line {line}: wants ")
 }
 
-/// The line of a report's line that no report has.
 fn no_line_text(alloc: Global, line: u64) -> Result<String, AllocError>
     ensures { IfOk result (λ text. string_bytes text
         ≡ codes "wrong report line " ++ (decimal line ++ codes ": no report has it\n")) }
@@ -88,7 +82,6 @@ fn no_line_text(alloc: Global, line: u64) -> Result<String, AllocError>
     format!(in alloc; "wrong report line {line}: no report has it\n")
 }
 
-/// The line of a report whose uploads have other taps than the ledger.
 fn taps_text(alloc: Global, line: u64, uploads: u128, ledger: u128) -> Result<String, AllocError>
     ensures { IfOk result (λ text. string_bytes text
         ≡ codes "wrong report line " ++ (decimal line ++ (codes ": the uploads have "
@@ -100,7 +93,6 @@ fn taps_text(alloc: Global, line: u64, uploads: u128, ledger: u128) -> Result<St
     )
 }
 
-/// Appends the line of the verdict on a report, with its line feed.
 #[tactic(auto, unfolding(crate::specs::Reports::report_text))]
 fn write_verdict(
     alloc: Global,
@@ -131,7 +123,6 @@ fn write_verdict(
     }
 }
 
-/// Whether the verdict is that the report is the ledger's.
 fn is_of_ledger(verdict: &ReportVerdict) -> bool
     ensures { result ≡ is_of_ledger verdict.now }
 {
@@ -142,7 +133,7 @@ fn is_of_ledger(verdict: &ReportVerdict) -> bool
     }
 }
 
-/// Appends that the lines of uploads were not compared, if no uploads are named.
+/// If no uploads are named.
 #[tactic(auto, unfolding(crate::specs::Reports::uncompared_text))]
 fn write_uncompared(text: &mut Vec<u8>, ends: Option<&[UploadEnd]>) -> Result<(), AllocError>
     ensures { OnOk result
@@ -154,8 +145,7 @@ fn write_uncompared(text: &mut Vec<u8>, ends: Option<&[UploadEnd]>) -> Result<()
     }
 }
 
-/// Appends what is found of the report, beside a ledger that was read whole. Says whether the
-/// report is the ledger's.
+/// The ledger was read whole. Returns whether the report is its own.
 fn write_finding(
     alloc: Global,
     text: &mut Vec<u8>,
@@ -178,8 +168,8 @@ fn write_finding(
     Ok(is_of_ledger(&verdict))
 }
 
-/// Appends what is found of the report behind a legal ledger, if there is a report. Says whether it
-/// is the ledger's: without a report it is, and beside a ledger that is not legal it is not.
+/// Returns whether the report is the ledger's: without a report it is, and beside a ledger that is
+/// not legal it is not.
 fn write_report_line(
     alloc: Global,
     text: &mut Vec<u8>,
@@ -204,7 +194,6 @@ fn write_report_line(
     write_finding(alloc, text, report, ends)
 }
 
-/// Appends the line of an upload that has a layout fault.
 fn write_damaged(text: &mut String, upload: u64, end: &UploadEnd) -> Result<(), AllocError>
     ensures { OnOk result (string_bytes text.new ≡ string_bytes text.old
         ++ damage_line upload end.now) }
@@ -215,7 +204,6 @@ fn write_damaged(text: &mut String, upload: u64, end: &UploadEnd) -> Result<(), 
     write_upload(text, upload, end)
 }
 
-/// The lines of the uploads that have a layout fault.
 #[tactic(auto, using(crate::proofs::Damage::damage_more))]
 fn damage_lines(alloc: Global, ends: &[UploadEnd]) -> Result<String, AllocError>
     ensures { IfOk result (λ text. string_bytes text ≡ damage_lines 0 ends.now) }
@@ -227,15 +215,13 @@ fn damage_lines(alloc: Global, ends: &[UploadEnd]) -> Result<String, AllocError>
     Ok(text)
 }
 
-/// Whether no upload has a layout fault.
 fn are_posted(ends: &[UploadEnd]) -> bool
     ensures { result ≡ are_posted ends.now }
 {
     ends.iter().all(|end| end.is_posted())
 }
 
-/// Appends the lines of the uploads that have a layout fault, if there are uploads. Says whether
-/// none has one.
+/// Returns whether no upload has a layout fault.
 fn write_damage(
     alloc: Global,
     text: &mut Vec<u8>,
@@ -253,8 +239,7 @@ fn write_damage(
     Ok(are_posted(ends))
 }
 
-/// Appends what is found of the report, if there is one, and the lines of the uploads that have a
-/// layout fault, if there are uploads. Says whether the report is right and no upload has a fault.
+/// Returns whether the report is right and no upload has a layout fault.
 pub(crate) fn write_last_lines(
     alloc: Global,
     text: &mut Vec<u8>,

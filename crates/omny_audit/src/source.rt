@@ -16,8 +16,8 @@ pub trait Source: FileSource {
     /// A ledger that was opened. It is read through the source, which remembers what failed.
     type Ledger: Read + Drop;
 
-    /// The ledger of this name, or standard input if none is named, to be read from its beginning.
-    /// No clause says what a fault leaves opened.
+    /// The ledger of this name, or standard input, to be read from its start. No clause says what a
+    /// fault leaves opened.
     fn open(&mut self, name: Option<&str>) -> Result<Self::Ledger, LoadFault>
         ensures reported { IfOk result (λ ledger. OpensOne (Self.loaded self.old)
             (Self.loaded self.new) (option_map (λ n. n.now) name.entry)
@@ -25,8 +25,8 @@ pub trait Source: FileSource {
         ensures fault { IfErr result (λ fault. Refuses (Self.refused self.new)
             (option_map (λ n. n.now) name.entry) fault) };
 
-    /// Reads on in the ledger that it opened under this name, as `Read::read` does. A read that
-    /// fails is one that it refused.
+    /// Reads on in the ledger of this name, as `Read::read` does. A read that fails is one that it
+    /// refused.
     fn read_ledger(
         &mut self,
         name: Option<&str>,

@@ -11,7 +11,6 @@ use ledger_check::{Difference, Verdict, write_legal};
 use std::alloc::AllocError;
 use tap_views::{TapFields, Token};
 
-/// Appends the line of the verdict, with its newline.
 #[tactic(auto, unfolding(crate::specs::Text::verdict_text))]
 pub(crate) fn write_verdict(text: &mut String, verdict: &Verdict) -> Result<(), AllocError>
     ensures { OnOk result
@@ -24,7 +23,6 @@ pub(crate) fn write_verdict(text: &mut String, verdict: &Verdict) -> Result<(), 
     }
 }
 
-/// Appends the tap's token, and the space behind it.
 #[tactic(auto, unfolding(crate::specs::Text::token_and_space))]
 fn write_token(text: &mut String, tap: &TapFields) -> Result<(), AllocError>
     ensures { OnOk result
@@ -34,7 +32,6 @@ fn write_token(text: &mut String, tap: &TapFields) -> Result<(), AllocError>
     write!(text, "{digits} ")
 }
 
-/// Appends a space, the tap's validator, and the line feed.
 #[tactic(auto, unfolding(crate::specs::Text::space_and_validator))]
 fn write_validator(text: &mut String, tap: &TapFields) -> Result<(), AllocError>
     ensures { OnOk result
@@ -44,7 +41,6 @@ fn write_validator(text: &mut String, tap: &TapFields) -> Result<(), AllocError>
     write!(text, " {validator}\n")
 }
 
-/// Appends the tap, with a line feed.
 fn write_tap(text: &mut String, tap: &TapFields) -> Result<(), AllocError>
     ensures { OnOk result ((written : List ℕ) × IsTapText tap.now written
         × (string_bytes text.new ≡ string_bytes text.old ++ written)) }
@@ -55,7 +51,6 @@ fn write_tap(text: &mut String, tap: &TapFields) -> Result<(), AllocError>
     Ok(())
 }
 
-/// Appends the line of the difference, with its line feed.
 pub(crate) fn write_difference(
     text: &mut String,
     difference: &Option<Difference>,
@@ -76,7 +71,6 @@ pub(crate) fn write_difference(
     }
 }
 
-/// Appends the words and the tap, with a line feed.
 fn write_tap_line(text: &mut String, words: &str, tap: &TapFields) -> Result<(), AllocError>
     ensures { OnOk result ((written : List ℕ) × IsTapLineOf words.now tap.now written
         × (string_bytes text.new ≡ string_bytes text.old ++ written)) }
@@ -85,7 +79,6 @@ fn write_tap_line(text: &mut String, words: &str, tap: &TapFields) -> Result<(),
     write_tap(text, tap)
 }
 
-/// Appends a line for each tap, behind the words.
 fn write_tap_lines(text: &mut String, words: &str, taps: &[TapFields]) -> Result<(), AllocError>
     ensures { OnOk result ((written : List ℕ) × AreTapLinesOf words.now taps.now written
         × (string_bytes text.new ≡ string_bytes text.old ++ written)) }
@@ -96,14 +89,12 @@ fn write_tap_lines(text: &mut String, words: &str, taps: &[TapFields]) -> Result
     Ok(())
 }
 
-/// Whether there are no taps on either side.
 pub(crate) fn are_none(missing: &[TapFields], surplus: &[TapFields]) -> bool
     ensures { result ≡ are_none missing.now surplus.now }
 {
     missing.is_empty() && surplus.is_empty()
 }
 
-/// Appends that there is no difference.
 fn write_even(text: &mut String) -> Result<(), AllocError>
     ensures { OnOk result (string_bytes text.new
         ≡ string_bytes text.old ++ codes "all taps of the uploads\n") }
@@ -111,7 +102,6 @@ fn write_even(text: &mut String) -> Result<(), AllocError>
     text.push_str("all taps of the uploads\n")
 }
 
-/// Appends the lines of all differences.
 pub(crate) fn write_differences(
     text: &mut String,
     missing: &[TapFields],

@@ -35,47 +35,27 @@ use tap_views::TapFields;
 /// The most bytes of a traced ledger's line, with its line feed.
 const MAX_LINE_BYTES: usize = 352;
 
-/// The first line that has another class than the one of its token at its moment.
+/// The first line that has another class than that of its token at its moment.
 #[derive(Clone, Copy)]
 pub(crate) struct WrongClass {
-    /// The number of the line, from 1.
     line: u64,
     /// The moment of its tap, in milliseconds since 1970-01-01T00:00Z.
     moment: u64,
     token: [u8; 16],
 }
 
-/// What is wrong with the places of the lines.
+/// What is wrong with the places of the lines: an upload, from 0, and the index there, from 1.
 #[derive(Clone, Copy)]
 pub(crate) enum PlaceFault {
-    /// The line of this number has another tap than stands at its place.
-    OtherTap {
-        /// The number of the line, from 1.
-        line: u64,
-        /// The number of the upload, from 0.
-        upload: u32,
-        /// The place in the upload, from 1.
-        place: u64,
-    },
+    /// The line of this number has another tap than is at its place.
+    OtherTap { line: u64, upload: u32, place: u64 },
     /// The line of this number has the place of an earlier line.
-    Repeated {
-        /// The number of the line, from 1.
-        line: u64,
-        /// The number of the upload, from 0.
-        upload: u32,
-        /// The place in the upload, from 1.
-        place: u64,
-    },
+    Repeated { line: u64, upload: u32, place: u64 },
     /// No line has this place, which is that of a tap.
-    NoLine {
-        /// The number of the upload, from 0.
-        upload: u64,
-        /// The place in the upload, from 1.
-        place: u64,
-    },
+    NoLine { upload: u64, place: u64 },
 }
 
-/// Appends what is read in place of a line that has not the form of a traced one.
+/// In place of a line that does not have the form of a traced one.
 fn put_other(text: &mut Vec<u8>, line: &[u8]) -> Result<(), AllocError>
     ensures { OnOk result (text.new.items ≡ text.old.items ++ untraced_by line.now None) }
 {
@@ -87,8 +67,8 @@ fn put_other(text: &mut Vec<u8>, line: &[u8]) -> Result<(), AllocError>
     Ok(())
 }
 
-/// Appends the fields as a line, and gives the tap that it names, if it names one. The line
-/// replaces what is in `line`, and the text in `again` is replaced.
+/// Gives the tap that the fields name, if any. The line replaces what is in `line`, and the text in
+/// `again` is replaced.
 fn put_fields(
     text: &mut Vec<u8>,
     fields: &[u8],
@@ -108,7 +88,6 @@ fn put_fields(
     Ok(tap)
 }
 
-/// The fault of a line with this tap and this class, if it has one.
 fn class_fault(
     names: &ClassNames,
     line: u64,
@@ -131,7 +110,6 @@ fn class_fault(
     })
 }
 
-/// The fault of a line by what is found of its tap at its place.
 fn fault_by(line: u64, upload: u32, place: u64, finding: PlaceFinding) -> Option<PlaceFault>
     ensures { result ≡ fault_by line upload place finding }
 {
@@ -150,8 +128,7 @@ fn fault_by(line: u64, upload: u32, place: u64, finding: PlaceFinding) -> Option
     }
 }
 
-/// Names the place of a line with this number and this tap, if there are uploads, and gives its
-/// fault, if it has one.
+/// If there are uploads. Gives its fault, if it has one.
 fn name_place(
     places: &mut Option<Places>,
     number: u64,
@@ -160,7 +137,7 @@ fn name_place(
 ) -> Option<PlaceFault>
     ensures uploads { uploads_in places.new ≡ uploads_in places.old }
 
-    // Behind lines of which none is wrong.
+    // After lines of which none is wrong.
     ensures place { (read : List ReadLine) (line : List ℕ) → HasPlaces places.old None read
         → number ≡ length read + 1 → HasPlaces places.new result (record {
           line = line;
@@ -177,8 +154,7 @@ fn name_place(
     fault_by(number, cut.upload, cut.place, finding)
 }
 
-/// What is wrong first with the places: the fault of the lines, or else the first place that no
-/// line has.
+/// The fault of the lines, or else the first place that no line has.
 fn first_fault(places: &Places, wrong: &Option<PlaceFault>) -> Option<PlaceFault>
     ensures { IsFaultBehind (uploads_of places.now) (is_named places.now) wrong.now result }
 {
@@ -194,24 +170,20 @@ fn first_fault(places: &Places, wrong: &Option<PlaceFault>) -> Option<PlaceFault
 /// The lines that were read.
 #[derive(Drop)]
 pub(crate) struct LinesRead {
-    /// The classes of the fare table.
     names: ClassNames,
-    /// The good taps of the uploads, if there are uploads.
+    /// The valid taps of the uploads, if there are uploads.
     places: Option<Places>,
     /// The last of them, without its columns.
     line: Vec<u8>,
-    /// A moment, printed again.
     again: String,
-    /// How many lines these are.
     lines: u64,
-    /// The first of them that has another class than the one of its token.
+    /// The first of them that has another class than that of its token.
     wrong_class: Option<WrongClass>,
     /// What is wrong with the place of the first line that has a wrong one.
     wrong_place: Option<PlaceFault>,
 }
 
 impl LinesRead {
-    /// Looks at the class of a line with this number and this tap.
     fn look_at_class(&mut self, number: u64, cut: &CutLine<'_>, tap: &Option<TapFields>)
         ensures class { self.new.wrong_class ≡ option_or self.old.wrong_class
             (class_fault (class_by self.old.names) number
@@ -225,8 +197,7 @@ impl LinesRead {
         self.wrong_class = self.wrong_class.or(fault);
     }
 
-    /// Looks at the place of a line with this number and this tap, if no earlier one has a wrong
-    /// one.
+    /// If no earlier line has a wrong place.
     fn look_at_place(&mut self, number: u64, cut: &CutLine<'_>, tap: &Option<TapFields>)
         ensures places { (read : List ReadLine) (line : List ℕ)
             → HasPlaces self.old.places self.old.wrong_place read → number ≡ length read + 1
@@ -246,8 +217,8 @@ impl LinesRead {
         self.wrong_place = fault;
     }
 
-    /// Reads the next line, of which as much was kept as shows its form, and appends what is read
-    /// in its place. 2^64 lines are taken for want of memory.
+    /// Reads the next line, of which enough was kept to show its form. 2^64 lines are an allocation
+    /// failure.
     fn take(&mut self, line: &[u8], text: &mut Vec<u8>) -> Result<(), AllocError>
         ensures wanted { wanted_of self.new ≡ wanted_of self.old }
         ensures read { OnOk result ((whole : List ℕ) (read : List ReadLine)
@@ -272,7 +243,7 @@ impl LinesRead {
     }
 }
 
-/// Appends the text to what is kept of a line, but no more than shows that the line is too long.
+/// Appends no more than shows that the line is too long.
 fn keep(kept: &mut Vec<u8>, text: &[u8]) -> Result<(), AllocError>
     ensures { OnOk result ((before : List ℕ) → IsKeptOf kept.old.items before
         → IsKeptOf kept.new.items (before ++ text.now)) }
@@ -288,17 +259,17 @@ fn keep(kept: &mut Vec<u8>, text: &[u8]) -> Result<(), AllocError>
     }
 }
 
-/// A traced ledger that comes in pieces. It keeps no more of it than the beginning of a line.
+/// A traced ledger that comes in pieces. No more of it than the prefix of a line is in memory.
 #[derive(Drop)]
 pub(crate) struct TracedPieces {
     /// The whole lines.
     so_far: LinesRead,
-    /// The beginning of the line whose end has not come yet.
+    /// The prefix of the line whose end has not come yet.
     begun: Vec<u8>,
 }
 
 impl TracedPieces {
-    /// Nothing was read. The places, if there are uploads, are theirs, and none was named.
+    /// No place was named yet. The places, if there are uploads, are theirs.
     pub(crate) fn new(alloc: Global, names: ClassNames, places: Option<Places>) -> TracedPieces
         requires { HaveNamed places [] }
         ensures read { HasTraced result [] [] [] }
@@ -319,7 +290,6 @@ impl TracedPieces {
         }
     }
 
-    /// Reads the next piece of the file, and appends what is read in place of its lines.
     fn feed(&mut self, piece: &[u8], text: &mut Vec<u8>) -> Result<(), AllocError>
         ensures wanted { wanted_of self.new.so_far ≡ wanted_of self.old.so_far }
 
@@ -341,7 +311,6 @@ impl TracedPieces {
         Ok(())
     }
 
-    /// Reads the rest of a line, with its line feed.
     fn end_line(&mut self, line: &[u8], text: &mut Vec<u8>) -> Result<(), AllocError>
         requires line { IsLine line.now }
         ensures wanted { wanted_of self.new.so_far ≡ wanted_of self.old.so_far }
@@ -360,7 +329,7 @@ impl TracedPieces {
         Ok(())
     }
 
-    /// Ends the file, and appends what is read in place of the line that its end cuts.
+    /// Appends what is read in place of the line that its end cuts.
     fn finish(&mut self, text: &mut Vec<u8>) -> Result<(), AllocError>
         ensures wanted { wanted_of self.new.so_far ≡ wanted_of self.old.so_far }
         ensures read { OnOk result ((file reported : List ℕ) (read : List ReadLine)
@@ -376,7 +345,7 @@ impl TracedPieces {
         Ok(())
     }
 
-    /// Appends what is found of the classes. Says whether all are right.
+    /// Returns whether all classes are right.
     fn write_classes(&self, alloc: Global, text: &mut Vec<u8>) -> Result<bool, AllocError>
         ensures text { OnOk result (text.new.items ≡ text.old.items
             ++ class_text (class_by self.now.so_far.names) self.now.so_far.wrong_class) }
@@ -387,7 +356,7 @@ impl TracedPieces {
         Ok(self.so_far.wrong_class.is_none())
     }
 
-    /// Appends what is found of the places, if there are uploads. Says whether all are right.
+    /// If there are uploads. Returns whether all places are right.
     fn write_places(&self, alloc: Global, text: &mut Vec<u8>) -> Result<bool, AllocError>
         ensures { IfOk result (λ right. (fault : Option AFault)
             × (text.new.items
@@ -407,7 +376,6 @@ impl TracedPieces {
     }
 }
 
-/// The line of what is found of the classes.
 #[tactic(auto, unfolding(crate::specs::Traced::class_text))]
 fn class_line(
     alloc: Global,
@@ -427,7 +395,6 @@ fn class_line(
     }
 }
 
-/// The line of a tap that does not stand at its place.
 #[tactic(auto, unfolding(crate::specs::Traced::place_fault_text))]
 fn other_tap_line(alloc: Global, line: u64, upload: u32, place: u64) -> Result<String, AllocError>
     ensures { IfOk result (λ reported. string_bytes reported
@@ -436,7 +403,6 @@ fn other_tap_line(alloc: Global, line: u64, upload: u32, place: u64) -> Result<S
     format!(in alloc; "line {line} has another tap than upload {upload} has at place {place}\n")
 }
 
-/// The line of a place that an earlier line has.
 #[tactic(auto, unfolding(crate::specs::Traced::place_fault_text))]
 fn repeated_line(alloc: Global, line: u64, upload: u32, place: u64) -> Result<String, AllocError>
     ensures { IfOk result (λ reported. string_bytes reported
@@ -445,7 +411,6 @@ fn repeated_line(alloc: Global, line: u64, upload: u32, place: u64) -> Result<St
     format!(in alloc; "line {line} has upload {upload} place {place} again\n")
 }
 
-/// The line of a place that no line has.
 #[tactic(auto, unfolding(crate::specs::Traced::place_fault_text))]
 fn no_line_line(alloc: Global, upload: u64, place: u64) -> Result<String, AllocError>
     ensures { IfOk result (λ reported. string_bytes reported
@@ -454,7 +419,6 @@ fn no_line_line(alloc: Global, upload: u64, place: u64) -> Result<String, AllocE
     format!(in alloc; "no line has upload {upload} place {place}\n")
 }
 
-/// The line of what is found of the places.
 #[tactic(auto, unfolding(crate::specs::Traced::place_fault_text))]
 fn place_line(alloc: Global, fault: &Option<PlaceFault>) -> Result<String, AllocError>
     ensures { IfOk result (λ reported. string_bytes reported ≡ place_fault_text fault.now) }
@@ -479,8 +443,8 @@ fn place_line(alloc: Global, fault: &Option<PlaceFault>) -> Result<String, Alloc
     }
 }
 
-/// Reads the next piece of the ledger, and puts what is checked of it in place of the text: the
-/// piece, or without its columns what it ends of the lines of a traced ledger.
+/// The text becomes what is checked: the piece, or what it ends of the lines of a traced ledger,
+/// without columns.
 pub(crate) fn read_piece(
     trace: &mut Option<TracedPieces>,
     piece: &[u8],
@@ -503,7 +467,6 @@ pub(crate) fn read_piece(
     }
 }
 
-/// Ends the ledger, and puts what is left to be checked of it in place of the text.
 pub(crate) fn read_end(
     trace: &mut Option<TracedPieces>,
     text: &mut Vec<u8>,
@@ -523,8 +486,8 @@ pub(crate) fn read_end(
     }
 }
 
-/// Appends what is found of the columns, if the ledger is traced and they are looked at. Says
-/// whether they are right: those of a ledger that is not traced are.
+/// Returns whether the columns are right, if they are looked at: those of a ledger that is not
+/// traced are.
 pub(crate) fn write_columns(
     alloc: Global,
     text: &mut Vec<u8>,
