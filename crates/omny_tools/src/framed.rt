@@ -11,24 +11,19 @@ use world::{
     Fault, Inputs, LoadFault, Loaded, MakeFault, Staged, System, Trace, World, WriteFault,
 };
 
-/// How many bytes one read of a text asks for.
 const READ_BYTES: usize = 65_536;
 
 /// The system. What it reads in pieces are ledgers, whose lines are short. It shows how much is
 /// written, and takes that away before anything else is said.
 #[derive(Drop)]
 pub(crate) struct Framed<'r, W, E> {
-    /// The runtime that reaches files.
     rt: &'r HostRuntime,
     system: System<'r, HostRuntime, W, E>,
-    /// Where the count is shown.
     progress: Progress<'r>,
-    /// How many bytes were written.
     done: u64,
 }
 
 impl<'r, W, E> Framed<'r, W, E> {
-    /// The system, of which nothing was asked yet.
     pub(crate) fn new(
         rt: &'r HostRuntime,
         progress: Progress<'r>,

@@ -1,18 +1,5 @@
 //! The program: turns tables of taps into uploads and back, and prints what uploads and fare tables
 //! have.
-//!
-//! | module | what it does |
-//! |---|---|
-//! | `lines` | reports and ledgers of others |
-//! | `manner` | what the words ask for, as far as the system matters |
-//! | `output` | standard output |
-//! | `progress` | how far a long run is, on a terminal |
-//! | `quotes` | an agency's CSV, in which each quote is to be closed |
-//! | `texts` | files and standard input of the system |
-//! | `placed` | files of the system that are read at any offset |
-//! | `files_made` | files of the system that are made |
-//! | `framed` | the system, for what the frame runs |
-//! | `run` | the whole program over the system |
 #![tactic(auto)]
 
 mod files_made;
@@ -32,8 +19,7 @@ use std::io::Write;
 use std::process::ExitCode;
 use tool_words::list_words;
 
-/// The words of the command line with the names of the list that they name, if they name one. On an
-/// error the reason was printed, and the error is the status.
+/// The words, with the names of the list that they name. On an error the reason was printed.
 fn words_with_list(rt: &HostRuntime) -> Result<Vec<String>, u8> {
     let mut err = Complaints::new(Escaping::new(rt.stderr()));
     let words = named_words(rt, &mut err);
@@ -41,7 +27,6 @@ fn words_with_list(rt: &HostRuntime) -> Result<Vec<String>, u8> {
     words
 }
 
-/// The same. On an error the reason was reported.
 fn named_words<E: Write>(rt: &HostRuntime, err: &mut Complaints<E>) -> Result<Vec<String>, u8> {
     let words = match words_of(rt) {
         Ok(words) => words,
@@ -52,7 +37,6 @@ fn named_words<E: Write>(rt: &HostRuntime, err: &mut Complaints<E>) -> Result<Ve
     Ok(more.unwrap_or(words))
 }
 
-/// The program.
 fn main(rt: HostRuntime) -> ExitCode {
     let status = match words_with_list(&rt) {
         Ok(words) => run(&rt, &rt, &words, &mut Complaints::new(rt.stderr())),

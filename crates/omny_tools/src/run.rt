@@ -20,7 +20,7 @@ use world::Recorded;
 /// What a terminal shows beside a run, by the subcommand.
 #[derive(Clone, Copy)]
 struct Shows {
-    /// Whether counts are shown also where the text goes to a terminal: it is made behind them, or
+    /// Whether counts are shown also where the text goes to a terminal: it is made after them, or
     /// none is.
     counts: bool,
     /// Whether it is shown how much of the text is written. Then reports or ledgers are read.
@@ -28,7 +28,7 @@ struct Shows {
 }
 
 impl Shows {
-    /// That of the subcommand, which is the first word behind the program's name.
+    /// By the first word after the program's name.
     fn of(words: &[String]) -> Shows {
         let name = match words.get(1) {
             Some(word) => word.as_str(),
@@ -41,7 +41,6 @@ impl Shows {
     }
 }
 
-/// The texts of a run.
 fn texts_of<'r>(rt: &'r HostRuntime, manner: Manner, shows: Shows) -> Texts<'r> {
     if let Manner::Rows(separator) = manner {
         return Texts::of_rows(rt, separator);
@@ -55,8 +54,8 @@ fn texts_of<'r>(rt: &'r HostRuntime, manner: Manner, shows: Shows) -> Texts<'r> 
     Texts::new(rt)
 }
 
-/// The whole program over the system: reads the words, of which the first is the program's name,
-/// does what they ask for, and writes mistakes and faults to `err`. Gives the status.
+/// The whole program over the system: reads the words, the program's name first, does what they
+/// request, and writes usage errors and faults to `err`. Returns the status.
 pub(crate) fn run<R: Threads + Sync, E: Write>(
     threads: &R,
     rt: &HostRuntime,
