@@ -23,11 +23,10 @@ use world::{LoadFault, World};
 /// How far the corrections are.
 #[derive(Drop)]
 pub enum Stage<T: BufRead + Drop> {
-    /// No ledger is opened.
     Unopened,
     /// The header line was given.
     Going(Corrections<T>),
-    /// The text was given, and so many lines are removed.
+    /// The text was given, and this many lines are removed.
     Given(u64),
     /// This line of this bill's ledger is the first wrong one.
     Wrong(Bill, u64, WrongLine),
@@ -35,7 +34,6 @@ pub enum Stage<T: BufRead + Drop> {
     End(u8),
 }
 
-/// The word of a bill's ledger.
 fn word_of<'a>(words: &CorrectionsWords<'a>, bill: Bill) -> &'a str
     ensures { result.now ≡ of_bill words.now.old.now words.now.new.now bill }
 {
@@ -45,7 +43,6 @@ fn word_of<'a>(words: &CorrectionsWords<'a>, bill: Bill) -> &'a str
     }
 }
 
-/// Opens the ledger of the word, which has this number.
 fn open<I: Streams>(files: &mut I, word: &str, number: usize) -> Result<I::Text, Stop>
     requires { number ≤ 1 }
     ensures unchanged { I.run files.new ≡ I.run files.old }
@@ -59,7 +56,7 @@ fn open<I: Streams>(files: &mut I, word: &str, number: usize) -> Result<I::Text,
     }
 }
 
-/// What follows a fault: a wrong line is noted, and any other fault stops the run.
+/// A wrong line is noted, and any other fault stops the run.
 fn after_fault<I: Streams>(
     words: &CorrectionsWords<'_>,
     fault: CorrectionsFault,
@@ -79,7 +76,7 @@ fn after_fault<I: Streams>(
     }
 }
 
-/// Opens both ledgers and reads their first lines. The piece is the header line.
+/// The piece is the header line.
 fn begin<I: Streams>(
     alloc: Global,
     words: &CorrectionsWords<'_>,
@@ -110,7 +107,6 @@ fn begin<I: Streams>(
     }
 }
 
-/// Gives the next lines.
 fn go_on<I: Streams>(
     alloc: Global,
     words: &CorrectionsWords<'_>,
@@ -132,7 +128,7 @@ fn go_on<I: Streams>(
     }
 }
 
-/// Appends the line that says how many lines are removed, if any are.
+/// Nothing, if no line is removed.
 fn note_removed(
     alloc: Global,
     words: &CorrectionsWords<'_>,
@@ -150,7 +146,6 @@ fn note_removed(
     piece.extend_from_slice(line.as_bytes())
 }
 
-/// Why a line is wrong, in words.
 fn wrong_text(why: WrongLine) -> &'static str
     ensures { result.now ≡ wrong_text why }
 {
@@ -160,7 +155,6 @@ fn wrong_text(why: WrongLine) -> &'static str
     }
 }
 
-/// Appends the fault line of the wrong line of the bill's ledger.
 fn note_wrong(
     alloc: Global,
     words: &CorrectionsWords<'_>,
@@ -253,8 +247,8 @@ impl<'a, I: Streams> Task<I> for CorrectionsTask<'a, I::Text> {
 
 /// Writes the corrections from the old ledger to the new one, or their sums by token: opens both,
 /// `-` being standard input, and reads them in pieces. Then says how many lines are removed, if any
-/// are: the old ledger has them, and the new one does not. Gives the status: 0 if all is written, 1
-/// after a fault, of which a line says what it is.
+/// are: only the old ledger has them. The status is 0 if all is written, 1 after a fault, which is
+/// reported.
 pub fn corrections_over<W: World + Streams>(
     alloc: Global,
     words: &CorrectionsWords<'_>,
