@@ -15,7 +15,7 @@ use Rattle.ledger_check.specs.declared.balance.Difference.{Difference}
 use Rattle.tap_views.specs.declared.encoder.TapFields.{TapFields}
 use Rattle.omny_audit.specs.Text.{IsDifferenceText, IsDifferencesText, are_none, verdict_text}
 
--- the difference is that of the good taps and the ledger's, whatever entries the ledger has
+-- the difference is that of the valid taps and the ledger's, whatever entries the ledger has
 abbrev pub IsDifferenceOf : Fares → List ℕ → List TapFields → Option Difference → Type 0
 IsDifferenceOf fares text good difference =
     (entries : List Entry) → IsLedgerOf fares entries text
@@ -37,7 +37,7 @@ IsDifferenceLine fares text (Some good) true rest well =
     (difference : Option Difference) × IsDifferenceText difference rest
     × (well ≡ agrees difference) × IsDifferenceOf fares text good difference
 
--- what is found of the text, beside the good taps of the uploads, if there are uploads: a true
+-- what is found of the text, beside the valid taps of the uploads, if there are uploads: a true
 -- verdict, and the difference; a ledger that is not settled is well only if a live one is
 pub record IsFinding (live : Bool) (fares : Fares) (text : List ℕ) (good : Option (List TapFields))
     (reported : List ℕ) (well : Bool) : Type 0 where
@@ -71,9 +71,9 @@ FindingsDecide =
     (reported : List ℕ) (well : Bool) → IsFinding live fares text good reported well
     → (well ≡ true) ↔ IsRightLedger live fares text good
 
--- What follows a recount, which found the ledger legal or not: nothing, or, if there are uploads,
--- how the taps that its lines name differ from theirs. It is well if the ledger is legal and there
--- is no difference.
+-- What follows a full check, which found the ledger legal or not: nothing, or, if there are
+-- uploads, how the taps that its lines name differ from theirs. It is well if the ledger is legal
+-- and there is no difference.
 abbrev pub IsDifferencesEnd : Option (List TapFields) → List TapFields → Bool → List ℕ → Bool
     → Type 0
 IsDifferencesEnd None taps legal rest well = (rest ≡ []) × (well ≡ legal)
@@ -82,8 +82,8 @@ IsDifferencesEnd (Some good) taps legal rest well =
     × AreLacking taps good surplus × IsDifferencesText missing surplus rest
     × (well ≡ (legal && are_none missing surplus))
 
--- what is found of all lines of the text, beside the good taps of the uploads, if there are
--- uploads: a recount, and the differences
+-- what is found of all lines of the text, beside the valid taps of the uploads, if there are
+-- uploads: a full check, and the differences
 pub record IsFullFinding (live : Bool) (fares : Fares) (text : List ℕ)
     (good : Option (List TapFields)) (reported : List ℕ) (well : Bool) : Type 0 where
   pub taken : List TakenLine

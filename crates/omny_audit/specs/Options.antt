@@ -10,7 +10,7 @@ use Rattle.program_manners.specs.Words.{files_rule, flag_rule, is_given, list_op
 use Rattle.program_manners.specs.TableWords.{TableNames, table_files, tables_in}
 use Rattle.program_manners.specs.Words.{null_flag, option_rule, positional_rule, repeated_rule}
 
--- `--table F`, as often as wanted, and at least once
+-- `--table F`, as often as needed, and at least once
 abbrev pub required_table_option : Rule
 required_table_option = record (repeated_rule (codes "table")) { required = true }
 
@@ -22,7 +22,7 @@ all_flag = flag_rule (codes "all")
 abbrev pub live_flag : Rule
 live_flag = flag_rule (codes "live")
 
--- `--uploads FILE..`, as often as wanted
+-- `--uploads FILE..`, as often as needed
 abbrev pub uploads_option : Rule
 uploads_option = files_rule (codes "uploads")
 
@@ -51,7 +51,7 @@ AsksForAuditText words =
     IsAmong DisplayHelp (fault_of audit_program words)
     ⊎ IsAmong DisplayVersion (fault_of audit_program words)
 
--- nothing for `-`, which stands for standard input
+-- nothing for `-`, which represents standard input
 abbrev pub not_dash : Text → Option Text
 not_dash text = if bytes_eq text (codes "-") then None else Some text
 

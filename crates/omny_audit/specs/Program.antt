@@ -25,14 +25,14 @@ pub record LoadsNamedFiles (names : List Text) (loaded loaded' : Option (List Lo
   pub bytes : map (λ load. load.bytes) loads ≡ files
   pub is_loaded : LoadsAll loaded loaded' loads
 
--- the fields of the good taps of the uploads, one upload after another
+-- the fields of the valid taps of the uploads, one upload after another
 abbrev pub AreGoodFieldsOfAll : List (List ℕ) → List TapFields → Type 0
 AreGoodFieldsOfAll [] taps = taps ≡ []
 AreGoodFieldsOfAll (upload ∷ uploads) taps =
     (first : List TapFields) × (rest : List TapFields) × AreGoodFields upload first
     × AreGoodFieldsOfAll uploads rest × (taps ≡ first ++ rest)
 
--- the fields of the good taps of each upload
+-- the fields of the valid taps of each upload
 abbrev pub AreGoodFieldsOfEach : List (List ℕ) → List (List TapFields) → Type 0
 AreGoodFieldsOfEach [] lists = lists ≡ []
 AreGoodFieldsOfEach (upload ∷ uploads) [] = ⊥
@@ -89,8 +89,8 @@ pub record HasLoaded (asked : AuditAsked) (loaded loaded' : Option (List Loaded)
   pub are_ends : ArePlainEnds uploads ends
   pub ledger : List ℕ
   pub loads_ledger : LoadsOne after_report loaded' asked.ledger ledger
-  -- a traced ledger's columns are held against the classes that the tables' texts name, and against
-  -- the places of the uploads' taps, if uploads are named
+  -- a traced ledger's columns are compared with the classes that the tables' texts name, and
+  -- with the places of the uploads' taps, if uploads are named
   pub traced : Bool
   pub is_traced : IsTracedAs after_report ledger traced
   pub wanted : Option Wanted
@@ -109,7 +109,7 @@ given_of asked files = record {
   report = files.report;
 }
 
--- The files were loaded, and the text is what is found of the ledger beside the good taps of the
+-- The files were loaded, and the text is what is found of the ledger beside the valid taps of the
 -- uploads, if uploads are named, and of the report. It says that all is well, or not.
 pub record HasFound (asked : AuditAsked) (loaded loaded' : Option (List Loaded)) (text : List ℕ)
     (well : Bool) : Type 0 where

@@ -20,9 +20,9 @@ use Rattle.histories.specs.declared.entry.Entry.{Entry}
 use Rattle.tap_views.specs.declared.encoder.TapFields.{TapFields}
 
 -- What a ledger is audited by: whether all its wrong lines are asked for, and whether one that is
--- not settled is well; the fares; what the columns are held against, if it is a traced one; the good
--- taps of the uploads, and how the uploads end, if there are uploads; and the report, if there is
--- one.
+-- not settled is well; the fares; what the columns are compared with, if it is a traced one; the
+-- valid taps of the uploads, and how the uploads end, if there are uploads; and the report, if
+-- there is one.
 pub record Given : Type 0 where
   pub all : Bool
   pub live : Bool
@@ -84,7 +84,7 @@ pub record IsReportFinding (ends : Option (List UploadEnd)) (fares : Fares)
       → IsReportVerdictBeside ends entries report verdict
 
 -- What follows the finding on the ledger, which is legal or not: nothing without a report, or
--- behind a ledger that is not legal; else the line of the verdict on the report.
+-- after a ledger that is not legal; else the line of the verdict on the report.
 abbrev pub IsReportLine : Option (List UploadEnd) → Fares → List ℕ → Option (List ℕ) → Bool
     → List ℕ → Bool → Type 0
 IsReportLine ends fares ledger None legal rest fits = (rest ≡ []) × (fits ≡ true)
@@ -103,8 +103,8 @@ pub record AreLastLines (ends : Option (List UploadEnd)) (fares : Fares) (ledger
   pub both : well ≡ (fits && are_whole ends)
 
 -- What is found of a ledger's file, of which these lines were read, if it is traced: what is found
--- of the ledger that is read of it, beside the good taps of the uploads, if there are uploads;
--- behind it what is found of the columns, if the ledger is traced, and legal or asked for all its
+-- of the ledger that is read of it, beside the valid taps of the uploads, if there are uploads;
+-- after it what is found of the columns, if the ledger is traced, and legal or asked for all its
 -- lines; and after it what is found of the report, if there is one, and of the uploads. All is well
 -- if all of this is.
 pub record IsAudit (given : Given) (file : List ℕ) (read : List ReadLine) (text : List ℕ)
@@ -125,8 +125,8 @@ pub record IsAudit (given : Given) (file : List ℕ) (read : List ReadLine) (tex
   pub shown : text ≡ found ++ (columns ++ rest)
   pub both : well ≡ (sound && (right && fits))
 
--- What an audit that fails may leave: a beginning of what is found of the file, or of the remarks on
--- its first lines, which are a beginning of it if all wrong lines are asked for
+-- What an audit that fails may leave: a prefix of what is found of the file, or of the remarks on
+-- its first lines, which are a prefix of it if all wrong lines are asked for
 -- (`ledger_check::laws::recounts_go_on`).
 abbrev pub IsAuditText : Given → List ℕ → List ℕ → Type 0
 IsAuditText given file text =

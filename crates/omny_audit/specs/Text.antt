@@ -19,7 +19,7 @@ verdict_text (Wants line wanted) =
     codes "line " ++ (decimal line ++ (codes " wants " ++ string_bytes wanted))
 verdict_text (NoLine line) = codes "line " ++ (decimal line ++ codes " is no ledger line\n")
 
--- the token, and the space behind it
+-- the token, and the space after it
 unfoldable pub token_and_space : TapFields → List ℕ
 token_and_space tap = encode_lower tap.token ++ codes " "
 
@@ -44,7 +44,7 @@ IsDifferenceText None text = text ≡ codes "all taps of the uploads\n"
 IsDifferenceText (Some (Missing tap)) text = IsTapLineOf (codes "missing tap ") tap text
 IsDifferenceText (Some (Surplus tap)) text = IsTapLineOf (codes "surplus tap ") tap text
 
--- a line for each of these taps, behind these words
+-- a line for each of these taps, after these words
 abbrev pub AreTapLinesOf : List ℕ → List TapFields → List ℕ → Type 0
 AreTapLinesOf words [] text = text ≡ []
 AreTapLinesOf words (tap ∷ taps) text =

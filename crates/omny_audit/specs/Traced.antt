@@ -45,7 +45,7 @@ pub record ReadLine : Type 0 where
   pub line : List ℕ
   pub traced : Option TapWithColumns
 
--- what is kept of each line is what it names; the lines stand last first
+-- what is kept of each line is what it names; the lines are last first
 abbrev pub AreRead : List ReadLine → Type 0
 AreRead [] = Unit {0}
 AreRead (read ∷ earlier) = AreRead earlier × NamesTapWithColumns (cut_line read.line) read.traced
@@ -92,7 +92,7 @@ fault_by line upload place Right = None
 fault_by line upload place Another = Some (OtherTap line upload place)
 fault_by line upload place Again = Some (Repeated line upload place)
 
--- the fault of a line behind earlier ones: another tap stands at its place, or an earlier line has
+-- the fault of a line after earlier ones: another tap is at its place, or an earlier line has
 -- its place
 abbrev pub place_fault : List (List TapFields) → List ReadLine → ℕ → Option TapWithColumns
     → Option PlaceFault
@@ -113,7 +113,7 @@ abbrev pub IsFirstLeft : List (List TapFields) → (ℕ → ℕ → Bool) → Pl
 IsFirstLeft uploads named (NoLine upload place) = IsFirstUnnamed uploads named upload place
 IsFirstLeft uploads named _ = ⊥
 
--- behind lines of which one is wrong this is the fault; else it is the first place that was not
+-- after lines of which one is wrong this is the fault; else it is the first place that was not
 -- named, if there is one
 abbrev pub IsFaultBehind : List (List TapFields) → (ℕ → ℕ → Bool) → Option PlaceFault
     → Option PlaceFault → Type 0
@@ -148,8 +148,8 @@ abbrev pub place_text : Option (List (List TapFields)) → Option PlaceFault →
 place_text None fault = []
 place_text (Some uploads) fault = place_fault_text fault
 
--- what the columns of a traced ledger are held against: the class of each token at a moment, and
--- the good taps of each upload, if there are uploads
+-- what the columns of a traced ledger are compared with: the class of each token at a moment, and
+-- the valid taps of each upload, if there are uploads
 pub record Wanted : Type 0 where
   pub classes : ℕ → List ℕ → List ℕ
   pub uploads : Option (List (List TapFields))
@@ -171,7 +171,7 @@ AreColumnsReported (Some wanted) true file read reported right =
     ++ place_text wanted.uploads fault)
     × (right ≡ (not (is_some (wrong_class wanted.classes read)) && not (is_some fault)))
 
--- Each line that has a tap has it where it stands in the uploads, if there are uploads: no two
+-- Each line that has a tap has it where it is in the uploads, if there are uploads: no two
 -- lines have one place, and each place of a tap is that of a line.
 abbrev pub HasRightPlaces : Option (List (List TapFields)) → List ReadLine → Type 0
 HasRightPlaces None read = Unit {0}

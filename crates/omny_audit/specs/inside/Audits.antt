@@ -15,7 +15,7 @@ use Rattle.omny_audit.specs.inside.Fault.{IsStreamFault}
 use Rattle.omny_audit.specs.inside.Reports.{HasSummedFor, text_of}
 use Rattle.omny_audit.specs.inside.Traced.{HasReadAll, HasReadAs, wanted_by}
 
--- what the ledger is audited by, if these are the good taps of the uploads
+-- what the ledger is audited by, if these are the valid taps of the uploads
 abbrev pub given_in : Audit → List TapFields → Given
 given_in audit good = record {
   all = is_all audit.check;
@@ -48,7 +48,7 @@ pub record HasEnded (audit : Audit) (good : List TapFields) (file written : List
   pub all : is_decided audit.check ≡ false → HasReadAll audit.trace file
 
 -- The next piece of the file was read, and this was reported so far. An audit that has ended has
--- reported all that is found of the file, however it goes on behind a piece.
+-- reported all that is found of the file, however it goes on after a piece.
 abbrev pub IsNext : Audit → Audit → List TapFields → List ℕ → List ℕ → List ℕ → Option Bool → Type 0
 IsNext before after good file piece written None = (given_in after good ≡ given_in before good)
     × HasAudited after good (file ++ piece) written

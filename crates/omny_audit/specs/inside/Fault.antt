@@ -34,7 +34,7 @@ abbrev pub IsFileFault : Option (Option (List ℕ) × LoadFault) → List ℕ �
 IsFileFault refused name file = (file.name.now ≡ name) × HasRefused refused name file.fault
 
 -- the source refused one of the files of these names, or one of them was loaded last and is a
--- ledger, or memory was refused
+-- ledger, or an allocation failed
 abbrev pub IsLoadFault : List (List ℕ) → Option (List Loaded)
     → Option (Option (List ℕ) × LoadFault) → Fault → Type 0
 IsLoadFault names loaded refused (File file) =
@@ -50,14 +50,14 @@ IsWriteFault ended Write = ended ≡ Some end.Refused
 IsWriteFault ended Closed = ended ≡ Some end.Closed
 IsWriteFault ended _ = ⊥
 
--- a read of the ledger of this name was refused, or a write ended so, or memory was refused
+-- a read of the ledger of this name was refused, or a write ended so, or an allocation failed
 abbrev pub IsStreamFault : Option (Option (List ℕ) × LoadFault) → Option (List ℕ) → Option WriteEnd
     → Fault → Type 0
 IsStreamFault refused name ended Ledger = Refuses refused name Unread
 IsStreamFault refused name ended NoMemory = ⊤
 IsStreamFault refused name ended fault = IsWriteFault ended fault
 
--- a name of a class is wrong, of the tables or of the one of this file; or memory was refused
+-- a name of a class is wrong, of the tables or of the one of this file; or an allocation failed
 abbrev pub IsNamedClass : TableNames → ClassFault → Fault → Type 0
 IsNamedClass tables kind ClassName = kind ≡ class.Name
 IsNamedClass tables kind (NamedClass line) =
@@ -65,7 +65,7 @@ IsNamedClass tables kind (NamedClass line) =
 IsNamedClass tables kind NoMemory = ⊤
 IsNamedClass tables kind _ = ⊥
 
--- one of the texts names a class that no ledger can have, or memory was refused
+-- one of the texts names a class that no ledger can have, or an allocation failed
 abbrev pub IsClassFault : TableNames → List (List ℕ) → Fault → Type 0
 IsClassFault tables texts ClassName = NamesUnplainClass texts
 IsClassFault tables texts (NamedClass line) =
@@ -73,7 +73,7 @@ IsClassFault tables texts (NamedClass line) =
 IsClassFault tables texts NoMemory = ⊤
 IsClassFault tables texts _ = ⊥
 
--- help or the version was not written, or memory was refused
+-- help or the version was not written, or an allocation failed
 abbrev pub IsAnswerFault : Option WriteEnd → Fault → Type 0
 IsAnswerFault ended NoMemory = ⊤
 IsAnswerFault ended fault = IsWriteFault ended fault

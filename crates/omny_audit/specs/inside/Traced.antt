@@ -12,7 +12,7 @@ use Rattle.omny_audit.specs.declared.traced.LinesRead.{LinesRead}
 use Rattle.omny_audit.specs.declared.traced.PlaceFault.{PlaceFault}
 use Rattle.omny_audit.specs.declared.traced.TracedPieces.{TracedPieces}
 
--- the good taps of the uploads whose places are kept
+-- the valid taps of the uploads whose places are kept
 abbrev pub uploads_in : Option Places → Option (List (List TapFields))
 uploads_in places = option_map uploads_of places
 
@@ -71,11 +71,11 @@ HasReadAll None file = Unit {0}
 HasReadAll (Some trace) file =
     (read : List ReadLine) × AreLinesOf file read × HasColumns trace.so_far read
 
--- what the columns are held against
+-- what the columns are compared with
 abbrev pub wanted_of : LinesRead → Wanted
 wanted_of so_far =
     record { classes = class_by so_far.names; uploads = uploads_in so_far.places }
 
--- what the columns are held against, if the ledger is traced
+-- what the columns are compared with, if the ledger is traced
 abbrev pub wanted_by : Option TracedPieces → Option Wanted
 wanted_by trace = option_map (λ t. wanted_of t.so_far) trace

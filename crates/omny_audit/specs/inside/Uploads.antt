@@ -7,7 +7,7 @@ use Rattle.tap_views.specs.declared.encoder.TapFields.{TapFields}
 use Rattle.omny_audit.specs.Program.{AreGoodFieldsOfAll, AreGoodFieldsOfEach}
 use Rattle.omny_audit.specs.declared.program.Uploads.{Uploads}
 
--- these are the good taps of these files, together and of each, and their ends
+-- these are the valid taps of these files, together and of each, and their ends
 pub record AreUploads (files : List (List ℕ)) (good : List TapFields)
     (lists : List (List TapFields)) (uploads : Uploads) : Type 0 where
   pub are_good : AreGoodFieldsOfAll files good
