@@ -42,8 +42,8 @@ abbrev pub rows_behind_head : List (List ℕ) → Result (List Row) (ℕ × Wron
 rows_behind_head [] = Err (1, Form)
 rows_behind_head (line ∷ lines) = cond (bytes_eq line head_text) (rows_from 2 None lines) (Err (1, Form))
 
--- THE meaning of a settled ledger: the rows of its text, in the order of their keys, behind the head
--- line; or the number of its first wrong line, and why that is wrong
+-- THE meaning of a settled ledger: the rows of its text, in the order of their keys, after the
+-- header line; or the number of its first wrong line, and why that is wrong
 abbrev pub rows_of : List ℕ → Result (List Row) (ℕ × WrongLine)
 rows_of text = rows_behind_head (lines_of text)
 

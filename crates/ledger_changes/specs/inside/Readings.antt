@@ -11,7 +11,7 @@ use Rattle.ledger_changes.specs.declared.ledger_rows.LedgerRows.{LedgerRows}
 use Rattle.ledger_changes.specs.declared.row.LedgerRow.{LedgerRow}
 use Rattle.ledger_changes.specs.inside.Views.{row_in}
 
--- the rows from this one on, of which the line has this number, with this text behind it
+-- the rows from this one on, of which the line has this number, with this text after it
 abbrev pub rows_with : Option Row → ℕ → List ℕ → Result (List Row) (ℕ × WrongLine)
 rows_with None number text = Ok []
 rows_with (Some row) number text = cons_row row (rows_from (number + 1) (Some row) (lines_of text))
