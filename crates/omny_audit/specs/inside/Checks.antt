@@ -19,7 +19,7 @@ is_decided (First checker balance verdict) = is_some verdict
 is_decided (All recount full) = false
 
 -- The text was read, this was reported of it, and its taps were subtracted from the valid ones, if
--- it is to be; or a line of it is the first wrong one, whatever follows.
+-- it is to subtract them; or a line of it is the first wrong one, whatever follows.
 abbrev pub HasChecked : Fares → Bool → List TapFields → Check → List ℕ → List ℕ → Type 0
 HasChecked fares strikes good (First checker balance None) text written =
     HasStruck fares checker balance text good × (written ≡ [])
