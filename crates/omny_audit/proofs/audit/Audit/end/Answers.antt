@@ -1,5 +1,5 @@
-use Rattle.std.proofs.Common.{◌≡◌, ◌++◌, ◌∙◌, ℕ, Bool, List, Option, ap, append_assoc, option_map}
-use Rattle.std.proofs.Common.{Global, Vec, refl, string_bytes, subst, sym, true, false}
+use Rattle.std.proofs.Common.{◌++◌, ◌∙◌, ℕ, Bool, List, Option, ap, append_assoc}
+use Rattle.std.proofs.Common.{Global, Vec, string_bytes, subst, sym, true}
 use Rattle.std.specs.Prelude.{◌&&◌, ◌||◌}
 use Rattle.std.proofs.Math.Bool.{or-true}
 use Rattle.std.proofs.lemmas.Bool.{and_parts}
