@@ -1,8 +1,8 @@
 -- The causes of faults.
-use Rattle.std.proofs.Common.{◌≡◌, ◌∙◌, ◌++◌, ◌∷◌, [], ℕ, Bool, List, Option, None, Some, Result, Ok}
+use Rattle.std.proofs.Common.{◌≡◌, ◌++◌, ◌∷◌, [], ℕ, Bool, List, Option, Some, Result, Ok}
 use Rattle.std.proofs.Common.{Err, append-nil, inl, inr, refl, subst, sym}
 use Rattle.std.specs.Io.KnownBytes.{Keeps}
-use Rattle.std.specs.Prelude.{Contains, unwrap_or}
+use Rattle.std.specs.Prelude.{Contains}
 use Rattle.std.proofs.KnownBytes.{Appends-kept, Appends-nil}
 use Rattle.std.proofs.lemmas.List.Elements.{Contains-append_left, Contains-append_right}
 use Rattle.std.proofs.lemmas.List.Elements.{Contains-push}
@@ -26,7 +26,8 @@ use Rattle.program_manners.specs.declared.table_loads.TablesFault.TheVariants as
 use Rattle.tariffs.specs.Fares.{Fares}
 use Rattle.world.specs.declared.faults.LoadFault.{LoadFault}
 use Rattle.world.specs.declared.faults.LoadFault.TheVariants.{Unread}
-use Rattle.omny_audit.specs.Ends.{EndsAudit, FailsAudit, IsWrongFile, NamesUnplainClass, Run}
+use Rattle.omny_audit.specs.inside.Ends.{EndsAudit}
+use Rattle.omny_audit.specs.Ends.{FailsAudit, IsWrongFile, NamesUnplainClass, Run}
 use Rattle.omny_audit.specs.Fault.{cause_of, remembered}
 use Rattle.omny_audit.specs.Options.{AuditAsked, files_of, ledger_name, named_file}
 use Rattle.omny_audit.specs.Program.{Audits, HasLoaded, IsTextOf, given_of}

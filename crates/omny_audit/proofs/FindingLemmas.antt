@@ -1,6 +1,6 @@
 -- What is found, by its parts.
 use Rattle.std.proofs.Common.{◌≡◌, ℕ, Bool, true, false, List, [], map, Option, Some, None}
-use Rattle.std.proofs.Common.{◌∷◌, ap, if◌then◌else◌, refl, subst, sym, ◌∙◌}
+use Rattle.std.proofs.Common.{ap, if◌then◌else◌, refl, subst, sym, ◌∙◌}
 use Rattle.std.specs.Prelude.{◌↔◌, ◌&&◌, ◌||◌, is_some, not}
 use Rattle.std.proofs.lemmas.Bool.{and_parts}
 use Rattle.std.specs.List.Sorted.{IsPermutation}
@@ -16,7 +16,7 @@ use Rattle.ledger_check.specs.Balances.{IsDifference}
 use Rattle.ledger_check.specs.declared.balance.Difference.{Difference}
 use Rattle.tap_views.specs.declared.encoder.TapFields.{TapFields}
 use Rattle.ledger_check.proofs.VerdictLemmas.{tail_same}
-use Rattle.omny_audit.specs.Findings.{agrees, HasGoodTaps, HasOrder, IsDifferenceOf, IsFinding}
+use Rattle.omny_audit.specs.Findings.{agrees, HasGoodTaps, IsDifferenceOf, IsFinding}
 use Rattle.omny_audit.specs.Findings.{IsDifferenceLine, IsRightLedger}
 use Rattle.omny_audit.specs.Text.{IsDifferenceText}
 

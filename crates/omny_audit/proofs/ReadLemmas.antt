@@ -1,11 +1,11 @@
 -- What a reader has lost, and what follows of all that it had.
 use Rattle.std.proofs.Common.{◌≡◌, ◌==◌, ℕ, Bool, true, false, List, [], ◌∷◌, ◌++◌, Option}
-use Rattle.std.proofs.Common.{Some, None, Result, Ok, Err, ap, ◌∙◌, append-nil, append_assoc}
+use Rattle.std.proofs.Common.{Some, None, Result, Ok, Err, ap, ◌∙◌, append_assoc}
 use Rattle.std.proofs.Common.{length, refl, subst, sym, take}
 use Rattle.std.proofs.lemmas.Bool.{eqb-true, true≢false}
 use Rattle.std.proofs.lemmas.List.{nil_from_length}
 use Rattle.std.specs.Prelude.{◌≢◌, unwrap_or}
-use Rattle.std.specs.Io.KnownBytes.{Consumes, IsAtEnd, ReadConsumes, prepend_known}
+use Rattle.std.specs.Io.KnownBytes.{Consumes, ReadConsumes, prepend_known}
 use Rattle.omny_audit.specs.inside.Source.{IsAllOf}
 
 pub is_front : (old new : Option (List ℕ)) (read : List ℕ) → Consumes old new read

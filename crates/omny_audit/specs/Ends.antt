@@ -1,6 +1,6 @@
 -- How a run of the program ends.
 use Rattle.std.specs.Prelude.{◌≡◌, ◌⊎◌, ℕ, Bool, true, false, List, Option, None, Some, Contains}
-use Rattle.std.specs.Prelude.{MatchBool, Result, Ok, Err, suc, zero}
+use Rattle.std.specs.Prelude.{MatchBool, suc, zero}
 use Rattle.std.specs.Io.KnownBytes.{Keeps}
 use Rattle.clap.specs.Words.{Text}
 use Rattle.toml.specs.Data.{Members}
@@ -80,11 +80,6 @@ FailsAudit asked run fault =
     Fails (files_of asked) (IsWrongFile asked run.loaded run.loaded')
     (IsTextOf asked run.loaded run.loaded') (remembered run.refused run.ended) run.out run.out'
     (cause_of asked fault)
-
--- the finding was written, and says that all is well, or not; or the run failed
-abbrev pub EndsAudit : AuditAsked → Run → Result Bool Fault → Type 0
-EndsAudit asked run (Ok well) = Audits asked run.loaded run.loaded' run.out run.out' well
-EndsAudit asked run (Err fault) = FailsAudit asked run fault
 
 -- The fault's line was reported, unless a write of it failed. If who reads the text has closed it,
 -- nothing is reported.

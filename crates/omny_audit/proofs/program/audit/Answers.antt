@@ -1,5 +1,5 @@
-use Rattle.std.proofs.Common.{◌≡◌, ◌∙◌, ℕ, Bool, Bor, List, None, Option, Some, [], ap, if◌then◌else◌}
-use Rattle.std.proofs.Common.{map, not, option_map, subst, sym}
+use Rattle.std.proofs.Common.{◌∙◌, ℕ, Bor, List, None, Option, Some, [], ap, if◌then◌else◌}
+use Rattle.std.proofs.Common.{map, not, option_map, subst}
 use Rattle.ledger_check.specs.Places.{uploads_of}
 use Rattle.tap_views.specs.declared.encoder.TapFields.{TapFields}
 use Rattle.tap_views.specs.declared.upload_end.UploadEnd.{UploadEnd}

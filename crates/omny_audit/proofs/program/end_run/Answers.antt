@@ -1,5 +1,5 @@
 -- The whole text was written, whether it was flushed or not; or the run failed.
-use Rattle.std.proofs.Common.{◌≡◌, Option, Bool, false, inl, inr, rules, subst, sym, tests, refl}
+use Rattle.std.proofs.Common.{◌≡◌, Option, false, inl, inr, rules, subst, sym, tests, refl}
 use Rattle.program_manners.specs.declared.output.WriteEnd.{WriteEnd}
 use Rattle.omny_audit.specs.Ends.{Run}
 use Rattle.omny_audit.specs.inside.Fault.{IsWriteFault}

@@ -1,5 +1,5 @@
 -- The file of the table whose class is wrong is one of the tables'.
-use Rattle.std.proofs.Common.{◌≡◌, ◌∙◌, ◌-◌, ◌<◌, ◌∷◌, Bor, List, ℕ, ap, arith, inl, length, map}
+use Rattle.std.proofs.Common.{◌∙◌, ◌-◌, ◌<◌, ◌∷◌, Bor, List, ℕ, ap, arith, inl, length, map}
 use Rattle.std.proofs.Common.{refl, subst, sym}
 use Rattle.std.specs.Prelude.{Contains}
 use Rattle.std.proofs.lemmas.List.{length-map}

@@ -1,6 +1,7 @@
-use Rattle.std.proofs.Common.{◌≡◌, ◌++◌, ◌∙◌, ℕ, Bool, List, Option, ap, append_assoc, option_map}
-use Rattle.std.proofs.Common.{Global, Vec, refl, string_bytes, subst, sym, true, false}
+use Rattle.std.proofs.Common.{◌++◌, ◌∙◌, ℕ, Bool, List, Option, ap, append_assoc}
+use Rattle.std.proofs.Common.{Global, Vec, string_bytes, subst, sym, true}
 use Rattle.std.specs.Prelude.{◌&&◌, ◌||◌}
+use Rattle.std.proofs.Math.Bool.{or-true}
 use Rattle.std.proofs.lemmas.Bool.{and_parts}
 use Rattle.omny_audit.specs.Reports.{AreLastLines, ledger_in}
 use Rattle.omny_audit.specs.Traced.{AreColumnsReported}
@@ -11,10 +12,6 @@ use Rattle.omny_audit.specs.inside.Reports.{HasSummedFor, text_of}
 use Rattle.omny_audit.specs.inside.Traced.{wanted_by}
 use Rattle.omny_audit.proofs.Audits.{undecided}
 use Rattle.omny_audit.proofs.audit.Audit.end.Goals as goal
-
-legal_looked : (all : Bool) → (all || true) ≡ true
-legal_looked true = refl
-legal_looked false = refl
 
 pub finish-requires : goal.finish-requires
 finish-requires c =
@@ -31,7 +28,7 @@ write_last_lines-requires c = λ yes.
     let legal = (and_parts c.in_ok-found.found.is_legal c.in_ok-is_right.is_right
     (sym c.are_both-is_whole.ensures ∙ yes)).0 in
     let summed = has.summed (undecided audit.check true
-    (λ is. sym legal ∙ c.in_ok-found.ensures.decided is) (legal_looked (is_all audit.check))) in (
+    (λ is. sym legal ∙ c.in_ok-found.ensures.decided is) (or-true (is_all audit.check))) in (
       audit.table.now,
       ledger_in (given_in audit c.requires.0) c.requires.1,
       subst (λ (r : Option ReportWithSums). HasSummedFor audit.table.now r
@@ -62,7 +59,7 @@ returns c = λ good file before has.
     (sym c.take-report.ensures.value)
     (has.summed (undecided audit.check legal c.in_ok-found.ensures.decided
     (ap (λ (b : Bool). is_all audit.check || b) (and_parts legal right (sym whole ∙ yes)).0
-    ∙ legal_looked (is_all audit.check))))) in (
+    ∙ or-true (is_all audit.check))))) in (
       reported.0,
       record {
         found = written ++ found.0;

@@ -1,4 +1,4 @@
-use Rattle.std.proofs.Common.{◌∙◌, ◌++◌, ℕ, List, Option, subst, sym}
+use Rattle.std.proofs.Common.{◌∙◌, ◌++◌, Option, subst, sym}
 use Rattle.omny_audit.specs.declared.traced.TracedPieces.{TracedPieces}
 use Rattle.omny_audit.specs.inside.Traced.{HasReadAs}
 use Rattle.omny_audit.proofs.Audits.{given_traced}
