@@ -6,7 +6,7 @@ use Rattle.world.specs.Writes.{IsCut}
 use Rattle.world.specs.declared.faults.WriteFault.{WriteFault}
 use Rattle.frame.specs.Ends.{Answer, IsHalted, IsStarted, did, no_answer, with_more}
 use Rattle.frame.specs.Stops.{IsNamed, IsOfStream, Leaves}
-use Rattle.frame.specs.Taken.{IsHaltedIn}
+use Rattle.frame.specs.inside.Taken.{IsHaltedIn}
 use Rattle.frame.specs.Tasks.{Goes, with_piece}
 use Rattle.frame.specs.declared.stop.Stop.{Stop}
 use Rattle.frame.specs.declared.stop.Stop.TheVariants.{NoMemory, Unmade, Unread, Unwritten}

@@ -1,5 +1,5 @@
 pub mod Ends
 pub mod Failing
 pub mod Stops
-pub mod Taken
 pub mod Tasks
+pub mod inside

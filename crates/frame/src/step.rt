@@ -1,6 +1,6 @@
 //! One piece that a task gave.
 ghost use Rattle.std.specs.Prelude.{IfErr, OnOk};
-ghost use Rattle.frame.specs.Taken.{Halts, Takes};
+ghost use Rattle.frame.specs.inside.Taken.{Halts, Takes};
 ghost use Rattle.frame.specs.declared.task.For.TheVariants.{Text};
 
 use crate::stop::Stop;
