@@ -1,4 +1,4 @@
-//! Why the program gives up, with the line that says so and the status.
+//! Why the program fails, with the line that says so and the status.
 ghost use Rattle.std.specs.Prelude.{◌≡◌, ◌≢◌, ℕ, List, Option, Some, if◌then◌else◌, map};
 ghost use Rattle.fare_service.specs.Faults.{MissesNothing};
 ghost use Rattle.fare_program.specs.Fault.{IsLate, fault_text, gather_text, status_of};
@@ -24,7 +24,7 @@ use sorted_bills::BillFault;
 use std::fmt;
 use tap_views::NoMemory;
 
-/// Why the program gives up. Its `Display` is the fault line without its line feed.
+/// Why the program fails. Its `Display` is the fault line without its line feed.
 #[derive(Clone, Copy, Debug)]
 pub(crate) enum Fault<'a> {
     /// The token is not 32 hexadecimal digits.
@@ -81,7 +81,7 @@ pub(crate) enum Fault<'a> {
     Unsorted(UnsortedFile<'a>),
     /// Sorted files have more than 2^46 taps.
     TooManyTaps,
-    /// A sorted file was refused after all were checked. A beginning of a text may be written.
+    /// A sorted file was refused after all were checked. A prefix of a text may be written.
     Late(LateFault),
     /// There are more uploads than a service takes.
     Uploads,
@@ -89,7 +89,7 @@ pub(crate) enum Fault<'a> {
     Gather(GatherFault),
     /// A write failed.
     Write,
-    /// A growth of memory was refused.
+    /// An allocation failed.
     NoMemory,
 }
 
@@ -190,7 +190,7 @@ impl<'a> Fault<'a> {
 
     /// What is reported of this fault, if the output remembers that `end` is why a write failed. No
     /// contract of what writes a text says that a write failed: if the output remembers none that
-    /// did, memory was refused.
+    /// did, an allocation failed.
     pub(crate) fn as_remembered(self, end: Option<WriteEnd>) -> Fault<'a>
         ensures reported { result ≡ as_remembered end self.entry }
         ensures status { status_of result ≡ status_of self.entry }

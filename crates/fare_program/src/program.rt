@@ -313,7 +313,7 @@ fn check_tokens<'a>(options: &Options<'a>) -> Result<(), Fault<'a>>
     }
 }
 
-/// Looks at the dates of the fare tables, behind all other mistakes in what is asked for.
+/// Looks at the dates of the fare tables, after all other mistakes in what is asked for.
 fn check_dates<'a>(options: &Options<'a>) -> Result<(), Fault<'a>>
     ensures right { OnOk result (wrong_date (asked_of options.now) ≡ None) }
     ensures fault { IfErr result (λ fault. MatchOption (wrong_date (asked_of options.now)) ⊥
@@ -489,13 +489,13 @@ fn work<'a, R: Threads + Wait + RandomSource + Sync, D: Disk + Sync, S: Source, 
     ensures right { OnOk result (mistake (asked_of options.now) ≡ None) }
     ensures dates { OnOk result (wrong_date (asked_of options.now) ≡ None) }
 
-    // Only a write that fails leaves something of a text behind, or a sorted file that is refused
+    // Only a write that fails leaves something of a text, or a sorted file that is refused
     // after all were checked.
     ensures fault { IfErr result (λ fault. fault ≢ Fault.Write
         → ((asked_of options.now).sorted ≡ true → IsLate fault → ⊥)
         → Keeps (W.contents out.old) (W.contents out.new)) }
 
-    // What a write that failed left is a beginning of the text that is asked for.
+    // What a write that failed left is a prefix of the text that is asked for.
     ensures begun { IfErr result (λ fault. fault ≡ Fault.Write
         → AreOfBytes (asked_of options.now) (D.bytes_under disk.now)
         → HasBegun (asked_of options.now) (D.bytes_under disk.now) (D.origin disk.now)
@@ -530,7 +530,7 @@ fn work<'a, R: Threads + Wait + RandomSource + Sync, D: Disk + Sync, S: Source, 
     }
 }
 
-/// Says why the program gives up, if that can be written, and gives the status.
+/// Says why the program fails, if that can be written, and gives the status.
 fn report<E: Write>(err: &mut Complaints<E>, fault: &Fault) -> u8
     ensures status { result ≡ status_of fault.now }
     ensures line { LineWritten (E.contents err.old.writer) (E.contents err.new.writer)
@@ -571,7 +571,7 @@ fn show<W: Write, E: Write>(
     }
 }
 
-/// Flushes the output behind the whole text, which is well or not, and gives the status. A flush
+/// Flushes the output after the whole text, which is well or not, and gives the status. A flush
 /// that fails is reported on `err` as a write is.
 fn finish<W: Write, E: Write>(is_well: bool, out: &mut Output<W>, err: &mut Complaints<E>) -> u8
     ensures kept { Keeps (W.contents out.old.writer) (W.contents out.new.writer) }
@@ -621,16 +621,16 @@ pub fn main_over<
     ensures helped { ¬ Parses (map string_bytes words.now) → result ≡ 0
         → AsksForText (map string_bytes words.now) }
 
-    // Words that are no command line have status 2, if they ask for neither. Only want of memory,
-    // while the words are read, may come before it.
+    // Words that are no command line have status 2, if they ask for neither. Only running out of
+    // memory, while the words are read, may come before it.
     ensures wrong_words { ¬ Parses (map string_bytes words.now)
         → (¬ AsksForText (map string_bytes words.now))
         → (result ≡ 2) ⊎ ((result ≡ 1) × GaveUp Fault.NoMemory (E.contents err.old.writer)
         (E.contents err.new.writer) err.new.failed (W.contents out.old.writer)
         (W.contents out.new.writer)) }
 
-    // The first mistake in what is asked for is reported, with status 2. Only want of memory, while
-    // the words are read, may come before it.
+    // The first mistake in what is asked for is reported, with status 2. Only running out of
+    // memory, while the words are read, may come before it.
     ensures mistaken { (first : Fault) → Parses (map string_bytes words.now)
         → mistake (asked_by (map string_bytes words.now)) ≡ Some first
         → ((result ≡ 2) × GaveUp first (E.contents err.old.writer) (E.contents err.new.writer)
@@ -657,16 +657,16 @@ pub fn main_over<
         ⊎ ((is_some (mistake (asked_by (map string_bytes words.now))) ≡ true)
         ⊎ (is_some (wrong_date (asked_by (map string_bytes words.now))) ≡ true)) }
 
-    // A text that ends well was flushed.
+    // A text that succeeds was flushed.
     ensures flushed { Parses (map string_bytes words.now) → result ≡ 0
         → out.new.is_flushed ≡ true }
 
     // With status 1 the whole text was written and flushed, and reports an upload that is not well,
-    // and nothing was said on `err`; or memory was refused, and nothing was written; or the help or
-    // the version that was asked for could not be written; or a fault was reported, which is the
-    // right one. A write is reported only if the output remembers one that failed. Then a beginning
-    // of the text that is asked for stands there: nothing else was written before the fault, and
-    // nothing behind it. So it may after refused memory. Else nothing was written, unless a sorted
+    // and nothing was said on `err`; or an allocation failed, and nothing was written; or the help
+    // or the version that was asked for could not be written; or a fault was reported, which is the
+    // right one. A write is reported only if the output remembers one that failed. Then a prefix of
+    // the text that is asked for stands there: nothing else was written before the fault, and
+    // nothing after it. So it may if memory ran out. Else nothing was written, unless a sorted
     // file was refused after all were checked.
     ensures faults { result ≡ 1
         → (Parses (map string_bytes words.now)

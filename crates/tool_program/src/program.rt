@@ -237,14 +237,14 @@ pub fn main_over<
         (E.contents err.old.writer) (E.contents err.new.writer) err.new.failed }
 
     // Words that are no command line have status 2, if they ask for neither help nor the version.
-    // Only want of memory may come before it.
+    // Only running out of memory may come before it.
     ensures wrong_words { ¬ Parses (map string_bytes words.now)
         → (¬ AsksForText (map string_bytes words.now)) → (result ≡ 2) ⊎ ((result ≡ 1)
         × IsFaultReported NoMemory
         (E.contents err.old.writer) (E.contents err.new.writer) err.new.failed) }
 
-    // A mistake in what is asked for is reported by its line, with status 2. Only want of memory,
-    // while the words are read or the line is made, may come before it.
+    // A mistake in what is asked for is reported by its line, with status 2. Only running out of
+    // memory, while the words are read or the line is made, may come before it.
     ensures mistaken { (line : List ℕ) → Parses (map string_bytes words.now)
         → mistake_line (asked_by (map string_bytes words.now)) ≡ Some line → ((result ≡ 2)
         × LineWritten (E.contents err.old.writer) (E.contents err.new.writer) err.new.failed line)

@@ -99,7 +99,7 @@ fn decode_each<'a, S: Source, W: Write, E: Write>(
     Ok(is_well)
 }
 
-/// Writes the head line, and then the rows of the uploads that the words name.
+/// Writes the header line, and then the rows of the uploads that the words name.
 fn decode_table<'a, S: Source, W: Write, E: Write>(
     alloc: Global,
     words: &[&'a str],

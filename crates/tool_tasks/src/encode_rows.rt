@@ -179,7 +179,7 @@ fn summary_line(alloc: Global, summary: &Summary) -> Result<String, AllocError>
 }
 
 /// Why the refused rows were not written, as their writer remembers it. If it remembers no write
-/// that failed, memory was refused.
+/// that failed, an allocation failed.
 fn fault_of_refused<'a>(refused_end: Option<WriteEnd>) -> Fault<'a>
     ensures { (words : RowsWords) (word : List ℕ) (end : Option AnEnd)
         → IsRowsFault words word end refused_end AgencyFault.RefusedWrite result }

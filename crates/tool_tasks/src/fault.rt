@@ -59,7 +59,7 @@ pub enum Fault<'a> {
     Write,
     /// A write failed since the reader is gone: nothing is said of it.
     Closed,
-    /// A growth of memory was refused.
+    /// An allocation failed.
     NoMemory,
 }
 
@@ -78,7 +78,7 @@ impl<'a> Fault<'a> {
     }
 
     /// Why a text was not written, as its writer remembers it. Of one that remembers nothing it is
-    /// said that memory was refused.
+    /// said that an allocation failed.
     pub fn of_write(end: Option<WriteEnd>) -> Fault<'a>
         ensures { result ≡ failed_as end }
     {
@@ -210,7 +210,7 @@ pub fn finish<'a, W: Write>(out: &mut Output<W>) -> Result<(), Fault<'a>>
     ensures well { OnOk result (out.new.end ≡ out.old.end) }
     ensures flushed { OnOk result (out.new.is_flushed ≡ true) }
     ensures fault { IfErr result (λ fault. fault ≡ failed_as out.new.end) }
-    // It is not said that memory was refused.
+    // It is not said that an allocation failed.
     ensures noted { OnErr result (out.new.end ≢ None) }
 {
     match out.finish() {
