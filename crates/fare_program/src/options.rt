@@ -26,11 +26,11 @@ pub(crate) struct Options<'a> {
     pub(crate) ledger: bool,
     /// Whether the statement is explained.
     pub(crate) explain: bool,
-    /// Whether the ledger's lines have their class, upload and place behind them.
+    /// Whether the ledger's lines have their class, upload and place after them.
     pub(crate) traced: bool,
     /// The range of tokens whose taps alone are charged, as it is written.
     pub(crate) tokens: Option<&'a str>,
-    /// The uploads, in order; none stands for standard input.
+    /// The uploads, in order; none represents standard input.
     pub(crate) files: Vec<&'a str>,
     ghost some_worker: { 1 ≤ workers },
     ghost few_workers: { workers ≤ 16 },

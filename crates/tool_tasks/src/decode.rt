@@ -149,7 +149,7 @@ pub fn decode_over<S: Source, W: Write, E: Write>(
     // Nothing is reported beside the table of uploads without a fault.
     ensures quiet { result ≡ 0 → err.new ≡ err.old }
     // With status 1 the whole table was written and flushed, and the layout faults were reported;
-    // or a fault ended it, which was reported behind them and is the right one.
+    // or a fault ended it, which was reported after them and is the right one.
     ensures faults { result ≡ 1 → (DecodesFaulty (map (λ w. w.now) words.now)
         (S.loaded source.old) (S.loaded source.new) (W.contents out.old.writer)
         (W.contents out.new.writer) (E.contents err.old.writer) (E.contents err.new.writer)
