@@ -59,6 +59,7 @@ impl Line {
         &self.bytes[self.start..]
     }
 
+    /// Puts a text before what is there.
     #[inline(always)]
     pub fn put(&mut self, text: &[u8])
         requires { length text.now + length self.old ≤ 384 }
@@ -70,6 +71,7 @@ impl Line {
         self.start = from;
     }
 
+    /// Puts the digits of a number before what is there: at most 20 bytes.
     #[inline(always)]
     pub fn put_short(&mut self, number: u64)
         requires { length self.old + 40 ≤ 384 }
@@ -79,6 +81,7 @@ impl Line {
         self.start = write_digits(number, &mut self.bytes[..], self.start);
     }
 
+    /// Puts the digits of a number before what is there: at most 40 bytes.
     #[inline(always)]
     pub fn put_number(&mut self, number: u128)
         requires { length self.old + 40 ≤ 384 }
@@ -112,6 +115,7 @@ impl Line {
         self.put(word);
     }
 
+    /// Puts 16 bytes as 32 hexadecimal digits in lower case before what is there.
     #[inline(always)]
     pub fn put_digits(&mut self, bytes: &[u8; 16])
         requires { length self.old + 32 ≤ 384 }

@@ -18,6 +18,7 @@ pub fn strays() -> [TapFields; 2] {
     [tap_after(0xb2, 9, 10), tap_after(0xb2, SUBWAY, 5)]
 }
 
+/// The report of both uploads.
 pub const REPORT: &str = "uploads 2
 upload 0 posted 4
 upload 1 posted 2
@@ -47,6 +48,7 @@ window 2024-03-08T17:00:00.000Z ",
     };
 }
 
+/// The statement of the first upload's token under the sample table.
 pub const STATEMENT: &str = statement!("2024-03-15T17:00:00.000Z");
 
 /// Under New York's civil time the window ends at midnight.

@@ -14,6 +14,7 @@ use tap_views::NoMemory;
 use toml::Table;
 use toml::de::Error as TomlError;
 
+/// What is asked of a table.
 #[derive(Clone, Copy)]
 pub struct Wanted<'a> {
     /// The name of its file, as lines show it.
@@ -34,6 +35,7 @@ pub struct Warnings {
     pub count: usize,
 }
 
+/// Why a text is not a fare table.
 #[derive(Drop)]
 pub enum Refusal {
     NotUtf8,
@@ -81,6 +83,7 @@ impl<'t> TableText<'t> {
         }
     }
 
+    /// What the table means.
     pub fn fares(&self, alloc: Global) -> Result<FareTable, NoMemory> {
         self.fares.try_clone(alloc)
     }

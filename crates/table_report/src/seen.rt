@@ -12,6 +12,7 @@ pub struct SeenValidators {
 }
 
 impl SeenValidators {
+    /// No upload was seen yet.
     pub fn new(alloc: Global) -> SeenValidators {
         SeenValidators {
             numbers: BTreeSet::new(alloc),

@@ -21,6 +21,7 @@ fn wrong_date<'a>(alloc: Global, word: &'a str) -> Result<Option<WrongWord<'a>>,
 }
 
 impl<'a> LaterTable<'a> {
+    /// The table that the word names, or what is wrong with its date.
     pub fn of(
         alloc: Global,
         word: &'a str,

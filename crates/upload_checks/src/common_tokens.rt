@@ -28,6 +28,7 @@ pub struct CommonTokens {
 }
 
 impl CommonTokens {
+    /// No upload was added yet.
     pub fn new(alloc: Global) -> CommonTokens {
         CommonTokens {
             uploads: BTreeMap::new(alloc),
@@ -83,6 +84,7 @@ impl CommonTokens {
         Ok(())
     }
 
+    /// The counts of the uploads, in the order in which they were added.
     pub fn counts(&self) -> &[CommonCounts] {
         &self.counts
     }

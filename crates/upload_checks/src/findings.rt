@@ -9,6 +9,7 @@ use std::thread::Threads;
 use tap_views::{MomentSpan, NoMemory, TapFields};
 use world::Trace;
 
+/// What is found in uploads.
 #[derive(Drop)]
 pub struct Findings {
     /// The lists, one after the other, have the valid taps in canonical order.
