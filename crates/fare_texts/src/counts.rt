@@ -7,8 +7,8 @@ ghost use Rattle.fare_texts.specs.Counts.{counts_text, first_counts, last_counts
 use histories::Totals;
 use std::alloc::AllocError;
 
-/// The totals over all books, or those of a statement.
 #[tactic(auto, using(crate::proofs::Parts::in_parts))]
+/// The totals over all books, or those of a statement.
 pub fn write_totals(text: &mut String, totals: &Totals) -> Result<(), AllocError>
     ensures { OnOk result (string_bytes text.new ≡ string_bytes text.old
         ++ totals_line (sums_of totals.now)) }
@@ -17,8 +17,8 @@ pub fn write_totals(text: &mut String, totals: &Totals) -> Result<(), AllocError
     write_counts(text, totals)
 }
 
-/// The counts that end a line.
 #[tactic(auto, using(crate::proofs::Parts::in_parts))]
+/// The counts that end a line.
 pub fn write_counts(text: &mut String, totals: &Totals) -> Result<(), AllocError>
     ensures { OnOk result (string_bytes text.new ≡ string_bytes text.old
         ++ counts_text (sums_of totals.now)) }

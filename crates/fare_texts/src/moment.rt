@@ -73,7 +73,7 @@ fn digit(number: u32) -> u8
     48 + number as u8
 }
 
-/// The time of day with these parts, as `T17:00:00.000Z`.
+/// The time of day with these parts, after the letter `T` and before `Z`.
 #[inline(always)]
 fn clock_bytes(hour: u32, minute: u32, second: u32, ms: u32) -> [u8; 14]
     requires hour { hour < 100 }
