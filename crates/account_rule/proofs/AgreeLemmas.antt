@@ -251,7 +251,7 @@ valid-waits meaning [] from next moment before =
     not_yet (nat_le from moment) refl
   where
     not_yet : (b : Bool) → nat_le from moment ≡ b → cond b next meaning ≡ meaning
-    not_yet true is = let begun = leb-true from moment is in absurd (omega arith)
+    not_yet true is = let started = leb-true from moment is in absurd (omega arith)
     not_yet false is = refl
 valid-waits meaning (one ∷ later) from next moment before =
     let rest = valid-waits one.1 later from next moment before in
@@ -270,10 +270,10 @@ unfolding rules_of transfers_of permits_of token_class
 rules-wait fares from next token tap before =
     let same = meaning-waits fares from next tap.moment before in
     record {
-      terms = λ i. ride_terms (same i) (class_of (same i) token) tap.mode.place;
+      terms = λ i. ride_terms (same i) (class_of (same i) token) tap.mode.position;
       count = λ i. (transfer_terms (same i) (class_of (same i) token)).taps;
       time = λ i. (transfer_terms (same i) (class_of (same i) token)).time;
-      permits = λ mode i. is_permitted (same i) mode.place tap.mode.place;
+      permits = λ mode i. is_permitted (same i) mode.position tap.mode.position;
       until = λ i. window_end_in fares.zone (same i).window tap.moment;
     }
 

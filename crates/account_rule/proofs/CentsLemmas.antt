@@ -5,7 +5,7 @@ use Rattle.tariffs.specs.Terms.{AreRideTerms}
 use Rattle.tariffs.specs.declared.mode.Mode.{Mode}
 use Rattle.account_rule.specs.Blocks.{last_block}
 use Rattle.account_rule.specs.Replies.{reply}
-use Rattle.account_rule.specs.Stands.{window_of}
+use Rattle.account_rule.specs.Represents.{window_of}
 use Rattle.account_rule.specs.Taps.{is_later, live_at, live_tap}
 use Rattle.account_rule.specs.TokenRules.{TokenRules}
 use Rattle.account_rule.specs.Trips.{ends_in_transfer}

@@ -26,9 +26,9 @@ free-few reply answer is = let none : reply.cents ≡ 0 = ap (λ (r : Reply). r.
 reply_cents-few : (one : Charge) (bound : ℕ) → charged_by one ≤ bound
     → (ride_reply (paid_by one)).cents ≤ bound
 unfolding ride_reply reply_with
-reply_cents-few (Full place cents) bound few = few
-reply_cents-few (CeilingCut place cents) bound few = few
-reply_cents-few (CeilingReached place) bound few = few
+reply_cents-few (Full position cents) bound few = few
+reply_cents-few (CeilingCut position cents) bound few = few
+reply_cents-few (CeilingReached position) bound few = few
 reply_cents-few RideLimitReached bound few = few
 
 charge-few : (terms : Terms) (rides cents : ℕ) → AreRideTerms terms

@@ -14,7 +14,7 @@ use Rattle.account_rule.specs.Kept.{Kept, kept_trip}
 use Rattle.account_rule.specs.NoTransfers.{Lacks, no_transfer, no_transfer_from, spent_from}
 use Rattle.account_rule.specs.Reasons.{given_by, latest, reason}
 use Rattle.account_rule.specs.inside.Kept.{gives}
-use Rattle.account_rule.specs.Stands.{KeepsOf}
+use Rattle.account_rule.specs.Represents.{KeepsOf}
 use Rattle.account_rule.specs.TokenRules.{TokenRules, TransferRules}
 use Rattle.account_rule.specs.Taps.{LiveTap, is_later, live, live_at}
 use Rattle.account_rule.specs.Trips.{TripEnd, ends_in_transfer, last_trip}

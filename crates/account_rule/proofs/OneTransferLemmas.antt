@@ -52,11 +52,11 @@ record AreSameRides (rules : TransferRules) (taps : List LiveTap) : Type 0 where
   given : (ride given : LiveTap)
       → of_trips rules (ride ∷ given ∷ []) taps ≡ of_rows rules (ride ∷ given ∷ []) taps
 
-behind_ride : (rules : TransferRules) (x : LiveTap) (xs : List LiveTap) (ride : LiveTap)
+ride_after : (rules : TransferRules) (x : LiveTap) (xs : List LiveTap) (ride : LiveTap)
     → GivesOne rules → AreSameRides rules xs
     → of_trips rules (ride ∷ []) (x ∷ xs) ≡ of_rows rules (ride ∷ []) (x ∷ xs)
 unfolding blocks_from goes_on evens
-behind_ride rules x xs ride one rest =
+ride_after rules x xs ride one rest =
     rw (one_more rules ride x one) (elim (is_linked rules ride x) as (λ v.
     flat_map (λ (block : List LiveTap). take 1 block)
     (cond v (blocks_from (continues rules) (ride ∷ x ∷ []) xs)
@@ -67,11 +67,11 @@ behind_ride rules x xs ride one rest =
       | false ↦ ap (λ (ts : List LiveTap). ride ∷ ts) (rest.ride x)
     ])
 
-behind_given : (rules : TransferRules) (x : LiveTap) (xs : List LiveTap) (ride given : LiveTap)
+after_given : (rules : TransferRules) (x : LiveTap) (xs : List LiveTap) (ride given : LiveTap)
     → GivesOne rules → AreSameRides rules xs
     → of_trips rules (ride ∷ given ∷ []) (x ∷ xs) ≡ of_rows rules (ride ∷ given ∷ []) (x ∷ xs)
 unfolding blocks_from goes_on evens
-behind_given rules x xs ride given one rest =
+after_given rules x xs ride given one rest =
     rw (no_more rules ride given x one) (elim (is_linked rules given x) as (λ v.
     ride ∷ of_trips rules (x ∷ []) xs
     ≡ flat_map evens (cond v (blocks_from (goes_on rules) (ride ∷ given ∷ x ∷ []) xs)
@@ -88,8 +88,8 @@ same_rides rules [] one = record { ride = λ ride. refl; given = λ ride given. 
 same_rides rules (x ∷ xs) one =
     let rest = same_rides rules xs one in
     record {
-      ride = λ ride. behind_ride rules x xs ride one rest;
-      given = λ ride given. behind_given rules x xs ride given one rest;
+      ride = λ ride. ride_after rules x xs ride one rest;
+      given = λ ride given. after_given rules x xs ride given one rest;
     }
 
 -- the law, of lists of live taps

@@ -8,7 +8,7 @@ use Rattle.std.proofs.Math.Nat.{zero-add}
 use Rattle.tariffs.specs.declared.terms.Terms.{Terms}
 use Rattle.account_rule.specs.declared.reason.Charge.{Charge}
 use Rattle.account_rule.specs.declared.tap.TapIn.{TapIn}
-use Rattle.account_rule.specs.Laws.{AreNoHigher, IsOfPlace, place_cents, with_terms}
+use Rattle.account_rule.specs.Laws.{AreNoHigher, IsOfPosition, position_cents, with_terms}
 use Rattle.account_rule.specs.Replies.{replies}
 use Rattle.account_rule.specs.TokenRules.{TokenRules}
 use Rattle.account_rule.specs.Taps.{LiveTap}
@@ -20,15 +20,15 @@ use Rattle.account_rule.proofs.ShareLemmas.{cents_measure, sum-replies}
 
 -- ---- higher terms
 -- one ride: what was charged so far and it are no less under higher terms
-ride-rise : (low high : Terms) (rides cents more : ℕ) → AreNoHigher low high → cents ≤ more
+ride-increase : (low high : Terms) (rides cents more : ℕ) → AreNoHigher low high → cents ≤ more
     → cents + charged_by (charge low rides cents) ≤ more + charged_by (charge high rides more)
-ride-rise low high rides cents more rise below = elim (charged low rides cents) [
+ride-increase low high rides cents more increase below = elim (charged low rides cents) [
   | inl free ↦ omega (arith, free.cost, below)
   | inr paid ↦ elim (charged high rides more) [
     | inl free ↦ elim free.reached [
-      | inl limit ↦ absurd (omega (arith, limit, paid.below_rides, rise.rides))
+      | inl limit ↦ absurd (omega (arith, limit, paid.below_rides, increase.rides))
       | inr reached ↦ omega
-          (arith, reached, paid.cost, paid.below_ceiling, rise.ceiling, free.cost)
+          (arith, reached, paid.cost, paid.below_ceiling, increase.ceiling, free.cost)
     ]
     | inr also ↦ omega (
       arith,
@@ -36,38 +36,38 @@ ride-rise low high rides cents more rise below = elim (charged low rides cents) 
       paid.below_ceiling,
       also.cost,
       also.below_ceiling,
-      rise.fare,
-      rise.ceiling,
+      increase.fare,
+      increase.ceiling,
       below,
     )
   ]
 ]
 
-rise-from : (low high : LiveTap → Terms) (rides cents more : ℕ) (window : List LiveTap)
+increase-from : (low high : LiveTap → Terms) (rides cents more : ℕ) (window : List LiveTap)
     → ((ride : LiveTap) → AreNoHigher (low ride) (high ride)) → cents ≤ more
     → cents + sum_by charged_by (charges_after low rides cents window)
     ≤ more + sum_by charged_by (charges_after high rides more window)
 unfolding charges_after
-rise-from low high rides cents more [] rise below = omega (arith, below)
-rise-from low high rides cents more (first ∷ window) rise below =
+increase-from low high rides cents more [] increase below = omega (arith, below)
+increase-from low high rides cents more (first ∷ window) increase below =
     let next = cents + charged_by (charge (low first) rides cents) in
     let dear = more + charged_by (charge (high first) rides more) in
     omega (
       arith,
-      rise-from low high (suc rides) next dear window rise
-          (ride-rise (low first) (high first) rides cents more (rise first) below),
+      increase-from low high (suc rides) next dear window increase
+          (ride-increase (low first) (high first) rides cents more (increase first) below),
       sum_by-cons charged_by (charge (low first) rides cents)
           (charges_after low (suc rides) next window),
       sum_by-cons charged_by (charge (high first) rides more)
           (charges_after high (suc rides) dear window),
     )
 
-window_cents-rise : (low high : LiveTap → Terms) (window : List LiveTap)
+window_cents-increase : (low high : LiveTap → Terms) (window : List LiveTap)
     → ((ride : LiveTap) → AreNoHigher (low ride) (high ride))
     → window_cents low window ≤ window_cents high window
 unfolding window_cents charges
-window_cents-rise low high window rise =
-    omega (arith, rise-from low high 0 0 0 window rise (omega arith))
+window_cents-increase low high window increase =
+    omega (arith, increase-from low high 0 0 0 window increase (omega arith))
 
 -- the windows do not depend on the terms
 same_windows : (rules : TokenRules) (higher : LiveTap → Terms) (taps : List TapIn)
@@ -79,66 +79,66 @@ pub higher-cost : (rules : TokenRules) (higher : LiveTap → Terms) (taps : List
     → ((ride : LiveTap) → AreNoHigher (rules.terms ride) (higher ride))
     → sum_by (λ reply. reply.cents) (replies rules taps)
     ≤ sum_by (λ reply. reply.cents) (replies (with_terms rules higher) taps)
-higher-cost rules higher taps rise =
+higher-cost rules higher taps increase =
     let low = sum-replies rules _ _ (cents_measure rules.terms) taps in
     let high = sum-replies (with_terms rules higher) _ _ (cents_measure higher) taps
     ∙ ap (sum_by (window_cents higher)) (same_windows rules higher taps) in
-    let rises = sum_by-le-sum_by (window_cents rules.terms) (window_cents higher)
-    (windows rules taps) (λ window. window_cents-rise rules.terms higher window rise) in
-    omega (arith, low, high, rises)
+    let increases = sum_by-le-sum_by (window_cents rules.terms) (window_cents higher)
+    (windows rules taps) (λ window. window_cents-increase rules.terms higher window increase) in
+    omega (arith, low, high, increases)
 
 -- ---- equal fares
 -- the rides before a place have cost a fare each, up to the ceiling
 abbrev HasCost : Terms → ℕ → ℕ → Type 0
-HasCost terms place cents =
-    place < terms.rides → cents ≡ min terms.ceiling (place * terms.fare)
+HasCost terms position cents =
+    position < terms.rides → cents ≡ min terms.ceiling (position * terms.fare)
 
-of_place : (terms : Terms) (place cents : ℕ) → 1 ≤ terms.fare → HasCost terms place cents
-    → IsOfPlace terms place (charge terms place cents)
-unfolding place_cents
-of_place terms place cents low cost = elim (charged terms place cents) [
+of_position : (terms : Terms) (position cents : ℕ) → 1 ≤ terms.fare → HasCost terms position cents
+    → IsOfPosition terms position (charge terms position cents)
+unfolding position_cents
+of_position terms position cents low cost = elim (charged terms position cents) [
   | inl free ↦ elim free.reached [
     | inl limit ↦
-        let past : leb terms.rides place ≡ true = le-leb terms.rides place limit in record {
+        let past : leb terms.rides position ≡ true = le-leb terms.rides position limit in record {
           cents = rw past free.cost;
           paid = rw past free.paid;
         }
-    | inr reached ↦ elim (cases_lt place terms.rides) [
+    | inr reached ↦ elim (cases_lt position terms.rides) [
       | inl below ↦
-          let room : leb terms.rides place ≡ false = lt-leb terms.rides place below in
-          let past : leb terms.ceiling (place * terms.fare) ≡ true =
-          le-leb terms.ceiling (place * terms.fare) (omega (arith, reached, cost below)) in record {
+          let room : leb terms.rides position ≡ false = lt-leb terms.rides position below in
+          let past : leb terms.ceiling (position * terms.fare) ≡ true =
+          le-leb terms.ceiling (position * terms.fare) (omega (arith, reached, cost below)) in record {
             cents = rw (room, past) free.cost;
             paid = rw (room, past) free.paid;
           }
       | inr limit ↦
-          let past : leb terms.rides place ≡ true = le-leb terms.rides place limit in record {
+          let past : leb terms.rides position ≡ true = le-leb terms.rides position limit in record {
             cents = rw past free.cost;
             paid = rw past free.paid;
           }
     ]
   ]
   | inr paid ↦
-      let room : leb terms.rides place ≡ false = lt-leb terms.rides place paid.below_rides in
-      let same : cents ≡ place * terms.fare =
+      let room : leb terms.rides position ≡ false = lt-leb terms.rides position paid.below_rides in
+      let same : cents ≡ position * terms.fare =
       omega (arith, cost paid.below_rides, paid.below_ceiling) in
-      let left : leb terms.ceiling (place * terms.fare) ≡ false =
-      lt-leb terms.ceiling (place * terms.fare) (omega (arith, same, paid.below_ceiling)) in
-      let costs : charged_by (charge terms place cents)
-      ≡ min terms.fare (terms.ceiling - place * terms.fare) = omega (arith, paid.cost, same) in
-      let some : ltb 0 (min terms.fare (terms.ceiling - place * terms.fare)) ≡ true =
-      lt-ltb 0 (min terms.fare (terms.ceiling - place * terms.fare))
+      let left : leb terms.ceiling (position * terms.fare) ≡ false =
+      lt-leb terms.ceiling (position * terms.fare) (omega (arith, same, paid.below_ceiling)) in
+      let costs : charged_by (charge terms position cents)
+      ≡ min terms.fare (terms.ceiling - position * terms.fare) = omega (arith, paid.cost, same) in
+      let some : ltb 0 (min terms.fare (terms.ceiling - position * terms.fare)) ≡ true =
+      lt-ltb 0 (min terms.fare (terms.ceiling - position * terms.fare))
       (omega (arith, low, same, paid.below_ceiling)) in record {
         cents = rw (room, left) costs;
         paid = paid.paid ∙ rw (room, left) (sym some);
       }
 ]
 
-next_cost : (terms : Terms) (place cents : ℕ) → HasCost terms place cents
-    → HasCost terms (suc place) (cents + charged_by (charge terms place cents))
-next_cost terms place cents cost below =
-    let so_far : cents ≡ min terms.ceiling (place * terms.fare) = cost (omega (arith, below)) in
-    elim (charged terms place cents) [
+next_cost : (terms : Terms) (position cents : ℕ) → HasCost terms position cents
+    → HasCost terms (suc position) (cents + charged_by (charge terms position cents))
+next_cost terms position cents cost below =
+    let so_far : cents ≡ min terms.ceiling (position * terms.fare) = cost (omega (arith, below)) in
+    elim (charged terms position cents) [
       | inl free ↦ elim free.reached [
         | inl limit ↦ absurd (omega (arith, limit, below))
         | inr reached ↦ omega (arith, so_far, reached, free.cost)
@@ -146,36 +146,36 @@ next_cost terms place cents cost below =
       | inr paid ↦ omega (arith, so_far, paid.cost, paid.below_ceiling)
     ]
 
-by_places : (terms : LiveTap → Terms) (same : Terms) (rides cents : ℕ) (window : List LiveTap)
+by_positions : (terms : LiveTap → Terms) (same : Terms) (rides cents : ℕ) (window : List LiveTap)
     → 1 ≤ same.fare → ((ride : LiveTap) → terms ride ≡ same) → HasCost same rides cents
-    → (place : ℕ) (one : Charge)
-    → slice_get (charges_after terms rides cents window) place ≡ Some one
-    → IsOfPlace same (rides + place) one
+    → (position : ℕ) (one : Charge)
+    → slice_get (charges_after terms rides cents window) position ≡ Some one
+    → IsOfPosition same (rides + position) one
 unfolding charges_after
-by_places terms same rides cents [] low equal cost place one is = absurd (cc)
-by_places terms same rides cents (first ∷ window) low equal cost zero one is =
+by_positions terms same rides cents [] low equal cost position one is = absurd (cc)
+by_positions terms same rides cents (first ∷ window) low equal cost zero one is =
     let it : charge same rides cents ≡ one =
     ap (λ t. charge t rides cents) (sym (equal first))
     ∙ the_same (charge (terms first) rides cents) one is in
     let at : rides ≡ rides + 0 = omega arith in
-    subst (λ n. IsOfPlace same n one) at
-    (subst (λ c. IsOfPlace same rides c) it (of_place same rides cents low cost))
+    subst (λ n. IsOfPosition same n one) at
+    (subst (λ c. IsOfPosition same rides c) it (of_position same rides cents low cost))
   where
     the_same : (a b : Charge) → Some a ≡ Some b → a ≡ b
     the_same a b both = cc
-by_places terms same rides cents (first ∷ window) low equal cost (suc place) one is =
+by_positions terms same rides cents (first ∷ window) low equal cost (suc position) one is =
     let next : HasCost same (suc rides) (cents + charged_by (charge (terms first) rides cents)) =
     rw (equal first) (next_cost same rides cents cost) in
-    let at : suc rides + place ≡ rides + suc place = omega arith in
-    subst (λ n. IsOfPlace same n one) at
-    (by_places terms same (suc rides) (cents + charged_by (charge (terms first) rides cents))
-    window low equal next place one is)
+    let at : suc rides + position ≡ rides + suc position = omega arith in
+    subst (λ n. IsOfPosition same n one) at
+    (by_positions terms same (suc rides) (cents + charged_by (charge (terms first) rides cents))
+    window low equal next position one is)
 
-pub equal_by_places : (terms : LiveTap → Terms) (same : Terms) (window : List LiveTap)
+pub equal_by_positions : (terms : LiveTap → Terms) (same : Terms) (window : List LiveTap)
     → 1 ≤ same.fare → ((ride : LiveTap) → terms ride ≡ same)
-    → (place : ℕ) (one : Charge) → slice_get (charges terms window) place ≡ Some one
-    → IsOfPlace same place one
+    → (position : ℕ) (one : Charge) → slice_get (charges terms window) position ≡ Some one
+    → IsOfPosition same position one
 unfolding charges
-equal_by_places terms same window low equal =
-    λ place one is. subst (λ n. IsOfPlace same n one) (zero-add place)
-    (by_places terms same 0 0 window low equal (λ below. omega arith) place one is)
+equal_by_positions terms same window low equal =
+    λ position one is. subst (λ n. IsOfPosition same n one) (zero-add position)
+    (by_positions terms same 0 0 window low equal (λ below. omega arith) position one is)

@@ -23,7 +23,7 @@ use Rattle.account_rule.specs.Reasons.{given_by, latest, live_reason, reason, re
 use Rattle.account_rule.specs.Reasons.{ride_of}
 use Rattle.account_rule.specs.Replies.{live_reply, reply, reply_with, ride_reply}
 use Rattle.account_rule.specs.TokenRules.{TokenRules, TransferRules}
-use Rattle.account_rule.specs.Stands.{KeepsOf, window_of}
+use Rattle.account_rule.specs.Represents.{KeepsOf, window_of}
 use Rattle.account_rule.specs.Taps.{LiveTap, is_later, live, live_at, live_tap}
 use Rattle.account_rule.specs.Windows.{charge, charges, is_within, paid_by, windows}
 use Rattle.account_rule.proofs.LimitLemmas.{last_charge-push}
@@ -215,8 +215,8 @@ pub why_stale : (rules : TokenRules) (account : Option Kept) (state : Kept) (tap
     → tap.moment ≤ state.last.moment
     → Stale state.last.moment ≡ reason rules taps tap
 unfolding is_after
-why_stale rules account state taps tap mode same stands known before =
-    let kept : KeepsOf rules (Some state) taps = rw same at stands in
+why_stale rules account state taps tap mode same holds known before =
+    let kept : KeepsOf rules (Some state) taps = rw same at holds in
     let not_after : is_later taps tap.moment ≡ false =
     sym (kept.last tap.moment) ∙ le-ltb state.last.moment tap.moment before in
     ap (λ moment. Stale moment) (last-latest state taps kept.last)
@@ -229,8 +229,8 @@ pub why_transfer : (rules : TokenRules) (account : Option Kept) (state : Kept) (
     → gives rules.transfers (kept_trip (Some state)) (live_at tap.moment mode) ≡ true
     → given_by (kept_trip (Some state)) ≡ reason rules taps tap
 unfolding is_after
-why_transfer rules account state taps tap mode same stands known after given =
-    let kept : KeepsOf rules (Some state) taps = rw same at stands in
+why_transfer rules account state taps tap mode same holds known after given =
+    let kept : KeepsOf rules (Some state) taps = rw same at holds in
     let later : is_later taps tap.moment ≡ true =
     sym (kept.last tap.moment) ∙ lt-ltb state.last.moment tap.moment after in
     let gives_it : gives rules.transfers (last_trip rules taps) (live_at tap.moment mode) ≡ true =
@@ -249,19 +249,19 @@ pub why_ride : (rules : TokenRules) (account : Option Kept) (taps : List TapIn) 
     → window ≡ window_at (kept_window account) tap.moment until
     → next_reason terms window ≡ reason rules taps tap
 unfolding live_at
-why_ride rules account taps tap mode until terms window stands known limit none same bounds at =
-    let later : is_later taps tap.moment ≡ true = sym (stands.last tap.moment) ∙ none.after in
+why_ride rules account taps tap mode until terms window holds known limit none same bounds at =
+    let later : is_later taps tap.moment ≡ true = sym (holds.last tap.moment) ∙ none.after in
     let shown : live_tap taps tap ≡ Some (live_at tap.moment mode) =
     is_live taps tap mode known later in
     let gives_none : gives rules.transfers (last_trip rules taps) (live_at tap.moment mode)
     ≡ false =
-    rw (← stands.trip) none.none in
+    rw (← holds.trip) none.none in
     let ends : ends_in_transfer rules (taps ++ tap ∷ []) ≡ false =
     ends_in_transfer-push rules taps tap _ shown ∙ gives_none in
     let same_window : window
     ≡ window_at (window_of rules (last_block (windows rules taps))) tap.moment
     (rules.until tap.moment) =
-    at ∙ rw (stands.window, limit) refl in
+    at ∙ rw (holds.window, limit) refl in
     rw same_window
     (sym (reason_live rules taps tap mode known later
     ∙ reason_ride rules taps (taps ++ tap ∷ []) ends

@@ -301,16 +301,16 @@ ride_replies-shares rules taps =
 
 reply_cents : (one : Charge) → (ride_reply (paid_by one)).cents ≡ charged_by one
 unfolding ride_reply reply_with
-reply_cents (Full place cents) = refl
-reply_cents (CeilingCut place cents) = refl
-reply_cents (CeilingReached place) = refl
+reply_cents (Full position cents) = refl
+reply_cents (CeilingCut position cents) = refl
+reply_cents (CeilingReached position) = refl
 reply_cents RideLimitReached = refl
 
 reply_paid : (one : Charge) → is_paid_reply (ride_reply (paid_by one)) ≡ is_paid one
 unfolding ride_reply reply_with is_paid
-reply_paid (Full place cents) = refl
-reply_paid (CeilingCut place cents) = refl
-reply_paid (CeilingReached place) = refl
+reply_paid (Full position cents) = refl
+reply_paid (CeilingCut position cents) = refl
+reply_paid (CeilingReached position) = refl
 reply_paid RideLimitReached = refl
 
 unknown-cents : (reply_with Unknown 0).cents ≡ 0

@@ -31,7 +31,7 @@ use Rattle.account_rule.specs.Kept.{kept_trip, kept_window}
 use Rattle.account_rule.specs.inside.Kept.{gives, kept_under, known_tap, open_window}
 use Rattle.account_rule.specs.inside.Kept.{reply_under}
 use Rattle.account_rule.specs.inside.Kept.{transfers_in, window_at, window_under, with_ride}
-use Rattle.account_rule.specs.Stands.{KeepsOf, Stands, window_of}
+use Rattle.account_rule.specs.Represents.{KeepsOf, Represents, window_of}
 use Rattle.account_rule.specs.Taps.{LiveTap, is_later, live_at, live_tap}
 use Rattle.account_rule.specs.Windows.{charge, charges, paid_by, windows}
 use Rattle.account_rule.proofs.TapLemmas.{ends_in_transfer-push, is_later-push, last_window-ride}
@@ -51,17 +51,17 @@ unfolding kept_of
 kept-fresh account fresh = rw fresh refl
 
 -- an account with a window stands for what its fields stand for
-pub stands-open : (rules : TokenRules) (account : Account) (taps : List TapIn)
+pub holds-open : (rules : TokenRules) (account : Account) (taps : List TapIn)
     → account.has_window ≡ true → KeepsOf rules (Some (kept_numbers account)) taps
-    → Stands rules account taps
-unfolding Stands
-stands-open rules account taps there keeps = rw (kept-open account there) keeps
+    → Represents rules account taps
+unfolding Represents
+holds-open rules account taps there keeps = rw (kept-open account there) keeps
 
 -- a step from one state to the next is the rule's
 pub record IsStep (rules : TokenRules) (taps : List TapIn) (tap : TapIn) (answered : Reply)
     (next : Option Kept) : Type 0 where
   pub reply : answered ≡ reply rules taps tap
-  pub stands : KeepsOf rules next (taps ++ tap ∷ [])
+  pub holds : KeepsOf rules next (taps ++ tap ∷ [])
 
 -- a tap that is not live changes nothing but what is later
 same : (rules : TokenRules) (state : Option Kept) (taps : List TapIn) (tap : TapIn)
@@ -69,15 +69,15 @@ same : (rules : TokenRules) (state : Option Kept) (taps : List TapIn) (tap : Tap
     → live_tap taps tap ≡ None
     → ((moment : ℕ) → is_later (taps ++ tap ∷ []) moment ≡ is_later taps moment)
     → KeepsOf rules state (taps ++ tap ∷ [])
-same rules state taps tap stands none later = record {
-  last = λ moment. stands.last moment ∙ sym (later moment);
-  trip = rw (trip-same rules taps tap none) stands.trip;
-  order = stands.order;
-  window = rw (windows-same rules taps tap none) stands.window;
-  class = stands.class;
-  mode = stands.mode;
-  ride_mode = stands.ride_mode;
-  room = stands.room;
+same rules state taps tap holds none later = record {
+  last = λ moment. holds.last moment ∙ sym (later moment);
+  trip = rw (trip-same rules taps tap none) holds.trip;
+  order = holds.order;
+  window = rw (windows-same rules taps tap none) holds.window;
+  class = holds.class;
+  mode = holds.mode;
+  ride_mode = holds.ride_mode;
+  room = holds.room;
 }
 
 -- a tap on a validator without a mode is no live tap
@@ -143,16 +143,16 @@ reply_ride rules taps ends = rw ends refl
 pub unknown : (rules : TokenRules) (state : Option Kept) (taps : List TapIn) (tap : TapIn)
     → KeepsOf rules state taps
     → tap.mode ≡ None → IsStep rules taps tap (reply_with Unknown 0) state
-unknown rules state taps tap stands none = record {
+unknown rules state taps tap holds none = record {
   reply = sym (reply_unknown rules taps tap none);
-  stands = same rules state taps tap stands (not_known taps tap none)
+  holds = same rules state taps tap holds (not_known taps tap none)
       (λ moment. is_later-push taps tap moment ∙ rw none (and-true (is_later taps moment)));
 }
 
 pub at_state : (rules : TokenRules) (account : Option Kept) (state : Kept) (taps : List TapIn)
     → account ≡ Some state
     → KeepsOf rules account taps → KeepsOf rules (Some state) taps
-at_state rules account state taps same stands = rw same at stands
+at_state rules account state taps same holds = rw same at holds
 
 -- a known tap that is not later moves no moment
 later_stale : (last moment earlier : ℕ) → earlier ≤ last
@@ -170,14 +170,14 @@ stale_at : (rules : TokenRules) (state : Kept) (taps : List TapIn) (tap : TapIn)
     → tap.mode ≡ Some mode → tap.moment ≤ state.last.moment
     → IsStep rules taps tap (reply_with Stale 0) (Some state)
 unfolding is_after
-stale_at rules state taps tap mode stands known before =
+stale_at rules state taps tap mode holds known before =
     let not_after : is_later taps tap.moment ≡ false =
-    sym (stands.last tap.moment) ∙ le-ltb state.last.moment tap.moment before in
+    sym (holds.last tap.moment) ∙ le-ltb state.last.moment tap.moment before in
     record {
       reply = sym (reply_stale rules taps tap mode known not_after);
-      stands = same rules (Some state) taps tap stands (not_later taps tap not_after)
+      holds = same rules (Some state) taps tap holds (not_later taps tap not_after)
           (λ moment. is_later-push taps tap moment
-          ∙ rw (known, ← stands.last moment)
+          ∙ rw (known, ← holds.last moment)
           (later_stale state.last.moment moment tap.moment before));
     }
 
@@ -199,8 +199,8 @@ pub stale : (rules : TokenRules) (account : Option Kept) (state : Kept) (taps : 
     → account ≡ Some state → KeepsOf rules account taps → tap.mode ≡ Some mode
     → tap.moment ≤ state.last.moment
     → IsStep rules taps tap (reply_with Stale 0) (Some state)
-stale rules account state taps tap mode same stands known before =
-    stale_at rules state taps tap mode (at_state rules account state taps same stands) known before
+stale rules account state taps tap mode same holds known before =
+    stale_at rules state taps tap mode (at_state rules account state taps same holds) known before
 
 -- a live tap is the last moment from then on
 later_live : (state : Option Kept) (taps : List TapIn) (tap : TapIn) (mode : Mode) (moment : ℕ)
@@ -246,14 +246,14 @@ abbrev ride_of_trip : Option TripEnd → Option LiveTap
 ride_of_trip trip = option_map (λ t. t.ride) trip
 
 mode_of_trip : (rules : TokenRules) (trip : TripEnd) (tap : LiveTap)
-    → Some trip.last ≡ Some tap → tap.mode.place < rules.modes → trip.last.mode.place < rules.modes
+    → Some trip.last ≡ Some tap → tap.mode.position < rules.modes → trip.last.mode.position < rules.modes
 mode_of_trip rules trip tap is listed =
-    let same : tap ≡ trip.last = cc in subst (λ t. t.mode.place < rules.modes) same listed
+    let same : tap ≡ trip.last = cc in subst (λ t. t.mode.position < rules.modes) same listed
 
 ride_mode_of_trip : (rules : TokenRules) (trip : TripEnd) (tap : LiveTap)
-    → Some trip.ride ≡ Some tap → tap.mode.place < rules.modes → trip.ride.mode.place < rules.modes
+    → Some trip.ride ≡ Some tap → tap.mode.position < rules.modes → trip.ride.mode.position < rules.modes
 ride_mode_of_trip rules trip tap is listed =
-    let same : tap ≡ trip.ride = cc in subst (λ t. t.mode.place < rules.modes) same listed
+    let same : tap ≡ trip.ride = cc in subst (λ t. t.mode.position < rules.modes) same listed
 
 order_of_trip : (end trip : TripEnd) → Some end ≡ Some trip
     → end.ride.moment ≤ end.last.moment → trip.ride.moment ≤ trip.last.moment
@@ -264,62 +264,62 @@ order_of_trip end trip some order =
 -- a live tap to which the last trip gives a transfer
 transfer_at : (rules : TokenRules) (state : Kept) (taps : List TapIn) (tap : TapIn) (mode : Mode)
     (class : ℕ) → KeepsOf rules (Some state) taps
-    → tap.mode ≡ Some mode → mode.place < rules.modes → state.last.moment < tap.moment
+    → tap.mode ≡ Some mode → mode.position < rules.modes → state.last.moment < tap.moment
     → gives rules.transfers (kept_trip (Some state)) (live_at tap.moment mode) ≡ true
     → IsClass rules tap.moment class
     → IsStep rules taps tap (reply_with Transfer 0)
     (Some (after_transfer state (live_at tap.moment mode) class))
 unfolding is_after kept_trip kept_window live_at
-transfer_at rules state taps tap mode class stands known listed after given its =
+transfer_at rules state taps tap mode class holds known listed after given its =
     let later : is_later taps tap.moment ≡ true =
-    sym (stands.last tap.moment) ∙ lt-ltb state.last.moment tap.moment after in
+    sym (holds.last tap.moment) ∙ lt-ltb state.last.moment tap.moment after in
     let shown : live_tap taps tap ≡ Some (live_at tap.moment mode) =
     is_live taps tap mode known later in
     let gives_it : gives rules.transfers (last_trip rules taps) (live_at tap.moment mode) ≡ true =
-    rw (← stands.trip) given in
+    rw (← holds.trip) given in
     let ends : ends_in_transfer rules (taps ++ tap ∷ []) ≡ true =
     ends_in_transfer-push rules taps tap _ shown ∙ gives_it in
     record {
       reply = sym (reply_live rules taps tap mode known later
           ∙ reply_transfer rules (taps ++ tap ∷ []) ends);
-      stands = record {
-        last = λ moment. later_live (Some state) taps tap mode moment stands.last known
+      holds = record {
+        last = λ moment. later_live (Some state) taps tap mode moment holds.last known
             (lt-ltb state.last.moment tap.moment after);
-        trip = rw (trip-push rules taps tap _ shown, gives_it, ← stands.trip) refl;
+        trip = rw (trip-push rules taps tap _ shown, gives_it, ← holds.trip) refl;
         order = λ trip some.
-            let before : state.ride.moment ≤ state.last.moment = stands.order _ refl in
+            let before : state.ride.moment ≤ state.last.moment = holds.order _ refl in
             order_of_trip _ trip some (omega arith);
-        window = rw (windows-transfer rules taps tap _ shown ends) stands.window;
+        window = rw (windows-transfer rules taps tap _ shown ends) holds.window;
         class = λ next some. keeps_class rules _ next some its;
         mode = λ trip some. let same : tap_of_trip (Some trip) ≡ Some (live_at tap.moment mode) =
             ap tap_of_trip (sym some) in
             mode_of_trip rules trip (live_at tap.moment mode) same listed;
         ride_mode = λ trip some.
             let same : ride_of_trip (Some trip) ≡ Some state.ride = ap ride_of_trip (sym some) in
-            ride_mode_of_trip rules trip state.ride same (stands.ride_mode _ refl);
-        room = stands.room;
+            ride_mode_of_trip rules trip state.ride same (holds.ride_mode _ refl);
+        room = holds.room;
       };
     }
 
 pub transfer : (rules : TokenRules) (account : Option Kept) (state next : Kept) (taps : List TapIn)
     (tap : TapIn) (mode : Mode) (class : ℕ)
     → account ≡ Some state → KeepsOf rules account taps → tap.mode ≡ Some mode
-    → mode.place < rules.modes → state.last.moment < tap.moment
+    → mode.position < rules.modes → state.last.moment < tap.moment
     → gives rules.transfers (kept_trip (Some state)) (live_at tap.moment mode) ≡ true
     → IsClass rules tap.moment class
     → next ≡ after_transfer state (live_at tap.moment mode) class
     → IsStep rules taps tap (reply_with Transfer 0) (Some next)
-transfer rules account state next taps tap mode class same stands known listed after given its
+transfer rules account state next taps tap mode class same holds known listed after given its
     is_next =
     subst (λ s. IsStep rules taps tap (reply_with Transfer 0) (Some s)) (sym is_next)
-    (transfer_at rules state taps tap mode class (at_state rules account state taps same stands)
+    (transfer_at rules state taps tap mode class (at_state rules account state taps same holds)
     known listed after given its)
 
 -- a live tap to which no transfer is given
 ride_at : (rules : TokenRules) (state : Option Kept) (taps : List TapIn) (tap : TapIn) (mode : Mode)
     (class : ℕ) (terms : Terms) (window : Window)
     → KeepsOf rules state taps
-    → tap.mode ≡ Some mode → mode.place < rules.modes → is_after state tap.moment ≡ true
+    → tap.mode ≡ Some mode → mode.position < rules.modes → is_after state tap.moment ≡ true
     → gives rules.transfers (kept_trip state) (live_at tap.moment mode) ≡ false
     → window ≡ window_at (kept_window state) tap.moment (rules.until tap.moment)
     → IsRoomy window → IsClass rules tap.moment class
@@ -327,20 +327,20 @@ ride_at : (rules : TokenRules) (state : Option Kept) (taps : List TapIn) (tap : 
     → IsStep rules taps tap (ride_reply (paid_by (charge terms window.rides window.cents)))
     (Some (after_trip (live_at tap.moment mode) class (with_ride terms window)))
 unfolding is_after kept_trip kept_window live_at
-ride_at rules state taps tap mode class terms window stands known listed after not_given at roomy
+ride_at rules state taps tap mode class terms window holds known listed after not_given at roomy
     its
     same bounds =
-    let later : is_later taps tap.moment ≡ true = sym (stands.last tap.moment) ∙ after in
+    let later : is_later taps tap.moment ≡ true = sym (holds.last tap.moment) ∙ after in
     let shown : live_tap taps tap ≡ Some (live_at tap.moment mode) =
     is_live taps tap mode known later in
     let gives_none : gives rules.transfers (last_trip rules taps) (live_at tap.moment mode)
     ≡ false =
-    rw (← stands.trip) not_given in
+    rw (← holds.trip) not_given in
     let ends : ends_in_transfer rules (taps ++ tap ∷ []) ≡ false =
     ends_in_transfer-push rules taps tap _ shown ∙ gives_none in
     let same_window : window
     ≡ window_at (window_of rules (last_block (windows rules taps))) tap.moment
-    (rules.until tap.moment) = rw (← stands.window) at in
+    (rules.until tap.moment) = rw (← holds.window) at in
     record {
       reply = sym (reply_live rules taps tap mode known later
           ∙ reply_ride rules (taps ++ tap ∷ []) ends
@@ -351,8 +351,8 @@ ride_at rules state taps tap mode class terms window stands known listed after n
             ←
                 same_window,
           ) refl);
-      stands = record {
-        last = λ moment. later_live state taps tap mode moment stands.last known after;
+      holds = record {
+        last = λ moment. later_live state taps tap mode moment holds.last known after;
         trip = rw (trip-push rules taps tap _ shown, gives_none) refl;
         order = λ trip some. order_of_trip _ trip some (omega arith);
         window = rw (
@@ -402,36 +402,36 @@ gives_none-state rules account state tap mode same after none =
 pub kept_room : (rules : TokenRules) (account : Option Kept) (state : Kept) (taps : List TapIn)
     → account ≡ Some state → KeepsOf rules account taps → IsRoomy state.window
 unfolding kept_window
-kept_room rules account state taps same stands =
-    let kept : KeepsOf rules (Some state) taps = at_state rules account state taps same stands in
+kept_room rules account state taps same holds =
+    let kept : KeepsOf rules (Some state) taps = at_state rules account state taps same holds in
     kept.room state.window refl
 
 -- what an account keeps has the token's class at the last live tap
 pub kept_class : (rules : TokenRules) (account : Option Kept) (state : Kept) (taps : List TapIn)
     → account ≡ Some state → KeepsOf rules account taps
     → IsClass rules state.last.moment state.class
-kept_class rules account state taps same stands = stands.class state same
+kept_class rules account state taps same holds = holds.class state same
 
 -- the class that an account with a window keeps is the token's, and there is one
 pub class_is : (fares : Fares) (token : List ℕ) (account : Account) (taps : List TapIn)
-    → account.has_window ≡ true → Stands (rules_of fares token) account taps
+    → account.has_window ≡ true → Represents (rules_of fares token) account taps
     → account.class ≡ class_of (meaning_at fares account.last) token
-unfolding rules_of token_class Stands live_at
-class_is fares token account taps there stands =
+unfolding rules_of token_class Represents live_at
+class_is fares token account taps there holds =
     (kept_class (rules_of fares token) (kept_of account) (kept_numbers account) taps
-    (kept-open account there) stands).is
+    (kept-open account there) holds).is
 
 pub class_there : (fares : Fares) (token : List ℕ) (account : Account) (taps : List TapIn)
-    → account.has_window ≡ true → Stands (rules_of fares token) account taps
+    → account.has_window ≡ true → Represents (rules_of fares token) account taps
     → account.class < length (meaning_at fares account.last).classes
-unfolding rules_of Stands live_at
-class_there fares token account taps there stands =
+unfolding rules_of Represents live_at
+class_there fares token account taps there holds =
     (kept_class (rules_of fares token) (kept_of account) (kept_numbers account) taps
-    (kept-open account there) stands).there
+    (kept-open account there) holds).there
 
 -- the modes of the rules are the table's
 pub listed : (fares : Fares) (token : List ℕ) (mode : Mode)
-    → mode.place < length fares.meaning.modes → mode.place < (rules_of fares token).modes
+    → mode.position < length fares.meaning.modes → mode.position < (rules_of fares token).modes
 unfolding rules_of
 listed fares token mode below = below
 
@@ -445,11 +445,11 @@ class_at fares token moment class is there = record { is = is; there = there }
 pub terms_same : (fares : Fares) (token : List ℕ) (meaning : TableMeaning) (moment class : ℕ)
     (mode : Mode)
     → meaning ≡ meaning_at fares moment → class ≡ class_of (meaning_at fares moment) token
-    → (rules_of fares token).terms (live_at moment mode) ≡ ride_terms meaning class mode.place
+    → (rules_of fares token).terms (live_at moment mode) ≡ ride_terms meaning class mode.position
 unfolding rules_of token_class live_at
 terms_same fares token meaning moment class mode valid is =
-    ap (λ place. ride_terms (meaning_at fares moment) place mode.place) (sym is)
-    ∙ ap (λ m. ride_terms m class mode.place) (sym valid)
+    ap (λ position. ride_terms (meaning_at fares moment) position mode.position) (sym is)
+    ∙ ap (λ m. ride_terms m class mode.position) (sym valid)
 
 gives_valid : (fares : Fares) (token : List ℕ) (moment : ℕ) (mode : Mode) (trip : Option TripEnd)
     → gives (transfers_of fares token) trip (live_at moment mode)
@@ -466,7 +466,7 @@ pub gives_same : (fares : Fares) (token : List ℕ) (meaning : TableMeaning) (mo
     → gives (transfers_of fares token) trip (live_at moment mode) ≡ given
 gives_same fares token meaning moment class mode trip given valid is answered =
     gives_valid fares token moment mode trip
-    ∙ ap (λ place. gives (transfers_in (meaning_at fares moment) place) trip (live_at moment mode))
+    ∙ ap (λ position. gives (transfers_in (meaning_at fares moment) position) trip (live_at moment mode))
     (sym is)
     ∙ ap (λ m. gives (transfers_in m class) trip (live_at moment mode)) (sym valid)
     ∙ sym answered
@@ -485,7 +485,7 @@ pub lacks_same : (fares : Fares) (token : List ℕ) (meaning : TableMeaning) (mo
     → no_transfer_from (transfers_in meaning class) trip (live_at moment mode)
     ≡ no_transfer_from (transfers_of fares token) trip (live_at moment mode)
 lacks_same fares token meaning moment class mode trip valid is =
-    ap (λ place. no_transfer_from (transfers_in meaning place) trip (live_at moment mode)) is
+    ap (λ position. no_transfer_from (transfers_in meaning position) trip (live_at moment mode)) is
     ∙ ap (λ m. no_transfer_from (transfers_in m (class_of m token)) trip (live_at moment mode))
     valid
     ∙ sym (lacks_valid fares token moment mode trip)
@@ -514,7 +514,7 @@ at_fresh account start until fresh = rw fresh refl
 pub next_ride : (rules : TokenRules) (account : Option Kept) (state next : Kept) (taps : List TapIn)
     (tap : TapIn) (mode : Mode) (until class : ℕ) (terms : Terms)
     → account ≡ Some state → KeepsOf rules account taps
-    → tap.mode ≡ Some mode → mode.place < rules.modes → until ≡ rules.until tap.moment
+    → tap.mode ≡ Some mode → mode.position < rules.modes → until ≡ rules.until tap.moment
     → GivesNone rules.transfers account tap mode
     → IsClass rules tap.moment class
     → rules.terms (live_at tap.moment mode) ≡ terms → AreRideTerms terms
@@ -523,14 +523,14 @@ pub next_ride : (rules : TokenRules) (account : Option Kept) (state next : Kept)
     → IsStep rules taps tap (ride_reply (paid_by (charge terms
     (window_at (Some state.window) tap.moment until).rides
     (window_at (Some state.window) tap.moment until).cents))) (Some next)
-next_ride rules account state next taps tap mode until class terms same stands known listed limit
+next_ride rules account state next taps tap mode until class terms same holds known listed limit
     none own its bounds is_next =
-    let room = kept_room rules account state taps same stands in
+    let room = kept_room rules account state taps same holds in
     subst (λ s. IsStep rules taps tap (ride_reply (paid_by (charge terms
     (window_at (Some state.window) tap.moment until).rides
     (window_at (Some state.window) tap.moment until).cents))) (Some s)) (sym is_next)
     (ride_at rules account taps tap mode class terms
-    (window_at (Some state.window) tap.moment until) stands known listed none.after none.none
+    (window_at (Some state.window) tap.moment until) holds known listed none.after none.none
     (at_kept account state tap.moment until same
     ∙ ap (λ u. window_at (kept_window account) tap.moment u) limit)
     (room-at state.window tap.moment until room) own its bounds)
@@ -561,7 +561,7 @@ kept_given meaning clock state tap given = rw given refl
 pub reply_paid : (meaning : TableMeaning) (clock : ClockView) (state : Kept) (tap : LiveTap)
     → gives (transfers_in meaning state.class) (kept_trip (Some state)) tap ≡ false
     → reply_under meaning clock state tap
-    ≡ ride_reply (paid_by (charge (ride_terms meaning state.class tap.mode.place)
+    ≡ ride_reply (paid_by (charge (ride_terms meaning state.class tap.mode.position)
     (window_under meaning clock state tap).rides (window_under meaning clock state tap).cents))
 unfolding reply_under
 reply_paid meaning clock state tap none = rw none refl
@@ -569,7 +569,7 @@ reply_paid meaning clock state tap none = rw none refl
 pub kept_paid : (meaning : TableMeaning) (clock : ClockView) (state : Kept) (tap : LiveTap)
     → gives (transfers_in meaning state.class) (kept_trip (Some state)) tap ≡ false
     → kept_under meaning clock state tap
-    ≡ after_trip tap state.class (with_ride (ride_terms meaning state.class tap.mode.place)
+    ≡ after_trip tap state.class (with_ride (ride_terms meaning state.class tap.mode.position)
     (window_under meaning clock state tap))
 unfolding kept_under
 kept_paid meaning clock state tap none = rw none refl
@@ -580,18 +580,18 @@ pub live_tap_is : (fares : Fares) (token : List ℕ) (clock : ClockView) (accoun
     (state next : Kept) (taps : List TapIn) (tap : TapIn) (mode : Mode) (meaning : TableMeaning)
     (class : ℕ) (answered : Reply)
     → account ≡ Some state → KeepsOf (rules_of fares token) account taps
-    → tap.mode ≡ Some mode → mode.place < length fares.meaning.modes
+    → tap.mode ≡ Some mode → mode.position < length fares.meaning.modes
     → state.last.moment < tap.moment → clock ≡ fares.zone → meaning ≡ meaning_at fares tap.moment
     → class ≡ class_of (meaning_at fares tap.moment) token
     → class < length (meaning_at fares tap.moment).classes
     → (gives (transfers_in meaning class) (kept_trip (Some state)) (live_at tap.moment mode) ≡ false
-    → AreRideTerms (ride_terms meaning class mode.place))
+    → AreRideTerms (ride_terms meaning class mode.position))
     → answered ≡ reply_under meaning clock (record state { class = class })
     (live_at tap.moment mode)
     → next ≡ kept_under meaning clock (record state { class = class }) (live_at tap.moment mode)
     → IsStep (rules_of fares token) taps tap answered (Some next)
 unfolding kept_trip rules_of live_at window_under
-live_tap_is fares token clock account state next taps tap mode meaning class answered same stands
+live_tap_is fares token clock account state next taps tap mode meaning class answered same holds
     known below after zone valid is there bounds is_reply is_next =
     by (gives (transfers_in meaning class) (kept_trip (Some state)) (live_at tap.moment mode)) refl
   where
@@ -604,7 +604,7 @@ live_tap_is fares token clock account state next taps tap mode meaning class ans
           reply_given meaning clock (record state { class = class }) (live_at tap.moment mode)
               given,
         )
-        (transfer (rules_of fares token) account state next taps tap mode class same stands known
+        (transfer (rules_of fares token) account state next taps tap mode class same holds known
         (listed fares token mode below) after
         (gives_same fares token meaning tap.moment class mode (kept_trip (Some state)) true valid is
         (sym given))
@@ -618,8 +618,8 @@ live_tap_is fares token clock account state next taps tap mode meaning class ans
           reply_paid meaning clock (record state { class = class }) (live_at tap.moment mode) none,
         )
         (next_ride (rules_of fares token) account state next taps tap mode
-        (window_end_in clock meaning.window tap.moment) class (ride_terms meaning class mode.place)
-        same stands known (listed fares token mode below)
+        (window_end_in clock meaning.window tap.moment) class (ride_terms meaning class mode.position)
+        same holds known (listed fares token mode below)
         (until_same fares token clock meaning tap.moment zone valid)
         (gives_none-state (rules_of fares token).transfers account state tap mode same after
         (gives_same fares token meaning tap.moment class mode (kept_trip (Some state)) false valid
@@ -632,18 +632,18 @@ live_tap_is fares token clock account state next taps tap mode meaning class ans
 
 -- what an account that has a window keeps of its last trip
 pub trip_order : (rules : TokenRules) (account : Account) (taps : List TapIn)
-    → account.has_window ≡ true → Stands rules account taps → account.ride ≤ account.last
-unfolding Stands kept_trip live_at
-trip_order rules account taps there stands =
+    → account.has_window ≡ true → Represents rules account taps → account.ride ≤ account.last
+unfolding Represents kept_trip live_at
+trip_order rules account taps there holds =
     let kept = at_state rules (kept_of account) (kept_numbers account) taps
-    (kept-open account there) stands in
+    (kept-open account there) holds in
     kept.order _ refl
 
 -- the first ride of an account
 pub first_ride : (rules : TokenRules) (account next : Option Kept) (taps : List TapIn) (tap : TapIn)
     (mode : Mode) (until class : ℕ) (terms : Terms) (answered : Reply)
     → account ≡ None → KeepsOf rules account taps
-    → tap.mode ≡ Some mode → mode.place < rules.modes → until ≡ rules.until tap.moment
+    → tap.mode ≡ Some mode → mode.position < rules.modes → until ≡ rules.until tap.moment
     → IsClass rules tap.moment class → rules.terms (live_at tap.moment mode) ≡ terms
     → AreRideTerms terms
     → answered ≡ ride_reply (paid_by (charge terms (open_window tap.moment until).rides
@@ -651,12 +651,12 @@ pub first_ride : (rules : TokenRules) (account next : Option Kept) (taps : List 
     → next ≡ Some (after_trip (live_at tap.moment mode) class
     (with_ride terms (open_window tap.moment until)))
     → IsStep rules taps tap answered next
-first_ride rules account next taps tap mode until class terms answered fresh stands known listed
+first_ride rules account next taps tap mode until class terms answered fresh holds known listed
     limit
     its same bounds is_reply is_next =
     let none = gives_none-fresh rules.transfers account tap mode fresh in
     rw (is_reply, is_next)
-    (ride_at rules account taps tap mode class terms (open_window tap.moment until) stands known
+    (ride_at rules account taps tap mode class terms (open_window tap.moment until) holds known
     listed none.after none.none
     (at_fresh account tap.moment until fresh
     ∙ ap (λ u. window_at (kept_window account) tap.moment u) limit)
@@ -668,23 +668,23 @@ pub first_ride_is : (fares : Fares) (token : List ℕ) (clock : ClockView)
     (taps : List TapIn) (tap : TapIn) (mode : Mode) (meaning : TableMeaning) (class : ℕ)
     (answered : Reply)
     → account ≡ None → KeepsOf (rules_of fares token) account taps
-    → tap.mode ≡ Some mode → mode.place < length fares.meaning.modes
+    → tap.mode ≡ Some mode → mode.position < length fares.meaning.modes
     → clock ≡ fares.zone → meaning ≡ meaning_at fares tap.moment
     → class ≡ class_of meaning token → class < length meaning.classes
-    → AreRideTerms (ride_terms meaning class mode.place)
-    → answered ≡ ride_reply (paid_by (charge (ride_terms meaning class mode.place)
+    → AreRideTerms (ride_terms meaning class mode.position)
+    → answered ≡ ride_reply (paid_by (charge (ride_terms meaning class mode.position)
     (open_window tap.moment (window_end_in clock meaning.window tap.moment)).rides
     (open_window tap.moment (window_end_in clock meaning.window tap.moment)).cents))
     → next ≡ Some (after_trip (live_at tap.moment mode) class
-    (with_ride (ride_terms meaning class mode.place)
+    (with_ride (ride_terms meaning class mode.position)
     (open_window tap.moment (window_end_in clock meaning.window tap.moment))))
     → IsStep (rules_of fares token) taps tap answered next
-first_ride_is fares token clock account next taps tap mode meaning class answered fresh stands known
+first_ride_is fares token clock account next taps tap mode meaning class answered fresh holds known
     below zone valid is there bounds is_reply is_next =
     let its : class ≡ class_of (meaning_at fares tap.moment) token = rw valid at is in
     first_ride (rules_of fares token) account next taps tap mode
-    (window_end_in clock meaning.window tap.moment) class (ride_terms meaning class mode.place)
-    answered fresh stands known (listed fares token mode below)
+    (window_end_in clock meaning.window tap.moment) class (ride_terms meaning class mode.position)
+    answered fresh holds known (listed fares token mode below)
     (until_same fares token clock meaning tap.moment zone valid)
     (class_at fares token tap.moment class its (rw valid at there))
     (terms_same fares token meaning tap.moment class mode valid its) bounds is_reply is_next

@@ -9,7 +9,7 @@ use Rattle.account_rule.specs.declared.window.Window.{Window}
 use Rattle.account_rule.specs.Kept.{IsRoomy}
 use Rattle.account_rule.specs.TokenRules.{TokenRules}
 use Rattle.account_rule.specs.inside.Kept.{open_window, shown_of, window_at, with_ride}
-use Rattle.account_rule.specs.Stands.{window_of}
+use Rattle.account_rule.specs.Represents.{window_of}
 use Rattle.account_rule.specs.Taps.{LiveTap}
 use Rattle.account_rule.specs.Windows.{charge, charges, charges_after, is_paid, is_within}
 use Rattle.account_rule.specs.Windows.{paid_rides}
@@ -79,11 +79,11 @@ window_of-after rules (first ∷ window) ride terms same bounds =
     ]
 
 -- the charge of a ride behind others
-charge-behind : (rules : TokenRules) (start : ℕ) (window : List LiveTap) (ride : LiveTap)
+charge-trailing : (rules : TokenRules) (start : ℕ) (window : List LiveTap) (ride : LiveTap)
     (terms : Terms) → rules.terms ride ≡ terms → AreRideTerms terms
     → last_or None (charges rules.terms (window ++ ride ∷ []))
     ≡ Some (charge terms (numbers rules start window).rides (numbers rules start window).cents)
-charge-behind rules start window ride terms same bounds =
+charge-trailing rules start window ride terms same bounds =
     rw (
       last_charge-push rules.terms window ride,
       same,
@@ -99,7 +99,7 @@ pub charge-after : (rules : TokenRules) (window : List LiveTap) (ride : LiveTap)
     (window_at (window_of rules window) ride.moment (rules.until ride.moment)).cents)
 unfolding window_of window_at is_within
 charge-after rules [] ride terms same bounds =
-    rw (none_yet rules ride.moment) (charge-behind rules ride.moment [] ride terms same bounds)
+    rw (none_yet rules ride.moment) (charge-trailing rules ride.moment [] ride terms same bounds)
 charge-after rules (first ∷ window) ride terms same bounds =
     elim (ltb ride.moment (rules.until first.moment)) as (λ v.
     last_or None (charges rules.terms (cond v (first ∷ (window ++ ride ∷ [])) (ride ∷ [])))
@@ -107,9 +107,9 @@ charge-after rules (first ∷ window) ride terms same bounds =
     (open_window ride.moment (rules.until ride.moment))).rides
     (cond v (numbers rules first.moment (first ∷ window))
     (open_window ride.moment (rules.until ride.moment))).cents)) [
-      | true ↦ charge-behind rules first.moment (first ∷ window) ride terms same bounds
+      | true ↦ charge-trailing rules first.moment (first ∷ window) ride terms same bounds
       | false ↦ rw (none_yet rules ride.moment)
-          (charge-behind rules ride.moment [] ride terms same bounds)
+          (charge-trailing rules ride.moment [] ride terms same bounds)
     ]
 
 same_window : (window : Window) (rides cents paid : ℕ) → window.cents ≡ cents → window.paid ≡ paid

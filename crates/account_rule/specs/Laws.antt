@@ -127,21 +127,21 @@ HigherTermsAreNeverCheaper =
 
 -- the cents of a ride by its place in a window in which all rides have these terms: the rides
 -- before it cost a fare each, up to the ceiling
-unfoldable pub place_cents : Terms → ℕ → ℕ
-place_cents terms place =
-    if nat_le terms.rides place || nat_le terms.ceiling (place * terms.fare)
+unfoldable pub position_cents : Terms → ℕ → ℕ
+position_cents terms position =
+    if nat_le terms.rides position || nat_le terms.ceiling (position * terms.fare)
     then 0
-    else min terms.fare (terms.ceiling - place * terms.fare)
+    else min terms.fare (terms.ceiling - position * terms.fare)
 
 -- what the ride at the place costs is what its place says, and it is paid if that is above 0
-pub record IsOfPlace (terms : Terms) (place : ℕ) (charge : Charge) : Type 0 where
-  pub cents : charged_by charge ≡ place_cents terms place
-  pub paid : is_paid charge ≡ nat_lt 0 (place_cents terms place)
+pub record IsOfPosition (terms : Terms) (position : ℕ) (charge : Charge) : Type 0 where
+  pub cents : charged_by charge ≡ position_cents terms position
+  pub paid : is_paid charge ≡ nat_lt 0 (position_cents terms position)
 
 -- if all rides of a window have the same terms, each costs what its place says
-abbrev pub EqualFaresAreChargedByPlaces : Type 0
-EqualFaresAreChargedByPlaces =
+abbrev pub EqualFaresAreChargedByPositions : Type 0
+EqualFaresAreChargedByPositions =
     (terms : LiveTap → Terms) (same : Terms) (window : List LiveTap)
     → 1 ≤ same.fare → ((ride : LiveTap) → terms ride ≡ same)
-    → (place : ℕ) (charge : Charge) → slice_get (charges terms window) place ≡ Some charge
-    → IsOfPlace same place charge
+    → (position : ℕ) (charge : Charge) → slice_get (charges terms window) position ≡ Some charge
+    → IsOfPosition same position charge

@@ -6,7 +6,7 @@ pub mod NoTransfers
 pub mod OneTransfer
 pub mod Reasons
 pub mod Replies
-pub mod Stands
+pub mod Represents
 pub mod Taps
 pub mod TokenRules
 pub mod Trips

@@ -59,7 +59,7 @@ HasModesBelow modes (TooLate last) = Unit {0}
 HasModesBelow modes NoneGiven = Unit {0}
 HasModesBelow modes (AfterTransfer last) = Unit {0}
 HasModesBelow modes (RideTooLate moment) = Unit {0}
-HasModesBelow modes (NotPermitted from to) = (from.place < modes) × (to.place < modes)
+HasModesBelow modes (NotPermitted from to) = (from.position < modes) × (to.position < modes)
 
 -- of each ride, what is said is so: it is a condition of a transfer that fails
 abbrev pub RidesLackTransfers : Type 0

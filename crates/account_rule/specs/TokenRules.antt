@@ -35,7 +35,7 @@ pub record TokenRules : Type 0 where
 
 -- whether what is valid at the tap permits a transfer from the mode to the tap's
 unfoldable pub permits_of : Fares → Mode → LiveTap → Bool
-permits_of fares from tap = is_permitted (meaning_at fares tap.moment) from.place tap.mode.place
+permits_of fares from tap = is_permitted (meaning_at fares tap.moment) from.position tap.mode.position
 
 -- the place of the token's class at the moment
 unfoldable pub token_class : Fares → List ℕ → ℕ → ℕ
@@ -60,7 +60,7 @@ rules_of fares token = record {
   classes = λ moment. length (meaning_at fares moment).classes;
   class = token_class fares token;
   terms = λ ride. ride_terms (meaning_at fares ride.moment) (token_class fares token ride.moment)
-      ride.mode.place;
+      ride.mode.position;
   transfers = transfers_of fares token;
   until = until fares;
 }

@@ -32,16 +32,16 @@ charge terms rides cents =
 
 -- the cents that follow from what decides them
 abbrev pub charged_by : Charge → ℕ
-charged_by (Full place cents) = cents
-charged_by (CeilingCut place cents) = cents
-charged_by (CeilingReached place) = 0
+charged_by (Full position cents) = cents
+charged_by (CeilingCut position cents) = cents
+charged_by (CeilingReached position) = 0
 charged_by RideLimitReached = 0
 
 -- the cents that are paid, if no limit is reached
 abbrev pub paid_by : Charge → Option ℕ
-paid_by (Full place cents) = Some cents
-paid_by (CeilingCut place cents) = Some cents
-paid_by (CeilingReached place) = None
+paid_by (Full position cents) = Some cents
+paid_by (CeilingCut position cents) = Some cents
+paid_by (CeilingReached position) = None
 paid_by RideLimitReached = None
 
 -- what decides the cents of each of the rides, which follow a number of rides of their window and

@@ -12,7 +12,7 @@ ghost use Rattle.account_rule.specs.TokenRules.{TokenRules, rules_of};
 ghost use Rattle.account_rule.specs.Kept.{IsRoomy, kept_numbers, kept_of, kept_trip};
 ghost use Rattle.account_rule.specs.inside.Kept.{gives, kept_under, known_tap, open_window};
 ghost use Rattle.account_rule.specs.inside.Kept.{reply_under, transfers_in, window_at, with_ride};
-ghost use Rattle.account_rule.specs.Stands.{Stands, StandsForSome};
+ghost use Rattle.account_rule.specs.Represents.{Represents, RepresentsSome};
 ghost use Rattle.account_rule.specs.Blocks.{last_block};
 ghost use Rattle.account_rule.specs.Taps.{live_at};
 ghost use Rattle.account_rule.specs.Windows.{charge, last_window, paid_by, windows};
@@ -46,16 +46,16 @@ pub struct Account {
 impl Account {
     /// An account that has seen no tap.
     pub fn fresh() -> Self
-        ensures stands { (rules : TokenRules) → Stands rules result [] }
-        ensures some { (rules : TokenRules) → StandsForSome rules result }
+        ensures holds { (rules : TokenRules) → Represents rules result [] }
+        ensures some { (rules : TokenRules) → RepresentsSome rules result }
     {
         Account {
             last: 0,
             has_window: false,
             ride: 0,
             given: 0,
-            mode: Mode { place: 0 },
-            ride_mode: Mode { place: 0 },
+            mode: Mode { position: 0 },
+            ride_mode: Mode { position: 0 },
             class: 0,
             window: Window::open(0, 0),
         }
@@ -69,16 +69,16 @@ impl Account {
     pub fn step(&mut self, table: &FareTable, clock: &Clock, token: &[u8], tap: TapIn) -> Reply
         requires clock { clock.now ≡ table.now.zone }
         requires token { length token.now ≡ 16 }
-        requires mode { ForSome tap.mode (λ mode. mode.place < length table.now.meaning.modes) }
+        requires mode { ForSome tap.mode (λ mode. mode.position < length table.now.meaning.modes) }
         requires early { tap.moment < 4_102_444_800_000 }
-        requires stands { StandsForSome (rules_of table.now token.now) self.old }
+        requires holds { RepresentsSome (rules_of table.now token.now) self.old }
 
         // For every list of taps that the account represents.
-        ensures reply { (taps : List TapIn) → Stands (rules_of table.now token.now) self.old taps
+        ensures reply { (taps : List TapIn) → Represents (rules_of table.now token.now) self.old taps
             → result ≡ reply (rules_of table.now token.now) taps tap }
-        ensures stands { (taps : List TapIn) → Stands (rules_of table.now token.now) self.old taps
-            → Stands (rules_of table.now token.now) self.new (taps ++ tap ∷ []) }
-        ensures some { StandsForSome (rules_of table.now token.now) self.new }
+        ensures holds { (taps : List TapIn) → Represents (rules_of table.now token.now) self.old taps
+            → Represents (rules_of table.now token.now) self.new (taps ++ tap ∷ []) }
+        ensures some { RepresentsSome (rules_of table.now token.now) self.new }
         ensures few { result.cents ≤ 100_000 }
     {
         let Some(mode) = tap.mode else {
@@ -98,14 +98,14 @@ impl Account {
 
     /// The last window, within the limits of its rides' terms, or `None` before the first ride.
     pub fn window(&self) -> Option<WindowView>
-        ensures window { (rules : TokenRules) (taps : List TapIn) → Stands rules self.now taps
+        ensures window { (rules : TokenRules) (taps : List TapIn) → Represents rules self.now taps
             → result ≡ last_window rules taps }
         ensures paid { (rules : TokenRules) (taps : List TapIn) (limit : ℕ)
-            → Stands rules self.now taps
+            → Represents rules self.now taps
             → All (λ ride. (rules.terms ride).rides ≤ limit) (last_block (windows rules taps))
             → IfSome result (λ window. window.paid ≤ limit) }
         ensures cents { (rules : TokenRules) (taps : List TapIn) (ceiling : ℕ)
-            → Stands rules self.now taps
+            → Represents rules self.now taps
             → All (λ ride. (rules.terms ride).ceiling ≤ ceiling) (last_block (windows rules taps))
             → IfSome result (λ window. window.cents ≤ ceiling) }
     {
@@ -129,22 +129,22 @@ impl Account {
         moment: u64,
     ) -> Reply
         requires token { length token.now ≡ 16 }
-        requires mode { mode.place < length tariff.now.meaning.modes }
+        requires mode { mode.position < length tariff.now.meaning.modes }
         requires early { moment < 4_102_444_800_000 }
         ensures class { self.new.class ≡ class_of tariff.now.meaning token.now }
         ensures there { self.new.class < length tariff.now.meaning.classes }
-        ensures bounds { AreRideTerms (ride_terms tariff.now.meaning self.new.class mode.place) }
+        ensures bounds { AreRideTerms (ride_terms tariff.now.meaning self.new.class mode.position) }
         ensures reply { let window = open_window moment (window_end_in clock.now
             tariff.now.meaning.window moment) in
             result ≡ ride_reply
-            (paid_by (charge (ride_terms tariff.now.meaning self.new.class mode.place)
+            (paid_by (charge (ride_terms tariff.now.meaning self.new.class mode.position)
             window.rides window.cents)) }
         ensures state { kept_of self.new ≡ Some (record {
           last = live_at moment mode;
           ride = live_at moment mode;
           given = 0;
           class = self.new.class;
-          window = with_ride (ride_terms tariff.now.meaning self.new.class mode.place)
+          window = with_ride (ride_terms tariff.now.meaning self.new.class mode.position)
               (open_window moment (window_end_in clock.now
               tariff.now.meaning.window moment));
         }) }
@@ -179,13 +179,13 @@ impl Account {
     ) -> Reply
         requires clock { clock.now ≡ table.now.zone }
         requires token { length token.now ≡ 16 }
-        requires mode { mode.place < length table.now.meaning.modes }
+        requires mode { mode.position < length table.now.meaning.modes }
         requires early { moment < 4_102_444_800_000 }
-        requires stands { StandsForSome (rules_of table.now token.now) self.old }
-        ensures reply { (taps : List TapIn) → Stands (rules_of table.now token.now) self.old taps
+        requires holds { RepresentsSome (rules_of table.now token.now) self.old }
+        ensures reply { (taps : List TapIn) → Represents (rules_of table.now token.now) self.old taps
             → result ≡ reply (rules_of table.now token.now) taps (known_tap moment mode) }
-        ensures stands { (taps : List TapIn) → Stands (rules_of table.now token.now) self.old taps
-            → Stands (rules_of table.now token.now) self.new (taps ++ known_tap moment mode ∷ []) }
+        ensures holds { (taps : List TapIn) → Represents (rules_of table.now token.now) self.old taps
+            → Represents (rules_of table.now token.now) self.new (taps ++ known_tap moment mode ∷ []) }
         ensures few { result.cents ≤ 100_000 }
     {
         if !self.has_window {
@@ -201,14 +201,14 @@ impl Account {
     #[inline(always)]
     fn live_step(&mut self, tariff: &Tariff, clock: &Clock, mode: Mode, moment: u64) -> Reply
         requires class { self.old.class < length tariff.now.meaning.classes }
-        requires from { self.old.mode.place < length tariff.now.meaning.modes }
-        requires mode { mode.place < length tariff.now.meaning.modes }
+        requires from { self.old.mode.position < length tariff.now.meaning.modes }
+        requires mode { mode.position < length tariff.now.meaning.modes }
         requires early { moment < 4_102_444_800_000 }
         requires order { self.old.ride ≤ moment }
         requires room { IsRoomy self.old.window }
         ensures bounds { gives (transfers_in tariff.now.meaning self.old.class)
             (kept_trip (Some (kept_numbers self.old))) (live_at moment mode) ≡ false
-            → AreRideTerms (ride_terms tariff.now.meaning self.old.class mode.place) }
+            → AreRideTerms (ride_terms tariff.now.meaning self.old.class mode.position) }
         ensures few { result.cents ≤ 100_000 }
         ensures has_window { self.new.has_window ≡ self.old.has_window }
         ensures reply { result ≡ reply_under tariff.now.meaning clock.now
@@ -243,8 +243,8 @@ impl Account {
     #[tactic(auto, unfolding(crate::specs::inside::Kept::transfers_in, crate::specs::inside::Kept::gives, crate::specs::Kept::kept_trip, crate::specs::Taps::live_at))]
     fn gives_transfer(&self, tariff: &Tariff, moment: u64, mode: Mode) -> bool
         requires class { self.now.class < length tariff.now.meaning.classes }
-        requires from { self.now.mode.place < length tariff.now.meaning.modes }
-        requires mode { mode.place < length tariff.now.meaning.modes }
+        requires from { self.now.mode.position < length tariff.now.meaning.modes }
+        requires mode { mode.position < length tariff.now.meaning.modes }
         requires order { self.now.ride ≤ moment }
         ensures gives { result ≡ gives (transfers_in tariff.now.meaning self.now.class)
             (kept_trip (Some (kept_numbers self.now))) (live_at moment mode) }
@@ -275,13 +275,13 @@ impl Account {
     #[tactic(auto, unfolding(crate::specs::inside::Kept::window_at, crate::specs::inside::Kept::open_window))]
     fn take_ride(&mut self, tariff: &Tariff, clock: &Clock, mode: Mode, moment: u64) -> Option<u32>
         requires class { self.old.class < length tariff.now.meaning.classes }
-        requires mode { mode.place < length tariff.now.meaning.modes }
+        requires mode { mode.position < length tariff.now.meaning.modes }
         requires early { moment < 4_102_444_800_000 }
         requires room { IsRoomy self.old.window }
-        ensures bounds { AreRideTerms (ride_terms tariff.now.meaning self.old.class mode.place) }
+        ensures bounds { AreRideTerms (ride_terms tariff.now.meaning self.old.class mode.position) }
         ensures cost { let window = window_at (Some self.old.window) moment (window_end_in clock.now
             tariff.now.meaning.window moment) in
-            result ≡ paid_by (charge (ride_terms tariff.now.meaning self.old.class mode.place)
+            result ≡ paid_by (charge (ride_terms tariff.now.meaning self.old.class mode.position)
             window.rides window.cents) }
         ensures has_window { self.new.has_window ≡ self.old.has_window }
         ensures state { kept_numbers self.new ≡ record {
@@ -289,7 +289,7 @@ impl Account {
           ride = live_at moment mode;
           given = 0;
           class = self.old.class;
-          window = with_ride (ride_terms tariff.now.meaning self.old.class mode.place)
+          window = with_ride (ride_terms tariff.now.meaning self.old.class mode.position)
               (window_at (Some self.old.window) moment (window_end_in clock.now
               tariff.now.meaning.window moment));
         } }

@@ -2,7 +2,7 @@
 
 ghost use Rattle.account_rule.specs.Agreement.{AgreeingRulesReplyAlike, TablesWaitForTheirDate};
 ghost use Rattle.account_rule.specs.Reasons.{GiversAreRides, RepliesFollow};
-ghost use Rattle.account_rule.specs.Laws.{EqualFaresAreChargedByPlaces, HigherTermsAreNeverCheaper};
+ghost use Rattle.account_rule.specs.Laws.{EqualFaresAreChargedByPositions, HigherTermsAreNeverCheaper};
 ghost use Rattle.account_rule.specs.Laws.{TripsAreTheOnlyBlocks, WindowsAreTheOnlyBlocks};
 ghost use Rattle.account_rule.specs.Laws.{WindowsGrowWithinLimits, WindowsKeepTheCeiling};
 ghost use Rattle.account_rule.specs.Laws.{WindowsKeepTheRideLimit};
@@ -41,8 +41,8 @@ pub fn higher_terms_are_never_cheaper()
 {}
 
 /// In a window of equal terms, with a fare above 0, the index of a ride decides what it costs.
-pub fn equal_fares_are_charged_by_places()
-    ensures { EqualFaresAreChargedByPlaces }
+pub fn equal_fares_are_charged_by_positions()
+    ensures { EqualFaresAreChargedByPositions }
 {}
 
 /// With one transfer a ride, rides and transfers alternate while taps are in time and permitted.

@@ -33,11 +33,11 @@ pub enum Reason {
 #[derive(Clone, Copy, Debug, PartialEq, Eq)]
 pub enum Charge {
     /// The ceiling leaves a whole fare.
-    Full { place: u32, cents: u32 },
+    Full { position: u32, cents: u32 },
     /// The ceiling leaves less than a fare, `cents`, and that is charged.
-    CeilingCut { place: u32, cents: u32 },
+    CeilingCut { position: u32, cents: u32 },
     /// The rides before it have cost the ceiling or more.
-    CeilingReached { place: u32 },
+    CeilingReached { position: u32 },
     /// The window has had all rides that may be charged.
     RideLimitReached,
 }
@@ -48,9 +48,9 @@ impl Charge {
         ensures { result ≡ charged_by self }
     {
         match self {
-            Charge::Full { place: _, cents } => cents,
-            Charge::CeilingCut { place: _, cents } => cents,
-            Charge::CeilingReached { place: _ } => 0,
+            Charge::Full { position: _, cents } => cents,
+            Charge::CeilingCut { position: _, cents } => cents,
+            Charge::CeilingReached { position: _ } => 0,
             Charge::RideLimitReached => 0,
         }
     }
@@ -60,9 +60,9 @@ impl Charge {
         ensures { result ≡ paid_by self }
     {
         match self {
-            Charge::Full { place: _, cents } => Some(cents),
-            Charge::CeilingCut { place: _, cents } => Some(cents),
-            Charge::CeilingReached { place: _ } => None,
+            Charge::Full { position: _, cents } => Some(cents),
+            Charge::CeilingCut { position: _, cents } => Some(cents),
+            Charge::CeilingReached { position: _ } => None,
             Charge::RideLimitReached => None,
         }
     }

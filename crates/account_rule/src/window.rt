@@ -5,7 +5,7 @@ ghost use Rattle.tariffs.specs.Terms.{AreRideTerms};
 ghost use Rattle.tariffs.specs.Until.{window_end_in};
 ghost use Rattle.account_rule.specs.Kept.{IsRoomy};
 ghost use Rattle.account_rule.specs.inside.Kept.{next_reason, open_window, shown_of, with_ride};
-ghost use Rattle.account_rule.specs.Laws.{place_cents};
+ghost use Rattle.account_rule.specs.Laws.{position_cents};
 ghost use Rattle.account_rule.specs.Windows.{charge, charged_by, is_paid, paid_by};
 
 use crate::reason::{Charge, Reason};
@@ -117,13 +117,13 @@ impl Window {
 }
 
 /// The cents of a ride after `place` rides of its window, all of which have these terms.
-#[tactic(auto, unfolding(crate::specs::Windows::charge, crate::specs::Laws::place_cents))]
-pub fn cents_at(terms: Terms, place: u32) -> u32
+#[tactic(auto, unfolding(crate::specs::Windows::charge, crate::specs::Laws::position_cents))]
+pub fn cents_at(terms: Terms, position: u32) -> u32
     requires bounds { AreRideTerms terms }
-    requires place { place ≤ 1_000 }
-    ensures { result ≡ place_cents terms place }
+    requires position { position ≤ 1_000 }
+    ensures { result ≡ position_cents terms position }
 {
-    charge(terms, place, place * terms.fare).cents()
+    charge(terms, position, position * terms.fare).cents()
 }
 
 #[tactic(auto, unfolding(crate::specs::Windows::charge))]
@@ -135,15 +135,15 @@ fn charge(terms: Terms, rides: u32, cents: u32) -> Charge
     if rides >= terms.rides {
         Charge::RideLimitReached
     } else if cents >= terms.ceiling {
-        Charge::CeilingReached { place: rides }
+        Charge::CeilingReached { position: rides }
     } else if cents + terms.fare <= terms.ceiling {
         Charge::Full {
-            place: rides,
+            position: rides,
             cents: terms.fare,
         }
     } else {
         Charge::CeilingCut {
-            place: rides,
+            position: rides,
             cents: terms.ceiling - cents,
         }
     }

@@ -112,8 +112,8 @@ valid_names names (next ∷ later) tree (other ∷ trees) moment of_first (is, a
         → NamesOf (names_at next.names later moment) (tree_at other.1 trees moment)
         → NamesOf (cond b (names_at next.names later moment) names)
         (cond b (tree_at other.1 trees moment) tree)
-    either true behind = behind
-    either false behind = of_first
+    either true trailing = trailing
+    either false trailing = of_first
 
 -- the class that is kept for a token at a moment is the one of the text that is valid then
 pub class_kept : (names : ClassNames) (tree : Members) (later : List (ℕ × Members))
@@ -139,52 +139,52 @@ trees_more (d ∷ ds) (x ∷ xs) (t ∷ ts) next text tree (one, two, rest) is =
 
 -- the trees of the tables before one, and its own
 pub next_trees : (dated : List (ℕ × TableMeaning)) (texts : List (List ℕ))
-    (trees : List (ℕ × Members)) (place : ℕ) (next : ℕ × TableMeaning) (text : List ℕ)
+    (trees : List (ℕ × Members)) (position : ℕ) (next : ℕ × TableMeaning) (text : List ℕ)
     (tree : Members)
-    → slice_get dated place ≡ Some next → slice_get texts place ≡ Some text
-    → AreLaterTrees (take place dated) (take place texts) trees → parse_document text ≡ Some tree
-    → AreLaterTrees (take (place + 1) dated) (take (place + 1) texts)
+    → slice_get dated position ≡ Some next → slice_get texts position ≡ Some text
+    → AreLaterTrees (take position dated) (take position texts) trees → parse_document text ≡ Some tree
+    → AreLaterTrees (take (position + 1) dated) (take (position + 1) texts)
     (trees ++ (next.0, tree) ∷ [])
-next_trees dated texts trees place next text tree at stands are is =
-    subst (λ (ds : List (ℕ × TableMeaning)). AreLaterTrees ds (take (place + 1) texts)
+next_trees dated texts trees position next text tree at holds are is =
+    subst (λ (ds : List (ℕ × TableMeaning)). AreLaterTrees ds (take (position + 1) texts)
     (trees ++ (next.0, tree) ∷ []))
-    (ap (λ n. take place dated ++ n ∷ []) (sym (get_or_from_slice_get dated place next next at))
-    ∙ sym (take_more dated place next (slice_get_within dated place next at)))
-    (subst (λ (ts : List (List ℕ)). AreLaterTrees (take place dated ++ next ∷ []) ts
+    (ap (λ n. take position dated ++ n ∷ []) (sym (get_or_from_slice_get dated position next next at))
+    ∙ sym (take_more dated position next (slice_get_within dated position next at)))
+    (subst (λ (ts : List (List ℕ)). AreLaterTrees (take position dated ++ next ∷ []) ts
     (trees ++ (next.0, tree) ∷ []))
-    (ap (λ t. take place texts ++ t ∷ []) (sym (get_or_from_slice_get texts place text text stands))
-    ∙ sym (take_more texts place text (slice_get_within texts place text stands)))
-    (trees_more (take place dated) (take place texts) trees next text tree are is))
+    (ap (λ t. take position texts ++ t ∷ []) (sym (get_or_from_slice_get texts position text text holds))
+    ∙ sym (take_more texts position text (slice_get_within texts position text holds)))
+    (trees_more (take position dated) (take position texts) trees next text tree are is))
 
 -- what stands at a place of a list is got there of what is made of each
-pub at_place : {A B : Type 0} (f : A → B) (xs : List A) (place : ℕ) (x : A) → place < length xs
-    → x ≡ get_or xs place x → slice_get (map f xs) place ≡ Some (f x)
-at_place f [] place x within is = absurd (omega (arith, within))
-at_place f (one ∷ xs) zero x within is = ap (λ y. Some (f y)) (sym is)
-at_place f (one ∷ xs) (suc place) x within is = at_place f xs place x (omega (arith, within)) is
+pub at_position : {A B : Type 0} (f : A → B) (xs : List A) (position : ℕ) (x : A) → position < length xs
+    → x ≡ get_or xs position x → slice_get (map f xs) position ≡ Some (f x)
+at_position f [] position x within is = absurd (omega (arith, within))
+at_position f (one ∷ xs) zero x within is = ap (λ y. Some (f y)) (sym is)
+at_position f (one ∷ xs) (suc position) x within is = at_position f xs position x (omega (arith, within)) is
 
 -- the same behind the first one
-pub behind_first : {B : Type 0} (xs : List B) (place : ℕ) (x : B)
-    → slice_get xs (place + 1) ≡ Some x → slice_get (drop 1 xs) place ≡ Some x
-behind_first [] place x is = absurd (cc)
-behind_first (one ∷ xs) place x is = rw (add-one) at is
+pub after_first : {B : Type 0} (xs : List B) (position : ℕ) (x : B)
+    → slice_get xs (position + 1) ≡ Some x → slice_get (drop 1 xs) position ≡ Some x
+after_first [] position x is = absurd (cc)
+after_first (one ∷ xs) position x is = rw (add-one) at is
 
 -- what holds of the first texts, and of the next one
-pub plain_more : (P : List ℕ → Type 0) (texts : List (List ℕ)) (place : ℕ) (text : List ℕ)
-    → slice_get texts place ≡ Some text
-    → ((k : ℕ) (d : List ℕ) → k < place → P (get_or texts k d)) → P text
-    → (k : ℕ) (d : List ℕ) → k < place + 1 → P (get_or texts k d)
-plain_more P texts place text at before is k d below =
-    elim (cases_lt k place) [
+pub plain_more : (P : List ℕ → Type 0) (texts : List (List ℕ)) (position : ℕ) (text : List ℕ)
+    → slice_get texts position ≡ Some text
+    → ((k : ℕ) (d : List ℕ) → k < position → P (get_or texts k d)) → P text
+    → (k : ℕ) (d : List ℕ) → k < position + 1 → P (get_or texts k d)
+plain_more P texts position text at before is k d below =
+    elim (cases_lt k position) [
       | inl less ↦ before k d less
       | inr more ↦ subst P
-          (sym (get_or_from_slice_get texts place text d at)
+          (sym (get_or_from_slice_get texts position text d at)
           ∙ ap (λ (n : ℕ). get_or texts n d) (omega (arith, more, below))) is
     ]
 
 -- each text before a place is plain
-pub plain_before : (P : List ℕ → Type 0) (texts : List (List ℕ)) (place : ℕ)
-    → ((k : ℕ) (d : List ℕ) → k < place → P (get_or texts k d)) → All P (take place texts)
-plain_before P texts place before k d below =
-    let less : k < place = omega (arith, below, length-take place texts) in
-    subst P (sym (get_or-take place texts k d less)) (before k d less)
+pub plain_before : (P : List ℕ → Type 0) (texts : List (List ℕ)) (position : ℕ)
+    → ((k : ℕ) (d : List ℕ) → k < position → P (get_or texts k d)) → All P (take position texts)
+plain_before P texts position before k d below =
+    let less : k < position = omega (arith, below, length-take position texts) in
+    subst P (sym (get_or-take position texts k d less)) (before k d less)

@@ -24,6 +24,6 @@ HasPlainClasses text =
 -- The fault is one of the text at its place, and no class of the texts before it has one.
 pub record IsWrongAt (texts : List (List ℕ)) (wrong : WrongNames) : Type 0 where
   pub text : List ℕ
-  pub stands : slice_get texts wrong.place ≡ Some text
+  pub holds : slice_get texts wrong.position ≡ Some text
   pub fault : IsFaultOf text wrong.fault
-  pub before : All HasPlainClasses (take wrong.place texts)
+  pub before : All HasPlainClasses (take wrong.position texts)

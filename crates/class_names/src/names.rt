@@ -52,7 +52,7 @@ impl From<AllocError> for ClassFault {
 #[derive(Clone, Copy, Debug, PartialEq, Eq)]
 pub struct WrongNames {
     /// The index of the text.
-    pub place: usize,
+    pub position: usize,
     /// Why.
     pub fault: ClassFault,
 }
@@ -90,11 +90,11 @@ fn are_bare(bytes: &[u8]) -> bool
     ensures { result ≡ list_all is_bare bytes.now }
 {
     let mut rest = bytes;
-    while let Some((first, behind)) = rest.split_first() {
+    while let Some((first, trailing)) = rest.split_first() {
         if !is_bare(*first) {
             return false;
         }
-        rest = behind;
+        rest = trailing;
     }
     true
 }
@@ -256,7 +256,7 @@ fn next_names(
     alloc: Global,
     names: ClassNames,
     from: u64,
-    place: usize,
+    position: usize,
     text: &[u8],
 ) -> Result<ClassNames, WrongNames>
     ensures classes { IfOk result (λ all. (other : Members)
@@ -265,17 +265,17 @@ fn next_names(
         → HasClasses all tree (later ++ (from, other) ∷ []))) }
     ensures plain { OnOk result ((tree : Members)
         → parse_document text.now ≡ Some tree → has_plain_classes tree ≡ true) }
-    ensures place { IfErr result (λ wrong. wrong.place ≡ place) }
+    ensures position { IfErr result (λ wrong. wrong.position ≡ position) }
     ensures fault { IfErr result (λ wrong. IsFaultOf text.now wrong.fault) }
 {
     let next = match ClassNames::read(alloc, text) {
         Ok(next) => next,
-        Err(fault) => return Err(WrongNames { place, fault }),
+        Err(fault) => return Err(WrongNames { position, fault }),
     };
     match names.followed_by(from, next) {
         Ok(all) => Ok(all),
         Err(_) => Err(WrongNames {
-            place,
+            position,
             fault: ClassFault::NoMemory,
         }),
     }
@@ -335,11 +335,11 @@ impl ClassNames {
     {
         let mut names = match ClassNames::read(alloc, &texts[0]) {
             Ok(names) => names,
-            Err(fault) => return Err(WrongNames { place: 0, fault }),
+            Err(fault) => return Err(WrongNames { position: 0, fault }),
         };
-        for place in 0..fares.later_len() {
-            let (from, _tariff) = fares.later(place);
-            names = match next_names(alloc, names, from, place + 1, &texts[place + 1]) {
+        for position in 0..fares.later_len() {
+            let (from, _tariff) = fares.later(position);
+            names = match next_names(alloc, names, from, position + 1, &texts[position + 1]) {
                 Ok(more) => more,
                 Err(wrong) => return Err(wrong),
             };

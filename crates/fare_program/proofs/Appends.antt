@@ -6,24 +6,24 @@ use Rattle.std.specs.Prelude.{Option, flat_map}
 use Rattle.std.proofs.lemmas.Grind.{flat_map-append}
 use Rattle.std.proofs.lemmas.List.Folds.{list_all-append}
 use Rattle.tariffs.specs.Fares.{Fares}
-use Rattle.tap_views.specs.Files.{GoodBatchesView, IsReadAs}
+use Rattle.tap_views.specs.Files.{ValidBatchesView, IsReadAs}
 use Rattle.fare_program.specs.Listing.{Listed}
-use Rattle.fare_program.specs.Listing.{KeptListing, StandsFor}
-use Rattle.fare_program.specs.Uploads.{AreReadings, has_no_fault, lines_from, listed_in}
+use Rattle.fare_program.specs.Listing.{KeptListing, RepresentsListing}
+use Rattle.fare_program.specs.Uploads.{AreParses, has_no_fault, lines_from, listed_in}
 use Rattle.fare_program.specs.Uploads.{listing_lines}
 use Rattle.fare_program.specs.inside.Uploads.{ListsUpload, ListsUploads}
 
-readings_push : (files : List (List ℕ)) (readings : List GoodBatchesView) (file : List ℕ)
-    (reading : GoodBatchesView) → AreReadings files readings
+parses_push : (files : List (List ℕ)) (readings : List ValidBatchesView) (file : List ℕ)
+    (reading : ValidBatchesView) → AreParses files readings
     → IsReadAs file reading.batches reading.fault
-    → AreReadings (files ++ file ∷ []) (readings ++ reading ∷ [])
-readings_push [] [] file reading read is = (is, tt)
-readings_push [] (r ∷ readings) file reading read is = elim read [ ]
-readings_push (f ∷ files) [] file reading read is = elim read [ ]
-readings_push (f ∷ files) (r ∷ readings) file reading read is =
-    (read.0, readings_push files readings file reading read.1 is)
+    → AreParses (files ++ file ∷ []) (readings ++ reading ∷ [])
+parses_push [] [] file reading read is = (is, tt)
+parses_push [] (r ∷ readings) file reading read is = elim read [ ]
+parses_push (f ∷ files) [] file reading read is = elim read [ ]
+parses_push (f ∷ files) (r ∷ readings) file reading read is =
+    (read.0, parses_push files readings file reading read.1 is)
 
-same_length : (files : List (List ℕ)) (readings : List GoodBatchesView) → AreReadings files readings
+same_length : (files : List (List ℕ)) (readings : List ValidBatchesView) → AreParses files readings
     → length readings ≡ length files
 same_length [] [] read = refl
 same_length [] (r ∷ readings) read = elim read [ ]
@@ -31,7 +31,7 @@ same_length (f ∷ files) [] read = elim read [ ]
 same_length (f ∷ files) (r ∷ readings) read = omega (arith, same_length files readings read.1)
 
 lines_push : (fares : Option Fares) (upload : ℕ) (before : List Listed)
-    (readings : List GoodBatchesView) (reading : GoodBatchesView)
+    (readings : List ValidBatchesView) (reading : ValidBatchesView)
     → lines_from fares upload before (readings ++ reading ∷ [])
     ≡ lines_from fares upload before readings ++ listing_lines fares (upload + length readings)
     (before ++ flat_map (listed_in fares) readings) reading
@@ -51,12 +51,12 @@ pub uploads_push : (fares : Option Fares) (kept kept' : KeptListing) (text0 text
     → ListsUploads fares kept' text0 text' (files ++ file ∷ []) (clean && whole)
 uploads_push fares kept kept' text0 text text' files file clean whole upload is all one = record {
   readings = all.readings ++ one.reading ∷ [];
-  read = readings_push files all.readings file one.reading all.read one.read;
-  lines = (one.lines taps all.stands).0
+  read = parses_push files all.readings file one.reading all.read one.read;
+  lines = (one.lines taps all.holds).0
       ∙ ap₂ (λ bs n. bs ++ listing_lines fares n taps one.reading) all.lines number
       ∙ append_assoc text0 _ _
       ∙ ap (λ bs. text0 ++ bs) (sym (lines_push fares 0 [] all.readings one.reading));
-  stands = subst (StandsFor kept') (sym more_taps) (one.lines taps all.stands).1;
+  holds = subst (RepresentsListing kept') (sym more_taps) (one.lines taps all.holds).1;
   is_clean = ap₂ (λ a b. a && b) all.is_clean (one.is_whole ∙ and_true _)
       ∙ sym (list_all-append has_no_fault all.readings (one.reading ∷ []));
 }

@@ -71,15 +71,15 @@ permutation_of_times (x ∷ xs) ys same =
     moved into)
 
 -- the numbers from this one on, as many as there are names
-abbrev pub places : {A : Type 0} → ℕ → List A → List ℕ
-places start [] = []
-places start (name ∷ names) = start ∷ places (suc start) names
+abbrev pub positions : {A : Type 0} → ℕ → List A → List ℕ
+positions start [] = []
+positions start (name ∷ names) = start ∷ positions (suc start) names
 
 module _ {A : Type 0} where
-  no_place : (start : ℕ) (names : List A) (x : ℕ) → (x < start) ⊎ (start + length names ≤ x)
-      → times x (places start names) ≡ 0
-  no_place start [] x out = refl
-  no_place start (name ∷ names) x out = by_test (eqb_tells start x) (no_place (suc start) names x)
+  no_position : (start : ℕ) (names : List A) (x : ℕ) → (x < start) ⊎ (start + length names ≤ x)
+      → times x (positions start names) ≡ 0
+  no_position start [] x out = refl
+  no_position start (name ∷ names) x out = by_test (eqb_tells start x) (no_position (suc start) names x)
     where
       later : (x < start) ⊎ (start + length (name ∷ names) ≤ x)
           → (x < suc start) ⊎ (suc start + length names ≤ x)
@@ -92,41 +92,41 @@ module _ {A : Type 0} where
 
       by_test : IsTest start x
           → ((x < suc start) ⊎ (suc start + length names ≤ x)
-          → times x (places (suc start) names) ≡ 0)
-          → times x (places start (name ∷ names)) ≡ 0
+          → times x (positions (suc start) names) ≡ 0)
+          → times x (positions start (name ∷ names)) ≡ 0
       by_test (inl (e, same)) rest = absurd (apart_from out same)
       by_test (inr (e, apart)) rest =
           let none : one x start ≡ 0 = ap (λ (b : Bool). cond b 1 0) e in
-          let whole = sum_by-cons (one x) start (places (suc start) names) in
+          let whole = sum_by-cons (one x) start (positions (suc start) names) in
           omega (arith, none, whole, rest (later out))
 
-  one_place : (start : ℕ) (names : List A) (x : ℕ) → start ≤ x → x < start + length names
-      → times x (places start names) ≡ 1
-  one_place start [] x low high = absurd (omega (arith, low, high))
-  one_place start (name ∷ names) x low high =
-      by_test (eqb_tells start x) (one_place (suc start) names x)
+  one_position : (start : ℕ) (names : List A) (x : ℕ) → start ≤ x → x < start + length names
+      → times x (positions start names) ≡ 1
+  one_position start [] x low high = absurd (omega (arith, low, high))
+  one_position start (name ∷ names) x low high =
+      by_test (eqb_tells start x) (one_position (suc start) names x)
     where
       by_test : IsTest start x
           → (suc start ≤ x → x < suc start + length names
-          → times x (places (suc start) names) ≡ 1)
-          → times x (places start (name ∷ names)) ≡ 1
+          → times x (positions (suc start) names) ≡ 1)
+          → times x (positions start (name ∷ names)) ≡ 1
       by_test (inl (e, same)) rest =
           let once : one x start ≡ 1 = ap (λ (b : Bool). cond b 1 0) e in
-          let whole = sum_by-cons (one x) start (places (suc start) names) in
-          let none = no_place (suc start) names x (inl (omega (arith, same))) in
+          let whole = sum_by-cons (one x) start (positions (suc start) names) in
+          let none = no_position (suc start) names x (inl (omega (arith, same))) in
           omega (arith, once, whole, none)
       by_test (inr (e, apart)) rest =
           let none : one x start ≡ 0 = ap (λ (b : Bool). cond b 1 0) e in
-          let whole = sum_by-cons (one x) start (places (suc start) names) in
+          let whole = sum_by-cons (one x) start (positions (suc start) names) in
           omega (arith, none, whole, rest (omega (arith, low, apart)) (omega (arith, high)))
 
   -- numbers of which each is there once are those of the places, in some order
   pub in_some_order : (names : List A) (drawn : List ℕ)
       → ((x : ℕ) → x < length names → times x drawn ≡ 1)
-      → ((x : ℕ) → length names ≤ x → times x drawn ≡ 0) → IsPermutation (places 0 names) drawn
-  in_some_order names drawn all none = permutation_of_times (places 0 names) drawn (λ x. each x (cases_lt x (length names)))
+      → ((x : ℕ) → length names ≤ x → times x drawn ≡ 0) → IsPermutation (positions 0 names) drawn
+  in_some_order names drawn all none = permutation_of_times (positions 0 names) drawn (λ x. each x (cases_lt x (length names)))
     where
       each : (x : ℕ) → (x < length names) ⊎ (length names ≤ x)
-          → times x (places 0 names) ≡ times x drawn
-      each x (inl less) = one_place 0 names x (omega arith) (omega (arith, less)) ∙ sym (all x less)
-      each x (inr more) = no_place 0 names x (inr (omega (arith, more))) ∙ sym (none x more)
+          → times x (positions 0 names) ≡ times x drawn
+      each x (inl less) = one_position 0 names x (omega arith) (omega (arith, less)) ∙ sym (all x less)
+      each x (inr more) = no_position 0 names x (inr (omega (arith, more))) ∙ sym (none x more)

@@ -32,10 +32,10 @@ no_text : (value : Option Data) → option_and_then as_str value ≡ None → (n
 no_text None none name is = cc
 no_text (Some value) none name is = no_kind (as_str value) none name is
 
-no_default : (table tree : Members) → default_in tree ≡ None → (place : ℕ)
-    → default_of table tree ≡ Ok place → ⊥
+no_default : (table tree : Members) → default_in tree ≡ None → (position : ℕ)
+    → default_of table tree ≡ Ok position → ⊥
 unfolding default_of
-no_default table tree none place is =
+no_default table tree none position is =
     stuck _ _ _ (no_text (get_member (codes "default_class") tree) none) is
 
 of_tree : (tree : Members) (meaning : TableMeaning) → default_in tree ≡ None

@@ -19,4 +19,4 @@ pub explained_same : (fares : Fares) (outcome : OutcomeView) (history : List Ent
 explained_same fares outcome history token text same table is =
     subst (λ (es : List Entry). IsExplained fares token es text) same
     (subst (λ (f : Fares). IsExplained f token (own token (all_entries outcome.books)) text)
-    (table is.first is.stands_first) is.over)
+    (table is.first is.holds_first) is.over)

@@ -6,7 +6,7 @@ use Rattle.std.proofs.KnownBytes.{Appends-kept}
 use Rattle.program_manners.specs.TableWords.{TableNames}
 use Rattle.program_manners.specs.Loads.{Loaded}
 use Rattle.world.specs.Origins.{Origin}
-use Rattle.fare_program.specs.Options.{Asked, lists}
+use Rattle.fare_program.specs.Options.{Request, lists}
 use Rattle.fare_program.specs.Program.{Does, RunsListing, RunsService, RunsSorted, RunsTraced}
 
 kept_by : (b : Bool) (A B C D : Type 0) → (A → C) × (B → D) → MatchBool b A B → MatchBool b C D
@@ -15,10 +15,10 @@ kept_by false A B C D both is = both.1 is
 
 kept_listing : (table : Option TableNames) (names : List (List ℕ))
     (loaded loaded' : Option (List Loaded))
-    (out out' last : Option (List ℕ)) (well : Bool) → Keeps out' last
-    → RunsListing table names loaded loaded' out out' well
-    → RunsListing table names loaded loaded' out last well
-kept_listing table names loaded loaded' out out' last well kept done = record {
+    (out out' last : Option (List ℕ)) (success : Bool) → Keeps out' last
+    → RunsListing table names loaded loaded' out out' success
+    → RunsListing table names loaded loaded' out last success
+kept_listing table names loaded loaded' out out' last success kept done = record {
   between = done.between;
   fares = done.fares;
   loads_table = done.loads_table;
@@ -29,11 +29,11 @@ kept_listing table names loaded loaded' out out' last well kept done = record {
   written = Appends-kept out out' last done.text done.written kept;
 }
 
-kept_service : (asked : Asked) (origin : List ℕ → Origin)
-    (loaded loaded' : Option (List Loaded)) (out out' last : Option (List ℕ)) (well : Bool)
-    → Keeps out' last → RunsService asked origin loaded loaded' out out' well
-    → RunsService asked origin loaded loaded' out last well
-kept_service asked origin loaded loaded' out out' last well kept done = record {
+kept_service : (request : Request) (origin : List ℕ → Origin)
+    (loaded loaded' : Option (List Loaded)) (out out' last : Option (List ℕ)) (success : Bool)
+    → Keeps out' last → RunsService request origin loaded loaded' out out' success
+    → RunsService request origin loaded loaded' out last success
+kept_service request origin loaded loaded' out out' last success kept done = record {
   between = done.between;
   fares = done.fares;
   loads_table = done.loads_table;
@@ -47,11 +47,11 @@ kept_service asked origin loaded loaded' out out' last well kept done = record {
   written = Appends-kept out out' last done.text done.written kept;
 }
 
-kept_sorted : (asked : Asked) (known : List ℕ → Option (List ℕ))
-    (loaded loaded' : Option (List Loaded)) (out out' last : Option (List ℕ)) (well : Bool)
-    → Keeps out' last → RunsSorted asked known loaded loaded' out out' well
-    → RunsSorted asked known loaded loaded' out last well
-kept_sorted asked known loaded loaded' out out' last well kept done = record {
+kept_sorted : (request : Request) (known : List ℕ → Option (List ℕ))
+    (loaded loaded' : Option (List Loaded)) (out out' last : Option (List ℕ)) (success : Bool)
+    → Keeps out' last → RunsSorted request known loaded loaded' out out' success
+    → RunsSorted request known loaded loaded' out last success
+kept_sorted request known loaded loaded' out out' last success kept done = record {
   fares = done.fares;
   loads = done.loads;
   token = done.token;
@@ -59,13 +59,13 @@ kept_sorted asked known loaded loaded' out out' last well kept done = record {
   text = done.text;
   shows = done.shows;
   written = Appends-kept out out' last done.text done.written kept;
-  is_well = done.is_well;
+  succeeded = done.succeeded;
 }
 
-kept_traced : (asked : Asked) (loaded loaded' : Option (List Loaded))
-    (out out' last : Option (List ℕ)) (well : Bool) → Keeps out' last
-    → RunsTraced asked loaded loaded' out out' well → RunsTraced asked loaded loaded' out last well
-kept_traced asked loaded loaded' out out' last well kept done = record {
+kept_traced : (request : Request) (loaded loaded' : Option (List Loaded))
+    (out out' last : Option (List ℕ)) (success : Bool) → Keeps out' last
+    → RunsTraced request loaded loaded' out out' success → RunsTraced request loaded loaded' out last success
+kept_traced request loaded loaded' out out' last success kept done = record {
   tables = done.tables;
   are_named = done.are_named;
   texts = done.texts;
@@ -84,18 +84,18 @@ kept_traced asked loaded loaded' out out' last well kept done = record {
   written = Appends-kept out out' last done.text done.written kept;
 }
 
-pub does_kept : (asked : Asked) (known : List ℕ → Option (List ℕ)) (origin : List ℕ → Origin)
-    (loaded loaded' : Option (List Loaded)) (out out' last : Option (List ℕ)) (well : Bool)
-    → Keeps out' last → Does asked known origin loaded loaded' out out' well
-    → Does asked known origin loaded loaded' out last well
-does_kept asked known origin loaded loaded' out out' last well kept done =
-    kept_by asked.traced _ _ _ _ (
-      kept_traced asked loaded loaded' out out' last well kept,
-      kept_by (lists asked) _ _ _ _ (
-        kept_listing asked.table asked.files loaded loaded' out out' last well kept,
-        kept_by asked.sorted _ _ _ _ (
-          kept_sorted asked known loaded loaded' out out' last well kept,
-          kept_service asked origin loaded loaded' out out' last well kept,
+pub does_kept : (request : Request) (known : List ℕ → Option (List ℕ)) (origin : List ℕ → Origin)
+    (loaded loaded' : Option (List Loaded)) (out out' last : Option (List ℕ)) (success : Bool)
+    → Keeps out' last → Does request known origin loaded loaded' out out' success
+    → Does request known origin loaded loaded' out last success
+does_kept request known origin loaded loaded' out out' last success kept done =
+    kept_by request.traced _ _ _ _ (
+      kept_traced request loaded loaded' out out' last success kept,
+      kept_by (lists request) _ _ _ _ (
+        kept_listing request.table request.files loaded loaded' out out' last success kept,
+        kept_by request.sorted _ _ _ _ (
+          kept_sorted request known loaded loaded' out out' last success kept,
+          kept_service request origin loaded loaded' out out' last success kept,
         ),
       ),
     ) done

@@ -3,7 +3,7 @@ use Rattle.std.proofs.Common.{◌≡◌, ◌+◌, ◌∙◌, ℕ, List, [], ◌�
 use Rattle.std.proofs.Common.{append_assoc, add-zero, length, refl, arith}
 use Rattle.fare_program.specs.Lines.{tap_line}
 use Rattle.fare_program.specs.Listing.{Listed, liveness_of}
-use Rattle.fare_program.specs.Listing.{KeptListing, StandsFor}
+use Rattle.fare_program.specs.Listing.{KeptListing, RepresentsListing}
 use Rattle.fare_program.specs.Uploads.{tap_lines}
 use Rattle.fare_program.specs.inside.Uploads.{Lists}
 
@@ -22,8 +22,8 @@ lines_join upload number before (tap ∷ taps) more =
 -- nothing is listed yet
 pub lists_nothing : (kept : KeptListing) (text : List ℕ) (upload number : ℕ)
     → Lists kept kept text text upload number []
-lists_nothing kept text upload number before stands =
-    (sym (append-nil text), subst (StandsFor kept) (sym (append-nil before)) stands)
+lists_nothing kept text upload number before holds =
+    (sym (append-nil text), subst (RepresentsListing kept) (sym (append-nil before)) holds)
 
 -- a listing goes on behind what it has listed
 pub lists_on : (kept between kept' : KeptListing) (text middle text' : List ℕ)
@@ -32,10 +32,10 @@ pub lists_on : (kept between kept' : KeptListing) (text middle text' : List ℕ)
     → Lists between kept' middle text' upload next more
     → Lists kept kept' text text' upload number (taps ++ more)
 lists_on kept between kept' text middle text' upload number next taps more first is second before
-    stands =
-    let (lines, here) = first before stands in
+    holds =
+    let (lines, here) = first before holds in
     let (others, there) = second (before ++ taps) here in (
       others ∙ rw (lines, is) (append_assoc text _ _
           ∙ ap (λ lines. text ++ lines) (sym (lines_join upload number before taps more))),
-      subst (StandsFor kept') (append_assoc before taps more) there,
+      subst (RepresentsListing kept') (append_assoc before taps more) there,
     )

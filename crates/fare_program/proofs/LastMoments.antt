@@ -20,7 +20,7 @@ use Rattle.fare_program.specs.declared.listing.Word.TheVariants.{Live, Stale, Un
 use Rattle.fare_program.specs.declared.listing.ListCounts.{ListCounts}
 use Rattle.fare_program.specs.Listing.{Listed, are_before, count_of, counts_of, is_same_liveness}
 use Rattle.fare_program.specs.Listing.{known_of, listed_moment, liveness_of, livenesses_after}
-use Rattle.fare_program.specs.Listing.{StandsFor, is_after_last, last_of}
+use Rattle.fare_program.specs.Listing.{RepresentsListing, is_after_last, last_of}
 use Rattle.fare_program.specs.inside.Listing.{liveness_counted, last_after, liveness_by}
 
 -- the map's own look-up
@@ -138,24 +138,24 @@ counts-push taps tap liveness is = go liveness is
     go Unknown is = counts_are _ _ _ _ len (one Live Unknown is ∙ add-zero _)
         (one Stale Unknown is ∙ add-zero _) (one Unknown Unknown is)
 
-pub stands-push : (last last' : List (List ℕ × ℕ)) (counts counts' : ListCounts)
+pub holds-push : (last last' : List (List ℕ × ℕ)) (counts counts' : ListCounts)
     (taps : List Listed) (tap : Listed) (liveness : Word)
     → liveness ≡ liveness_by last tap
     → ((other : List ℕ) → last_of last' other
     ≡ last_after liveness tap.tap.token (listed_moment tap) last other)
     → counts' ≡ liveness_counted liveness counts
-    → StandsFor (record { last = last; counts = counts }) taps
-    → StandsFor (record { last = last'; counts = counts' }) (taps ++ tap ∷ [])
-stands-push last last' counts counts' taps tap liveness is after counted_is stands = record {
+    → RepresentsListing (record { last = last; counts = counts }) taps
+    → RepresentsListing (record { last = last'; counts = counts' }) (taps ++ tap ∷ [])
+holds-push last last' counts counts' taps tap liveness is after counted_is holds = record {
   last = λ other moment.
       rw (after other, is)
       (last-push last tap.tap other moment _ tap.known (bytes_eq tap.tap.token other)
-      (stands.last other moment) refl (bytes_eq-Decides tap.tap.token other).0
+      (holds.last other moment) refl (bytes_eq-Decides tap.tap.token other).0
       ∙ sym (list_all-append (λ t. nat_lt (listed_moment t) moment) (known_of other taps) _)
       ∙ ap (are_before moment) (sym (filter-append (is_known_of other) taps (tap ∷ []))));
-  counts = counted_is ∙ ap (liveness_counted liveness) stands.counts
+  counts = counted_is ∙ ap (liveness_counted liveness) holds.counts
       ∙ counts-push taps tap liveness (is ∙ by_list);
 }
   where
     by_list : liveness_by last tap ≡ liveness_of taps tap
-    by_list = rw (stands.last tap.tap.token (listed_moment tap)) refl
+    by_list = rw (holds.last tap.tap.token (listed_moment tap)) refl

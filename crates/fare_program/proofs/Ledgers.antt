@@ -8,11 +8,11 @@ use Rattle.shard_book.specs.Book.{Book}
 use Rattle.histories.specs.Entry.{own}
 use Rattle.shard_book.specs.Book.{all_entries}
 use Rattle.histories.specs.SumsByKey.{token_of, tokens}
-use Rattle.histories.specs.Rising.{rising}
+use Rattle.histories.specs.Increasing.{increasing}
 use Rattle.tap_views.specs.Token.{token_cmp}
 use Rattle.histories.specs.declared.entry.Entry.{Entry}
 use Rattle.tap_views.specs.declared.token.Token.{Token}
-use Rattle.histories.proofs.RisingLemmas.{rising-is, rising-only}
+use Rattle.histories.proofs.IncreasingLemmas.{increasing-is, increasing-only}
 use Rattle.histories.proofs.SameEntries.{same_entries}
 use Rattle.tap_views.proofs.TokenLemmas.{token_cmp-total, token_cmp-ties}
 use Rattle.fare_service.specs.Outcomes.{OutcomeView}
@@ -24,11 +24,11 @@ same_tokens : (entries others : List Entry)
     → ((token : Token) → own token entries ≡ own token others) → tokens entries ≡ tokens others
 unfolding tokens
 same_tokens entries others same =
-    let is = rising-is token_cmp-total token_cmp-ties (map token_of entries) in
+    let is = increasing-is token_cmp-total token_cmp-ties (map token_of entries) in
     let moved = IsPermutation-map token_of entries others (same_entries entries others same) in
-    rising-only token_cmp-total token_cmp-ties (map token_of others)
-    (rising token_cmp (map token_of entries)) (record {
-      rises = is.rises;
+    increasing-only token_cmp-total token_cmp-ties (map token_of others)
+    (increasing token_cmp (map token_of entries)) (record {
+      increases = is.increases;
       same = λ key. is.same key
           ∙ list_any-IsPermutation (eq_by_cmp token_cmp key) (map token_of entries)
           (map token_of others) moved;
@@ -49,7 +49,7 @@ pub ledger_same : (fares : Fares) (outcome : OutcomeView) (history : List Entry)
 ledger_same fares outcome history only text same table is =
     let all = all_entries outcome.books in
     let over : IsLedgerOver fares all only text =
-    subst (λ (f : Fares). IsLedgerOver f all only text) (table is.first is.stands_first) is.over in
+    subst (λ (f : Fares). IsLedgerOver f all only text) (table is.first is.holds_first) is.over in
     record {
       lines = over.lines;
       of_each = subst (λ (ts : List Token). AreLinesOfEach fares history ts over.lines)

@@ -8,7 +8,7 @@ pub mod Going
 pub mod LastMoments
 pub mod Loads
 pub mod PostedTexts
-pub mod ReadAhead
+pub mod Prefetched
 pub mod Ledgers
 pub mod Explains
 pub mod Finished

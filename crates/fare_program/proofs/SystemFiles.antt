@@ -23,13 +23,13 @@ use Rattle.fare_service.proofs.GatherLemmas.{each_work}
 use Rattle.fare_service.proofs.PlainLists.{count_other}
 use Rattle.world.specs.Origins.{IsFrom, Origin, file, loads_from}
 use Rattle.fare_program.specs.Causes.{table_files}
-use Rattle.fare_program.specs.FilesLoaded.{AreLoaded, AreReadAhead, AreReadAsDrawn, AreReadInOrder}
+use Rattle.fare_program.specs.FilesLoaded.{AreLoaded, ArePrefetched, AreReadAsDrawn, AreReadInOrder}
 use Rattle.fare_program.specs.FilesLoaded.{LoadsFiles, load_at, loads_of, names_to_load, text_at}
-use Rattle.fare_program.specs.Options.{Asked}
-use Rattle.fare_program.specs.Program.{LoadsTable, RunsService, ShowsAsked, ShowsLiveRun}
+use Rattle.fare_program.specs.Options.{Request}
+use Rattle.fare_program.specs.Program.{LoadsTable, RunsService, ShowsRequest, ShowsLiveRun}
 use Rattle.fare_program.specs.Settling.{ShowsSettled}
 use Rattle.fare_program.specs.SystemFiles.{ChargesFiles, RunsChargeFiles, loads_under}
-use Rattle.fare_program.proofs.Counts.{in_some_order, places}
+use Rattle.fare_program.proofs.Counts.{in_some_order, positions}
 use Rattle.program_manners.specs.Loads.{Loaded, LoadsAll, LoadsOne}
 use Rattle.program_manners.specs.TableLoads.{LoadsLater, LoadsTables}
 use Rattle.program_manners.specs.TableWords.{TableNames, file_named}
@@ -118,101 +118,101 @@ module _ (origin : List ℕ → Origin) (of_system : (name : List ℕ) → origi
       (in_order names files)
 
   abbrev load_of : List (List ℕ) → List (List ℕ) → ℕ → Loaded
-  load_of names files place = record { name = Some (text_at names place); bytes = text_at files place }
+  load_of names files position = record { name = Some (text_at names position); bytes = text_at files position }
 
   as_drawn : (names files : List (List ℕ)) (drawn : List ℕ)
       → flat_map (load_at origin names files) drawn ≡ map (load_of names files) drawn
   as_drawn names files [] = refl
-  as_drawn names files (place ∷ drawn) =
-      ap₂ (λ (o : Origin) (ls : List Loaded). loads_from o (text_at files place) ++ ls)
-      (of_system (text_at names place)) (as_drawn names files drawn)
+  as_drawn names files (position ∷ drawn) =
+      ap₂ (λ (o : Origin) (ls : List Loaded). loads_from o (text_at files position) ++ ls)
+      (of_system (text_at names position)) (as_drawn names files drawn)
 
 -- the loads of all places are those under the names
-all_places : (name_of bytes_of : ℕ → List ℕ) (start : ℕ) (names files : List (List ℕ))
+all_positions : (name_of bytes_of : ℕ → List ℕ) (start : ℕ) (names files : List (List ℕ))
     → length files ≡ length names
-    → ((place : ℕ) → place < length names → name_of (start + place) ≡ text_at names place)
-    → ((place : ℕ) → place < length names → bytes_of (start + place) ≡ text_at files place)
-    → map (λ place. record { name = Some (name_of place); bytes = bytes_of place })
-    (places start names) ≡ loads_under names files
-all_places name_of bytes_of start [] files number names_are files_are = refl
-all_places name_of bytes_of start (name ∷ names) [] number names_are files_are =
+    → ((position : ℕ) → position < length names → name_of (start + position) ≡ text_at names position)
+    → ((position : ℕ) → position < length names → bytes_of (start + position) ≡ text_at files position)
+    → map (λ position. record { name = Some (name_of position); bytes = bytes_of position })
+    (positions start names) ≡ loads_under names files
+all_positions name_of bytes_of start [] files number names_are files_are = refl
+all_positions name_of bytes_of start (name ∷ names) [] number names_are files_are =
     absurd (omega (arith, number))
-all_places name_of bytes_of start (name ∷ names) (bytes ∷ files) number names_are files_are =
+all_positions name_of bytes_of start (name ∷ names) (bytes ∷ files) number names_are files_are =
     let first : start ≡ start + 0 = omega arith in
     let named : name_of start ≡ name = ap name_of first ∙ names_are 0 (omega arith) in
     let same : bytes_of start ≡ bytes = ap bytes_of first ∙ files_are 0 (omega arith) in
     ap₂ (λ (l : Loaded) (ls : List Loaded). l ∷ ls)
     (λ i. record { name = Some (named i); bytes = same i })
-    (all_places name_of bytes_of (suc start) names files (omega (arith, number))
-    (λ place within.
-    let next : suc start + place ≡ start + suc place = omega arith in
-    ap name_of next ∙ names_are (suc place) (omega (arith, within)))
-    (λ place within.
-    let next : suc start + place ≡ start + suc place = omega arith in
-    ap bytes_of next ∙ files_are (suc place) (omega (arith, within))))
+    (all_positions name_of bytes_of (suc start) names files (omega (arith, number))
+    (λ position within.
+    let next : suc start + position ≡ start + suc position = omega arith in
+    ap name_of next ∙ names_are (suc position) (omega (arith, within)))
+    (λ position within.
+    let next : suc start + position ≡ start + suc position = omega arith in
+    ap bytes_of next ∙ files_are (suc position) (omega (arith, within))))
 
 -- ---- what was drawn in a run that is well
-posted_at : (ends : List UploadEnd) (place : ℕ) → are_posted ends ≡ true → place < length ends
-    → (taps : ℕ) × (slice_get ends place ≡ Some (Posted taps))
-posted_at [] place posted few = absurd (omega (arith, few))
+posted_at : (ends : List UploadEnd) (position : ℕ) → are_posted ends ≡ true → position < length ends
+    → (taps : ℕ) × (slice_get ends position ≡ Some (Posted taps))
+posted_at [] position posted few = absurd (omega (arith, few))
 posted_at (Posted taps ∷ ends) zero posted few = (taps, refl)
-posted_at (Posted taps ∷ ends) (suc place) posted few =
-    posted_at ends place posted (omega (arith, few))
-posted_at (Refused taps offset fault ∷ ends) place posted few = absurd (cc)
-posted_at (Cut taps ∷ ends) place posted few = absurd (cc)
-posted_at (Undrawn ∷ ends) place posted few = absurd (cc)
+posted_at (Posted taps ∷ ends) (suc position) posted few =
+    posted_at ends position posted (omega (arith, few))
+posted_at (Refused taps offset fault ∷ ends) position posted few = absurd (cc)
+posted_at (Cut taps ∷ ends) position posted few = absurd (cc)
+posted_at (Undrawn ∷ ends) position posted few = absurd (cc)
 
-not_outside : (number : ℕ) (works : List Worked) (place : ℕ) → All (λ w. w.upload < number) works
-    → number ≤ place → times place (map (λ w. w.upload) works) ≡ 0
-not_outside number [] place each more = refl
-not_outside number (w ∷ works) place each more =
-    by_test (eqb_tells w.upload place)
-    (not_outside number works place (All-tail (λ (x : Worked). x.upload < number) w works each) more)
+not_outside : (number : ℕ) (works : List Worked) (position : ℕ) → All (λ w. w.upload < number) works
+    → number ≤ position → times position (map (λ w. w.upload) works) ≡ 0
+not_outside number [] position each more = refl
+not_outside number (w ∷ works) position each more =
+    by_test (eqb_tells w.upload position)
+    (not_outside number works position (All-tail (λ (x : Worked). x.upload < number) w works each) more)
   where
     here : w.upload < number
     here = All-head (λ (x : Worked). x.upload < number) w works each
 
-    by_test : (((w.upload == place) ≡ true) × (w.upload ≡ place))
-        ⊎ (((w.upload == place) ≡ false) × (w.upload ≢ place))
-        → times place (map (λ x. x.upload) works) ≡ 0
-        → times place (map (λ x. x.upload) (w ∷ works)) ≡ 0
+    by_test : (((w.upload == position) ≡ true) × (w.upload ≡ position))
+        ⊎ (((w.upload == position) ≡ false) × (w.upload ≢ position))
+        → times position (map (λ x. x.upload) works) ≡ 0
+        → times position (map (λ x. x.upload) (w ∷ works)) ≡ 0
     by_test (inl (is, same)) rest = absurd (omega (arith, here, same, more))
     by_test (inr (is, apart)) rest =
-        count_other place w.upload (map (λ x. x.upload) works) is ∙ rest
+        count_other position w.upload (map (λ x. x.upload) works) is ∙ rest
 
 -- each is there once
-drawn_once : (asked : Asked) (fares : Fares) (files : List (List ℕ)) (drawn : List ℕ)
+drawn_once : (request : Request) (fares : Fares) (files : List (List ℕ)) (drawn : List ℕ)
     (token : Option Token) (text : List ℕ)
-    → (is : ShowsLiveRun asked fares files drawn token text true) → (place : ℕ)
-    → place < length files → times place drawn ≡ 1
-drawn_once asked fares files drawn token text is place within =
+    → (is : ShowsLiveRun request fares files drawn token text true) → (position : ℕ)
+    → position < length files → times position drawn ≡ 1
+drawn_once request fares files drawn token text is position within =
     let headline = is.run.2 in
-    let (taps, there) = posted_at is.outcome.ends place (sym is.is_well)
+    let (taps, there) = posted_at is.outcome.ends position (sym is.succeeded)
     (omega (arith, within, headline.uploads)) in
-    ap (times place) is.drawn_are
-    ∙ each_drawn_once fares asked.shards files is.run.0 is.outcome headline place (Posted taps) there
+    ap (times position) is.drawn_are
+    ∙ each_drawn_once fares request.shards files is.run.0 is.outcome headline position (Posted taps) there
     (λ same. cc)
 
-none_outside : (asked : Asked) (fares : Fares) (files : List (List ℕ)) (drawn : List ℕ)
+none_outside : (request : Request) (fares : Fares) (files : List (List ℕ)) (drawn : List ℕ)
     (token : Option Token) (text : List ℕ)
-    → (is : ShowsLiveRun asked fares files drawn token text true) → (place : ℕ)
-    → length files ≤ place → times place drawn ≡ 0
-none_outside asked fares files drawn token text is place more =
-    ap (times place) is.drawn_are
-    ∙ not_outside (length files) (all_works is.run.0) place
-    (All-weaker (IsWorkOf asked.shards files) (λ w. w.upload < length files)
+    → (is : ShowsLiveRun request fares files drawn token text true) → (position : ℕ)
+    → length files ≤ position → times position drawn ≡ 0
+none_outside request fares files drawn token text is position more =
+    ap (times position) is.drawn_are
+    ∙ not_outside (length files) (all_works is.run.0) position
+    (All-weaker (IsWorkOf request.shards files) (λ w. w.upload < length files)
     (λ w work. work.within) (all_works is.run.0)
-    (each_work (record { table = fares; shards = asked.shards; uploads = files }) is.run.0
+    (each_work (record { table = fares; shards = request.shards; uploads = files }) is.run.0
     is.run.2.worked))
     more
 
 -- ---- the whole
-record FilesLoaded (asked : Asked) (between : List Loaded) (after : Option (List Loaded))
+record FilesLoaded (request : Request) (between : List Loaded) (after : Option (List Loaded))
     (files : List (List ℕ)) : Type 0 where
   pub loads : List Loaded
-  pub number : length files ≡ length asked.files
-  pub order : MatchBool asked.settle (loads ≡ loads_under asked.files files)
-      (IsPermutation (loads_under asked.files files) loads)
+  pub number : length files ≡ length request.files
+  pub order : MatchBool request.settle (loads ≡ loads_under request.files files)
+      (IsPermutation (loads_under request.files files) loads)
   pub is_loaded : LoadsAll (Some between) after loads
 
 in_either : (settle : Bool) (loads all : List Loaded) → loads ≡ all
@@ -221,43 +221,43 @@ in_either true loads all same = same
 in_either false loads all same =
     subst (λ (ls : List Loaded). IsPermutation all ls) (sym same) (IsPermutation-refl all)
 
-module _ (asked : Asked) (origin : List ℕ → Origin)
+module _ (request : Request) (origin : List ℕ → Origin)
     (of_system : (name : List ℕ) → origin name ≡ file name) (between : List Loaded)
     (after : Option (List Loaded)) (fares : Fares) (files : List (List ℕ)) (drawn : List ℕ)
     (token : Option Token) (text : List ℕ) where
   abbrev Order : Bool → List Loaded → Type 0
-  Order settle loads = MatchBool settle (loads ≡ loads_under asked.files files)
-      (IsPermutation (loads_under asked.files files) loads)
+  Order settle loads = MatchBool settle (loads ≡ loads_under request.files files)
+      (IsPermutation (loads_under request.files files) loads)
 
-  read_ahead : (settle : Bool)
-      → MatchBool settle (AreReadInOrder origin asked.files (Some between) after files)
-      (AreReadAsDrawn origin asked.files (Some between) after files drawn)
-      → MatchBool settle (ShowsSettled asked fares files token text true)
-      (ShowsLiveRun asked fares files drawn token text true)
-      → (loads : List Loaded) × (length files ≡ length asked.files) × Order settle loads
+  prefetch_files : (settle : Bool)
+      → MatchBool settle (AreReadInOrder origin request.files (Some between) after files)
+      (AreReadAsDrawn origin request.files (Some between) after files drawn)
+      → MatchBool settle (ShowsSettled request fares files token text true)
+      (ShowsLiveRun request fares files drawn token text true)
+      → (loads : List Loaded) × (length files ≡ length request.files) × Order settle loads
       × LoadsAll (Some between) after loads
-  read_ahead true read shows = (
-    loads_of origin asked.files files,
-    AllZip-long _ asked.files files read.from,
-    in_order origin of_system asked.files files,
+  prefetch_files true read shows = (
+    loads_of origin request.files files,
+    AllZip-long _ request.files files read.from,
+    in_order origin of_system request.files files,
     read.loads,
   )
-  read_ahead false read shows =
-      let names = asked.files in
+  prefetch_files false read shows =
+      let names = request.files in
       let number : length files ≡ length names = read.number in
-      let places_are : IsPermutation (places 0 names) drawn =
+      let positions_are : IsPermutation (positions 0 names) drawn =
       in_some_order names drawn
-      (λ place within. drawn_once asked fares files drawn token text shows place
+      (λ position within. drawn_once request fares files drawn token text shows position
       (omega (arith, within, number)))
-      (λ place more. none_outside asked fares files drawn token text shows place
+      (λ position more. none_outside request fares files drawn token text shows position
       (omega (arith, more, number))) in
-      let moved = IsPermutation-map (load_of origin of_system names files) (places 0 names) drawn
-      places_are in
-      let all : map (load_of origin of_system names files) (places 0 names)
+      let moved = IsPermutation-map (load_of origin of_system names files) (positions 0 names) drawn
+      positions_are in
+      let all : map (load_of origin of_system names files) (positions 0 names)
       ≡ loads_under names files =
-      all_places (text_at names) (text_at files) 0 names files number
-      (λ place within. let here : 0 + place ≡ place = omega arith in ap (text_at names) here)
-      (λ place within. let here : 0 + place ≡ place = omega arith in ap (text_at files) here) in (
+      all_positions (text_at names) (text_at files) 0 names files number
+      (λ position within. let here : 0 + position ≡ position = omega arith in ap (text_at names) here)
+      (λ position within. let here : 0 + position ≡ position = omega arith in ap (text_at files) here) in (
         flat_map (load_at origin names files) drawn,
         number,
         subst (λ (ls : List Loaded). IsPermutation (loads_under names files) ls)
@@ -267,19 +267,19 @@ module _ (asked : Asked) (origin : List ℕ → Origin)
         read.loads,
       )
 
-  files_loaded : 0 < length asked.files → AreLoaded asked origin (Some between) after files drawn
-      → ShowsAsked asked fares files drawn token text true → FilesLoaded asked between after files
+  files_loaded : 0 < length request.files → AreLoaded request origin (Some between) after files drawn
+      → ShowsRequest request fares files drawn token text true → FilesLoaded request between after files
   files_loaded some (inl loaded) shows =
-      let (are, number) = loads_are asked.files loaded.loads files
-      (loaded.named ∙ named_some asked.files some) loaded.bytes in
+      let (are, number) = loads_are request.files loaded.loads files
+      (loaded.named ∙ named_some request.files some) loaded.bytes in
       record {
         loads = loaded.loads;
         number = number;
-        order = in_either asked.settle loaded.loads (loads_under asked.files files) are;
+        order = in_either request.settle loaded.loads (loads_under request.files files) are;
         is_loaded = loaded.is_loaded;
       }
   files_loaded some (inr read) shows =
-      let (loads, number, order, is_loaded) = read_ahead asked.settle read shows in
+      let (loads, number, order, is_loaded) = prefetch_files request.settle read shows in
       record { loads = loads; number = number; order = order; is_loaded = is_loaded }
 
 -- fares were loaded from tables
@@ -297,13 +297,13 @@ has_tables (Some tables) before between fares (texts, all, loads, same) =
     )
 
 pub charges_files : RunsChargeFiles
-charges_files asked origin before after out out' of_system some run =
-    let (tables, named, texts, mean) = has_tables asked.table before run.between run.fares
+charges_files request origin before after out out' of_system some run =
+    let (tables, named, texts, mean) = has_tables request.table before run.between run.fares
     run.loads_table in
     let first = tables_loaded tables before run.between texts run.fares mean in
-    let more = files_loaded asked origin of_system first.now (Some after) run.fares run.files
+    let more = files_loaded request origin of_system first.now (Some after) run.fares run.files
     run.drawn run.token run.text some
-    (subst (λ (t : Option (List Loaded)). AreLoaded asked origin t (Some after) run.files run.drawn)
+    (subst (λ (t : Option (List Loaded)). AreLoaded request origin t (Some after) run.files run.drawn)
     first.is run.loads_files) run.shows in
     record {
       tables = tables;

@@ -16,7 +16,7 @@ use Rattle.class_names.specs.declared.names.ClassFault.TheVariants as class
 use Rattle.class_names.specs.declared.names.WrongNames.{WrongNames}
 use Rattle.fare_program.specs.Causes.{IsRightFault, RefusesClass}
 use Rattle.fare_program.specs.Fault.{status_of}
-use Rattle.fare_program.specs.Options.{Asked}
+use Rattle.fare_program.specs.Options.{Request}
 use Rattle.fare_program.specs.declared.fault.Fault.{Fault}
 use Rattle.fare_program.specs.declared.fault.Fault.TheVariants.{ClassName, NamedClass, NoMemory}
 use Rattle.fare_program.specs.declared.fault.Fault.TheVariants.{Write}
@@ -39,12 +39,12 @@ unloaded_status (unloaded.NamedTable line) = refl
 unloaded_status (unloaded.Follow line) = refl
 unloaded_status unloaded.NoMemory = refl
 
-module _ (asked : Asked) (under : List ℕ → Option (List ℕ))
+module _ (request : Request) (under : List ℕ → Option (List ℕ))
     (loaded loaded' : Option (List Loaded)) (refused : Option (Option (List ℕ) × LoadFault))
-    (tables : TableNames) (named : asked.table ≡ Some tables) where
+    (tables : TableNames) (named : request.table ≡ Some tables) where
   -- why the tables were not loaded
   pub unloaded_is_right : (fault : TablesFault) → IsTablesFault tables loaded loaded' refused fault
-      → IsRightFault asked under loaded loaded' refused (unloaded_as fault)
+      → IsRightFault request under loaded loaded' refused (unloaded_as fault)
   unloaded_is_right (unloaded.File file) is = (
     inl (rw named is.0),
     has_refused refused (Some file.name.now) file.fault is.1,
@@ -56,24 +56,24 @@ module _ (asked : Asked) (under : List ℕ → Option (List ℕ))
 
   refused_at : (texts : List (List ℕ)) (fares : Fares) → LoadsTables tables loaded loaded' texts fares
       → (wrong : WrongNames) → IsWrongAt texts wrong → wrong.fault ≡ class.Name
-      → RefusesClass tables loaded loaded' wrong.place
+      → RefusesClass tables loaded loaded' wrong.position
   refused_at texts fares loads wrong at is = record {
     texts = texts;
     fares = fares;
     loads = loads;
     text = at.text;
-    stands = at.stands;
+    holds = at.holds;
     other = subst (IsFaultOf at.text) is at.fault;
     before = λ k d below. λ (tree, parsed, other).
         true≢false (sym (at.before k d below tree parsed) ∙ other);
   }
 
   -- what is reported of the classes of the texts
-  pub classes_are_right : asked.traced ≡ true → (texts : List (List ℕ)) (fares : Fares)
+  pub classes_are_right : request.traced ≡ true → (texts : List (List ℕ)) (fares : Fares)
       → LoadsTables tables loaded loaded' texts fares
       → (wrong : WrongNames) → IsWrongAt texts wrong
       → (fault : Fault) → IsClassFault tables wrong fault
-      → IsRightFault asked under loaded loaded' refused fault
+      → IsRightFault request under loaded loaded' refused fault
   classes_are_right traced texts fares loads wrong at NoMemory is = tt
   classes_are_right traced texts fares loads wrong at ClassName is = (
     traced,
@@ -81,7 +81,7 @@ module _ (asked : Asked) (under : List ℕ → Option (List ℕ))
       tables = tables;
       are_named = named;
       alone = is.1;
-      place = wrong.place;
+      position = wrong.position;
       refused = refused_at texts fares loads wrong at is.0;
     },
   )
@@ -91,7 +91,7 @@ module _ (asked : Asked) (under : List ℕ → Option (List ℕ))
       tables = tables;
       are_named = named;
       several = is.1.0;
-      place = wrong.place;
+      position = wrong.position;
       named = rw named is.1.1;
       refused = refused_at texts fares loads wrong at is.0;
     },

@@ -8,11 +8,11 @@ use Rattle.tap_views.specs.declared.token.Token.{Token}
 use Rattle.std.proofs.KnownBytes.{Keeps-refl}
 use Rattle.world.specs.Origins.{Origin}
 use Rattle.fare_program.specs.FilesLoaded.{AreLoaded, LoadsFiles, names_to_load}
-use Rattle.fare_program.specs.Options.{Asked}
+use Rattle.fare_program.specs.Options.{Request}
 use Rattle.fare_program.specs.Program.{DoesUntraced, IsTokenIn, LoadsTable, RunsListing}
-use Rattle.fare_program.specs.Program.{RunsService, RunsSorted, ShowsAsked}
+use Rattle.fare_program.specs.Program.{RunsService, RunsSorted, ShowsRequest}
 use Rattle.fare_program.specs.Uploads.{IsListing}
-use Rattle.fare_program.specs.inside.ChargedAhead.{IsChargedAhead}
+use Rattle.fare_program.specs.inside.ChargedPrefetched.{IsChargedPrefetched}
 use Rattle.program_manners.specs.TableWords.{TableNames}
 use Rattle.program_manners.specs.Loads.{Loaded}
 
@@ -46,22 +46,22 @@ lists_by false (Some name) loaded_before loaded_before' fares loads (inl e) = cc
 lists_by false (Some name) loaded_before loaded_before' fares loads (inr e) = let some = loads.3 in
     cc
 
-module _ (asked : Asked) (known : List ℕ → Option (List ℕ)) (origin : List ℕ → Origin)
+module _ (request : Request) (known : List ℕ → Option (List ℕ)) (origin : List ℕ → Origin)
     (loaded_before between loaded_before' : Option (List Loaded))
-    (out mid out' : Option (List ℕ)) (well : Bool) (fares : Option Fares)
-    (loads : LoadsTable asked.table loaded_before between fares)
+    (out mid out' : Option (List ℕ)) (success : Bool) (fares : Option Fares)
+    (loads : LoadsTable request.table loaded_before between fares)
     (kept : Keeps out mid) where
   pub does_list : (files : List (List ℕ))
-      → LoadsFiles (names_to_load asked.files) between loaded_before' files
-      → (asked.list ≡ true) ⊎ (fares ≡ None)
-      → (text : List ℕ) × IsListing fares files text well × Appends mid out' text
-      → DoesUntraced asked known origin loaded_before loaded_before' out out' well
+      → LoadsFiles (names_to_load request.files) between loaded_before' files
+      → (request.list ≡ true) ⊎ (fares ≡ None)
+      → (text : List ℕ) × IsListing fares files text success × Appends mid out' text
+      → DoesUntraced request known origin loaded_before loaded_before' out out' success
   does_list files loaded flag done =
       subst (λ (b : Bool). MatchBool b
-      (RunsListing asked.table asked.files loaded_before loaded_before' out out' well)
-      (MatchBool asked.sorted (RunsSorted asked known loaded_before loaded_before' out out' well)
-      (RunsService asked origin loaded_before loaded_before' out out' well)))
-      (sym (lists_by asked.list asked.table loaded_before between fares loads flag)) (record {
+      (RunsListing request.table request.files loaded_before loaded_before' out out' success)
+      (MatchBool request.sorted (RunsSorted request known loaded_before loaded_before' out out' success)
+      (RunsService request origin loaded_before loaded_before' out out' success)))
+      (sym (lists_by request.list request.table loaded_before between fares loads flag)) (record {
         between = between;
         fares = fares;
         loads_table = loads;
@@ -73,22 +73,22 @@ module _ (asked : Asked) (known : List ℕ → Option (List ℕ)) (origin : List
       })
 
   pub does_charge : (f : Fares) (files : List (List ℕ)) (drawn : List ℕ) (token : Option Token) → fares ≡ Some f
-      → AreLoaded asked origin between loaded_before' files drawn → IsTokenIn asked.token token
-      → asked.list ≡ false → asked.sorted ≡ false
-      → (text : List ℕ) × ShowsAsked asked f files drawn token text well × Appends mid out' text
-      → DoesUntraced asked known origin loaded_before loaded_before' out out' well
+      → AreLoaded request origin between loaded_before' files drawn → IsTokenIn request.token token
+      → request.list ≡ false → request.sorted ≡ false
+      → (text : List ℕ) × ShowsRequest request f files drawn token text success × Appends mid out' text
+      → DoesUntraced request known origin loaded_before loaded_before' out out' success
   does_charge f files drawn token is loaded is_token flag live done =
       subst (λ (b : Bool). MatchBool b
-      (RunsListing asked.table asked.files loaded_before loaded_before' out out' well)
-      (MatchBool asked.sorted (RunsSorted asked known loaded_before loaded_before' out out' well)
-      (RunsService asked origin loaded_before loaded_before' out out' well)))
-      (sym (serves asked.list asked.table loaded_before between fares f flag loads is))
+      (RunsListing request.table request.files loaded_before loaded_before' out out' success)
+      (MatchBool request.sorted (RunsSorted request known loaded_before loaded_before' out out' success)
+      (RunsService request origin loaded_before loaded_before' out out' success)))
+      (sym (serves request.list request.table loaded_before between fares f flag loads is))
       (subst (λ (b : Bool). MatchBool b
-      (RunsSorted asked known loaded_before loaded_before' out out' well)
-      (RunsService asked origin loaded_before loaded_before' out out' well)) (sym live) (record {
+      (RunsSorted request known loaded_before loaded_before' out out' success)
+      (RunsService request origin loaded_before loaded_before' out out' success)) (sym live) (record {
         between = between;
         fares = f;
-        loads_table = subst (LoadsTable asked.table loaded_before between) is loads;
+        loads_table = subst (LoadsTable request.table loaded_before between) is loads;
         files = files;
         drawn = drawn;
         loads_files = loaded;
@@ -100,15 +100,15 @@ module _ (asked : Asked) (known : List ℕ → Option (List ℕ)) (origin : List
       }))
 
 -- files that were read ahead were charged
-pub does_ahead : (asked : Asked) (known : List ℕ → Option (List ℕ)) (origin : List ℕ → Origin)
+pub does_prefetched : (request : Request) (known : List ℕ → Option (List ℕ)) (origin : List ℕ → Origin)
     (loaded_before between loaded_before' : Option (List Loaded)) (table : Option Fares)
-    (token : Option Token) (Written : List ℕ → Type 0) (out out' : Option (List ℕ)) (well : Bool)
-    → LoadsTable asked.table loaded_before between table → IsTokenIn asked.token token
-    → (is : IsChargedAhead asked origin between loaded_before' table token Written well)
-    → Appends out out' is.text → asked.sorted ≡ false
-    → DoesUntraced asked known origin loaded_before loaded_before' out out' well
-does_ahead asked known origin loaded_before between loaded_before' table token Written out out' well
+    (token : Option Token) (Written : List ℕ → Type 0) (out out' : Option (List ℕ)) (success : Bool)
+    → LoadsTable request.table loaded_before between table → IsTokenIn request.token token
+    → (is : IsChargedPrefetched request origin between loaded_before' table token Written success)
+    → Appends out out' is.text → request.sorted ≡ false
+    → DoesUntraced request known origin loaded_before loaded_before' out out' success
+does_prefetched request known origin loaded_before between loaded_before' table token Written out out' success
     loads is_token is written live =
-    does_charge asked known origin loaded_before between loaded_before' out out out' well table loads
+    does_charge request known origin loaded_before between loaded_before' out out out' success table loads
     (Keeps-refl out) is.fares is.files is.drawn token is.is_table (inr is.read) is_token is.lists_none live
     (is.text, is.shows, written)

@@ -14,7 +14,7 @@ use Rattle.class_names.specs.Classes.{has_plain_classes}
 use Rattle.sorted_taps.specs.Checked.{IsFirstUnsorted}
 use Rattle.toml.specs.Data.{Members}
 use Rattle.toml.specs.Parse.{parse_document}
-use Rattle.fare_program.specs.Options.{Asked}
+use Rattle.fare_program.specs.Options.{Request}
 use Rattle.fare_program.specs.declared.fault.Fault.{Fault}
 use Rattle.fare_program.specs.declared.fault.Fault.TheVariants.{ClassName, File, Follow, Gather}
 use Rattle.fare_program.specs.declared.fault.Fault.TheVariants.{Late, NamedClass, NamedTable}
@@ -33,9 +33,9 @@ table_files None = []
 table_files (Some tables) = tables.first ∷ map file_named tables.later
 
 -- the name is that of a fare table's file, or of a file to be loaded
-abbrev pub IsNameReported : Asked → List ℕ → Type 0
-IsNameReported asked name =
-    IsOneOf name (table_files asked.table) ⊎ IsOneOf name (names_reported asked.files)
+abbrev pub IsNameReported : Request → List ℕ → Type 0
+IsNameReported request name =
+    IsOneOf name (table_files request.table) ⊎ IsOneOf name (names_reported request.files)
 
 -- A fault of sorted files under these names, of which this is known, is the right one: a file that
 -- is named is one of them, and is refused for this reason, or all have too many taps. Any may have
@@ -58,34 +58,34 @@ HasOtherNames text =
 
 -- All tables were loaded. A class that the text of this place names cannot be in a ledger, and
 -- each class of the texts before it can.
-pub record RefusesClass (tables : TableNames) (loaded loaded' : Option (List Loaded)) (place : ℕ)
+pub record RefusesClass (tables : TableNames) (loaded loaded' : Option (List Loaded)) (position : ℕ)
     : Type 0 where
   pub texts : List (List ℕ)
   pub fares : Fares
   pub loads : LoadsTables tables loaded loaded' texts fares
   pub text : List ℕ
-  pub stands : slice_get texts place ≡ Some text
+  pub holds : slice_get texts position ≡ Some text
   pub other : HasOtherNames text
-  pub before : All (λ earlier. ¬ HasOtherNames earlier) (take place texts)
+  pub before : All (λ earlier. ¬ HasOtherNames earlier) (take position texts)
 
 -- The one table has a class that cannot be in a ledger.
-pub record RefusesTheNames (asked : Asked) (loaded loaded' : Option (List Loaded)) : Type 0 where
+pub record RefusesTheNames (request : Request) (loaded loaded' : Option (List Loaded)) : Type 0 where
   pub tables : TableNames
-  pub are_named : asked.table ≡ Some tables
+  pub are_named : request.table ≡ Some tables
   pub alone : tables.later ≡ []
-  pub place : ℕ
-  pub refused : RefusesClass tables loaded loaded' place
+  pub position : ℕ
+  pub refused : RefusesClass tables loaded loaded' position
 
 -- Of several tables, the one of this name is the first that has a class that cannot be in a
 -- ledger.
-pub record RefusesNames (asked : Asked) (loaded loaded' : Option (List Loaded)) (name : List ℕ)
+pub record RefusesNames (request : Request) (loaded loaded' : Option (List Loaded)) (name : List ℕ)
     : Type 0 where
   pub tables : TableNames
-  pub are_named : asked.table ≡ Some tables
+  pub are_named : request.table ≡ Some tables
   pub several : tables.later ≢ []
-  pub place : ℕ
-  pub named : slice_get (table_files asked.table) place ≡ Some name
-  pub refused : RefusesClass tables loaded loaded' place
+  pub position : ℕ
+  pub named : slice_get (table_files request.table) position ≡ Some name
+  pub refused : RefusesClass tables loaded loaded' position
 
 -- The fault is the right one for what is asked for. A file that is named is one of the words, and
 -- one that the source refused so. A table fault is the first one of the text that was loaded under
@@ -93,27 +93,27 @@ pub record RefusesNames (asked : Asked) (loaded loaded' : Option (List Loaded)) 
 -- traced ledger, and if a text has one that no ledger can have. There are too many uploads only
 -- above 65,535. A write may fail at any time, and so may memory, also for gathering a live run.
 -- With sorted files a file may have changed or be read no more.
-abbrev pub IsRightFault : Asked → (List ℕ → Option (List ℕ)) → Option (List Loaded)
+abbrev pub IsRightFault : Request → (List ℕ → Option (List ℕ)) → Option (List Loaded)
     → Option (List Loaded) → Option (Option (List ℕ) × LoadFault) → Fault → Type 0
-IsRightFault asked under loaded loaded' refused (File file) =
-    IsNameReported asked file.name.now × HasRefused refused file.name.now file.fault
-IsRightFault asked under loaded loaded' refused (Table fault) =
-    (tables : TableNames) × (asked.table ≡ Some tables) × RefusesOnly tables loaded loaded' fault
-IsRightFault asked under loaded loaded' refused (NamedTable line) =
-    (tables : TableNames) × (asked.table ≡ Some tables)
+IsRightFault request under loaded loaded' refused (File file) =
+    IsNameReported request file.name.now × HasRefused refused file.name.now file.fault
+IsRightFault request under loaded loaded' refused (Table fault) =
+    (tables : TableNames) × (request.table ≡ Some tables) × RefusesOnly tables loaded loaded' fault
+IsRightFault request under loaded loaded' refused (NamedTable line) =
+    (tables : TableNames) × (request.table ≡ Some tables)
     × RefusesNamed tables loaded loaded' line.name.now line.fault
-IsRightFault asked under loaded loaded' refused (Follow line) =
-    (tables : TableNames) × (asked.table ≡ Some tables)
+IsRightFault request under loaded loaded' refused (Follow line) =
+    (tables : TableNames) × (request.table ≡ Some tables)
     × RefusesToFollow tables loaded loaded' line.word.now line.fault
-IsRightFault asked under loaded loaded' refused ClassName =
-    (asked.traced ≡ true) × RefusesTheNames asked loaded loaded'
-IsRightFault asked under loaded loaded' refused (NamedClass line) =
-    (asked.traced ≡ true) × RefusesNames asked loaded loaded' line.0.now
-IsRightFault asked under loaded loaded' refused Uploads =
-    (asked.settle ≡ false) × (65535 < length asked.files)
-IsRightFault asked under loaded loaded' refused (Gather fault) =
-    (asked.settle ≡ false) × IsForMemory fault
-IsRightFault asked under loaded loaded' refused Write = Unit {0}
-IsRightFault asked under loaded loaded' refused NoMemory = Unit {0}
-IsRightFault asked under loaded loaded' refused fault =
-    (asked.sorted ≡ true) × IsRightOfSorted asked.files (map under asked.files) fault
+IsRightFault request under loaded loaded' refused ClassName =
+    (request.traced ≡ true) × RefusesTheNames request loaded loaded'
+IsRightFault request under loaded loaded' refused (NamedClass line) =
+    (request.traced ≡ true) × RefusesNames request loaded loaded' line.0.now
+IsRightFault request under loaded loaded' refused Uploads =
+    (request.settle ≡ false) × (65535 < length request.files)
+IsRightFault request under loaded loaded' refused (Gather fault) =
+    (request.settle ≡ false) × IsForMemory fault
+IsRightFault request under loaded loaded' refused Write = Unit {0}
+IsRightFault request under loaded loaded' refused NoMemory = Unit {0}
+IsRightFault request under loaded loaded' refused fault =
+    (request.sorted ≡ true) × IsRightOfSorted request.files (map under request.files) fault

@@ -9,7 +9,7 @@ use Rattle.program_manners.specs.Lines.{follow_text, load_text, named_class_text
 use Rattle.program_manners.specs.Lines.{named_table_text, table_text}
 use Rattle.program_manners.specs.TableWords.{TableNames, date_text, wrong_word}
 use Rattle.program_manners.specs.declared.table_words.DateFault.{DateFault}
-use Rattle.fare_program.specs.Options.{Asked}
+use Rattle.fare_program.specs.Options.{Request}
 use Rattle.fare_program.specs.SortedFaults.{late_text, sorted_text, unopened_text}
 use Rattle.fare_program.specs.TokenRanges.{range_fault, range_text}
 use Rattle.fare_program.specs.declared.fault.Fault.{Fault}
@@ -98,96 +98,96 @@ IsLate _ = ⊥
 
 -- What is wrong with the token that is asked for, if anything: first its digits, and then that
 -- there is no table.
-abbrev pub token_mistake_of : Option (List ℕ) → Option TableNames → Option Fault
-token_mistake_of None table = None
-token_mistake_of (Some digits) table =
+abbrev pub token_usage_error_of : Option (List ℕ) → Option TableNames → Option Fault
+token_usage_error_of None table = None
+token_usage_error_of (Some digits) table =
     if is_ok (decode_sized digits 16) then (if is_some table then None else Some NoTable)
     else Some Digits
 
 -- what is wrong with `--token` among these words
-abbrev pub token_mistake : Asked → Option Fault
-token_mistake asked = token_mistake_of asked.token asked.table
+abbrev pub token_usage_error : Request → Option Fault
+token_usage_error request = token_usage_error_of request.token request.table
 
 -- What is wrong with what is asked for and needs a table: first that there is none, and then that
 -- the taps are to be listed.
-abbrev pub charge_mistake_of : Fault → Fault → Bool → Bool → Option TableNames → Option Fault
-charge_mistake_of untabled listed false list table = None
-charge_mistake_of untabled listed true list None = Some untabled
-charge_mistake_of untabled listed true false (Some tables) = None
-charge_mistake_of untabled listed true true (Some tables) = Some listed
+abbrev pub charge_usage_error_of : Fault → Fault → Bool → Bool → Option TableNames → Option Fault
+charge_usage_error_of untabled listed false list table = None
+charge_usage_error_of untabled listed true list None = Some untabled
+charge_usage_error_of untabled listed true false (Some tables) = None
+charge_usage_error_of untabled listed true true (Some tables) = Some listed
 
 -- what is wrong with settling if it is asked for
-abbrev pub settle_mistake : Asked → Option Fault
-settle_mistake asked =
-    charge_mistake_of SettleNoTable SettleList asked.settle asked.list asked.table
+abbrev pub settle_usage_error : Request → Option Fault
+settle_usage_error request =
+    charge_usage_error_of SettleNoTable SettleList request.settle request.list request.table
 
 -- what is wrong with a live run if one is meant: that the taps are to be settled
-abbrev pub live_mistake_of : Bool → Bool → Option Fault
-live_mistake_of true true = Some LiveSettle
-live_mistake_of true false = None
-live_mistake_of false settle = None
+abbrev pub live_usage_error_of : Bool → Bool → Option Fault
+live_usage_error_of true true = Some LiveSettle
+live_usage_error_of true false = None
+live_usage_error_of false settle = None
 
 -- what is wrong with `--live` among these words
-abbrev pub live_mistake : Asked → Option Fault
-live_mistake asked = live_mistake_of asked.live asked.settle
+abbrev pub live_usage_error : Request → Option Fault
+live_usage_error request = live_usage_error_of request.live request.settle
 
 -- what is wrong with the ledger if it is asked for
-abbrev pub ledger_mistake : Asked → Option Fault
-ledger_mistake asked =
-    charge_mistake_of LedgerNoTable LedgerList asked.ledger asked.list asked.table
+abbrev pub ledger_usage_error : Request → Option Fault
+ledger_usage_error request =
+    charge_usage_error_of LedgerNoTable LedgerList request.ledger request.list request.table
 
 -- What is wrong with an explained statement if it is asked for: first that there is no token, then
 -- that the taps are to be listed, and then that the ledger is asked for.
-abbrev pub explain_mistake_of : Bool → Bool → Bool → Option (List ℕ) → Option Fault
-explain_mistake_of false list ledger token = None
-explain_mistake_of true list ledger None = Some ExplainNoToken
-explain_mistake_of true true ledger (Some digits) = Some ExplainList
-explain_mistake_of true false true (Some digits) = Some ExplainLedger
-explain_mistake_of true false false (Some digits) = None
+abbrev pub explain_usage_error_of : Bool → Bool → Bool → Option (List ℕ) → Option Fault
+explain_usage_error_of false list ledger token = None
+explain_usage_error_of true list ledger None = Some ExplainNoToken
+explain_usage_error_of true true ledger (Some digits) = Some ExplainList
+explain_usage_error_of true false true (Some digits) = Some ExplainLedger
+explain_usage_error_of true false false (Some digits) = None
 
 -- what is wrong with `--explain` among them
-abbrev pub explain_mistake : Asked → Option Fault
-explain_mistake asked = explain_mistake_of asked.explain asked.list asked.ledger asked.token
+abbrev pub explain_usage_error : Request → Option Fault
+explain_usage_error request = explain_usage_error_of request.explain request.list request.ledger request.token
 
 -- What is wrong with sorted files if they are asked for: first that the taps are not to be settled,
 -- and then that no file is named, for standard input is none.
-abbrev pub sorted_mistake_of : Bool → Bool → List (List ℕ) → Option Fault
-sorted_mistake_of false settle files = None
-sorted_mistake_of true false files = Some SortedNoSettle
-sorted_mistake_of true true [] = Some SortedNoFile
-sorted_mistake_of true true (file ∷ files) = None
+abbrev pub sorted_usage_error_of : Bool → Bool → List (List ℕ) → Option Fault
+sorted_usage_error_of false settle files = None
+sorted_usage_error_of true false files = Some SortedNoSettle
+sorted_usage_error_of true true [] = Some SortedNoFile
+sorted_usage_error_of true true (file ∷ files) = None
 
 -- what is wrong with `--sorted` among them
-abbrev pub sorted_mistake : Asked → Option Fault
-sorted_mistake asked = sorted_mistake_of asked.sorted asked.settle asked.files
+abbrev pub sorted_usage_error : Request → Option Fault
+sorted_usage_error request = sorted_usage_error_of request.sorted request.settle request.files
 
 -- What is wrong with a traced ledger if it is asked for: first that the ledger is not, then that
 -- the taps are not to be settled, then that a token is asked for, and then that the files are
 -- sorted ones.
-abbrev pub traced_mistake_of : Bool → Bool → Bool → Option (List ℕ) → Bool → Option Fault
-traced_mistake_of false ledger settle token sorted = None
-traced_mistake_of true false settle token sorted = Some TracedNoLedger
-traced_mistake_of true true false token sorted = Some TracedNoSettle
-traced_mistake_of true true true (Some digits) sorted = Some TracedToken
-traced_mistake_of true true true None true = Some TracedSorted
-traced_mistake_of true true true None false = None
+abbrev pub traced_usage_error_of : Bool → Bool → Bool → Option (List ℕ) → Bool → Option Fault
+traced_usage_error_of false ledger settle token sorted = None
+traced_usage_error_of true false settle token sorted = Some TracedNoLedger
+traced_usage_error_of true true false token sorted = Some TracedNoSettle
+traced_usage_error_of true true true (Some digits) sorted = Some TracedToken
+traced_usage_error_of true true true None true = Some TracedSorted
+traced_usage_error_of true true true None false = None
 
 -- what is wrong with `--traced` among them
-abbrev pub traced_mistake : Asked → Option Fault
-traced_mistake asked =
-    traced_mistake_of asked.traced asked.ledger asked.settle asked.token asked.sorted
+abbrev pub traced_usage_error : Request → Option Fault
+traced_usage_error request =
+    traced_usage_error_of request.traced request.ledger request.settle request.token request.sorted
 
 -- What is wrong with a range of tokens if one is asked for: first that the files are no sorted
 -- ones, then that a token is asked for, and then the word.
-abbrev pub tokens_mistake_of : Option (List ℕ) → Bool → Option (List ℕ) → Option Fault
-tokens_mistake_of None sorted token = None
-tokens_mistake_of (Some word) false token = Some (Range range.NoSorted)
-tokens_mistake_of (Some word) true (Some digits) = Some (Range range.WithToken)
-tokens_mistake_of (Some word) true None = option_map Range (range_fault word)
+abbrev pub tokens_usage_error_of : Option (List ℕ) → Bool → Option (List ℕ) → Option Fault
+tokens_usage_error_of None sorted token = None
+tokens_usage_error_of (Some word) false token = Some (Range range.NoSorted)
+tokens_usage_error_of (Some word) true (Some digits) = Some (Range range.WithToken)
+tokens_usage_error_of (Some word) true None = option_map Range (range_fault word)
 
 -- what is wrong with `--tokens` among them
-abbrev pub tokens_mistake : Asked → Option Fault
-tokens_mistake asked = tokens_mistake_of asked.tokens asked.sorted asked.token
+abbrev pub tokens_usage_error : Request → Option Fault
+tokens_usage_error request = tokens_usage_error_of request.tokens request.sorted request.token
 
 -- the first of two faults, if there is one
 abbrev pub first_of_two : Option Fault → Option Fault → Option Fault
@@ -197,14 +197,14 @@ first_of_two (Some fault) other = Some fault
 -- what is wrong with what is asked for, if anything, but for the dates of tables: the token is
 -- looked at first, then settling, then a live run, then the ledger, then the explained statement,
 -- then sorted files, then a traced ledger, then a range of tokens
-abbrev pub mistake : Asked → Option Fault
-mistake asked =
-    first_of_two (token_mistake asked) (first_of_two (settle_mistake asked)
-    (first_of_two (live_mistake asked) (first_of_two (ledger_mistake asked)
-    (first_of_two (explain_mistake asked)
-    (first_of_two (sorted_mistake asked)
-    (first_of_two (traced_mistake asked) (tokens_mistake asked)))))))
+abbrev pub usage_error : Request → Option Fault
+usage_error request =
+    first_of_two (token_usage_error request) (first_of_two (settle_usage_error request)
+    (first_of_two (live_usage_error request) (first_of_two (ledger_usage_error request)
+    (first_of_two (explain_usage_error request)
+    (first_of_two (sorted_usage_error request)
+    (first_of_two (traced_usage_error request) (tokens_usage_error request)))))))
 
 -- the first word of a fare table that has a wrong date, or none if one is wanted
-abbrev pub wrong_date : Asked → Option (List ℕ × DateFault)
-wrong_date asked = option_and_then wrong_word asked.table
+abbrev pub wrong_date : Request → Option (List ℕ × DateFault)
+wrong_date request = option_and_then wrong_word request.table

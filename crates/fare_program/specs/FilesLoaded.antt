@@ -4,7 +4,7 @@ use Rattle.std.specs.Prelude.{All, MatchBool, length, slice_index_or}
 use Rattle.std.specs.List.{AllZip, flat_map}
 use Rattle.world.specs.Origins.{IsFrom, Origin, anywhere, file as of_system, loads_from, memory}
 use Rattle.world.specs.Origins.{nowhere}
-use Rattle.fare_program.specs.Options.{Asked}
+use Rattle.fare_program.specs.Options.{Request}
 use Rattle.program_manners.specs.Loads.{Loaded, LoadsAll}
 
 -- the names under which files are loaded: standard input, which has no name, if none is named
@@ -37,11 +37,11 @@ pub record AreReadInOrder (origin : List ℕ → Origin) (names : List (List ℕ
 
 -- the file at this place, or its name
 abbrev pub text_at : List (List ℕ) → ℕ → List ℕ
-text_at texts place = slice_index_or texts place []
+text_at texts position = slice_index_or texts position []
 
 -- the load of the file at this place
 abbrev pub load_at : (List ℕ → Origin) → List (List ℕ) → List (List ℕ) → ℕ → List Loaded
-load_at origin names files place = loads_from (origin (text_at names place)) (text_at files place)
+load_at origin names files position = loads_from (origin (text_at names position)) (text_at files position)
 
 -- the same, but that nothing is said of bytes in memory: also a disk that has them may refuse a read
 abbrev pub unless_memory : Origin → Origin
@@ -56,22 +56,22 @@ pub record AreReadAsDrawn (origin : List ℕ → Origin) (names : List (List ℕ
     (loaded loaded' : Option (List Loaded)) (files : List (List ℕ)) (drawn : List ℕ) : Type 0 where
   pub some : 0 < length names
   pub number : length files ≡ length names
-  pub from : All (λ place. IsFrom (unless_memory (origin (text_at names place)))
-      (text_at files place)) drawn
+  pub from : All (λ position. IsFrom (unless_memory (origin (text_at names position)))
+      (text_at files position)) drawn
   pub loads : LoadsAll loaded loaded' (flat_map (load_at origin names files) drawn)
 
 -- The files that are asked for were read ahead from the disk: in their order if they are settled,
 -- and else as they were drawn.
-abbrev pub AreReadAhead : Asked → (List ℕ → Origin) → Option (List Loaded) → Option (List Loaded)
+abbrev pub ArePrefetched : Request → (List ℕ → Origin) → Option (List Loaded) → Option (List Loaded)
     → List (List ℕ) → List ℕ → Type 0
-AreReadAhead asked origin loaded loaded' files drawn = MatchBool asked.settle
-    (AreReadInOrder origin asked.files loaded loaded' files)
-    (AreReadAsDrawn origin asked.files loaded loaded' files drawn)
+ArePrefetched request origin loaded loaded' files drawn = MatchBool request.settle
+    (AreReadInOrder origin request.files loaded loaded' files)
+    (AreReadAsDrawn origin request.files loaded loaded' files drawn)
 
 -- These are the files that are asked for: the source loaded them in their order, or they were read
 -- ahead.
-abbrev pub AreLoaded : Asked → (List ℕ → Origin) → Option (List Loaded) → Option (List Loaded)
+abbrev pub AreLoaded : Request → (List ℕ → Origin) → Option (List Loaded) → Option (List Loaded)
     → List (List ℕ) → List ℕ → Type 0
-AreLoaded asked origin loaded loaded' files drawn =
-    LoadsFiles (names_to_load asked.files) loaded loaded' files
-    ⊎ AreReadAhead asked origin loaded loaded' files drawn
+AreLoaded request origin loaded loaded' files drawn =
+    LoadsFiles (names_to_load request.files) loaded loaded' files
+    ⊎ ArePrefetched request origin loaded loaded' files drawn

@@ -1,4 +1,4 @@
-pub mod Begun
+pub mod Started
 pub mod Causes
 pub mod Fault
 pub mod FilesLoaded

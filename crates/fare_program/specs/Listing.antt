@@ -81,7 +81,7 @@ is_after_last (Some last) moment = nat_lt last moment
 
 -- What is kept answers for the taps of this list: a moment is later than the last known one of a
 -- token if it is later than each known tap of that token, and the counts are those of the list.
-pub record StandsFor (kept : KeptListing) (taps : List Listed) : Type 0 where
+pub record RepresentsListing (kept : KeptListing) (taps : List Listed) : Type 0 where
   pub last : (token : List ℕ) (moment : ℕ)
       → is_after_last (last_of kept.last token) moment ≡ are_before moment (known_of token taps)
   pub counts : kept.counts ≡ counts_of taps

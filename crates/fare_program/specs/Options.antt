@@ -115,7 +115,7 @@ abbrev pub number_of : Text → List Row → ℕ
 number_of name rows = option_map_or number_in_text (one_of name rows) 0
 
 -- what a command line asks for
-pub record Asked : Type 0 where
+pub record Request : Type 0 where
   pub table : Option TableNames
   pub list : Bool
   pub workers : ℕ
@@ -131,8 +131,8 @@ pub record Asked : Type 0 where
   pub files : List Text
 
 -- what these words ask for
-abbrev pub asked_by : List Text → Asked
-asked_by words = record {
+abbrev pub request_by : List Text → Request
+request_by words = record {
   table = tables_named words;
   list = is_given (codes "list") (matches_of program words);
   workers = number_of (codes "workers") (matches_of program words);
@@ -149,5 +149,5 @@ asked_by words = record {
 }
 
 -- The taps are listed by the flag, or if there is no table. Else the service runs.
-abbrev pub lists : Asked → Bool
-lists asked = asked.list || not (is_some asked.table)
+abbrev pub lists : Request → Bool
+lists request = request.list || not (is_some request.table)

@@ -11,10 +11,10 @@ use Rattle.histories.specs.SumsByKey.{sums_by_token, sums_by_validator}
 use Rattle.histories.specs.declared.entry.Entry.{Entry}
 use Rattle.fare_texts.specs.Ledger.{IsLedgerOver}
 use Rattle.report_texts.specs.Report.{report}
-use Rattle.sorted_taps.specs.declared.places.FileSpan.{FileSpan}
+use Rattle.sorted_taps.specs.declared.positions.FileSpan.{FileSpan}
 use Rattle.sorted_bills.specs.Parts.{IsPartOf}
 use Rattle.part_texts.specs.Heads.{part_head}
-use Rattle.fare_program.specs.Options.{Asked}
+use Rattle.fare_program.specs.Options.{Request}
 use Rattle.fare_program.specs.Settling.{ShowsSettled}
 
 -- the report over a history of uploads with these ends
@@ -36,7 +36,7 @@ pub record IsPartText (ledger : Bool) (fares : Fares) (files : List (List ℕ)) 
   pub whole : text ≡ part_head spans ++ body
 
 -- the text is what is asked for of sorted files: of a part of them if a range of tokens is named
-abbrev pub ShowsSorted : Asked → Fares → List (List ℕ) → Option Token → List ℕ → Bool → Type 0
-ShowsSorted asked fares files token text well = MatchOption asked.tokens
-    (ShowsSettled asked fares files token text well)
-    (λ word. IsPartText asked.ledger fares files text)
+abbrev pub ShowsSorted : Request → Fares → List (List ℕ) → Option Token → List ℕ → Bool → Type 0
+ShowsSorted request fares files token text success = MatchOption request.tokens
+    (ShowsSettled request fares files token text success)
+    (λ word. IsPartText request.ledger fares files text)

@@ -14,7 +14,7 @@ use Rattle.fare_service.specs.Plain.{AreApart}
 use Rattle.histories.specs.Plain.{IsPlain}
 use Rattle.fare_service.specs.Printed.{IsStatementOf, report_with}
 use Rattle.fare_program.specs.Fault.{fault_text}
-use Rattle.fare_program.specs.Options.{Asked, lists}
+use Rattle.fare_program.specs.Options.{Request, lists}
 use Rattle.tap_views.specs.UploadEnds.{are_posted}
 use Rattle.fare_program.specs.Parts.{ShowsSorted}
 use Rattle.fare_program.specs.Settling.{ShowsOver, ShowsSettled}
@@ -68,18 +68,18 @@ ShowsWith explain (Some token) ends outcome text = ShowsStatement explain token 
 -- The text is what is asked for of an outcome, with these ends of uploads: the ledger of its books,
 -- or that of this token; else the report, or the statement of this token, explained if that is
 -- asked for.
-abbrev pub ShowsOf : Asked → Option Token → List UploadEnd → OutcomeView → List ℕ → Type 0
-ShowsOf asked token ends outcome text = MatchBool asked.ledger
-    (IsLedgerOfBooks outcome.books token text) (ShowsWith asked.explain token ends outcome text)
+abbrev pub ShowsOf : Request → Option Token → List UploadEnd → OutcomeView → List ℕ → Type 0
+ShowsOf request token ends outcome text = MatchBool request.ledger
+    (IsLedgerOfBooks outcome.books token text) (ShowsWith request.explain token ends outcome text)
 
 -- If no token has taps in two of the files, the text is what is asked for of the plain history of
 -- the files: the report, the statement of this token, explained if that is asked for, or the
 -- ledger. That is a function of the files and the table: no schedule, no number of workers and no
 -- number of shards has a part in it.
-abbrev pub ShowsPlain : Asked → Fares → List (List ℕ) → Option Token → List ℕ → Type 0
-ShowsPlain asked fares files token text =
+abbrev pub ShowsPlain : Request → Fares → List (List ℕ) → Option Token → List ℕ → Type 0
+ShowsPlain request fares files token text =
     (history : List Entry) (is : IsPlain fares files history) → AreApart is.taps
-    → ShowsOver asked token fares files history text
+    → ShowsOver request token fares files history text
 
 -- the token that is asked for, if any, is that of these 32 hexadecimal digits
 abbrev pub IsTokenIn : Option (List ℕ) → Option Token → Type 0
@@ -90,64 +90,64 @@ IsTokenIn _ _ = ⊥
 -- A service was run over the files as they are, of which these were drawn, and the text is what is
 -- asked for of its outcome. It is well if each upload was posted whole. A text that is well is then
 -- that of the plain history of the files, if no token has taps in two of them.
-pub record ShowsLiveRun (asked : Asked) (fares : Fares) (files : List (List ℕ)) (drawn : List ℕ)
-    (token : Option Token) (text : List ℕ) (well : Bool) : Type 0 where
+pub record ShowsLiveRun (request : Request) (fares : Fares) (files : List (List ℕ)) (drawn : List ℕ)
+    (token : Option Token) (text : List ℕ) (success : Bool) : Type 0 where
   pub outcome : OutcomeView
-  pub run : HasRun fares asked.shards files asked.workers outcome
+  pub run : HasRun fares request.shards files request.workers outcome
   pub drawn_are : drawn ≡ drawn_by run.0
-  pub shows : ShowsOf asked token outcome.ends outcome text
-  pub is_well : well ≡ are_posted outcome.ends
-  pub plain : well ≡ true → ShowsPlain asked fares files token text
+  pub shows : ShowsOf request token outcome.ends outcome text
+  pub succeeded : success ≡ are_posted outcome.ends
+  pub plain : success ≡ true → ShowsPlain request fares files token text
 
 -- The text is what is asked for of the files. Settled, it is a function of the files and the table:
 -- no schedule and no number of workers has a part in it. Else these files were drawn.
-abbrev pub ShowsAsked : Asked → Fares → List (List ℕ) → List ℕ → Option Token → List ℕ → Bool
+abbrev pub ShowsRequest : Request → Fares → List (List ℕ) → List ℕ → Option Token → List ℕ → Bool
     → Type 0
-ShowsAsked asked fares files drawn token text well = MatchBool asked.settle
-    (ShowsSettled asked fares files token text well)
-    (ShowsLiveRun asked fares files drawn token text well)
+ShowsRequest request fares files drawn token text success = MatchBool request.settle
+    (ShowsSettled request fares files token text success)
+    (ShowsLiveRun request fares files drawn token text success)
 
 -- Tables and files were loaded, and their taps posted. Where the bytes of a file come from that was
 -- read ahead is given for its name. What was appended to the writer is the
 -- report, the statement of the token that is asked for, or the ledger, whichever is asked for.
-pub record RunsService (asked : Asked) (origin : List ℕ → Origin)
-    (loaded loaded' : Option (List Loaded)) (out out' : Option (List ℕ)) (well : Bool) : Type
+pub record RunsService (request : Request) (origin : List ℕ → Origin)
+    (loaded loaded' : Option (List Loaded)) (out out' : Option (List ℕ)) (success : Bool) : Type
     0 where
   pub between : Option (List Loaded)
   pub fares : Fares
-  pub loads_table : LoadsTable asked.table loaded between (Some fares)
+  pub loads_table : LoadsTable request.table loaded between (Some fares)
   pub files : List (List ℕ)
   pub drawn : List ℕ
-  pub loads_files : AreLoaded asked origin between loaded' files drawn
+  pub loads_files : AreLoaded request origin between loaded' files drawn
   pub token : Option Token
-  pub is_token : IsTokenIn asked.token token
+  pub is_token : IsTokenIn request.token token
   pub text : List ℕ
-  pub shows : ShowsAsked asked fares files drawn token text well
+  pub shows : ShowsRequest request fares files drawn token text success
   pub written : Appends out out' text
 
 -- The named tables were loaded, and the named files were opened, each of which has its taps in
 -- canonical order. What was appended to the writer is what is asked for of the settled history of
 -- the files, or of a part of it, if what stands under their names is known. All is well.
-pub record RunsSorted (asked : Asked) (known : List ℕ → Option (List ℕ))
-    (loaded loaded' : Option (List Loaded)) (out out' : Option (List ℕ)) (well : Bool) : Type
+pub record RunsSorted (request : Request) (known : List ℕ → Option (List ℕ))
+    (loaded loaded' : Option (List Loaded)) (out out' : Option (List ℕ)) (success : Bool) : Type
     0 where
   pub fares : Fares
-  pub loads : LoadsTable asked.table loaded loaded' (Some fares)
+  pub loads : LoadsTable request.table loaded loaded' (Some fares)
   pub token : Option Token
-  pub is_token : IsTokenIn asked.token token
+  pub is_token : IsTokenIn request.token token
   pub text : List ℕ
-  pub shows : (files : List (List ℕ)) → map known asked.files ≡ map Some files
-      → ShowsSorted asked fares files token text well
+  pub shows : (files : List (List ℕ)) → map known request.files ≡ map Some files
+      → ShowsSorted request fares files token text success
   pub written : Appends out out' text
-  pub is_well : well ≡ true
+  pub succeeded : success ≡ true
 
 -- The named tables were loaded, and then the files. What was appended to the writer is the traced
 -- ledger of the files, with the class of each token that the text names which is valid at the tap's
 -- moment.
-pub record RunsTraced (asked : Asked) (loaded loaded' : Option (List Loaded))
-    (out out' : Option (List ℕ)) (well : Bool) : Type 0 where
+pub record RunsTraced (request : Request) (loaded loaded' : Option (List Loaded))
+    (out out' : Option (List ℕ)) (success : Bool) : Type 0 where
   pub tables : TableNames
-  pub are_named : asked.table ≡ Some tables
+  pub are_named : request.table ≡ Some tables
   pub texts : List (List ℕ)
   pub between : Option (List Loaded)
   pub fares : Fares
@@ -159,30 +159,30 @@ pub record RunsTraced (asked : Asked) (loaded loaded' : Option (List Loaded))
   pub are_classes : (moment : ℕ) (token : List ℕ)
       → class_of_token (tree_at tree later moment) token ≡ Some (classes moment token)
   pub files : List (List ℕ)
-  pub loads_files : LoadsFiles (names_to_load asked.files) between loaded' files
+  pub loads_files : LoadsFiles (names_to_load request.files) between loaded' files
   pub text : List ℕ
-  pub shows : IsTracedLedger classes fares files text well
+  pub shows : IsTracedLedger classes fares files text success
   pub written : Appends out out' text
 
 -- What is asked for beside a traced ledger was done, of files that were loaded, or of sorted files.
 -- What stands under a name of a sorted file is given, if it is known.
-abbrev pub DoesUntraced : Asked → (List ℕ → Option (List ℕ)) → (List ℕ → Origin)
+abbrev pub DoesUntraced : Request → (List ℕ → Option (List ℕ)) → (List ℕ → Origin)
     → Option (List Loaded) → Option (List Loaded) → Option (List ℕ) → Option (List ℕ) → Bool
     → Type 0
-DoesUntraced asked known origin loaded loaded' out out' well = MatchBool (lists asked)
-    (RunsListing asked.table asked.files loaded loaded' out out' well)
-    (MatchBool asked.sorted (RunsSorted asked known loaded loaded' out out' well)
-    (RunsService asked origin loaded loaded' out out' well))
+DoesUntraced request known origin loaded loaded' out out' success = MatchBool (lists request)
+    (RunsListing request.table request.files loaded loaded' out out' success)
+    (MatchBool request.sorted (RunsSorted request known loaded loaded' out out' success)
+    (RunsService request origin loaded loaded' out out' success))
 
 -- What is asked for was done: a traced ledger was written, or something else.
-abbrev pub Does : Asked → (List ℕ → Option (List ℕ)) → (List ℕ → Origin) → Option (List Loaded)
+abbrev pub Does : Request → (List ℕ → Option (List ℕ)) → (List ℕ → Origin) → Option (List Loaded)
     → Option (List Loaded) → Option (List ℕ) → Option (List ℕ) → Bool → Type 0
-Does asked known origin loaded loaded' out out' well = MatchBool asked.traced
-    (RunsTraced asked loaded loaded' out out' well)
-    (DoesUntraced asked known origin loaded loaded' out out' well)
+Does request known origin loaded loaded' out out' success = MatchBool request.traced
+    (RunsTraced request loaded loaded' out out' success)
+    (DoesUntraced request known origin loaded loaded' out out' success)
 
 -- The program gave up before it wrote: the fault's line was reported, and nothing was written.
-pub record GaveUp (fault : Fault) (said said' : Option (List ℕ)) (failed : Bool)
+pub record Aborted (fault : Fault) (said said' : Option (List ℕ)) (failed : Bool)
     (out out' : Option (List ℕ)) : Type 0 where
   pub line_reported : LineWritten said said' failed (fault_text fault)
   pub kept : Keeps out out'

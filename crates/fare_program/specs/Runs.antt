@@ -8,11 +8,11 @@ use Rattle.world.specs.declared.faults.LoadFault.{LoadFault}
 use Rattle.program_manners.specs.declared.output.WriteEnd.{WriteEnd}
 use Rattle.program_manners.specs.declared.table_words.DateFault.{DateFault}
 use Rattle.world.specs.Origins.{Origin}
-use Rattle.fare_program.specs.Begun.{GaveUpOn, ReportedWrite}
+use Rattle.fare_program.specs.Started.{AbortedOn, ReportedWrite}
 use Rattle.fare_program.specs.Causes.{IsRightFault}
-use Rattle.fare_program.specs.Fault.{fault_text, mistake, status_of, wrong_date}
-use Rattle.fare_program.specs.Options.{AsksForText, Parses, asked_by}
-use Rattle.fare_program.specs.Program.{Does, GaveUp}
+use Rattle.fare_program.specs.Fault.{fault_text, usage_error, status_of, wrong_date}
+use Rattle.fare_program.specs.Options.{AsksForText, Parses, request_by}
+use Rattle.fare_program.specs.Program.{Does, Aborted}
 use Rattle.fare_program.specs.declared.fault.Fault.{Fault}
 use Rattle.fare_program.specs.declared.fault.Fault.TheVariants.{NoMemory}
 
@@ -28,28 +28,28 @@ pub record IsRun (words : List (List ℕ)) (under : List ℕ → Option (List �
     (out out' said said' : Option (List ℕ)) (end : Option WriteEnd) (flushed failed : Bool)
     (Silent : Type 0) (status : ℕ) : Type 0 where
   pub done : Parses words → status ≡ 0
-      → Does (asked_by words) under origin loaded loaded' out out' true
+      → Does (request_by words) under origin loaded loaded' out out' true
   pub helped : ¬ Parses words → status ≡ 0 → AsksForText words
   pub wrong_words : ¬ Parses words → (¬ AsksForText words)
-      → (status ≡ 2) ⊎ ((status ≡ 1) × GaveUp NoMemory said said' failed out out')
-  pub mistaken : (first : Fault) → Parses words → mistake (asked_by words) ≡ Some first
-      → ((status ≡ 2) × GaveUp first said said' failed out out')
-      ⊎ ((status ≡ 1) × GaveUp NoMemory said said' failed out out')
+      → (status ≡ 2) ⊎ ((status ≡ 1) × Aborted NoMemory said said' failed out out')
+  pub misused : (first : Fault) → Parses words → usage_error (request_by words) ≡ Some first
+      → ((status ≡ 2) × Aborted first said said' failed out out')
+      ⊎ ((status ≡ 1) × Aborted NoMemory said said' failed out out')
   pub mis_dated : (word : List ℕ) (why : DateFault) → Parses words
-      → mistake (asked_by words) ≡ None → wrong_date (asked_by words) ≡ Some (word, why)
+      → usage_error (request_by words) ≡ None → wrong_date (request_by words) ≡ Some (word, why)
       → ((status ≡ 2) × (fault : Fault) × (fault_text fault ≡ codes "fault: " ++ date_text word why)
-      × GaveUp fault said said' failed out out')
-      ⊎ ((status ≡ 1) × GaveUp NoMemory said said' failed out out')
-  pub right : status ≡ 2 → (¬ Parses words) ⊎ ((is_some (mistake (asked_by words)) ≡ true)
-      ⊎ (is_some (wrong_date (asked_by words)) ≡ true))
+      × Aborted fault said said' failed out out')
+      ⊎ ((status ≡ 1) × Aborted NoMemory said said' failed out out')
+  pub right : status ≡ 2 → (¬ Parses words) ⊎ ((is_some (usage_error (request_by words)) ≡ true)
+      ⊎ (is_some (wrong_date (request_by words)) ≡ true))
   pub faults : status ≡ 1
-      → (Parses words × Does (asked_by words) under origin loaded loaded' out out' false
+      → (Parses words × Does (request_by words) under origin loaded loaded' out out' false
       × (flushed ≡ true) × Silent)
-      ⊎ (GaveUp NoMemory said said' failed out out'
+      ⊎ (Aborted NoMemory said said' failed out out'
       ⊎ (((¬ Parses words) × AsksForText words × ReportedWrite end said said' failed)
       ⊎ (Parses words × (fault : Fault) × (status_of fault ≡ 1)
-      × IsRightFault (asked_by words) under loaded loaded' refused fault
-      × GaveUpOn (asked_by words) under origin loaded loaded' fault end said said' failed out
+      × IsRightFault (request_by words) under loaded loaded' refused fault
+      × AbortedOn (request_by words) under origin loaded loaded' fault end said said' failed out
       out')))
   pub flush : Parses words → status ≡ 0 → flushed ≡ true
   pub quiet : status ≡ 0 → Silent

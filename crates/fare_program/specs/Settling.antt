@@ -9,7 +9,7 @@ use Rattle.tap_views.specs.declared.upload_end.UploadEnd.{UploadEnd}
 use Rattle.fare_texts.specs.Explained.{IsExplainedOver}
 use Rattle.fare_texts.specs.Ledger.{IsLedgerOver}
 use Rattle.settlement.specs.Settled.{IsSettledHistory}
-use Rattle.fare_program.specs.Options.{Asked}
+use Rattle.fare_program.specs.Options.{Request}
 use Rattle.tap_views.specs.UploadEnds.{are_posted}
 
 -- the text is the report over this history of the files, or the statement of this token, explained
@@ -23,18 +23,18 @@ IsTextOver explain (Some token) fares files history text =
 
 -- The text is what is asked for of this history of the files: the ledger, or that of this token;
 -- else the report, or the statement of this token, explained if that is asked for.
-abbrev pub ShowsOver : Asked → Option Token → Fares → List (List ℕ) → List Entry → List ℕ → Type 0
-ShowsOver asked token fares files history text =
-    MatchBool asked.ledger (IsLedgerOver fares history token text)
-    (IsTextOver asked.explain token fares files history text)
+abbrev pub ShowsOver : Request → Option Token → Fares → List (List ℕ) → List Entry → List ℕ → Type 0
+ShowsOver request token fares files history text =
+    MatchBool request.ledger (IsLedgerOver fares history token text)
+    (IsTextOver request.explain token fares files history text)
 
 -- The text shows what is asked for of the settled history of the files. It is well if each file
 -- ends posted whole.
-pub record ShowsSettled (asked : Asked) (fares : Fares) (files : List (List ℕ))
-    (token : Option Token) (text : List ℕ) (well : Bool) : Type 0 where
+pub record ShowsSettled (request : Request) (fares : Fares) (files : List (List ℕ))
+    (token : Option Token) (text : List ℕ) (success : Bool) : Type 0 where
   pub history : List Entry
   pub is_settled : IsSettledHistory fares files history
-  pub shows : ShowsOver asked token fares files history text
+  pub shows : ShowsOver request token fares files history text
   pub ends : List UploadEnd
   pub ended : ArePlainEnds files ends
-  pub is_well : well ≡ are_posted ends
+  pub succeeded : success ≡ are_posted ends

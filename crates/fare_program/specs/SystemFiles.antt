@@ -6,8 +6,8 @@ use Rattle.tariffs.specs.Fares.{Fares}
 use Rattle.tap_views.specs.declared.token.Token.{Token}
 use Rattle.world.specs.Origins.{Origin, file}
 use Rattle.fare_program.specs.Causes.{table_files}
-use Rattle.fare_program.specs.Options.{Asked}
-use Rattle.fare_program.specs.Program.{IsTokenIn, RunsService, ShowsAsked}
+use Rattle.fare_program.specs.Options.{Request}
+use Rattle.fare_program.specs.Program.{IsTokenIn, RunsService, ShowsRequest}
 use Rattle.program_manners.specs.Loads.{Loaded}
 use Rattle.program_manners.specs.TableLoads.{LoadsTables}
 use Rattle.program_manners.specs.TableWords.{TableNames}
@@ -23,32 +23,32 @@ loads_under (name ∷ names) (bytes ∷ files) =
 -- name: in their order if they are settled, and else in some order. Each was loaded once, under its
 -- name, and nothing else was. What was appended to the output is what is asked for of exactly these
 -- bytes, and all is well.
-pub record ChargesFiles (asked : Asked) (before after : List Loaded) (out out' : Option (List ℕ))
+pub record ChargesFiles (request : Request) (before after : List Loaded) (out out' : Option (List ℕ))
     : Type 0 where
   pub tables : TableNames
-  pub named : asked.table ≡ Some tables
+  pub named : request.table ≡ Some tables
   pub texts : List (List ℕ)
   pub fares : Fares
   pub between : List Loaded
   pub mean : LoadsTables tables (Some before) (Some between) texts fares
-  pub tables_loaded : between ≡ before ++ loads_under (table_files asked.table) texts
+  pub tables_loaded : between ≡ before ++ loads_under (table_files request.table) texts
   pub files : List (List ℕ)
-  pub number : length files ≡ length asked.files
+  pub number : length files ≡ length request.files
   pub loads : List Loaded
-  pub order : MatchBool asked.settle (loads ≡ loads_under asked.files files)
-      (IsPermutation (loads_under asked.files files) loads)
+  pub order : MatchBool request.settle (loads ≡ loads_under request.files files)
+      (IsPermutation (loads_under request.files files) loads)
   pub files_loaded : after ≡ between ++ loads
   pub token : Option Token
-  pub is_token : IsTokenIn asked.token token
+  pub is_token : IsTokenIn request.token token
   pub drawn : List ℕ
   pub text : List ℕ
-  pub shows : ShowsAsked asked fares files drawn token text true
+  pub shows : ShowsRequest request fares files drawn token text true
   pub written : Appends out out' text
 
 -- If each name is that of a file of the system, and the source tells what it loaded, this follows
 -- of each run of the service over named files that is well.
 abbrev pub RunsChargeFiles : Type 0
-RunsChargeFiles = (asked : Asked) (origin : List ℕ → Origin) (before after : List Loaded)
+RunsChargeFiles = (request : Request) (origin : List ℕ → Origin) (before after : List Loaded)
     (out out' : Option (List ℕ)) → ((name : List ℕ) → origin name ≡ file name)
-    → 0 < length asked.files → RunsService asked origin (Some before) (Some after) out out' true
-    → ChargesFiles asked before after out out'
+    → 0 < length request.files → RunsService request origin (Some before) (Some after) out out' true
+    → ChargesFiles request before after out out'

@@ -3,7 +3,7 @@ use Rattle.std.specs.Prelude.{◌≡◌, ◌+◌, ℕ, Bool, true, List, [], ◌
 use Rattle.std.specs.Prelude.{Option, None, Some, is_some, not}
 use Rattle.std.specs.List.{list_all}
 use Rattle.tap_views.specs.Layout.{Tap, num}
-use Rattle.tap_views.specs.Files.{GoodBatchesView, IsReadAs, taps_of_batches}
+use Rattle.tap_views.specs.Files.{ValidBatchesView, IsReadAs, taps_of_batches}
 use Rattle.tap_views.specs.declared.fault.LayoutFault.{LayoutFault}
 use Rattle.tariffs.specs.Fares.{Fares, mode_at}
 use Rattle.fare_program.specs.Lines.{counts_line, refused_line, tap_line}
@@ -19,7 +19,7 @@ abbrev pub listed : Option Fares → Tap → Listed
 listed fares tap = listed_of tap (is_known fares tap)
 
 -- the taps of a reading, as they are listed
-abbrev pub listed_in : Option Fares → GoodBatchesView → List Listed
+abbrev pub listed_in : Option Fares → ValidBatchesView → List Listed
 listed_in fares reading = map (listed fares) (taps_of_batches reading.batches)
 
 -- the lines of taps that follow those before; the first has this number in its upload
@@ -35,37 +35,37 @@ fault_lines upload None = []
 fault_lines upload (Some (offset, fault)) = refused_line upload offset fault
 
 -- the lines of an upload by its reading: its taps', and one for its layout fault
-abbrev pub listing_lines : Option Fares → ℕ → List Listed → GoodBatchesView → List ℕ
+abbrev pub listing_lines : Option Fares → ℕ → List Listed → ValidBatchesView → List ℕ
 listing_lines fares upload before reading =
     tap_lines upload 0 before (listed_in fares reading) ++ fault_lines upload reading.fault
 
 -- the lines of uploads in their order, the first with this number
-abbrev pub lines_from : Option Fares → ℕ → List Listed → List GoodBatchesView → List ℕ
+abbrev pub lines_from : Option Fares → ℕ → List Listed → List ValidBatchesView → List ℕ
 lines_from fares upload before [] = []
 lines_from fares upload before (reading ∷ readings) = listing_lines fares upload before reading
     ++ lines_from fares (upload + 1) (before ++ listed_in fares reading) readings
 
 -- no layout fault ends the upload
-abbrev pub has_no_fault : GoodBatchesView → Bool
+abbrev pub has_no_fault : ValidBatchesView → Bool
 has_no_fault reading = not (is_some reading.fault)
 
 -- no layout fault ends any of the uploads
-abbrev pub have_no_fault : List GoodBatchesView → Bool
+abbrev pub have_no_fault : List ValidBatchesView → Bool
 have_no_fault = list_all has_no_fault
 
 -- a reading of each file, in their order
-abbrev pub AreReadings : List (List ℕ) → List GoodBatchesView → Type 0
-AreReadings [] [] = Unit {0}
-AreReadings (file ∷ files) (reading ∷ readings) =
-    IsReadAs file reading.batches reading.fault × AreReadings files readings
-AreReadings _ _ = ⊥
+abbrev pub AreParses : List (List ℕ) → List ValidBatchesView → Type 0
+AreParses [] [] = Unit {0}
+AreParses (file ∷ files) (reading ∷ readings) =
+    IsReadAs file reading.batches reading.fault × AreParses files readings
+AreParses _ _ = ⊥
 
 -- The text lists the files: the lines of each in their order, of all their batches up to the first
 -- layout fault, and then the counts. It is clean if no file has a layout fault.
 pub record IsListing (fares : Option Fares) (files : List (List ℕ)) (text : List ℕ) (clean : Bool)
     : Type 0 where
-  pub readings : List GoodBatchesView
-  pub read : AreReadings files readings
+  pub readings : List ValidBatchesView
+  pub read : AreParses files readings
   pub lines : text ≡ lines_from fares 0 [] readings
       ++ counts_line (counts_of (flat_map (listed_in fares) readings))
   pub is_clean : clean ≡ have_no_fault readings

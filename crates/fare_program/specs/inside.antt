@@ -1,6 +1,6 @@
 -- What only private functions cite. Who reads the contracts of public calls need not read it.
 pub mod Causes
-pub mod ChargedAhead
+pub mod ChargedPrefetched
 pub mod ChargedPart
 pub mod ChargedSorted
 pub mod Fault

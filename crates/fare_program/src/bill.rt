@@ -31,11 +31,11 @@ pub(crate) fn write_billed<'a, W: Write>(
     out: &mut W,
 ) -> Result<bool, Fault<'a>>
     requires { (history : List Entry) × IsBillOf history made.bill × (length history ≤ 2 ^ 95) }
-    ensures ok { IfOk result (λ well. (well ≡ are_posted made.ends.items)
+    ensures ok { IfOk result (λ success. (success ≡ are_posted made.ends.items)
         × ((history : List Entry) → IsBillOf history made.bill
         → Appends (W.contents out.old) (W.contents out.new)
         (report_over made.ends.items history))) }
-    ensures begun { IfErr result (λ fault. fault ≡ Fault.Write
+    ensures started { IfErr result (λ fault. fault ≡ Fault.Write
         → (history : List Entry) → IsBillOf history made.bill
         → Begins (W.contents out.old) (W.contents out.new)
         (report_over made.ends.items history)) }
@@ -61,16 +61,16 @@ pub(crate) fn write_bill<'a, R: Threads + RandomSource + Sync, U: Uploads + Sync
     calls: &mut Trace,
     out: &mut W,
 ) -> Result<bool, Fault<'a>>
-    ensures ok { IfOk result (λ well. (files : List (List ℕ)) × (text : List ℕ)
+    ensures ok { IfOk result (λ success. (files : List (List ℕ)) × (text : List ℕ)
         × AreRead (U.origin uploads.now) 0 (U.number uploads.now) files calls.old.run
         calls.new.run
-        × ShowsBill table.now files text well
+        × ShowsBill table.now files text success
         × Appends (W.contents out.old) (W.contents out.new) text) }
-    ensures begun { IfErr result (λ fault. fault ≡ Fault.Write
-        → (well : Bool) × (files : List (List ℕ)) × (text : List ℕ)
+    ensures started { IfErr result (λ fault. fault ≡ Fault.Write
+        → (success : Bool) × (files : List (List ℕ)) × (text : List ℕ)
         × AreRead (U.origin uploads.now) 0 (U.number uploads.now) files calls.old.run
         calls.new.run
-        × ShowsBill table.now files text well
+        × ShowsBill table.now files text success
         × Begins (W.contents out.old) (W.contents out.new) text) }
     ensures output { IfErr result IsOfOutput }
     ensures status { IfErr result (λ fault. status_of fault ≡ 1) }

@@ -3,8 +3,8 @@ ghost use Rattle.std.specs.Prelude.{◌≡◌, ◌≤◌, ◌^◌, ◌<◌, ℕ,
 ghost use Rattle.clap.specs.Words.{FailsBy, app_of, fault_of, found_of, matches_of, rows_of};
 ghost use Rattle.clap.specs.Words.{with_rule};
 ghost use Rattle.fare_program.specs.Options.{explain_flag, file_argument, ledger_flag, traced_flag};
-ghost use Rattle.fare_program.specs.Options.{asked_by, is_given, number_of, program, tokens_option};
-ghost use Rattle.fare_program.specs.inside.Options.{asked_of};
+ghost use Rattle.fare_program.specs.Options.{request_by, is_given, number_of, program, tokens_option};
+ghost use Rattle.fare_program.specs.inside.Options.{request_of};
 ghost use Rattle.fare_program.specs.inside.Options.{HasNumber};
 ghost use Rattle.program_manners.specs.Words.{list_option, null_flag};
 
@@ -180,8 +180,8 @@ fn number_in<'a>(matches: &ArgMatches<'a>, name: &str) -> u32
 impl<'a> Options<'a> {
     /// What the words ask for; else clap's error, which may be a call for help.
     pub(crate) fn read(alloc: Global, words: &'a [String]) -> Result<Options<'a>, Error>
-        ensures asked { IfOk result
-            (λ options. asked_of options ≡ asked_by (map string_bytes words.entry.now)) }
+        ensures request { IfOk result
+            (λ options. request_of options ≡ request_by (map string_bytes words.entry.now)) }
         ensures kinds { FailsBy (fault_of program (map string_bytes words.entry.now)) result }
     {
         let matches = matched(alloc, words)?;

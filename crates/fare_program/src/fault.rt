@@ -4,7 +4,7 @@ ghost use Rattle.fare_service.specs.Faults.{MissesNothing};
 ghost use Rattle.fare_program.specs.Fault.{IsLate, fault_text, gather_text, status_of};
 ghost use Rattle.fare_program.specs.inside.Fault.{IsRunFailure, as_remembered};
 ghost use Rattle.fare_program.specs.Causes.{IsNameReported, IsRightFault, IsRightOfSorted};
-ghost use Rattle.fare_program.specs.Options.{Asked};
+ghost use Rattle.fare_program.specs.Options.{Request};
 ghost use Rattle.sorted_bills.specs.Faults.{IsBeforeText, IsBillFault};
 ghost use Rattle.program_manners.specs.Loads.{Loaded};
 ghost use Rattle.program_manners.specs.Refusals.{IsOneOf, HasRefused};
@@ -99,10 +99,10 @@ impl<'a> Fault<'a> {
         ensures line { fault_text result ≡ load_text name.entry.now fault }
         ensures unwritten { result ≢ Fault.Write }
         ensures status { status_of result ≡ 1 }
-        ensures right { (asked : Asked) (under : List ℕ → Option (List ℕ))
+        ensures right { (request : Request) (under : List ℕ → Option (List ℕ))
             (loaded after : Option (List Loaded)) (refused : Option (Option (List ℕ) × ALoadFault))
-            → IsNameReported asked name.entry.now → HasRefused refused name.entry.now fault
-            → IsRightFault asked under loaded after refused result }
+            → IsNameReported request name.entry.now → HasRefused refused name.entry.now fault
+            → IsRightFault request under loaded after refused result }
     {
         Fault::File(FileFault { name, fault })
     }
@@ -144,7 +144,7 @@ impl<'a> Fault<'a> {
 
     /// What is reported of this fault if some of a text was written before it, as after all files
     /// were checked.
-    pub(crate) fn broken_off(self) -> Fault<'a>
+    pub(crate) fn interrupted(self) -> Fault<'a>
         ensures late { result ≢ Fault.Write → IsLate result }
         ensures write { result ≡ Fault.Write → self.entry ≡ Fault.Write }
         ensures status { status_of result ≡ 1 }
@@ -184,7 +184,7 @@ impl<'a> Fault<'a> {
             RunFault::NoMemory => Fault::NoMemory,
             RunFault::Gather(fault) => Fault::Gather(fault),
             // Loaded files are lent. If another file is not, all are loaded in their turns.
-            RunFault::Unlent(_) => Fault::NoMemory,
+            RunFault::Unavailable(_) => Fault::NoMemory,
         }
     }
 
@@ -194,7 +194,7 @@ impl<'a> Fault<'a> {
     pub(crate) fn as_remembered(self, end: Option<WriteEnd>) -> Fault<'a>
         ensures reported { result ≡ as_remembered end self.entry }
         ensures status { status_of result ≡ status_of self.entry }
-        ensures mistake { status_of self.entry ≡ 2 → result ≡ self.entry }
+        ensures usage_error { status_of self.entry ≡ 2 → result ≡ self.entry }
     {
         match self {
             Fault::Write if end.is_none() => Fault::NoMemory,

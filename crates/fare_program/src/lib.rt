@@ -28,7 +28,7 @@ mod token_range;
 mod traced;
 mod uploads;
 
-pub use file_sources::{Amount, Disk, Host, Source, read_ahead};
+pub use file_sources::{Amount, Disk, Host, Source, prefetch_files};
 pub use listing::{ListCounts, Listing, Word};
 pub use named_list::list_words;
 pub use note::Note;

@@ -3,7 +3,7 @@ ghost use Rattle.std.specs.Prelude.{◌≡◌, ◌+◌, ◌^◌, ◌<◌, ℕ, L
 ghost use Rattle.std.specs.Prelude.{◌&&◌, if◌then◌else◌};
 ghost use Rattle.std.specs.Str.{bytes_eq};
 ghost use Rattle.tap_views.specs.Layout.{num};
-ghost use Rattle.fare_program.specs.Listing.{AddsUp, Listed, StandsFor, counts_of, listed_of};
+ghost use Rattle.fare_program.specs.Listing.{AddsUp, Listed, RepresentsListing, counts_of, listed_of};
 ghost use Rattle.fare_program.specs.Listing.{is_after_last, last_of, liveness_of};
 ghost use Rattle.fare_program.specs.inside.Listing.{last_after, liveness_by, liveness_counted};
 
@@ -126,7 +126,7 @@ impl Model for Listing {
 impl Listing {
     /// A listing of no taps.
     pub fn new(alloc: Global) -> Listing
-        ensures { StandsFor result [] }
+        ensures { RepresentsListing result [] }
     {
         Listing {
             last: BTreeMap::new(alloc),
@@ -138,10 +138,10 @@ impl Listing {
     /// the listing is unchanged. The taps so far are below 2 to the power of 127.
     pub fn add(&mut self, tap: &TapView, known: bool) -> Result<Word, NoMemory>
         requires { self.old.counts.taps < 2 ^ 127 }
-        ensures liveness { IfOk result (λ liveness. (taps : List Listed) → StandsFor self.old taps
+        ensures liveness { IfOk result (λ liveness. (taps : List Listed) → RepresentsListing self.old taps
             → liveness ≡ liveness_of taps (listed_of tap.now known)) }
-        ensures stands { OnOk result ((taps : List Listed) → StandsFor self.old taps
-            → StandsFor self.new (taps ++ listed_of tap.now known ∷ [])) }
+        ensures holds { OnOk result ((taps : List Listed) → RepresentsListing self.old taps
+            → RepresentsListing self.new (taps ++ listed_of tap.now known ∷ [])) }
         ensures taps { OnOk result (self.new.counts.taps ≡ self.old.counts.taps + 1) }
         ensures err { OnErr result (self.new ≡ self.old) }
     {
@@ -153,7 +153,7 @@ impl Listing {
     /// How many taps were listed, and how many with each liveness.
     pub fn counts(&self) -> ListCounts
         ensures kept { result ≡ self.now.counts }
-        ensures counts { (taps : List Listed) → StandsFor self.now taps → result ≡ counts_of taps }
+        ensures counts { (taps : List Listed) → RepresentsListing self.now taps → result ≡ counts_of taps }
     {
         self.counts
     }

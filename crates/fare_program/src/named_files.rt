@@ -3,15 +3,15 @@ ghost use Rattle.std.specs.Prelude.{◌≡◌, ◌≢◌, ◌<◌, Bool, false, 
 ghost use Rattle.std.specs.Prelude.{IfErr, IfOk, IfSome, OnErr};
 ghost use Rattle.std.specs.Io.KnownBytes.{Appends, Keeps};
 ghost use Rattle.fare_texts.specs.WrittenOut.{Begins};
-ghost use Rattle.fare_program.specs.inside.Options.{asked_of};
-ghost use Rattle.fare_program.specs.inside.ChargedAhead.{IsChargedAhead};
+ghost use Rattle.fare_program.specs.inside.Options.{request_of};
+ghost use Rattle.fare_program.specs.inside.ChargedPrefetched.{IsChargedPrefetched};
 
 use crate::fault::Fault;
 use crate::noting::NotingGatekeeper;
 use crate::options::Options;
-use crate::posting::charge_lent;
+use crate::posting::charge_provided;
 use crate::settle::charge_settled;
-use fare_service::LentUploads;
+use fare_service::UploadSource;
 use fare_table::FareTable;
 use file_sources::{Amount, Disk, Source};
 use settlement::Uploads;
@@ -81,7 +81,7 @@ impl<D: Disk> Uploads for NamedFiles<'_, D> {
     }
 }
 
-impl<D: Disk> LentUploads for NamedFiles<'_, D> {
+impl<D: Disk> UploadSource for NamedFiles<'_, D> {
     ghost use Rattle.std.specs.Prelude.{map};
     ghost use Rattle.fare_program.specs.FilesLoaded.{unless_memory};
 
@@ -92,7 +92,7 @@ impl<D: Disk> LentUploads for NamedFiles<'_, D> {
         self.names.len()
     }
 
-    fn lend<'b>(
+    fn provide<'b>(
         &'b self,
         upload: u32,
         room: &'b mut Vec<u8>,
@@ -111,7 +111,7 @@ impl<D: Disk> LentUploads for NamedFiles<'_, D> {
 pub(crate) fn sizes_of<D: Disk>(alloc: Global, disk: &D, names: &[&str]) -> Option<Vec<u64>> {
     let mut sizes = Vec::new(alloc);
     for name in names {
-        if sizes.push(disk.size_ahead(name)?).is_err() {
+        if sizes.push(disk.prefetch_size(name)?).is_err() {
             return None;
         }
     }
@@ -132,13 +132,13 @@ fn charge_named<'a, R: Threads + Wait + RandomSource + Sync, D: Disk + Sync, W: 
 ) -> Result<bool, Fault<'a>>
     requires list { options.now.list ≡ false }
     requires some { 0 < length options.now.files.items }
-    ensures ok { IfOk result (IsChargedAhead (asked_of options.now) (D.origin disk.now)
+    ensures ok { IfOk result (IsChargedPrefetched (request_of options.now) (D.origin disk.now)
         (Some calls.old.run.loads) (Some calls.new.run.loads) (Some table.now) token
         (Appends (W.contents out.old) (W.contents out.new))) }
-    ensures begun { IfErr result (λ fault. fault ≡ Fault.Write → (well : Bool)
-        × IsChargedAhead (asked_of options.now) (D.origin disk.now) (Some calls.old.run.loads)
+    ensures started { IfErr result (λ fault. fault ≡ Fault.Write → (success : Bool)
+        × IsChargedPrefetched (request_of options.now) (D.origin disk.now) (Some calls.old.run.loads)
         (Some calls.new.run.loads) (Some table.now) token
-        (Begins (W.contents out.old) (W.contents out.new)) well) }
+        (Begins (W.contents out.old) (W.contents out.new)) success) }
     ensures fault { IfErr result (λ fault. fault ≢ Fault.Write
         → Keeps (W.contents out.old) (W.contents out.new)) }
 {
@@ -153,7 +153,7 @@ fn charge_named<'a, R: Threads + Wait + RandomSource + Sync, D: Disk + Sync, W: 
     }
     let own = table.try_clone(alloc)?;
     let keeper = NotingGatekeeper::new(disk, sizes);
-    charge_lent(
+    charge_provided(
         rt, alloc, disk, options, own, token, uploads, &keeper, calls, out,
     )
 }
@@ -163,7 +163,7 @@ fn charge_named<'a, R: Threads + Wait + RandomSource + Sync, D: Disk + Sync, W: 
 ///
 /// `None` says that nothing was written and nothing loaded. Then the files are to be loaded in
 /// their turns, so that the fault of the first file in the order of the words is reported.
-pub(crate) fn charge_ahead<
+pub(crate) fn charge_prefetched<
     'a,
     R: Threads + Wait + RandomSource + Sync,
     D: Disk + Sync,
@@ -179,7 +179,7 @@ pub(crate) fn charge_ahead<
     source: &mut S,
     out: &mut W,
 ) -> Result<Option<bool>, Fault<'a>>
-    ensures done { IfOk result (λ done. IfSome done (IsChargedAhead (asked_of options.now)
+    ensures done { IfOk result (λ done. IfSome done (IsChargedPrefetched (request_of options.now)
         (D.origin disk.now) (S.loaded source.old) (S.loaded source.new) table.now token
         (Appends (W.contents out.old) (W.contents out.new)))) }
     ensures none { IfOk result (λ done. done ≡ None
@@ -187,9 +187,9 @@ pub(crate) fn charge_ahead<
     ensures unloaded { IfOk result (λ done. done ≡ None
         → S.loaded source.new ≡ S.loaded source.old) }
     ensures fault { IfErr result (λ fault. fault ≡ Fault.Write) }
-    ensures begun { OnErr result ((well : Bool) × IsChargedAhead (asked_of options.now)
+    ensures started { OnErr result ((success : Bool) × IsChargedPrefetched (request_of options.now)
         (D.origin disk.now) (S.loaded source.old) (S.loaded source.new) table.now token
-        (Begins (W.contents out.old) (W.contents out.new)) well) }
+        (Begins (W.contents out.old) (W.contents out.new)) success) }
 {
     if options.list || options.files.is_empty() {
         return Ok(None);
@@ -204,9 +204,9 @@ pub(crate) fn charge_ahead<
     match charge_named(
         rt, alloc, disk, options, table, token, &sizes, &mut calls, out,
     ) {
-        Ok(well) => {
+        Ok(success) => {
             source.join(calls);
-            Ok(Some(well))
+            Ok(Some(success))
         }
         Err(Fault::Write) => {
             source.join(calls);

@@ -3,7 +3,7 @@ ghost use Rattle.std.specs.Prelude.{◌≡◌, ◌⊎◌, None, false, true, IfE
 ghost use Rattle.std.specs.Prelude.{string_bytes};
 ghost use Rattle.clap.specs.Words.{matches_of};
 ghost use Rattle.fare_program.specs.Options.{Parses, program};
-ghost use Rattle.program_manners.specs.ListWords.{lacks_list, list_asked, view_of};
+ghost use Rattle.program_manners.specs.ListWords.{lacks_list, list_request, view_of};
 
 use crate::command_line::matched;
 use program_manners::{ListFault, ListWords};
@@ -17,7 +17,7 @@ pub fn list_words<'a>(
 ) -> Result<Option<ListWords<'a>>, ListFault>
     ensures list { Parses (map string_bytes words.entry.now)
         → IfOk result (λ list. option_map view_of list
-        ≡ list_asked (matches_of program (map string_bytes words.entry.now))) }
+        ≡ list_request (matches_of program (map string_bytes words.entry.now))) }
     ensures right { Parses (map string_bytes words.entry.now)
         → IfOk result (λ _.
         lacks_list (matches_of program (map string_bytes words.entry.now)) ≡ false) }

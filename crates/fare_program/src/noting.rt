@@ -39,9 +39,9 @@ impl<'a, D: Disk> NotingGatekeeper<'a, D> {
 }
 
 impl<D: Disk> Gatekeeper for NotingGatekeeper<'_, D> {
-    type Begun = u32;
+    type Started = u32;
 
-    ghost begins = { λ begun. begun };
+    ghost begins = { λ started. started };
 
     fn before(&self, upload: u32) -> u32 {
         upload

@@ -11,7 +11,7 @@ use std::io::Write;
 pub(crate) fn write_text<'a, W: Write>(out: &mut W, text: &str) -> Result<(), Fault<'a>>
     ensures fault { IfErr result (λ fault. fault ≡ Fault.Write) }
     ensures text { OnOk result (Appends (W.contents out.old) (W.contents out.new) text.now) }
-    ensures begun { OnErr result (Begins (W.contents out.old) (W.contents out.new) text.now) }
+    ensures started { OnErr result (Begins (W.contents out.old) (W.contents out.new) text.now) }
 {
     match write_bytes(text.as_bytes(), out) {
         Ok(()) => Ok(()),

@@ -11,8 +11,8 @@ ghost use Rattle.fare_program.specs.Causes.{IsRightOfSorted};
 ghost use Rattle.fare_program.specs.Fault.{IsLate, status_of};
 ghost use Rattle.fare_program.specs.Parts.{report_over};
 ghost use Rattle.fare_program.specs.TokenRanges.{range_fault};
-ghost use Rattle.fare_program.specs.inside.ChargedPart.{IsBegunPart, IsChargedPart};
-ghost use Rattle.fare_program.specs.inside.Options.{asked_of};
+ghost use Rattle.fare_program.specs.inside.ChargedPart.{IsStartedPart, IsChargedPart};
+ghost use Rattle.fare_program.specs.inside.Options.{request_of};
 
 use crate::bill::write_billed;
 use crate::fault::Fault;
@@ -35,7 +35,7 @@ fn write_made<'a, W: Write>(alloc: Global, made: PartBill, out: &mut W) -> Resul
     ensures ok { OnOk result ((history : List Entry) → IsBillOf history made.billed.bill
         → Appends (W.contents out.old) (W.contents out.new)
         (part_head made.spans.items ++ report_over made.billed.ends.items history)) }
-    ensures begun { IfErr result (λ fault. fault ≡ Fault.Write
+    ensures started { IfErr result (λ fault. fault ≡ Fault.Write
         → (history : List Entry) → IsBillOf history made.billed.bill
         → Begins (W.contents out.old) (W.contents out.new)
         (part_head made.spans.items ++ report_over made.billed.ends.items history)) }
@@ -49,7 +49,7 @@ fn write_made<'a, W: Write>(alloc: Global, made: PartBill, out: &mut W) -> Resul
     write_part_head(alloc, &spans, out)?;
     match write_billed(alloc, billed, out) {
         Ok(_) => Ok(()),
-        Err(fault) => Err(fault.broken_off()),
+        Err(fault) => Err(fault.interrupted()),
     }
 }
 
@@ -64,10 +64,10 @@ fn write_report<'a, R: RandomSource, F: Placed, W: Write>(
 ) -> Result<(), Fault<'a>>
     ensures ok { OnOk result (IsChargedPart false (map F.bytes files.now) table.now
         (W.contents out.old) (W.contents out.new)) }
-    ensures begun { IfErr result (λ fault. fault ≡ Fault.Write
-        → IsBegunPart false (map F.bytes files.now) table.now
+    ensures started { IfErr result (λ fault. fault ≡ Fault.Write
+        → IsStartedPart false (map F.bytes files.now) table.now
         (W.contents out.old) (W.contents out.new)) }
-    ensures right { IfErr result (IsRightOfSorted (asked_of options.now).files
+    ensures right { IfErr result (IsRightOfSorted (request_of options.now).files
         (map F.bytes files.now)) }
     ensures status { IfErr result (λ fault. status_of fault ≡ 1) }
     ensures fault { IfErr result (λ fault. fault ≢ Fault.Write → (IsLate fault → ⊥)
@@ -90,7 +90,7 @@ fn write_ledger<'a, F: Placed, W: Write>(
 ) -> Result<(), Fault<'a>>
     ensures ok { OnOk result (IsChargedPart true (map F.bytes files.now) table.now
         (W.contents out.old) (W.contents out.new)) }
-    ensures right { IfErr result (IsRightOfSorted (asked_of options.now).files
+    ensures right { IfErr result (IsRightOfSorted (request_of options.now).files
         (map F.bytes files.now)) }
     ensures status { IfErr result (λ fault. status_of fault ≡ 1) }
     ensures fault { IfErr result (λ fault. fault ≢ Fault.Write → (IsLate fault → ⊥)
@@ -104,7 +104,7 @@ fn write_ledger<'a, F: Placed, W: Write>(
     write_part_head(alloc, &spans, out)?;
     match write_part_ledger(alloc, table, files, from, below, &spans, out) {
         Ok(()) => Ok(()),
-        Err(fault) => Err(Fault::of_bill(&options.files, fault).broken_off()),
+        Err(fault) => Err(Fault::of_bill(&options.files, fault).interrupted()),
     }
 }
 
@@ -117,13 +117,13 @@ fn charge_part<'a, R: RandomSource, F: Placed, W: Write>(
     files: &[F],
     out: &mut W,
 ) -> Result<(), Fault<'a>>
-    ensures ok { OnOk result (IsChargedPart (asked_of options.now).ledger (map F.bytes files.now)
+    ensures ok { OnOk result (IsChargedPart (request_of options.now).ledger (map F.bytes files.now)
         table.now (W.contents out.old) (W.contents out.new)) }
-    ensures begun { IfErr result (λ fault. fault ≡ Fault.Write
-        → ((asked_of options.now).ledger ≡ true → ⊥)
-        → IsBegunPart (asked_of options.now).ledger (map F.bytes files.now)
+    ensures started { IfErr result (λ fault. fault ≡ Fault.Write
+        → ((request_of options.now).ledger ≡ true → ⊥)
+        → IsStartedPart (request_of options.now).ledger (map F.bytes files.now)
         table.now (W.contents out.old) (W.contents out.new)) }
-    ensures right { IfErr result (IsRightOfSorted (asked_of options.now).files
+    ensures right { IfErr result (IsRightOfSorted (request_of options.now).files
         (map F.bytes files.now)) }
     ensures status { IfErr result (λ fault. status_of fault ≡ 1) }
     ensures fault { IfErr result (λ fault. fault ≢ Fault.Write → (IsLate fault → ⊥)
@@ -149,17 +149,17 @@ pub(crate) fn work_part<'a, R: RandomSource, D: Disk, W: Write>(
 ) -> Result<bool, Fault<'a>>
     requires table { is_some table ≡ true }
     requires word { range_fault word.now ≡ None }
-    ensures ok { IfOk result (λ well. (well ≡ true) × ((fares : Fares) → table ≡ Some fares
-        → IsChargedPart (asked_of options.now).ledger
-        (map (D.bytes_under disk.now) (asked_of options.now).files) fares
+    ensures ok { IfOk result (λ success. (success ≡ true) × ((fares : Fares) → table ≡ Some fares
+        → IsChargedPart (request_of options.now).ledger
+        (map (D.bytes_under disk.now) (request_of options.now).files) fares
         (W.contents out.old) (W.contents out.new))) }
-    ensures begun { IfErr result (λ fault. fault ≡ Fault.Write
-        → ((asked_of options.now).ledger ≡ true → ⊥)
-        → (fares : Fares) → table ≡ Some fares → IsBegunPart (asked_of options.now).ledger
-        (map (D.bytes_under disk.now) (asked_of options.now).files) fares
+    ensures started { IfErr result (λ fault. fault ≡ Fault.Write
+        → ((request_of options.now).ledger ≡ true → ⊥)
+        → (fares : Fares) → table ≡ Some fares → IsStartedPart (request_of options.now).ledger
+        (map (D.bytes_under disk.now) (request_of options.now).files) fares
         (W.contents out.old) (W.contents out.new)) }
-    ensures right { IfErr result (IsRightOfSorted (asked_of options.now).files
-        (map (D.bytes_under disk.now) (asked_of options.now).files)) }
+    ensures right { IfErr result (IsRightOfSorted (request_of options.now).files
+        (map (D.bytes_under disk.now) (request_of options.now).files)) }
     ensures status { IfErr result (λ fault. status_of fault ≡ 1) }
     ensures fault { IfErr result (λ fault. fault ≢ Fault.Write → (IsLate fault → ⊥)
         → Keeps (W.contents out.old) (W.contents out.new)) }

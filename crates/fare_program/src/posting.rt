@@ -4,9 +4,9 @@ ghost use Rattle.std.specs.Io.KnownBytes.{Appends, Keeps};
 ghost use Rattle.fare_texts.specs.WrittenOut.{Begins};
 ghost use Rattle.fare_program.specs.Fault.{status_of};
 ghost use Rattle.fare_program.specs.inside.Causes.{IsOfOutput, IsRightOfUploads};
-ghost use Rattle.fare_program.specs.inside.Options.{asked_of};
-ghost use Rattle.fare_program.specs.inside.PostedFiles.{AreLent};
-ghost use Rattle.fare_program.specs.Program.{ShowsAsked, ShowsOf, ShowsStatement, ShowsWith};
+ghost use Rattle.fare_program.specs.inside.Options.{request_of};
+ghost use Rattle.fare_program.specs.inside.PostedFiles.{AreProvided};
+ghost use Rattle.fare_program.specs.Program.{ShowsRequest, ShowsOf, ShowsStatement, ShowsWith};
 
 use crate::fault::Fault;
 use crate::noting::{NotedUploads, NotingGatekeeper, sizes_in};
@@ -14,7 +14,7 @@ use crate::options::Options;
 use crate::remarks::note_outcome;
 use crate::run::{are_posted, post_live};
 use crate::settle::charge_settled;
-use fare_service::{Gatekeeper, LentUploads, Outcome, write_explained, write_ledger};
+use fare_service::{Gatekeeper, Outcome, UploadSource, write_explained, write_ledger};
 use fare_table::FareTable;
 use file_sources::Disk;
 use std::alloc::Global;
@@ -37,7 +37,7 @@ fn print_statement<'a, W: Write>(
 ) -> Result<(), Fault<'a>>
     ensures ok { OnOk result ((text : List ℕ) × ShowsStatement explain token outcome.now text
         × Appends (W.contents out.old) (W.contents out.new) text) }
-    ensures begun { IfErr result (λ fault. fault ≡ Fault.Write
+    ensures started { IfErr result (λ fault. fault ≡ Fault.Write
         → (text : List ℕ) × ShowsStatement explain token outcome.now text
         × Begins (W.contents out.old) (W.contents out.new) text) }
     ensures output { IfErr result IsOfOutput }
@@ -67,7 +67,7 @@ fn print<'a, R: Threads + Sync, W: Write>(
     ensures ok { OnOk result ((text : List ℕ)
         × ShowsWith explain token outcome.now.ends outcome.now text
         × Appends (W.contents out.old) (W.contents out.new) text) }
-    ensures begun { IfErr result (λ fault. fault ≡ Fault.Write
+    ensures started { IfErr result (λ fault. fault ≡ Fault.Write
         → (text : List ℕ) × ShowsWith explain token outcome.now.ends outcome.now text
         × Begins (W.contents out.old) (W.contents out.new) text) }
     ensures output { IfErr result IsOfOutput }
@@ -85,7 +85,7 @@ fn print<'a, R: Threads + Sync, W: Write>(
 /// Prints what is asked for: the ledger, or that of the token; else the report, or the statement of
 /// the token, explained if that is asked for.
 #[tactic(auto, using(crate::proofs::WritesFailed::of_write))]
-fn print_asked<'a, R: Threads + Sync, W: Write>(
+fn print_requested<'a, R: Threads + Sync, W: Write>(
     rt: &R,
     alloc: Global,
     options: &Options<'a>,
@@ -94,11 +94,11 @@ fn print_asked<'a, R: Threads + Sync, W: Write>(
     out: &mut W,
 ) -> Result<(), Fault<'a>>
     ensures ok { OnOk result ((text : List ℕ)
-        × ShowsOf (asked_of options.now) token outcome.now.ends outcome.now text
+        × ShowsOf (request_of options.now) token outcome.now.ends outcome.now text
         × Appends (W.contents out.old) (W.contents out.new) text) }
-    ensures begun { IfErr result (λ fault. fault ≡ Fault.Write
+    ensures started { IfErr result (λ fault. fault ≡ Fault.Write
         → (text : List ℕ)
-        × ShowsOf (asked_of options.now) token outcome.now.ends outcome.now text
+        × ShowsOf (request_of options.now) token outcome.now.ends outcome.now text
         × Begins (W.contents out.old) (W.contents out.new) text) }
     ensures output { IfErr result IsOfOutput }
     ensures status { IfErr result (λ fault. status_of fault ≡ 1) }
@@ -115,11 +115,11 @@ fn print_asked<'a, R: Threads + Sync, W: Write>(
 
 /// Posts uploads that are lent, as they are, and writes what is asked for. Says whether each was
 /// posted whole. What a person should know of them is noted on the disk.
-pub(crate) fn charge_lent<
+pub(crate) fn charge_provided<
     'a,
     R: Threads + Wait + RandomSource + Sync,
     D: Disk,
-    U: LentUploads + Drop + Sync,
+    U: UploadSource + Drop + Sync,
     G: Gatekeeper + Sync,
     W: Write,
 >(
@@ -134,17 +134,17 @@ pub(crate) fn charge_lent<
     calls: &mut Trace,
     out: &mut W,
 ) -> Result<bool, Fault<'a>>
-    requires { (asked_of options.now).settle ≡ false }
-    ensures ok { IfOk result (λ well. (files : List (List ℕ)) × (drawn : List ℕ) × (text : List ℕ)
-        × AreLent (U.origins uploads) files drawn calls.old.run calls.new.run
-        × ShowsAsked (asked_of options.now) table files drawn token text well
+    requires { (request_of options.now).settle ≡ false }
+    ensures ok { IfOk result (λ success. (files : List (List ℕ)) × (drawn : List ℕ) × (text : List ℕ)
+        × AreProvided (U.origins uploads) files drawn calls.old.run calls.new.run
+        × ShowsRequest (request_of options.now) table files drawn token text success
         × Appends (W.contents out.old) (W.contents out.new) text) }
-    ensures begun { IfErr result (λ fault. fault ≡ Fault.Write
-        → (well : Bool) × (files : List (List ℕ)) × (drawn : List ℕ) × (text : List ℕ)
-        × AreLent (U.origins uploads) files drawn calls.old.run calls.new.run
-        × ShowsAsked (asked_of options.now) table files drawn token text well
+    ensures started { IfErr result (λ fault. fault ≡ Fault.Write
+        → (success : Bool) × (files : List (List ℕ)) × (drawn : List ℕ) × (text : List ℕ)
+        × AreProvided (U.origins uploads) files drawn calls.old.run calls.new.run
+        × ShowsRequest (request_of options.now) table files drawn token text success
         × Begins (W.contents out.old) (W.contents out.new) text) }
-    ensures right { IfErr result (IsRightOfUploads (asked_of options.now).settle
+    ensures right { IfErr result (IsRightOfUploads (request_of options.now).settle
         (length (U.origins uploads))) }
     ensures status { IfErr result (λ fault. status_of fault ≡ 1) }
     ensures fault { IfErr result (λ fault. fault ≢ Fault.Write
@@ -152,11 +152,11 @@ pub(crate) fn charge_lent<
 {
     let outcome = post_live(rt, alloc, table, options, uploads, keeper)?;
     note_outcome(alloc, disk, options, &outcome, token);
-    let well = are_posted(outcome.ends());
-    match print_asked(rt, alloc, options, &outcome, token, out) {
+    let success = are_posted(outcome.ends());
+    match print_requested(rt, alloc, options, &outcome, token, out) {
         Ok(()) => {
             calls.join(outcome.into_calls());
-            Ok(well)
+            Ok(success)
         }
         Err(fault) => {
             calls.join(outcome.into_calls());
@@ -177,16 +177,16 @@ pub(crate) fn charge<'a, R: Threads + Wait + RandomSource + Sync, D: Disk + Sync
     files: Vec<Vec<u8>>,
     out: &mut W,
 ) -> Result<bool, Fault<'a>>
-    ensures ok { IfOk result (λ well. (drawn : List ℕ) × (text : List ℕ)
-        × ShowsAsked (asked_of options.now) table (map (λ f. f.items) files.items) drawn token text
-        well
+    ensures ok { IfOk result (λ success. (drawn : List ℕ) × (text : List ℕ)
+        × ShowsRequest (request_of options.now) table (map (λ f. f.items) files.items) drawn token text
+        success
         × Appends (W.contents out.old) (W.contents out.new) text) }
-    ensures begun { IfErr result (λ fault. fault ≡ Fault.Write
-        → (well : Bool) × (drawn : List ℕ) × (text : List ℕ)
-        × ShowsAsked (asked_of options.now) table (map (λ f. f.items) files.items) drawn token text
-        well
+    ensures started { IfErr result (λ fault. fault ≡ Fault.Write
+        → (success : Bool) × (drawn : List ℕ) × (text : List ℕ)
+        × ShowsRequest (request_of options.now) table (map (λ f. f.items) files.items) drawn token text
+        success
         × Begins (W.contents out.old) (W.contents out.new) text) }
-    ensures right { IfErr result (IsRightOfUploads (asked_of options.now).settle
+    ensures right { IfErr result (IsRightOfUploads (request_of options.now).settle
         (length files.items)) }
     ensures status { IfErr result (λ fault. status_of fault ≡ 1) }
     ensures fault { IfErr result (λ fault. fault ≢ Fault.Write
@@ -202,7 +202,7 @@ pub(crate) fn charge<'a, R: Threads + Wait + RandomSource + Sync, D: Disk + Sync
     }
     let sizes = sizes_in(alloc, &files)?;
     let keeper = NotingGatekeeper::new(disk, &sizes);
-    charge_lent(
+    charge_provided(
         rt,
         alloc,
         disk,

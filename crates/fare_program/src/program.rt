@@ -6,16 +6,16 @@ ghost use Rattle.clap.specs.Words.{kind_of};
 ghost use Rattle.std.specs.Io.KnownBytes.{Appends, Keeps};
 ghost use Rattle.fare_program.specs.Causes.{IsNameReported, IsRightFault};
 ghost use Rattle.fare_program.specs.inside.Causes.{IsOfOutput};
-ghost use Rattle.fare_program.specs.Fault.{IsLate, charge_mistake_of, explain_mistake, fault_text};
-ghost use Rattle.fare_program.specs.Fault.{live_mistake, mistake, sorted_mistake, status_of};
-ghost use Rattle.fare_program.specs.Fault.{token_mistake, tokens_mistake};
-ghost use Rattle.fare_program.specs.Fault.{traced_mistake, wrong_date};
+ghost use Rattle.fare_program.specs.Fault.{IsLate, charge_usage_error_of, explain_usage_error, fault_text};
+ghost use Rattle.fare_program.specs.Fault.{live_usage_error, usage_error, sorted_usage_error, status_of};
+ghost use Rattle.fare_program.specs.Fault.{token_usage_error, tokens_usage_error};
+ghost use Rattle.fare_program.specs.Fault.{traced_usage_error, wrong_date};
 ghost use Rattle.fare_program.specs.inside.Fault.{IsLoadLine, IsWhyOf};
-ghost use Rattle.fare_program.specs.Options.{Asked, AsksForText, Parses, asked_by};
-ghost use Rattle.fare_program.specs.inside.Options.{asked_of};
-ghost use Rattle.fare_program.specs.Program.{Does, GaveUp, IsTokenIn};
+ghost use Rattle.fare_program.specs.Options.{Request, AsksForText, Parses, request_by};
+ghost use Rattle.fare_program.specs.inside.Options.{request_of};
+ghost use Rattle.fare_program.specs.Program.{Does, Aborted, IsTokenIn};
 ghost use Rattle.fare_program.specs.FilesLoaded.{LoadsFiles, names_to_load};
-ghost use Rattle.fare_program.specs.Begun.{AreOfBytes, GaveUpOn, HasBegun, IsBegun, ReportedWrite};
+ghost use Rattle.fare_program.specs.Started.{AreOfBytes, AbortedOn, HasStarted, IsPartlyWritten, ReportedWrite};
 ghost use Rattle.fare_texts.specs.WrittenOut.{Begins};
 ghost use Rattle.fare_program.specs.Program.{DoesUntraced, LoadsTable, RunsTraced};
 ghost use Rattle.program_manners.specs.Loads.{Loaded, LoadsOne};
@@ -28,7 +28,7 @@ ghost use Rattle.std.specs.Option.{option_and_then};
 ghost use Rattle.fare_program.specs.Uploads.{IsListing};
 
 use crate::fault::Fault;
-use crate::named_files::charge_ahead;
+use crate::named_files::charge_prefetched;
 use crate::options::Options;
 use crate::output::write_text;
 use crate::part::work_part;
@@ -40,7 +40,7 @@ use crate::uploads::listing_text;
 use clap::Error;
 use clap::error::ErrorKind;
 use fare_table::FareTable;
-use file_sources::{Disk, Source, read_ahead};
+use file_sources::{Disk, Source, prefetch_files};
 use hex::FromHex;
 use program_manners::{Complaints, Output, STANDARD_INPUT, TableWords, load_tables, show_answer};
 use std::alloc::Global;
@@ -60,9 +60,9 @@ pub(crate) fn load_named<'a, S: Source>(source: &mut S, name: &'a str) -> Result
     ensures ok { IfOk result (λ bytes. LoadsOne (S.loaded source.old) (S.loaded source.new)
         (Some name.entry.now) bytes.items) }
     ensures fault { IfErr result (λ fault. IsLoadLine name.entry.now (fault_text fault)) }
-    ensures right { IfErr result (λ fault. (asked : Asked) (under : List ℕ → Option (List ℕ))
-        (loaded after : Option (List Loaded)) → IsNameReported asked name.entry.now
-        → IsRightFault asked under loaded after (S.refused source.new) fault) }
+    ensures right { IfErr result (λ fault. (request : Request) (under : List ℕ → Option (List ℕ))
+        (loaded after : Option (List Loaded)) → IsNameReported request name.entry.now
+        → IsRightFault request under loaded after (S.refused source.new) fault) }
     ensures unwritten { IfErr result (λ fault. fault ≢ Fault.Write) }
     ensures status { IfErr result (λ fault. status_of fault ≡ 1) }
 {
@@ -77,9 +77,9 @@ fn load_input<'a, S: Source>(source: &mut S) -> Result<Vec<u8>, Fault<'a>>
     ensures ok { IfOk result (λ bytes. LoadsOne (S.loaded source.old) (S.loaded source.new)
         None bytes.items) }
     ensures fault { IfErr result (λ fault. IsLoadLine (codes "standard input") (fault_text fault)) }
-    ensures right { IfErr result (λ fault. (asked : Asked) (under : List ℕ → Option (List ℕ))
-        (loaded after : Option (List Loaded)) → asked.files ≡ []
-        → IsRightFault asked under loaded after (S.refused source.new) fault) }
+    ensures right { IfErr result (λ fault. (request : Request) (under : List ℕ → Option (List ℕ))
+        (loaded after : Option (List Loaded)) → request.files ≡ []
+        → IsRightFault request under loaded after (S.refused source.new) fault) }
     ensures unwritten { IfErr result (λ fault. fault ≢ Fault.Write) }
     ensures status { IfErr result (λ fault. status_of fault ≡ 1) }
 {
@@ -98,9 +98,9 @@ fn load_table<'a, S: Source>(
     requires { option_and_then wrong_word (option_map names_of words.now) ≡ None }
     ensures ok { IfOk result (λ table. LoadsTable (option_map names_of words.now)
         (S.loaded source.old) (S.loaded source.new) table) }
-    ensures right { IfErr result (λ fault. (asked : Asked) (under : List ℕ → Option (List ℕ))
-        → asked.table ≡ option_map names_of words.now
-        → IsRightFault asked under (S.loaded source.old) (S.loaded source.new)
+    ensures right { IfErr result (λ fault. (request : Request) (under : List ℕ → Option (List ℕ))
+        → request.table ≡ option_map names_of words.now
+        → IsRightFault request under (S.loaded source.old) (S.loaded source.new)
         (S.refused source.new) fault) }
     ensures unwritten { IfErr result (λ fault. fault ≢ Fault.Write) }
     ensures status { IfErr result (λ fault. status_of fault ≡ 1) }
@@ -124,9 +124,9 @@ fn load_files<'a, R: Threads + Sync, D: Disk + Sync, S: Source>(
 ) -> Result<Vec<Vec<u8>>, Fault<'a>>
     ensures ok { IfOk result (λ files. LoadsFiles (names_to_load (map (λ n. n.now) names.now))
         (S.loaded source.old) (S.loaded source.new) (map (λ f. f.items) files.items)) }
-    ensures right { IfErr result (λ fault. (asked : Asked) (under : List ℕ → Option (List ℕ))
-        (loaded after : Option (List Loaded)) → asked.files ≡ map (λ n. n.now) names.now
-        → IsRightFault asked under loaded after (S.refused source.new) fault) }
+    ensures right { IfErr result (λ fault. (request : Request) (under : List ℕ → Option (List ℕ))
+        (loaded after : Option (List Loaded)) → request.files ≡ map (λ n. n.now) names.now
+        → IsRightFault request under loaded after (S.refused source.new) fault) }
     ensures unwritten { IfErr result (λ fault. fault ≢ Fault.Write) }
     ensures status { IfErr result (λ fault. status_of fault ≡ 1) }
 {
@@ -136,8 +136,8 @@ fn load_files<'a, R: Threads + Sync, D: Disk + Sync, S: Source>(
         push(&mut files, bytes)?;
         return Ok(files);
     }
-    let ahead = read_ahead(rt, alloc, disk, names, threads);
-    source.keep_ahead(ahead);
+    let ahead = prefetch_files(rt, alloc, disk, names, threads);
+    source.keep_prefetched(ahead);
     for name in names {
         let bytes = load_named(source, name)?;
         push(&mut files, bytes)?;
@@ -164,10 +164,10 @@ fn readers_for(options: &Options<'_>) -> usize {
 }
 
 /// The token whose statement is asked for, if any: 32 hexadecimal digits, and a table to charge by.
-fn asked_token<'a>(options: &Options<'a>) -> Result<Option<Token>, Fault<'a>>
-    ensures token { IfOk result (IsTokenIn (asked_of options.now).token) }
-    ensures right { OnOk result (token_mistake (asked_of options.now) ≡ None) }
-    ensures fault { IfErr result (λ fault. token_mistake (asked_of options.now) ≡ Some fault) }
+fn requested_token<'a>(options: &Options<'a>) -> Result<Option<Token>, Fault<'a>>
+    ensures token { IfOk result (IsTokenIn (request_of options.now).token) }
+    ensures right { OnOk result (token_usage_error (request_of options.now) ≡ None) }
+    ensures fault { IfErr result (λ fault. token_usage_error (request_of options.now) ≡ Some fault) }
     ensures status { IfErr result (λ fault. status_of fault ≡ 2) }
 {
     let Some(digits) = options.token else {
@@ -186,19 +186,19 @@ fn asked_token<'a>(options: &Options<'a>) -> Result<Option<Token>, Fault<'a>>
 /// by, and the taps are not to be listed.
 fn check_charged<'a>(
     options: &Options<'a>,
-    asked: bool,
+    request: bool,
     untabled: Fault<'a>,
     listed: Fault<'a>,
 ) -> Result<(), Fault<'a>>
     requires untabled { status_of untabled ≡ 2 }
     requires listed { status_of listed ≡ 2 }
-    ensures right { OnOk result (charge_mistake_of untabled.entry listed.entry asked
-        (asked_of options.now).list (asked_of options.now).table ≡ None) }
-    ensures fault { IfErr result (λ fault. charge_mistake_of untabled.entry listed.entry asked
-        (asked_of options.now).list (asked_of options.now).table ≡ Some fault) }
+    ensures right { OnOk result (charge_usage_error_of untabled.entry listed.entry request
+        (request_of options.now).list (request_of options.now).table ≡ None) }
+    ensures fault { IfErr result (λ fault. charge_usage_error_of untabled.entry listed.entry request
+        (request_of options.now).list (request_of options.now).table ≡ Some fault) }
     ensures status { IfErr result (λ fault. status_of fault ≡ 2) }
 {
-    if !asked {
+    if !request {
         return Ok(());
     }
     if options.table.is_none() {
@@ -212,8 +212,8 @@ fn check_charged<'a>(
 
 /// Looks whether a live run may be meant, if one is: the taps are not to be settled.
 fn check_live<'a>(options: &Options<'a>) -> Result<(), Fault<'a>>
-    ensures right { OnOk result (live_mistake (asked_of options.now) ≡ None) }
-    ensures fault { IfErr result (λ fault. live_mistake (asked_of options.now) ≡ Some fault) }
+    ensures right { OnOk result (live_usage_error (request_of options.now) ≡ None) }
+    ensures fault { IfErr result (λ fault. live_usage_error (request_of options.now) ≡ Some fault) }
     ensures status { IfErr result (λ fault. status_of fault ≡ 2) }
 {
     if !options.live {
@@ -228,8 +228,8 @@ fn check_live<'a>(options: &Options<'a>) -> Result<(), Fault<'a>>
 /// Looks whether the statement may be explained, if that is asked for: there is a token, and
 /// neither a listing nor the ledger is asked for.
 fn check_explain<'a>(options: &Options<'a>) -> Result<(), Fault<'a>>
-    ensures right { OnOk result (explain_mistake (asked_of options.now) ≡ None) }
-    ensures fault { IfErr result (λ fault. explain_mistake (asked_of options.now) ≡ Some fault) }
+    ensures right { OnOk result (explain_usage_error (request_of options.now) ≡ None) }
+    ensures fault { IfErr result (λ fault. explain_usage_error (request_of options.now) ≡ Some fault) }
     ensures status { IfErr result (λ fault. status_of fault ≡ 2) }
 {
     if !options.explain {
@@ -250,8 +250,8 @@ fn check_explain<'a>(options: &Options<'a>) -> Result<(), Fault<'a>>
 /// Looks whether the files may be sorted ones, if that is asked for: the taps are to be settled,
 /// and a file is named.
 fn check_sorted<'a>(options: &Options<'a>) -> Result<(), Fault<'a>>
-    ensures right { OnOk result (sorted_mistake (asked_of options.now) ≡ None) }
-    ensures fault { IfErr result (λ fault. sorted_mistake (asked_of options.now) ≡ Some fault) }
+    ensures right { OnOk result (sorted_usage_error (request_of options.now) ≡ None) }
+    ensures fault { IfErr result (λ fault. sorted_usage_error (request_of options.now) ≡ Some fault) }
     ensures status { IfErr result (λ fault. status_of fault ≡ 2) }
 {
     if !options.sorted {
@@ -269,8 +269,8 @@ fn check_sorted<'a>(options: &Options<'a>) -> Result<(), Fault<'a>>
 /// Looks whether the ledger may be traced, if that is asked for: it is the settled one of all
 /// tokens, of files that are loaded.
 fn check_traced<'a>(options: &Options<'a>) -> Result<(), Fault<'a>>
-    ensures right { OnOk result (traced_mistake (asked_of options.now) ≡ None) }
-    ensures fault { IfErr result (λ fault. traced_mistake (asked_of options.now) ≡ Some fault) }
+    ensures right { OnOk result (traced_usage_error (request_of options.now) ≡ None) }
+    ensures fault { IfErr result (λ fault. traced_usage_error (request_of options.now) ≡ Some fault) }
     ensures status { IfErr result (λ fault. status_of fault ≡ 2) }
 {
     if !options.traced {
@@ -294,8 +294,8 @@ fn check_traced<'a>(options: &Options<'a>) -> Result<(), Fault<'a>>
 /// Looks whether the range of tokens that is asked for, if one is, may be: the files are sorted
 /// ones, no token is asked for, and the word names a range.
 fn check_tokens<'a>(options: &Options<'a>) -> Result<(), Fault<'a>>
-    ensures right { OnOk result (tokens_mistake (asked_of options.now) ≡ None) }
-    ensures fault { IfErr result (λ fault. tokens_mistake (asked_of options.now) ≡ Some fault) }
+    ensures right { OnOk result (tokens_usage_error (request_of options.now) ≡ None) }
+    ensures fault { IfErr result (λ fault. tokens_usage_error (request_of options.now) ≡ Some fault) }
     ensures status { IfErr result (λ fault. status_of fault ≡ 2) }
 {
     let Some(word) = options.tokens else {
@@ -315,8 +315,8 @@ fn check_tokens<'a>(options: &Options<'a>) -> Result<(), Fault<'a>>
 
 /// Looks at the dates of the fare tables, after all other mistakes in what is asked for.
 fn check_dates<'a>(options: &Options<'a>) -> Result<(), Fault<'a>>
-    ensures right { OnOk result (wrong_date (asked_of options.now) ≡ None) }
-    ensures fault { IfErr result (λ fault. MatchOption (wrong_date (asked_of options.now)) ⊥
+    ensures right { OnOk result (wrong_date (request_of options.now) ≡ None) }
+    ensures fault { IfErr result (λ fault. MatchOption (wrong_date (request_of options.now)) ⊥
         (λ wrong. (fault_text fault ≡ codes "fault: " ++ date_text wrong.0 wrong.1)
         × (status_of fault ≡ 2))) }
 {
@@ -332,13 +332,13 @@ fn check_dates<'a>(options: &Options<'a>) -> Result<(), Fault<'a>>
 /// Looks for a mistake in what is asked for, and then for a wrong date of a fare table. Gives the
 /// token whose statement is asked for, if any.
 pub(crate) fn checked<'a>(options: &Options<'a>) -> Result<Option<Token>, Fault<'a>>
-    ensures token { IfOk result (IsTokenIn (asked_of options.now).token) }
-    ensures right { OnOk result (mistake (asked_of options.now) ≡ None) }
-    ensures dates { OnOk result (wrong_date (asked_of options.now) ≡ None) }
-    ensures fault { IfErr result (IsWhyOf (asked_of options.now)) }
+    ensures token { IfOk result (IsTokenIn (request_of options.now).token) }
+    ensures right { OnOk result (usage_error (request_of options.now) ≡ None) }
+    ensures dates { OnOk result (wrong_date (request_of options.now) ≡ None) }
+    ensures fault { IfErr result (IsWhyOf (request_of options.now)) }
     ensures status { IfErr result (λ fault. status_of fault ≡ 2) }
 {
-    let token = asked_token(options)?;
+    let token = requested_token(options)?;
     check_charged(
         options,
         options.settle,
@@ -371,7 +371,7 @@ fn list<'a, W: Write>(
     ensures ok { IfOk result (λ clean. (text : List ℕ)
         × IsListing table (map (λ f. f.items) files.now) text clean
         × Appends (W.contents out.old) (W.contents out.new) text) }
-    ensures begun { IfErr result (λ fault. fault ≡ Fault.Write → (clean : Bool) × (text : List ℕ)
+    ensures started { IfErr result (λ fault. fault ≡ Fault.Write → (clean : Bool) × (text : List ℕ)
         × IsListing table (map (λ f. f.items) files.now) text clean
         × Begins (W.contents out.old) (W.contents out.new) text) }
     ensures fault { IfErr result (λ fault. fault ≢ Fault.Write
@@ -396,26 +396,26 @@ fn work_by_table<'a, R: Threads + Wait + RandomSource + Sync, D: Disk + Sync, S:
     source: &mut S,
     out: &mut W,
 ) -> Result<bool, Fault<'a>>
-    ensures ok { IfOk result (λ well. (loaded : Option (List Loaded)) (before : Option (List ℕ))
-        → LoadsTable (asked_of options.now).table loaded (S.loaded source.old) table
-        → IsTokenIn (asked_of options.now).token token → Keeps before (W.contents out.old)
-        → (asked_of options.now).sorted ≡ false
-        → DoesUntraced (asked_of options.now) (D.bytes_under disk.now) (D.origin disk.now)
+    ensures ok { IfOk result (λ success. (loaded : Option (List Loaded)) (before : Option (List ℕ))
+        → LoadsTable (request_of options.now).table loaded (S.loaded source.old) table
+        → IsTokenIn (request_of options.now).token token → Keeps before (W.contents out.old)
+        → (request_of options.now).sorted ≡ false
+        → DoesUntraced (request_of options.now) (D.bytes_under disk.now) (D.origin disk.now)
         loaded (S.loaded source.new)
-        before (W.contents out.new) well) }
-    ensures begun { IfErr result (λ fault. fault ≡ Fault.Write
+        before (W.contents out.new) success) }
+    ensures started { IfErr result (λ fault. fault ≡ Fault.Write
         → (loaded : Option (List Loaded)) (before : Option (List ℕ))
-        → LoadsTable (asked_of options.now).table loaded (S.loaded source.old) table
-        → IsTokenIn (asked_of options.now).token token → Keeps before (W.contents out.old)
-        → (asked_of options.now).sorted ≡ false
-        → (well : Bool) × IsBegun before (W.contents out.new) (λ whole.
-        DoesUntraced (asked_of options.now) (D.bytes_under disk.now) (D.origin disk.now)
+        → LoadsTable (request_of options.now).table loaded (S.loaded source.old) table
+        → IsTokenIn (request_of options.now).token token → Keeps before (W.contents out.old)
+        → (request_of options.now).sorted ≡ false
+        → (success : Bool) × IsPartlyWritten before (W.contents out.new) (λ whole.
+        DoesUntraced (request_of options.now) (D.bytes_under disk.now) (D.origin disk.now)
         loaded (S.loaded source.new)
-        before whole well)) }
+        before whole success)) }
     ensures fault { IfErr result (λ fault. fault ≢ Fault.Write
         → Keeps (W.contents out.old) (W.contents out.new)) }
     ensures right { IfErr result (λ fault. (loaded : Option (List Loaded))
-        → IsRightFault (asked_of options.now) (D.bytes_under disk.now) loaded
+        → IsRightFault (request_of options.now) (D.bytes_under disk.now) loaded
         (S.loaded source.new) (S.refused source.new) fault) }
     ensures status { IfErr result (λ fault. status_of fault ≡ 1) }
 {
@@ -446,18 +446,18 @@ fn work_traced<'a, R: Threads + Sync, D: Disk + Sync, S: Source, W: Write>(
     source: &mut S,
     out: &mut W,
 ) -> Result<bool, Fault<'a>>
-    requires table { is_some (asked_of options.now).table ≡ true }
-    requires dates { wrong_date (asked_of options.now) ≡ None }
-    ensures ok { IfOk result (λ well. RunsTraced (asked_of options.now) (S.loaded source.old)
-        (S.loaded source.new) (W.contents out.old) (W.contents out.new) well) }
-    ensures begun { IfErr result (λ fault. fault ≡ Fault.Write → (well : Bool)
-        × IsBegun (W.contents out.old) (W.contents out.new) (λ whole.
-        RunsTraced (asked_of options.now) (S.loaded source.old) (S.loaded source.new)
-        (W.contents out.old) whole well)) }
+    requires table { is_some (request_of options.now).table ≡ true }
+    requires dates { wrong_date (request_of options.now) ≡ None }
+    ensures ok { IfOk result (λ success. RunsTraced (request_of options.now) (S.loaded source.old)
+        (S.loaded source.new) (W.contents out.old) (W.contents out.new) success) }
+    ensures started { IfErr result (λ fault. fault ≡ Fault.Write → (success : Bool)
+        × IsPartlyWritten (W.contents out.old) (W.contents out.new) (λ whole.
+        RunsTraced (request_of options.now) (S.loaded source.old) (S.loaded source.new)
+        (W.contents out.old) whole success)) }
     ensures fault { IfErr result (λ fault. fault ≢ Fault.Write
         → Keeps (W.contents out.old) (W.contents out.new)) }
-    ensures right { IfErr result (λ fault. (asked_of options.now).traced ≡ true
-        → IsRightFault (asked_of options.now) (D.bytes_under disk.now) (S.loaded source.old)
+    ensures right { IfErr result (λ fault. (request_of options.now).traced ≡ true
+        → IsRightFault (request_of options.now) (D.bytes_under disk.now) (S.loaded source.old)
         (S.loaded source.new) (S.refused source.new) fault) }
     ensures status { IfErr result (λ fault. status_of fault ≡ 1) }
 {
@@ -482,33 +482,33 @@ fn work<'a, R: Threads + Wait + RandomSource + Sync, D: Disk + Sync, S: Source, 
     source: &mut S,
     out: &mut W,
 ) -> Result<bool, Fault<'a>>
-    ensures ok { IfOk result (λ well.
-        Does (asked_of options.now) (D.bytes_under disk.now) (D.origin disk.now)
+    ensures ok { IfOk result (λ success.
+        Does (request_of options.now) (D.bytes_under disk.now) (D.origin disk.now)
         (S.loaded source.old)
-        (S.loaded source.new) (W.contents out.old) (W.contents out.new) well) }
-    ensures right { OnOk result (mistake (asked_of options.now) ≡ None) }
-    ensures dates { OnOk result (wrong_date (asked_of options.now) ≡ None) }
+        (S.loaded source.new) (W.contents out.old) (W.contents out.new) success) }
+    ensures right { OnOk result (usage_error (request_of options.now) ≡ None) }
+    ensures dates { OnOk result (wrong_date (request_of options.now) ≡ None) }
 
     // Only a write that fails leaves something of a text, or a sorted file that is refused
     // after all were checked.
     ensures fault { IfErr result (λ fault. fault ≢ Fault.Write
-        → ((asked_of options.now).sorted ≡ true → IsLate fault → ⊥)
+        → ((request_of options.now).sorted ≡ true → IsLate fault → ⊥)
         → Keeps (W.contents out.old) (W.contents out.new)) }
 
     // What a write that failed left is a prefix of the text that is asked for.
-    ensures begun { IfErr result (λ fault. fault ≡ Fault.Write
-        → AreOfBytes (asked_of options.now) (D.bytes_under disk.now)
-        → HasBegun (asked_of options.now) (D.bytes_under disk.now) (D.origin disk.now)
+    ensures started { IfErr result (λ fault. fault ≡ Fault.Write
+        → AreOfBytes (request_of options.now) (D.bytes_under disk.now)
+        → HasStarted (request_of options.now) (D.bytes_under disk.now) (D.origin disk.now)
         (S.loaded source.old)
         (S.loaded source.new) (W.contents out.old) (W.contents out.new)) }
 
     // A mistake in what is asked for is seen before all else, and then nothing was loaded. Another
     // fault has the other status.
-    ensures why { IfErr result (IsWhyOf (asked_of options.now)) }
+    ensures why { IfErr result (IsWhyOf (request_of options.now)) }
 
     // A fault that is no such mistake is the right one.
     ensures right_fault { IfErr result (λ fault. status_of fault ≡ 1
-        → IsRightFault (asked_of options.now) (D.bytes_under disk.now) (S.loaded source.old)
+        → IsRightFault (request_of options.now) (D.bytes_under disk.now) (S.loaded source.old)
         (S.loaded source.new) (S.refused source.new) fault) }
     ensures unloaded { IfErr result (λ fault. status_of fault ≡ 2
         → S.loaded source.new ≡ S.loaded source.old) }
@@ -524,8 +524,8 @@ fn work<'a, R: Threads + Wait + RandomSource + Sync, D: Disk + Sync, S: Source, 
         }
         return work_sorted(rt, alloc, disk, options, table, token, out);
     }
-    match charge_ahead(rt, alloc, disk, options, &table, token, source, out)? {
-        Some(well) => Ok(well),
+    match charge_prefetched(rt, alloc, disk, options, &table, token, source, out)? {
+        Some(success) => Ok(success),
         None => work_by_table(rt, alloc, disk, options, table, token, source, out),
     }
 }
@@ -551,14 +551,14 @@ fn show<W: Write, E: Write>(
     ensures help { result ≡ 0 → IsRequest (kind_of error.now) }
     ensures memory { kind_of error.now ≡ ErrorKind.OutOfMemory → result ≡ 1 }
     ensures refused { kind_of error.now ≡ ErrorKind.OutOfMemory
-        → GaveUp Fault.NoMemory (E.contents err.old.writer) (E.contents err.new.writer)
+        → Aborted Fault.NoMemory (E.contents err.old.writer) (E.contents err.new.writer)
         err.new.failed (W.contents out.old.writer) (W.contents out.new.writer) }
     ensures words { (¬ IsRequest (kind_of error.now))
         → kind_of error.now ≢ ErrorKind.OutOfMemory → result ≡ 2 }
     ensures requested { result ≡ 2 → ¬ IsRequest (kind_of error.now) }
-    ensures mistake { result ≡ 2 → Keeps (W.contents out.old.writer) (W.contents out.new.writer) }
+    ensures usage_error { result ≡ 2 → Keeps (W.contents out.old.writer) (W.contents out.new.writer) }
     ensures quiet { result ≡ 0 → err.new ≡ err.old }
-    ensures fault { result ≡ 1 → GaveUp Fault.NoMemory (E.contents err.old.writer)
+    ensures fault { result ≡ 1 → Aborted Fault.NoMemory (E.contents err.old.writer)
         (E.contents err.new.writer) err.new.failed (W.contents out.old.writer)
         (W.contents out.new.writer) ⊎ (IsRequest (kind_of error.now)
         × ReportedWrite out.new.end (E.contents err.old.writer) (E.contents err.new.writer)
@@ -573,18 +573,18 @@ fn show<W: Write, E: Write>(
 
 /// Flushes the output after the whole text, which is well or not, and gives the status. A flush
 /// that fails is reported on `err` as a write is.
-fn finish<W: Write, E: Write>(is_well: bool, out: &mut Output<W>, err: &mut Complaints<E>) -> u8
+fn finish<W: Write, E: Write>(succeeded: bool, out: &mut Output<W>, err: &mut Complaints<E>) -> u8
     ensures kept { Keeps (W.contents out.old.writer) (W.contents out.new.writer) }
-    ensures well { result ≡ 0 → (is_well ≡ true) × (out.new.is_flushed ≡ true)
+    ensures success { result ≡ 0 → (succeeded ≡ true) × (out.new.is_flushed ≡ true)
         × (err.new ≡ err.old) }
-    ensures ill { result ≡ 1 → ((is_well ≡ false) × (out.new.is_flushed ≡ true)
+    ensures ill { result ≡ 1 → ((succeeded ≡ false) × (out.new.is_flushed ≡ true)
         × (err.new ≡ err.old)) ⊎ ((out.new.is_flushed ≡ false)
         × ReportedWrite out.new.end (E.contents err.old.writer) (E.contents err.new.writer)
         err.new.failed) }
     ensures status { result ≤ 1 }
 {
     match out.finish() {
-        Ok(()) if is_well => 0,
+        Ok(()) if succeeded => 0,
         Ok(()) => 1,
         Err(_) => report(err, &Fault::Write),
     }
@@ -612,7 +612,7 @@ pub fn main_over<
 ) -> u8
     // With status 0 the whole text was written, and each upload is well.
     ensures done { Parses (map string_bytes words.now) → result ≡ 0
-        → Does (asked_by (map string_bytes words.now)) (D.bytes_under disk.now) (D.origin disk.now)
+        → Does (request_by (map string_bytes words.now)) (D.bytes_under disk.now) (D.origin disk.now)
         (S.loaded source.old) (S.loaded source.new) (W.contents out.old.writer)
         (W.contents out.new.writer)
         true }
@@ -625,37 +625,37 @@ pub fn main_over<
     // memory, while the words are read, may come before it.
     ensures wrong_words { ¬ Parses (map string_bytes words.now)
         → (¬ AsksForText (map string_bytes words.now))
-        → (result ≡ 2) ⊎ ((result ≡ 1) × GaveUp Fault.NoMemory (E.contents err.old.writer)
+        → (result ≡ 2) ⊎ ((result ≡ 1) × Aborted Fault.NoMemory (E.contents err.old.writer)
         (E.contents err.new.writer) err.new.failed (W.contents out.old.writer)
         (W.contents out.new.writer)) }
 
     // The first mistake in what is asked for is reported, with status 2. Only running out of
     // memory, while the words are read, may come before it.
-    ensures mistaken { (first : Fault) → Parses (map string_bytes words.now)
-        → mistake (asked_by (map string_bytes words.now)) ≡ Some first
-        → ((result ≡ 2) × GaveUp first (E.contents err.old.writer) (E.contents err.new.writer)
+    ensures misused { (first : Fault) → Parses (map string_bytes words.now)
+        → usage_error (request_by (map string_bytes words.now)) ≡ Some first
+        → ((result ≡ 2) × Aborted first (E.contents err.old.writer) (E.contents err.new.writer)
         err.new.failed (W.contents out.old.writer) (W.contents out.new.writer))
-        ⊎ ((result ≡ 1) × GaveUp Fault.NoMemory (E.contents err.old.writer)
+        ⊎ ((result ≡ 1) × Aborted Fault.NoMemory (E.contents err.old.writer)
         (E.contents err.new.writer) err.new.failed (W.contents out.old.writer)
         (W.contents out.new.writer)) }
 
     // The first word of a fare table with a wrong date, or with none if one is wanted, is reported
     // if there is no such mistake.
     ensures mis_dated { (word : List ℕ) (why : DateFault) → Parses (map string_bytes words.now)
-        → mistake (asked_by (map string_bytes words.now)) ≡ None
-        → wrong_date (asked_by (map string_bytes words.now)) ≡ Some (word, why)
+        → usage_error (request_by (map string_bytes words.now)) ≡ None
+        → wrong_date (request_by (map string_bytes words.now)) ≡ Some (word, why)
         → ((result ≡ 2) × (fault : Fault)
         × (fault_text fault ≡ codes "fault: " ++ date_text word why)
-        × GaveUp fault (E.contents err.old.writer) (E.contents err.new.writer) err.new.failed
+        × Aborted fault (E.contents err.old.writer) (E.contents err.new.writer) err.new.failed
         (W.contents out.old.writer) (W.contents out.new.writer))
-        ⊎ ((result ≡ 1) × GaveUp Fault.NoMemory (E.contents err.old.writer)
+        ⊎ ((result ≡ 1) × Aborted Fault.NoMemory (E.contents err.old.writer)
         (E.contents err.new.writer) err.new.failed (W.contents out.old.writer)
         (W.contents out.new.writer)) }
 
     // Only such mistakes, or words that are no command line, have status 2.
     ensures right { result ≡ 2 → (¬ Parses (map string_bytes words.now))
-        ⊎ ((is_some (mistake (asked_by (map string_bytes words.now))) ≡ true)
-        ⊎ (is_some (wrong_date (asked_by (map string_bytes words.now))) ≡ true)) }
+        ⊎ ((is_some (usage_error (request_by (map string_bytes words.now))) ≡ true)
+        ⊎ (is_some (wrong_date (request_by (map string_bytes words.now))) ≡ true)) }
 
     // A text that succeeds was flushed.
     ensures flushed { Parses (map string_bytes words.now) → result ≡ 0
@@ -670,19 +670,19 @@ pub fn main_over<
     // file was refused after all were checked.
     ensures faults { result ≡ 1
         → (Parses (map string_bytes words.now)
-        × Does (asked_by (map string_bytes words.now)) (D.bytes_under disk.now) (D.origin disk.now)
+        × Does (request_by (map string_bytes words.now)) (D.bytes_under disk.now) (D.origin disk.now)
         (S.loaded source.old) (S.loaded source.new) (W.contents out.old.writer)
         (W.contents out.new.writer)
         false × (out.new.is_flushed ≡ true) × (err.new ≡ err.old))
-        ⊎ (GaveUp Fault.NoMemory (E.contents err.old.writer) (E.contents err.new.writer)
+        ⊎ (Aborted Fault.NoMemory (E.contents err.old.writer) (E.contents err.new.writer)
         err.new.failed (W.contents out.old.writer) (W.contents out.new.writer)
         ⊎ (((¬ Parses (map string_bytes words.now)) × AsksForText (map string_bytes words.now)
         × ReportedWrite out.new.end (E.contents err.old.writer) (E.contents err.new.writer)
         err.new.failed)
         ⊎ (Parses (map string_bytes words.now) × (fault : Fault) × (status_of fault ≡ 1)
-        × IsRightFault (asked_by (map string_bytes words.now)) (D.bytes_under disk.now)
+        × IsRightFault (request_by (map string_bytes words.now)) (D.bytes_under disk.now)
         (S.loaded source.old) (S.loaded source.new) (S.refused source.new) fault
-        × GaveUpOn (asked_by (map string_bytes words.now)) (D.bytes_under disk.now)
+        × AbortedOn (request_by (map string_bytes words.now)) (D.bytes_under disk.now)
         (D.origin disk.now)
         (S.loaded source.old) (S.loaded source.new) fault out.new.end
         (E.contents err.old.writer) (E.contents err.new.writer) err.new.failed
@@ -701,7 +701,7 @@ pub fn main_over<
         Err(error) => return show(alloc, &error, out, err),
     };
     match work(rt, alloc, disk, &options, source, out) {
-        Ok(is_well) => finish(is_well, out, err),
+        Ok(succeeded) => finish(succeeded, out, err),
         Err(fault) => report(err, &fault.as_remembered(out.end())),
     }
 }

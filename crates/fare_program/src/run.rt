@@ -5,16 +5,16 @@ ghost use Rattle.tap_views.specs.declared.token.Token.{Token};
 ghost use Rattle.fare_program.specs.Fault.{status_of};
 ghost use Rattle.fare_program.specs.inside.Fault.{IsRunFailure};
 ghost use Rattle.tap_views.specs.UploadEnds.{are_posted, is_posted};
-ghost use Rattle.fare_program.specs.Options.{Asked};
+ghost use Rattle.fare_program.specs.Options.{Request};
 ghost use Rattle.fare_program.specs.Program.{ShowsOf, ShowsPlain};
 ghost use Rattle.fare_service.specs.Headline.{HasRun, HasRunOver};
 ghost use Rattle.fare_program.specs.inside.PostedFiles.{IsLiveRun};
 
 use crate::fault::Fault;
 use crate::options::Options;
-use fare_service::{Gatekeeper, LentUploads, Outcome, Service, laws};
+use fare_service::{Gatekeeper, Outcome, Service, UploadSource, laws};
 use fare_table::FareTable;
-use histories::laws::one_rising_list;
+use histories::laws::one_increasing_list;
 use std::alloc::Global;
 use std::marker::Sync;
 use std::random::RandomSource;
@@ -25,7 +25,7 @@ use tap_views::UploadEnd;
 pub(crate) fn outcome_of<
     'a,
     R: Threads + Wait + RandomSource + Sync,
-    U: LentUploads + Drop + Sync,
+    U: UploadSource + Drop + Sync,
     G: Gatekeeper + Sync,
 >(
     rt: &R,
@@ -52,21 +52,21 @@ pub(crate) fn outcome_of<
 /// proof: if no token has taps in two files, what is shown of an outcome is shown over the
 /// sequential history of the files. Reads no tap and no entry.
 fn shows_plain(outcome: &Outcome)
-    ensures { (files : List (List ℕ)) (fares : Fares) (shards workers : ℕ) (asked : Asked)
+    ensures { (files : List (List ℕ)) (fares : Fares) (shards workers : ℕ) (request : Request)
         (token : Option Token) (text : List ℕ) → HasRun fares shards files workers outcome.now
         → are_posted outcome.now.ends ≡ true
-        → ShowsOf asked token outcome.now.ends outcome.now text
-        → ShowsPlain asked fares files token text }
+        → ShowsOf request token outcome.now.ends outcome.now text
+        → ShowsPlain request fares files token text }
 {
     let _ = outcome.shards();
     laws::tokens_are_named(outcome);
-    one_rising_list();
+    one_increasing_list();
 }
 
 pub(crate) fn post_live<
     'a,
     R: Threads + Wait + RandomSource + Sync,
-    U: LentUploads + Drop + Sync,
+    U: UploadSource + Drop + Sync,
     G: Gatekeeper + Sync,
 >(
     rt: &R,

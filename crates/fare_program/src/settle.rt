@@ -4,9 +4,9 @@ ghost use Rattle.std.specs.Io.KnownBytes.{Appends, Keeps};
 ghost use Rattle.fare_texts.specs.WrittenOut.{Begins};
 ghost use Rattle.fare_program.specs.Fault.{status_of};
 ghost use Rattle.fare_program.specs.inside.Causes.{IsOfOutput};
-ghost use Rattle.fare_program.specs.Options.{Asked};
+ghost use Rattle.fare_program.specs.Options.{Request};
 ghost use Rattle.fare_program.specs.Settling.{ShowsSettled};
-ghost use Rattle.fare_program.specs.inside.Options.{asked_of};
+ghost use Rattle.fare_program.specs.inside.Options.{request_of};
 ghost use Rattle.settlement.specs.Reading.{AreRead};
 
 use crate::bill::write_bill;
@@ -36,18 +36,18 @@ fn write_ledger<'a, R: Threads + Sync, U: Uploads + Sync, W: Write>(
     calls: &mut Trace,
     out: &mut W,
 ) -> Result<bool, Fault<'a>>
-    ensures ok { IfOk result (λ well. (files : List (List ℕ)) × (text : List ℕ)
+    ensures ok { IfOk result (λ success. (files : List (List ℕ)) × (text : List ℕ)
         × AreRead (U.origin uploads.now) 0 (U.number uploads.now) files calls.old.run
         calls.new.run
-        × ((asked : Asked) → asked.ledger ≡ true
-        → ShowsSettled asked table.now files None text well)
+        × ((request : Request) → request.ledger ≡ true
+        → ShowsSettled request table.now files None text success)
         × Appends (W.contents out.old) (W.contents out.new) text) }
-    ensures begun { IfErr result (λ fault. fault ≡ Fault.Write
-        → (well : Bool) × (files : List (List ℕ)) × (text : List ℕ)
+    ensures started { IfErr result (λ fault. fault ≡ Fault.Write
+        → (success : Bool) × (files : List (List ℕ)) × (text : List ℕ)
         × AreRead (U.origin uploads.now) 0 (U.number uploads.now) files calls.old.run
         calls.new.run
-        × ((asked : Asked) → asked.ledger ≡ true
-        → ShowsSettled asked table.now files None text well)
+        × ((request : Request) → request.ledger ≡ true
+        → ShowsSettled request table.now files None text success)
         × Begins (W.contents out.old) (W.contents out.new) text) }
     ensures output { IfErr result IsOfOutput }
     ensures status { IfErr result (λ fault. status_of fault ≡ 1) }
@@ -71,16 +71,16 @@ fn charge_all<'a, R: Threads + RandomSource + Sync, U: Uploads + Sync, W: Write>
     calls: &mut Trace,
     out: &mut W,
 ) -> Result<bool, Fault<'a>>
-    ensures ok { IfOk result (λ well. (files : List (List ℕ)) × (text : List ℕ)
+    ensures ok { IfOk result (λ success. (files : List (List ℕ)) × (text : List ℕ)
         × AreRead (U.origin uploads.now) 0 (U.number uploads.now) files calls.old.run
         calls.new.run
-        × ShowsSettled (asked_of options.now) table.now files None text well
+        × ShowsSettled (request_of options.now) table.now files None text success
         × Appends (W.contents out.old) (W.contents out.new) text) }
-    ensures begun { IfErr result (λ fault. fault ≡ Fault.Write
-        → (well : Bool) × (files : List (List ℕ)) × (text : List ℕ)
+    ensures started { IfErr result (λ fault. fault ≡ Fault.Write
+        → (success : Bool) × (files : List (List ℕ)) × (text : List ℕ)
         × AreRead (U.origin uploads.now) 0 (U.number uploads.now) files calls.old.run
         calls.new.run
-        × ShowsSettled (asked_of options.now) table.now files None text well
+        × ShowsSettled (request_of options.now) table.now files None text success
         × Begins (W.contents out.old) (W.contents out.new) text) }
     ensures output { IfErr result IsOfOutput }
     ensures status { IfErr result (λ fault. status_of fault ≡ 1) }
@@ -112,16 +112,16 @@ pub(crate) fn charge_settled<
     calls: &mut Trace,
     out: &mut W,
 ) -> Result<bool, Fault<'a>>
-    ensures ok { IfOk result (λ well. (files : List (List ℕ)) × (text : List ℕ)
+    ensures ok { IfOk result (λ success. (files : List (List ℕ)) × (text : List ℕ)
         × AreRead (U.origin uploads.now) 0 (U.number uploads.now) files calls.old.run
         calls.new.run
-        × ShowsSettled (asked_of options.now) table.now files token text well
+        × ShowsSettled (request_of options.now) table.now files token text success
         × Appends (W.contents out.old) (W.contents out.new) text) }
-    ensures begun { IfErr result (λ fault. fault ≡ Fault.Write
-        → (well : Bool) × (files : List (List ℕ)) × (text : List ℕ)
+    ensures started { IfErr result (λ fault. fault ≡ Fault.Write
+        → (success : Bool) × (files : List (List ℕ)) × (text : List ℕ)
         × AreRead (U.origin uploads.now) 0 (U.number uploads.now) files calls.old.run
         calls.new.run
-        × ShowsSettled (asked_of options.now) table.now files token text well
+        × ShowsSettled (request_of options.now) table.now files token text success
         × Begins (W.contents out.old) (W.contents out.new) text) }
     ensures output { IfErr result IsOfOutput }
     ensures status { IfErr result (λ fault. status_of fault ≡ 1) }

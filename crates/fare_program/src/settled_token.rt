@@ -13,7 +13,7 @@ ghost use Rattle.settlement.specs.Reading.{AreRead};
 ghost use Rattle.fare_program.specs.Fault.{status_of};
 ghost use Rattle.fare_program.specs.inside.Causes.{IsOfOutput};
 ghost use Rattle.fare_program.specs.Settling.{ShowsOver, ShowsSettled};
-ghost use Rattle.fare_program.specs.inside.Options.{asked_of};
+ghost use Rattle.fare_program.specs.inside.Options.{request_of};
 
 use crate::fault::Fault;
 use crate::options::Options;
@@ -47,7 +47,7 @@ fn write_statement<'a, W: Write>(
         → MatchBool explain (IsExplainedOver table.now history token text)
         (IsStatementOver table.now history token text))
         × Appends (W.contents out.old) (W.contents out.new) text) }
-    ensures begun { IfErr result (λ fault. fault ≡ Fault.Write
+    ensures started { IfErr result (λ fault. fault ≡ Fault.Write
         → (text : List ℕ)
         × ((history : List Entry) → own token history ≡ posted table.now taps.now
         → MatchBool explain (IsExplainedOver table.now history token text)
@@ -82,13 +82,13 @@ pub(crate) fn write_text<'a, W: Write>(
     ensures ok { OnOk result ((text : List ℕ)
         × ((files : List (List ℕ)) (history : List Entry)
         → own token history ≡ posted table.now taps.now
-        → ShowsOver (asked_of options.now) (Some token) table.now files history text)
+        → ShowsOver (request_of options.now) (Some token) table.now files history text)
         × Appends (W.contents out.old) (W.contents out.new) text) }
-    ensures begun { IfErr result (λ fault. fault ≡ Fault.Write
+    ensures started { IfErr result (λ fault. fault ≡ Fault.Write
         → (text : List ℕ)
         × ((files : List (List ℕ)) (history : List Entry)
         → own token history ≡ posted table.now taps.now
-        → ShowsOver (asked_of options.now) (Some token) table.now files history text)
+        → ShowsOver (request_of options.now) (Some token) table.now files history text)
         × Begins (W.contents out.old) (W.contents out.new) text) }
     ensures output { IfErr result IsOfOutput }
     ensures status { IfErr result (λ fault. status_of fault ≡ 1) }
@@ -116,16 +116,16 @@ pub(crate) fn write_token<'a, R: Threads + Sync, D: Disk, U: Uploads + Sync, W: 
     calls: &mut Trace,
     out: &mut W,
 ) -> Result<bool, Fault<'a>>
-    ensures ok { IfOk result (λ well. (files : List (List ℕ)) × (text : List ℕ)
+    ensures ok { IfOk result (λ success. (files : List (List ℕ)) × (text : List ℕ)
         × AreRead (U.origin uploads.now) 0 (U.number uploads.now) files calls.old.run
         calls.new.run
-        × ShowsSettled (asked_of options.now) table.now files (Some token) text well
+        × ShowsSettled (request_of options.now) table.now files (Some token) text success
         × Appends (W.contents out.old) (W.contents out.new) text) }
-    ensures begun { IfErr result (λ fault. fault ≡ Fault.Write
-        → (well : Bool) × (files : List (List ℕ)) × (text : List ℕ)
+    ensures started { IfErr result (λ fault. fault ≡ Fault.Write
+        → (success : Bool) × (files : List (List ℕ)) × (text : List ℕ)
         × AreRead (U.origin uploads.now) 0 (U.number uploads.now) files calls.old.run
         calls.new.run
-        × ShowsSettled (asked_of options.now) table.now files (Some token) text well
+        × ShowsSettled (request_of options.now) table.now files (Some token) text success
         × Begins (W.contents out.old) (W.contents out.new) text) }
     ensures output { IfErr result IsOfOutput }
     ensures status { IfErr result (λ fault. status_of fault ≡ 1) }

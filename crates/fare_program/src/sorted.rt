@@ -5,9 +5,9 @@ ghost use Rattle.std.specs.Io.KnownBytes.{Keeps};
 ghost use Rattle.tariffs.specs.Fares.{Fares};
 ghost use Rattle.fare_program.specs.Causes.{IsRightOfSorted};
 ghost use Rattle.fare_program.specs.Fault.{IsLate, status_of};
-ghost use Rattle.fare_program.specs.inside.ChargedSorted.{IsBegunSorted, IsChargedSorted};
+ghost use Rattle.fare_program.specs.inside.ChargedSorted.{IsStartedSorted, IsChargedSorted};
 ghost use Rattle.sorted_bills.specs.Ledgers.{KnownAreBytes};
-ghost use Rattle.fare_program.specs.inside.Options.{asked_of};
+ghost use Rattle.fare_program.specs.inside.Options.{request_of};
 
 use crate::bill::write_billed;
 use crate::fault::Fault;
@@ -64,14 +64,14 @@ fn write_report<'a, R: Threads + RandomSource + Sync, F: Placed + Sync, W: Write
     files: &[F],
     out: &mut W,
 ) -> Result<(), Fault<'a>>
-    ensures ok { OnOk result ((asked_of options.now).ledger ≡ false
-        → IsChargedSorted (asked_of options.now) (map F.bytes files.now) table.now None
+    ensures ok { OnOk result ((request_of options.now).ledger ≡ false
+        → IsChargedSorted (request_of options.now) (map F.bytes files.now) table.now None
         (W.contents out.old) (W.contents out.new)) }
-    ensures begun { IfErr result (λ fault. fault ≡ Fault.Write
-        → ((asked_of options.now).ledger ≡ true → ⊥)
-        → IsBegunSorted (asked_of options.now) (map F.bytes files.now) table.now None
+    ensures started { IfErr result (λ fault. fault ≡ Fault.Write
+        → ((request_of options.now).ledger ≡ true → ⊥)
+        → IsStartedSorted (request_of options.now) (map F.bytes files.now) table.now None
         (W.contents out.old) (W.contents out.new)) }
-    ensures right { IfErr result (IsRightOfSorted (asked_of options.now).files
+    ensures right { IfErr result (IsRightOfSorted (request_of options.now).files
         (map F.bytes files.now)) }
     ensures status { IfErr result (λ fault. status_of fault ≡ 1) }
     ensures fault { IfErr result (λ fault. fault ≢ Fault.Write → (IsLate fault → ⊥)
@@ -95,14 +95,14 @@ fn write_ledger<'a, R: Threads + Sync, F: Placed + Sync, W: Write>(
     files: &[F],
     out: &mut W,
 ) -> Result<(), Fault<'a>>
-    ensures ok { OnOk result ((asked_of options.now).ledger ≡ true
-        → IsChargedSorted (asked_of options.now) (map F.bytes files.now) table.now None
+    ensures ok { OnOk result ((request_of options.now).ledger ≡ true
+        → IsChargedSorted (request_of options.now) (map F.bytes files.now) table.now None
         (W.contents out.old) (W.contents out.new)) }
-    ensures begun { IfErr result (λ fault. fault ≡ Fault.Write
-        → (asked_of options.now).ledger ≡ true → KnownAreBytes (map F.bytes files.now)
-        → IsBegunSorted (asked_of options.now) (map F.bytes files.now) table.now None
+    ensures started { IfErr result (λ fault. fault ≡ Fault.Write
+        → (request_of options.now).ledger ≡ true → KnownAreBytes (map F.bytes files.now)
+        → IsStartedSorted (request_of options.now) (map F.bytes files.now) table.now None
         (W.contents out.old) (W.contents out.new)) }
-    ensures right { IfErr result (IsRightOfSorted (asked_of options.now).files
+    ensures right { IfErr result (IsRightOfSorted (request_of options.now).files
         (map F.bytes files.now)) }
     ensures status { IfErr result (λ fault. status_of fault ≡ 1) }
     ensures fault { IfErr result (λ fault. fault ≢ Fault.Write → (IsLate fault → ⊥)
@@ -125,12 +125,12 @@ fn write_token<'a, R: Threads + Sync, D: Disk, F: Placed + Sync, W: Write>(
     files: &[F],
     out: &mut W,
 ) -> Result<(), Fault<'a>>
-    ensures ok { OnOk result (IsChargedSorted (asked_of options.now) (map F.bytes files.now)
+    ensures ok { OnOk result (IsChargedSorted (request_of options.now) (map F.bytes files.now)
         table.now (Some token) (W.contents out.old) (W.contents out.new)) }
-    ensures begun { IfErr result (λ fault. fault ≡ Fault.Write
-        → IsBegunSorted (asked_of options.now) (map F.bytes files.now) table.now (Some token)
+    ensures started { IfErr result (λ fault. fault ≡ Fault.Write
+        → IsStartedSorted (request_of options.now) (map F.bytes files.now) table.now (Some token)
         (W.contents out.old) (W.contents out.new)) }
-    ensures right { IfErr result (IsRightOfSorted (asked_of options.now).files
+    ensures right { IfErr result (IsRightOfSorted (request_of options.now).files
         (map F.bytes files.now)) }
     ensures status { IfErr result (λ fault. status_of fault ≡ 1) }
     ensures fault { IfErr result (λ fault. fault ≢ Fault.Write → (IsLate fault → ⊥)
@@ -156,13 +156,13 @@ fn charge_all<'a, R: Threads + RandomSource + Sync, F: Placed + Sync, W: Write>(
     files: &[F],
     out: &mut W,
 ) -> Result<(), Fault<'a>>
-    ensures ok { OnOk result (IsChargedSorted (asked_of options.now) (map F.bytes files.now)
+    ensures ok { OnOk result (IsChargedSorted (request_of options.now) (map F.bytes files.now)
         table.now None (W.contents out.old) (W.contents out.new)) }
-    ensures begun { IfErr result (λ fault. fault ≡ Fault.Write
-        → ((asked_of options.now).ledger ≡ true → KnownAreBytes (map F.bytes files.now))
-        → IsBegunSorted (asked_of options.now) (map F.bytes files.now) table.now None
+    ensures started { IfErr result (λ fault. fault ≡ Fault.Write
+        → ((request_of options.now).ledger ≡ true → KnownAreBytes (map F.bytes files.now))
+        → IsStartedSorted (request_of options.now) (map F.bytes files.now) table.now None
         (W.contents out.old) (W.contents out.new)) }
-    ensures right { IfErr result (IsRightOfSorted (asked_of options.now).files
+    ensures right { IfErr result (IsRightOfSorted (request_of options.now).files
         (map F.bytes files.now)) }
     ensures status { IfErr result (λ fault. status_of fault ≡ 1) }
     ensures fault { IfErr result (λ fault. fault ≢ Fault.Write → (IsLate fault → ⊥)
@@ -184,14 +184,14 @@ fn charge_sorted<'a, R: Threads + RandomSource + Sync, D: Disk, F: Placed + Sync
     files: &[F],
     out: &mut W,
 ) -> Result<(), Fault<'a>>
-    ensures ok { OnOk result (IsChargedSorted (asked_of options.now) (map F.bytes files.now)
+    ensures ok { OnOk result (IsChargedSorted (request_of options.now) (map F.bytes files.now)
         table.now token (W.contents out.old) (W.contents out.new)) }
-    ensures begun { IfErr result (λ fault. fault ≡ Fault.Write
-        → ((asked_of options.now).ledger ≡ true → token ≡ None
+    ensures started { IfErr result (λ fault. fault ≡ Fault.Write
+        → ((request_of options.now).ledger ≡ true → token ≡ None
         → KnownAreBytes (map F.bytes files.now))
-        → IsBegunSorted (asked_of options.now) (map F.bytes files.now) table.now token
+        → IsStartedSorted (request_of options.now) (map F.bytes files.now) table.now token
         (W.contents out.old) (W.contents out.new)) }
-    ensures right { IfErr result (IsRightOfSorted (asked_of options.now).files
+    ensures right { IfErr result (IsRightOfSorted (request_of options.now).files
         (map F.bytes files.now)) }
     ensures status { IfErr result (λ fault. status_of fault ≡ 1) }
     ensures fault { IfErr result (λ fault. fault ≢ Fault.Write → (IsLate fault → ⊥)
@@ -215,18 +215,18 @@ pub(crate) fn work_sorted<'a, R: Threads + RandomSource + Sync, D: Disk, W: Writ
     out: &mut W,
 ) -> Result<bool, Fault<'a>>
     requires table { is_some table ≡ true }
-    ensures ok { IfOk result (λ well. (well ≡ true) × ((fares : Fares) → table ≡ Some fares
-        → IsChargedSorted (asked_of options.now)
-        (map (D.bytes_under disk.now) (asked_of options.now).files) fares token
+    ensures ok { IfOk result (λ success. (success ≡ true) × ((fares : Fares) → table ≡ Some fares
+        → IsChargedSorted (request_of options.now)
+        (map (D.bytes_under disk.now) (request_of options.now).files) fares token
         (W.contents out.old) (W.contents out.new))) }
-    ensures begun { IfErr result (λ fault. fault ≡ Fault.Write
-        → ((asked_of options.now).ledger ≡ true → token ≡ None
-        → KnownAreBytes (map (D.bytes_under disk.now) (asked_of options.now).files))
-        → (fares : Fares) → table ≡ Some fares → IsBegunSorted (asked_of options.now)
-        (map (D.bytes_under disk.now) (asked_of options.now).files) fares token
+    ensures started { IfErr result (λ fault. fault ≡ Fault.Write
+        → ((request_of options.now).ledger ≡ true → token ≡ None
+        → KnownAreBytes (map (D.bytes_under disk.now) (request_of options.now).files))
+        → (fares : Fares) → table ≡ Some fares → IsStartedSorted (request_of options.now)
+        (map (D.bytes_under disk.now) (request_of options.now).files) fares token
         (W.contents out.old) (W.contents out.new)) }
-    ensures right { IfErr result (IsRightOfSorted (asked_of options.now).files
-        (map (D.bytes_under disk.now) (asked_of options.now).files)) }
+    ensures right { IfErr result (IsRightOfSorted (request_of options.now).files
+        (map (D.bytes_under disk.now) (request_of options.now).files)) }
     ensures status { IfErr result (λ fault. status_of fault ≡ 1) }
     ensures fault { IfErr result (λ fault. fault ≢ Fault.Write → (IsLate fault → ⊥)
         → Keeps (W.contents out.old) (W.contents out.new)) }

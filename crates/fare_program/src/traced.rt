@@ -6,7 +6,7 @@ ghost use Rattle.fare_texts.specs.WrittenOut.{Begins};
 ghost use Rattle.toml.specs.Data.{Members};
 ghost use Rattle.fare_program.specs.Causes.{IsRightFault};
 ghost use Rattle.fare_program.specs.Fault.{status_of};
-ghost use Rattle.fare_program.specs.Options.{Asked};
+ghost use Rattle.fare_program.specs.Options.{Request};
 ghost use Rattle.fare_program.specs.inside.Causes.{IsOfOutput};
 ghost use Rattle.fare_program.specs.inside.Tables.{IsClassFault, IsClassFaultAt};
 ghost use Rattle.program_manners.specs.Loads.{Loaded};
@@ -35,31 +35,31 @@ pub(crate) struct Riders {
 /// The texts were read as fare tables before, so each is TOML and names a default class.
 fn of_names<'a>(words: &TableWords<'a>, wrong: WrongNames) -> Fault<'a>
     requires fault { wrong.fault ≢ ClassFault.Text }
-    requires place { wrong.place ≤ length (names_of words.now).later }
+    requires position { wrong.position ≤ length (names_of words.now).later }
     ensures unwritten { result ≢ Fault.Write }
     ensures status { status_of result ≡ 1 }
     ensures right { IsClassFault (names_of words.now) wrong result }
 {
     match wrong.fault {
         ClassFault::Text => unreachable!(),
-        ClassFault::Name => of_class(words, wrong.place),
+        ClassFault::Name => of_class(words, wrong.position),
         ClassFault::NoMemory => Fault::NoMemory,
     }
 }
 
-fn of_class<'a>(words: &TableWords<'a>, place: usize) -> Fault<'a>
-    requires place { place ≤ length (names_of words.now).later }
+fn of_class<'a>(words: &TableWords<'a>, position: usize) -> Fault<'a>
+    requires position { position ≤ length (names_of words.now).later }
     ensures unwritten { result ≢ Fault.Write }
     ensures status { status_of result ≡ 1 }
-    ensures right { IsClassFaultAt (names_of words.now) place result }
+    ensures right { IsClassFaultAt (names_of words.now) position result }
 {
     if words.later.as_slice().is_empty() {
         return Fault::ClassName;
     }
-    if place == 0 {
+    if position == 0 {
         return Fault::NamedClass(NamedClassLine(words.first));
     }
-    Fault::NamedClass(NamedClassLine(TableWord::of(words.later[place - 1]).name))
+    Fault::NamedClass(NamedClassLine(TableWord::of(words.later[position - 1]).name))
 }
 
 pub(crate) fn riders_of<'a>(
@@ -73,12 +73,12 @@ pub(crate) fn riders_of<'a>(
     ensures names { IfOk result (λ riders. (tree : Members) × (later : List (ℕ × Members))
         × AreTrees tables.fares (map (λ t. t.items) tables.texts.items) tree later
         × HasClasses riders.names tree later) }
-    ensures right { IfErr result (λ fault. (asked : Asked) (under : List ℕ → Option (List ℕ))
+    ensures right { IfErr result (λ fault. (request : Request) (under : List ℕ → Option (List ℕ))
         (loaded after : Option (List Loaded)) (refused : Option (Option (List ℕ) × LoadFault))
-        → asked.table ≡ Some (names_of words.now) → asked.traced ≡ true
+        → request.table ≡ Some (names_of words.now) → request.traced ≡ true
         → LoadsTables (names_of words.now) loaded after
         (map (λ t. t.items) tables.texts.items) tables.fares
-        → IsRightFault asked under loaded after refused fault) }
+        → IsRightFault request under loaded after refused fault) }
     ensures unwritten { IfErr result (λ fault. fault ≢ Fault.Write) }
     ensures status { IfErr result (λ fault. status_of fault ≡ 1) }
 {
@@ -98,18 +98,18 @@ pub(crate) fn charge_traced<'a, W: Write>(
     files: &[Vec<u8>],
     out: &mut W,
 ) -> Result<bool, Fault<'a>>
-    ensures ok { IfOk result (λ well. (text : List ℕ)
+    ensures ok { IfOk result (λ success. (text : List ℕ)
         × IsTracedLedger (class_by riders.now.names) riders.now.table (map (λ f. f.items) files.now)
-        text well × Appends (W.contents out.old) (W.contents out.new) text) }
-    ensures begun { IfErr result (λ fault. fault ≡ Fault.Write
-        → (well : Bool) × (text : List ℕ)
+        text success × Appends (W.contents out.old) (W.contents out.new) text) }
+    ensures started { IfErr result (λ fault. fault ≡ Fault.Write
+        → (success : Bool) × (text : List ℕ)
         × IsTracedLedger (class_by riders.now.names) riders.now.table (map (λ f. f.items) files.now)
-        text well × Begins (W.contents out.old) (W.contents out.new) text) }
+        text success × Begins (W.contents out.old) (W.contents out.new) text) }
     ensures fault { IfErr result (λ fault. fault ≢ Fault.Write
         → Keeps (W.contents out.old) (W.contents out.new)) }
     ensures output { IfErr result IsOfOutput }
     ensures status { IfErr result (λ fault. status_of fault ≡ 1) }
 {
-    let well = write_traced_ledger(alloc, &riders.table, &riders.names, files, out)?;
-    Ok(well)
+    let success = write_traced_ledger(alloc, &riders.table, &riders.names, files, out)?;
+    Ok(success)
 }

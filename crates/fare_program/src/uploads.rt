@@ -2,7 +2,7 @@
 ghost use Rattle.std.specs.Prelude.{◌≡◌, ◌+◌, ◌^◌, ◌<◌, ◌≤◌, ◌∷◌, [], IfOk, OnOk, length, map};
 ghost use Rattle.std.specs.Prelude.{string_bytes};
 ghost use Rattle.std.specs.Option.{option_copied};
-ghost use Rattle.fare_program.specs.Listing.{StandsFor};
+ghost use Rattle.fare_program.specs.Listing.{RepresentsListing};
 ghost use Rattle.fare_program.specs.Uploads.{IsListing, is_known, listed};
 ghost use Rattle.fare_program.specs.inside.Uploads.{Lists, ListsUpload, ListsUploads};
 
@@ -10,7 +10,7 @@ use crate::lines::{write_counts, write_refused, write_tap};
 use crate::listing::Listing;
 use fare_table::FareTable;
 use std::alloc::Global;
-use tap_views::{Batch, NoMemory, TapView, good_batches};
+use tap_views::{Batch, NoMemory, TapView, valid_batches};
 
 fn is_known(table: Option<&FareTable>, tap: &TapView) -> bool
     ensures { result ≡ is_known (option_copied table.entry) tap.now }
@@ -81,11 +81,11 @@ fn list_upload(
         (listing.new.counts.taps ≤ listing.old.counts.taps + length file.now) }
 {
     let mut number = 0;
-    let mut good = good_batches(file);
-    while let Some(batch) = good.next() {
+    let mut valid = valid_batches(file);
+    while let Some(batch) = valid.next() {
         number = list_batch(text, listing, table, upload, number, &batch)?;
     }
-    let Some((offset, fault)) = good.fault() else {
+    let Some((offset, fault)) = valid.fault() else {
         return Ok(true);
     };
     write_refused(text, upload, offset, &fault)?;
@@ -99,7 +99,7 @@ fn list_uploads(
     table: Option<&FareTable>,
     files: &[Vec<u8>],
 ) -> Result<bool, NoMemory>
-    requires { StandsFor listing.old [] }
+    requires { RepresentsListing listing.old [] }
     ensures { IfOk result (λ clean. ListsUploads (option_copied table.entry) listing.new
         (string_bytes text.old) (string_bytes text.new) (map (λ f. f.items) files.now) clean) }
 {

@@ -112,14 +112,14 @@ sum_by_key key g n (x ∷ xs) all =
     (λ k. kept_sum g (key x == k) x (filter (λ y. key y == k) xs))))))
 
 -- a sum over places is the sum of the list
-pub sum_of_places : {X : Type 0} (g : X → ℕ) (xs : List X) (h : ℕ → ℕ)
+pub sum_of_positions : {X : Type 0} (g : X → ℕ) (xs : List X) (h : ℕ → ℕ)
     → ((i : ℕ) (x : X) → slice_get xs i ≡ Some x → h i ≡ g x)
     → sum_below h (length xs) ≡ sum_by g xs
-sum_of_places g [] h e = refl
-sum_of_places g (x ∷ xs) h e =
+sum_of_positions g [] h e = refl
+sum_of_positions g (x ∷ xs) h e =
     let first : h 0 ≡ g x = e 0 x refl in
     let rest : sum_below (λ i. h (suc i)) (length xs) ≡ sum_by g xs =
-    sum_of_places g xs (λ i. h (suc i)) (λ i y at. e (suc i) y at) in
+    sum_of_positions g xs (λ i. h (suc i)) (λ i y at. e (suc i) y at) in
     let both : sum_by g (x ∷ xs) ≡ g x + sum_by g xs = sum_by-cons g x xs in
     omega arith
 
@@ -176,7 +176,7 @@ sum_of_book f table shard shards works book is =
     ap (sum_by f) is.history
     ∙ (sum_by-joined f (λ (v : Signed). v.entries) is.visits
     ∙ (sum_by_key (λ (v : Signed). v.worker) ent (length works) is.visits is.signed
-    ∙ sum_of_places
+    ∙ sum_of_positions
     (λ done. sum_by (λ (v : RunVisit). sum_by f v.entries) (visits_to shard (all_visits done)))
     works (λ w. sum_by ent (filter (λ v. v.worker == w) is.visits)) own))
   where
@@ -208,7 +208,7 @@ sum_of_books f given works outcome is =
     let at_shard : ℕ → List Worked → ℕ = λ s done. sum_by ent (visits_to s (all_visits done)) in
     let h : ℕ → ℕ = λ s. sum_by (at_shard s) works in
     sum_by-flat_map f (λ (b : Book). b.entries) outcome.books
-    ∙ (sym (sum_of_places (λ (b : Book). sum_by f b.entries) outcome.books h
+    ∙ (sym (sum_of_positions (λ (b : Book). sum_by f b.entries) outcome.books h
     (λ s b at. sym (sum_of_book f given.table s given.shards works b (is.books s b at))))
     ∙ (ap (sum_below h) is.shards
     ∙ (swapped at_shard given.shards works
@@ -360,7 +360,7 @@ ends_are f blank given works outcome is =
     sym (ends_sum f blank (length given.uploads) (all_works works) is.once
     (all_uploads given works is.each))
     ∙ (ap (sum_below (λ u. f (end_of u (all_works works)))) (sym is.uploads)
-    ∙ sum_of_places f outcome.ends (λ u. f (end_of u (all_works works)))
+    ∙ sum_of_positions f outcome.ends (λ u. f (end_of u (all_works works)))
     (λ u end at. ap f (sym (is.ends u end at))))
 
 -- the books and the workers have the same totals, whatever is known of them

@@ -6,12 +6,12 @@ use Rattle.std.proofs.lemmas.List.Elements.{All-nil, All-cons, All-contains}
 use Rattle.fare_service.specs.ServiceView.{ServiceView}
 use Rattle.fare_service.specs.ShareView.{ShareView}
 use Rattle.fare_service.specs.Shares.{IsShareOf}
-use Rattle.fare_service.specs.declared.lending.Unlent.{Unlent}
-use Rattle.fare_service.specs.Lending.{IsUnlent}
+use Rattle.fare_service.specs.declared.lending.Unavailable.{Unavailable}
+use Rattle.fare_service.specs.Lending.{IsUnavailable}
 use Rattle.fare_service.specs.Refusals.{WasNotGathered}
 use Rattle.fare_service.specs.declared.faults.RunFault.{RunFault}
 use Rattle.fare_service.specs.declared.faults.RunFault.TheVariants.{Workers, NoMemory, Gather}
-use Rattle.fare_service.specs.declared.faults.RunFault.TheVariants.{Unlent as ForUnlent}
+use Rattle.fare_service.specs.declared.faults.RunFault.TheVariants.{Unavailable as ForUnavailable}
 use Rattle.fare_service.specs.inside.Lending.{IsAnswer, IsFaultOf}
 use Rattle.fare_service.specs.inside.Stopping.{WorkedOn}
 
@@ -36,31 +36,31 @@ all_answered service (old ∷ olds) (new ∷ news) zip =
     }
 
 pub answered : (service : ServiceView) (olds news : List ShareView)
-    (answers : List (Result ShareView Unlent)) → answers ≡ map Ok news
+    (answers : List (Result ShareView Unavailable)) → answers ≡ map Ok news
     → AllZip (IsAnswer service) olds answers → Answered service olds news
 answered service olds news answers are zip =
-    let Z : List (Result ShareView Unlent) → Type 0 = λ rs. AllZip (IsAnswer service) olds rs in
+    let Z : List (Result ShareView Unavailable) → Type 0 = λ rs. AllZip (IsAnswer service) olds rs in
     all_answered service olds news (subst Z are zip)
 
-unlent_each : (service : ServiceView) (olds : List ShareView)
-    (answers : List (Result ShareView Unlent)) → AllZip (IsAnswer service) olds answers
-    → All (λ answer. IfErr answer (λ u. IsUnlent service.uploads u.upload)) answers
-unlent_each service [] [] zip =
-    All-nil (λ answer. IfErr answer (λ u. IsUnlent service.uploads u.upload))
-unlent_each service [] (answer ∷ answers) zip = absurd zip
-unlent_each service (old ∷ olds) [] zip = absurd zip
-unlent_each service (old ∷ olds) (answer ∷ answers) zip =
-    All-cons (λ a. IfErr a (λ u. IsUnlent service.uploads u.upload)) answer answers zip.0.unlent
-    (unlent_each service olds answers zip.1)
+unavailable_each : (service : ServiceView) (olds : List ShareView)
+    (answers : List (Result ShareView Unavailable)) → AllZip (IsAnswer service) olds answers
+    → All (λ answer. IfErr answer (λ u. IsUnavailable service.uploads u.upload)) answers
+unavailable_each service [] [] zip =
+    All-nil (λ answer. IfErr answer (λ u. IsUnavailable service.uploads u.upload))
+unavailable_each service [] (answer ∷ answers) zip = absurd zip
+unavailable_each service (old ∷ olds) [] zip = absurd zip
+unavailable_each service (old ∷ olds) (answer ∷ answers) zip =
+    All-cons (λ a. IfErr a (λ u. IsUnavailable service.uploads u.upload)) answer answers zip.0.unavailable
+    (unavailable_each service olds answers zip.1)
 
 -- why there are not all shares is why nothing was gathered
 pub fault_reported : (service : ServiceView) (workers : ℕ) (olds : List ShareView)
-    (answers : List (Result ShareView Unlent)) (fault : RunFault)
+    (answers : List (Result ShareView Unavailable)) (fault : RunFault)
     → AllZip (IsAnswer service) olds answers → IsFaultOf answers fault
     → WasNotGathered service workers fault
 fault_reported service workers olds answers Workers zip is = absurd is
 fault_reported service workers olds answers NoMemory zip is = tt
 fault_reported service workers olds answers (Gather fault) zip is = absurd is
-fault_reported service workers olds answers (ForUnlent unlent) zip is =
-    All-contains (λ answer. IfErr answer (λ u. IsUnlent service.uploads u.upload)) answers
-    (Err unlent) (unlent_each service olds answers zip) is
+fault_reported service workers olds answers (ForUnavailable unavailable) zip is =
+    All-contains (λ answer. IfErr answer (λ u. IsUnavailable service.uploads u.upload)) answers
+    (Err unavailable) (unavailable_each service olds answers zip) is

@@ -209,30 +209,30 @@ claims_here : (passes : List PassView) (shard : ℕ) (old : PassView) → shard 
 claims_here passes shard old within is =
     get_or-map (λ p. p.claims) passes shard old 0 within ∙ ap (λ p. p.claims) (sym is)
 
-pub claims_step : (fn yielded into : List PassView) (place : ℕ) (old pass new : PassView)
+pub claims_step : (fn yielded into : List PassView) (position : ℕ) (old pass new : PassView)
     (shard : ℕ) → claims_at shard into ≡ claims_at shard fn + claims_at shard yielded
-    → place ≡ length yielded → place < length into
-    → old ≡ get_or into place old → new.claims ≡ old.claims + pass.claims
-    → claims_at shard (set into place new)
+    → position ≡ length yielded → position < length into
+    → old ≡ get_or into position old → new.claims ≡ old.claims + pass.claims
+    → claims_at shard (set into position new)
     ≡ claims_at shard fn + claims_at shard (yielded ++ pass ∷ [])
-claims_step fn yielded into place old pass new shard before at within is joined =
-    by_place (eqb_tells shard place)
+claims_step fn yielded into position old pass new shard before at within is joined =
+    by_position (eqb_tells shard position)
   where
-    by_place : (((shard == place) ≡ true) × (shard ≡ place))
-        ⊎ (((shard == place) ≡ false) × (shard ≢ place))
-        → claims_at shard (set into place new)
+    by_position : (((shard == position) ≡ true) × (shard ≡ position))
+        ⊎ (((shard == position) ≡ false) × (shard ≢ position))
+        → claims_at shard (set into position new)
         ≡ claims_at shard fn + claims_at shard (yielded ++ pass ∷ [])
-    by_place (inl (b, e)) =
+    by_position (inl (b, e)) =
         let nothing : claims_at shard yielded ≡ 0 =
         claims_beyond shard yielded (omega (arith, e, at)) in
         let here : claims_at shard into ≡ old.claims =
-        ap (λ s. claims_at s into) e ∙ claims_here into place old within is in
+        ap (λ s. claims_at s into) e ∙ claims_here into position old within is in
         let last : claims_at shard (yielded ++ pass ∷ []) ≡ pass.claims =
         ap (λ s. claims_at s (yielded ++ pass ∷ [])) (e ∙ at) ∙ claims_last yielded pass in
-        let there : claims_at shard (set into place new) ≡ new.claims =
-        ap (λ s. claims_at s (set into place new)) e ∙ claims-set_same into place new within in
+        let there : claims_at shard (set into position new) ≡ new.claims =
+        ap (λ s. claims_at s (set into position new)) e ∙ claims-set_same into position new within in
         omega arith
-    by_place (inr (b, ne)) =
+    by_position (inr (b, ne)) =
         let other = claims_else shard yielded pass (λ e. ne (e ∙ sym at)) in
-        let same = claims-set_other into place shard new ne in
+        let same = claims-set_other into position shard new ne in
         omega arith

@@ -11,36 +11,36 @@ use Rattle.histories.specs.declared.entry.Entry.{Entry}
 use Rattle.histories.proofs.OwnEntries.{own-append}
 use Rattle.tap_views.specs.declared.token.Token.{Token}
 use Rattle.tap_views.proofs.Lists.{take_next}
-use Rattle.fare_service.specs.inside.Spots.{book_at, entry_in, entry_at_spot, no_entry, place_at}
+use Rattle.fare_service.specs.inside.Spots.{book_at, entry_in, entry_at_spot, no_entry, position_at}
 use Rattle.fare_service.specs.inside.Spots.{entries_at_spots}
 use Rattle.fare_service.specs.declared.spot.Spot.{Spot}
 
 -- the entry at a spot
-pub spot_entry : (books : List Book) (spot : Spot) (index place : ℕ) (book : Book) (entry : Entry)
-    → book_at spot ≡ index → place_at spot ≡ place → slice_get books index ≡ Some book
-    → slice_get book.entries place ≡ Some entry → entry_at_spot books spot ≡ entry
+pub spot_entry : (books : List Book) (spot : Spot) (index position : ℕ) (book : Book) (entry : Entry)
+    → book_at spot ≡ index → position_at spot ≡ position → slice_get books index ≡ Some book
+    → slice_get book.entries position ≡ Some entry → entry_at_spot books spot ≡ entry
 unfolding entry_at_spot
-spot_entry books spot index place book entry at_book at_place there at =
-    ap (λ (i : ℕ). unwrap_or (entry_in books i (place_at spot)) no_entry) at_book
-    ∙ ap (λ (i : ℕ). unwrap_or (entry_in books index i) no_entry) at_place
+spot_entry books spot index position book entry at_book at_position there at =
+    ap (λ (i : ℕ). unwrap_or (entry_in books i (position_at spot)) no_entry) at_book
+    ∙ ap (λ (i : ℕ). unwrap_or (entry_in books index i) no_entry) at_position
     ∙ ap (λ (found : Option Book). unwrap_or
-    (option_and_then (λ (b : Book). slice_get b.entries place) found) no_entry) there
+    (option_and_then (λ (b : Book). slice_get b.entries position) found) no_entry) there
     ∙ ap (λ (found : Option Entry). unwrap_or found no_entry) at
 
 pub seen_more : (books : List Book) (first old new : List Spot) (one : Spot) (index i : ℕ)
     (book : Book) → new ≡ old ++ one ∷ []
     → entries_at_spots books old ≡ entries_at_spots books first ++ take i book.entries
-    → book_at one ≡ index → place_at one ≡ i → slice_get books index ≡ Some book
+    → book_at one ≡ index → position_at one ≡ i → slice_get books index ≡ Some book
     → i < length book.entries
     → entries_at_spots books new ≡ entries_at_spots books first ++ take (i + 1) book.entries
-seen_more books first old new one index i book is so_far at_book at_place there within =
+seen_more books first old new one index i book is so_far at_book at_position there within =
     let entry : Entry = get_or book.entries i no_entry in
     let at : slice_get book.entries i ≡ Some entry =
     slice_get-get_or book.entries i no_entry within in
     ap (entries_at_spots books) is ∙ map-append (entry_at_spot books) old (one ∷ [])
     ∙ ap (λ (es : List Entry). es ++ entry_at_spot books one ∷ []) so_far
     ∙ ap (λ (e : Entry). (entries_at_spots books first ++ take i book.entries) ++ e ∷ [])
-    (spot_entry books one index i book entry at_book at_place there at)
+    (spot_entry books one index i book entry at_book at_position there at)
     ∙ append_assoc (entries_at_spots books first) (take i book.entries) (entry ∷ [])
     ∙ ap (λ (es : List Entry). entries_at_spots books first ++ es)
     (take_next book.entries i entry at)

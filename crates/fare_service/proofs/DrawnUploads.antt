@@ -15,7 +15,7 @@ pub each_drawn_once : (fares : Fares) (shards : ℕ) (files : List (List ℕ)) (
     (outcome : OutcomeView) → Headline fares shards files works outcome
     → (upload : ℕ) (end : UploadEnd) → slice_get outcome.ends upload ≡ Some end → end ≢ Undrawn
     → times upload (drawn_by works) ≡ 1
-each_drawn_once fares shards files works outcome is upload end at told =
+each_drawn_once fares shards files works outcome is upload end at reported =
     by_times (cases_lt 0 (drawn_times upload (all_works works)))
   where
     by_times : (0 < drawn_times upload (all_works works))
@@ -23,5 +23,5 @@ each_drawn_once fares shards files works outcome is upload end at told =
         → drawn_times upload (all_works works) ≡ 1
     by_times (inl some) = omega (arith, some, is.drawn_once upload)
     by_times (inr none) =
-        absurd (told (is.ended upload end at
+        absurd (reported (is.ended upload end at
         ∙ not_drawn (all_works works) upload (omega (arith, none))))

@@ -38,18 +38,18 @@ use Rattle.fare_service.specs.ShareView.{ShareView}
 use Rattle.fare_service.specs.Shares.{Worked, done_of, all_visits, file_at, IsEndOf, IsFresh}
 use Rattle.fare_service.specs.Shares.{IsShareOf, IsWorkOf, KeepsWorks, made_visits_at, marks_at}
 use Rattle.fare_service.specs.Shares.{books_of}
-use Rattle.fare_service.specs.Stopping.{SomeFull, MayGoOn, WasCut, StoppedWell, HaveStopped}
+use Rattle.fare_service.specs.Stopping.{SomeFull, MayGoOn, WasCut, StoppedCleanly, HaveStopped}
 use Rattle.fare_service.specs.Stopping.{FullIsMade, is_cut, cuts, posting}
 use Rattle.fare_service.specs.inside.Stopping.{WorkedOn}
 use Rattle.fare_service.specs.inside.Closing.{IsClosedWork}
 use Rattle.fare_service.specs.inside.ServiceView.{IsService, IsBookOf}
 use Rattle.fare_service.proofs.AddingLemmas.{ends_are, length_sum, sum_by_key, sum_by-map}
-use Rattle.fare_service.proofs.AddingLemmas.{sum_by-flat_map, sum_of_places, reported_end_taps}
+use Rattle.fare_service.proofs.AddingLemmas.{sum_by-flat_map, sum_of_positions, reported_end_taps}
 use Rattle.fare_service.proofs.CloseLemmas.{there}
 use Rattle.fare_service.proofs.GatheredWork.{Given, given_of, IsGathered}
 use Rattle.fare_service.proofs.HeadlineLemmas.{gathered_of}
 use Rattle.fare_service.proofs.GatherLemmas.{kept_length}
-use Rattle.fare_service.proofs.LentFiles.{lent_number}
+use Rattle.fare_service.proofs.UploadFileSource.{provided_number}
 use Rattle.fare_service.proofs.RunVisits.{marks_here}
 use Rattle.fare_service.proofs.ShareLemmas.{own_left}
 use Rattle.fare_service.proofs.VisitLemmas.{no_taps}
@@ -155,7 +155,7 @@ stops service old new done fresh kept w = by_stop w.stopped
         few (inr full) all one = inr full
         few (inl none) all one = inl (omega (arith, none, all, one))
 
-    by_stop : (new ≡ old) ⊎ StoppedWell service old new → Stops service new done
+    by_stop : (new ≡ old) ⊎ StoppedCleanly service old new → Stops service new done
     by_stop (inl same) = idle (sym kept.done ∙ (ap (λ (s : ShareView). s.done) same ∙ fresh.done))
     by_stop (inr s) = by_last s.before s.last
         (sym kept.done
@@ -401,7 +401,7 @@ visits_are : (opened : List SharedBookView) (shares : List ShareView) (shard : �
 visits_are opened shares shard book h =
     length_sum h.visits
     ∙ (sum_by_key (λ (v : Signed). v.worker) (λ (v : Signed). 1) (length shares) h.visits h.signed
-    ∙ sum_of_places (λ (s : ShareView). length (made_visits_at shard s.passes)) shares
+    ∙ sum_of_positions (λ (s : ShareView). length (made_visits_at shard s.passes)) shares
     (λ w. sum_by (λ (v : Signed). 1) (filter (λ v. v.worker == w) h.visits)) own)
   where
     own : (w : ℕ) (share : ShareView) → slice_get shares w ≡ Some share
@@ -487,7 +487,7 @@ have_stopped service olds news workers outcome number fresh worked has undrawn f
         arith,
         slice_get_within outcome.ends upload Undrawn at,
         headline.uploads,
-        lent_number service.uploads has.files has.lent,
+        provided_number service.uploads has.files has.provided,
       ) in
       let left = All-weaker (λ (s : ShareView). s.drawer.seen ≤ upload)
       (λ (s : ShareView). s.drawer.seen < length service.uploads) (λ s h. omega (arith, h, past))

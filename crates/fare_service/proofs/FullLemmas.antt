@@ -62,16 +62,16 @@ pub full_stays : (passes : List PassView) (shard : ℕ) (old new : PassView) →
     → old ≡ get_or passes shard old → (KnowsFull old → KnowsFull new)
     → SomeFull passes → SomeFull (set passes shard new)
 full_stays passes shard old new within is more (k, x, below, at, full) =
-    at_place (eqb_tells k shard)
+    at_position (eqb_tells k shard)
   where
-    at_place : (((k == shard) ≡ true) × (k ≡ shard)) ⊎ (((k == shard) ≡ false) × (k ≢ shard))
+    at_position : (((k == shard) ≡ true) × (k ≡ shard)) ⊎ (((k == shard) ≡ false) × (k ≢ shard))
         → SomeFull (set passes shard new)
-    at_place (inl (b, e)) =
+    at_position (inl (b, e)) =
         let G : ℕ → Type 0 = λ n. get_or passes n x ≡ x in
         let here : get_or passes shard x ≡ x = subst G e at in
         full_here passes shard new within
         (more (subst KnowsFull (sym here ∙ (same_default passes shard x old within ∙ sym is)) full))
-    at_place (inr (b, ne)) = (
+    at_position (inr (b, ne)) = (
       k,
       x,
       (let l : length (set passes shard new) ≡ length passes =

@@ -208,14 +208,14 @@ fewer_after w works once x = by_test (eqb_tells w.upload x)
     by_test (inr (is, apart)) = omega (arith, once x, times_other w works x is)
 
 -- an upload with its end was not drawn, or it ended as the one that drew it reports
-abbrev pub Told : List UploadEnd → List Worked → ℕ → UploadEnd → Type 0
-Told ends works upload end =
+abbrev pub Reported : List UploadEnd → List Worked → ℕ → UploadEnd → Type 0
+Reported ends works upload end =
     ((drawn_times upload works ≡ 0) × (slice_get ends upload ≡ Some end))
     ⊎ ((0 < drawn_times upload works) × (end ≡ end_of upload works))
 
 reported_end : (ends : List UploadEnd) (works : List Worked) (upload : ℕ) (end : UploadEnd)
     → NoneTwice (map (λ w. w.upload) works)
-    → slice_get (with_done ends (map done_of works)) upload ≡ Some end → Told ends works upload end
+    → slice_get (with_done ends (map done_of works)) upload ≡ Some end → Reported ends works upload end
 reported_end ends [] upload end once at = inl (refl, at)
 reported_end ends (w ∷ works) upload end once at =
     by_test (eqb_tells w.upload upload)
@@ -223,7 +223,7 @@ reported_end ends (w ∷ works) upload end once at =
   where
     by_test : (((w.upload == upload) ≡ true) × (w.upload ≡ upload))
         ⊎ (((w.upload == upload) ≡ false) × (w.upload ≢ upload))
-        → Told (slice_set ends w.upload w.end) works upload end → Told ends (w ∷ works) upload end
+        → Reported (slice_set ends w.upload w.end) works upload end → Reported ends (w ∷ works) upload end
     by_test (inl (is, same)) (inl (none, there)) =
         let S : ℕ → Type 0 = λ u. slice_get (slice_set ends u w.end) upload ≡ Some end in
         inr (
@@ -294,7 +294,7 @@ pub ends_reported : (service : ServiceView) (shares : List ShareView) (works : L
     → (ends : List UploadEnd)
     → ends ≡ with_all_done (replicate (length service.uploads) Undrawn) shares
     → (upload : ℕ) (end : UploadEnd) → slice_get ends upload ≡ Some end
-    → Told (replicate (length service.uploads) Undrawn) (all_works works) upload end
+    → Reported (replicate (length service.uploads) Undrawn) (all_works works) upload end
 ends_reported service shares works kept once ends are upload end at =
     let G : List UploadEnd → Type 0 = λ es. slice_get es upload ≡ Some end in
     reported_end (replicate (length service.uploads) Undrawn) (all_works works) upload end once
@@ -337,7 +337,7 @@ reported_undrawn service shares all closed work ends are number upload at =
     by_reported k.0 k.1 (ends_reported service shares k.0 k.1 once ends are upload Undrawn at)
   where
     by_reported : (works : List (List Worked)) → Kept service shares works
-        → Told (replicate (length service.uploads) Undrawn) (all_works works) upload Undrawn
+        → Reported (replicate (length service.uploads) Undrawn) (all_works works) upload Undrawn
         → All (λ share. share.drawer.seen ≤ upload) shares
     by_reported works kept (inl (none, there)) =
         work.undrawn upload (ap (times upload) (drawn_all service shares works kept) ∙ none)

@@ -13,7 +13,7 @@ use Rattle.shared_books.specs.Drawing.{NoneTwice}
 use Rattle.tap_views.specs.declared.upload_end.UploadEnd.{UploadEnd}
 use Rattle.tap_views.specs.declared.upload_end.UploadEnd.TheVariants.{Undrawn}
 use Rattle.fare_service.specs.Headline.{end_of, HasOutcome, HasRunOver, loads_at}
-use Rattle.fare_service.specs.Lending.{AreLentAs, origin_at}
+use Rattle.fare_service.specs.Lending.{AreProvidedAs, origin_at}
 use Rattle.fare_service.specs.Outcomes.{OutcomeView}
 use Rattle.fare_service.specs.ServiceView.{ServiceView, shards_of}
 use Rattle.fare_service.specs.ShareView.{ShareView}
@@ -23,17 +23,17 @@ use Rattle.fare_service.specs.inside.Closing.{IsClosedWork}
 use Rattle.fare_service.specs.inside.Joining.{with_all_done}
 use Rattle.fare_service.specs.inside.ServiceView.{IsService}
 use Rattle.fare_service.proofs.GatheredWork.{given_of, IsGathered}
-use Rattle.fare_service.proofs.GatherLemmas.{Told, all_each, book_of_work, drawn_all, ends_reported}
+use Rattle.fare_service.proofs.GatherLemmas.{Reported, all_each, book_of_work, drawn_all, ends_reported}
 use Rattle.fare_service.proofs.GatherLemmas.{get_replicate, keepings, kept_length, not_drawn}
 use Rattle.fare_service.proofs.GatherLemmas.{totals_all}
-use Rattle.fare_service.proofs.LentFiles.{lent_files, lent_number}
+use Rattle.fare_service.proofs.UploadFileSource.{upload_file_source, provided_number}
 use Rattle.fare_service.proofs.PlainLists.{All-flat, flat-All}
 
 -- what was gathered of shares, by what each keeps
 pub record HasGathered (service : ServiceView) (shares : List ShareView) (outcome : OutcomeView)
     : Type 0 where
   pub files : List (List ℕ)
-  pub lent : AreLentAs service.uploads files
+  pub provided : AreProvidedAs service.uploads files
   pub works : List (List Worked)
   pub kept : AllZip (KeepsWorks service) shares works
   pub gathered : IsGathered (given_of service files) works outcome
@@ -57,20 +57,20 @@ has_gathered service is shares all closed work ends are number workers sums_are 
     let k = keepings service shares all in
     let D : List ℕ → Type 0 = NoneTwice in
     let once = subst D (drawn_all service shares k.0 k.1) work.once in
-    let lent = lent_files service (all_works k.0)
+    let provided = upload_file_source service (all_works k.0)
     (All-flat (IsWorked service) k.0 (all_each service shares k.0 k.1)) once in
     record {
-      files = lent.files;
-      lent = lent.lent;
+      files = provided.files;
+      provided = provided.provided;
       works = k.0;
       kept = k.1;
       gathered = record {
-        each = flat-All (IsWorkOf (shards_of service) lent.files) k.0 lent.each;
+        each = flat-All (IsWorkOf (shards_of service) provided.files) k.0 provided.each;
         once = once;
         shards = work.number;
         books = λ shard book at. book_of_work service is shares k.0 k.1 shard book
             (work.books shard book at);
-        uploads = number ∙ sym (lent_number service.uploads lent.files lent.lent);
+        uploads = number ∙ sym (provided_number service.uploads provided.files provided.provided);
         ends = λ upload end at. by_reported k.0 upload end
             (ends_reported service shares k.0 k.1 once ends are upload end at);
         workers = sums_are ∙ totals_all service shares k.0 k.1;
@@ -78,7 +78,7 @@ has_gathered service is shares all closed work ends are number workers sums_are 
     }
   where
     by_reported : (works : List (List Worked)) (upload : ℕ) (end : UploadEnd)
-        → Told (replicate (length service.uploads) Undrawn) (all_works works) upload end
+        → Reported (replicate (length service.uploads) Undrawn) (all_works works) upload end
         → end ≡ end_of upload (all_works works)
     by_reported works upload end (inl (none, there)) =
         get_replicate (length service.uploads) upload end there
@@ -89,13 +89,13 @@ has_gathered service is shares all closed work ends are number workers sums_are 
 loads_drawn : (uploads : List Origin) (files : List (List ℕ)) (works : List Worked)
     → All (λ w. w.file ≡ file_at files w.upload) works
     → loads_of uploads works ≡ flat_map (loads_at uploads files) (map (λ w. w.upload) works)
-loads_drawn uploads files [] lent = refl
-loads_drawn uploads files (w ∷ works) lent =
+loads_drawn uploads files [] provided = refl
+loads_drawn uploads files (w ∷ works) provided =
     let P : Worked → Type 0 = λ x. x.file ≡ file_at files x.upload in
     ap (λ f. loads_from (origin_at uploads w.upload) f ++ loads_of uploads works)
-    (All-head P w works lent)
+    (All-head P w works provided)
     ∙ ap (λ loads. loads_at uploads files w.upload ++ loads)
-    (loads_drawn uploads files works (All-tail P w works lent))
+    (loads_drawn uploads files works (All-tail P w works provided))
 
 -- a run of this number of workers was gathered
 pub has_run : (service : ServiceView) (shares : List ShareView) (workers : ℕ)
@@ -103,14 +103,14 @@ pub has_run : (service : ServiceView) (shares : List ShareView) (workers : ℕ)
     → HasRunOver service.table (shards_of service) service.uploads workers outcome
 has_run service shares workers outcome number is = record {
   files = is.files;
-  lent = is.lent;
+  provided = is.provided;
   run = (is.works, sym (kept_length service shares is.works is.kept) ∙ number, is.headline);
   loaded = record {
     from = All-map (λ upload. IsFrom (origin_at service.uploads upload) (file_at is.files upload))
         (λ w. w.upload) works
-        (λ k d few. from (slice_index_or works k d) (each k d few) (of k d few).lent);
+        (λ k d few. from (slice_index_or works k d) (each k d few) (of k d few).provided);
     loads = is.loads ∙ ap (with_loads nothing_yet)
-        (loads_drawn service.uploads is.files works (λ k d few. (of k d few).lent));
+        (loads_drawn service.uploads is.files works (λ k d few. (of k d few).provided));
   };
 }
   where
@@ -125,4 +125,4 @@ has_run service shares workers outcome number is = record {
 
     from : (w : Worked) → IsWorked service w → w.file ≡ file_at is.files w.upload
         → IsFrom (origin_at service.uploads w.upload) (file_at is.files w.upload)
-    from w worked lent = subst (IsFrom (origin_at service.uploads w.upload)) lent worked.from
+    from w worked provided = subst (IsFrom (origin_at service.uploads w.upload)) provided worked.from

@@ -23,7 +23,7 @@ use Rattle.fare_service.specs.Shares.{Worked, all_works, all_visits}
 use Rattle.fare_service.proofs.AddingLemmas.{gathered_sums}
 use Rattle.fare_service.proofs.GatheredWork.{Given, IsBookOfWork, IsGathered}
 use Rattle.fare_service.proofs.OwnVisits.{filter_none}
-use Rattle.fare_service.proofs.PlacingLemmas.{stands_once}
+use Rattle.fare_service.proofs.PlacingLemmas.{occurs_once}
 use Rattle.fare_service.proofs.Signing.{step_no, step_yes}
 
 -- visits one after another, in either word
@@ -37,15 +37,15 @@ thread_of : (table : Fares) (shard shards : ℕ) (works : List (List Worked)) (b
 thread_of table shard shards works book is = record {
   visits = is.visits;
   history = is.history ∙ joined_visits is.visits;
-  order = λ worker. by_place worker (cases_lt worker (length works));
+  order = λ worker. by_position worker (cases_lt worker (length works));
 }
   where
-    by_place : (worker : ℕ) → (worker < length works) ⊎ (length works ≤ worker)
+    by_position : (worker : ℕ) → (worker < length works) ⊎ (length works ≤ worker)
         → by_worker worker is.visits
         ≡ entries_to shard (all_visits (slice_index_or works worker []))
-    by_place worker (inl within) =
+    by_position worker (inl within) =
         is.order worker (slice_index_or works worker []) (slice_get-get_or works worker [] within)
-    by_place worker (inr past) =
+    by_position worker (inr past) =
         ap (map (λ v. v.entries))
         (filter_none (λ v. v.worker == worker) is.visits
         (All-weaker (λ v. v.worker < length works) (λ v. (v.worker == worker) ≡ false)
@@ -93,7 +93,7 @@ headline_of given works outcome is totals limits undrawn = record {
       (b.its_table, b.its_shard, b.of_shards);
   one_thread = λ shard book at. thread_of given.table shard given.shards works book
       (is.books shard book at);
-  stand_once = λ shard book at. stands_once given works outcome is shard book at;
+  occur_once = λ shard book at. occurs_once given works outcome is shard book at;
   legal = λ shard book at. (is.books shard book at).legal;
   totals = gathered_sums given works outcome is totals;
   limits = λ shard book at token. let L : Fares → Type 0 =

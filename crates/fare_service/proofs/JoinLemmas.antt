@@ -21,7 +21,7 @@ use Rattle.fare_service.specs.ShareView.{ShareView}
 use Rattle.fare_service.specs.inside.Joining.{AreSigns, AreJoined, AreJoinedAt, AreSignedAt}
 use Rattle.fare_service.specs.inside.Joining.{Belongs, IsJoinedOf, with_runs}
 use Rattle.fare_service.specs.Shares.{books_of, marks_at, made_visits_at}
-use Rattle.fare_service.proofs.PlaceLemmas.{place_more}
+use Rattle.fare_service.proofs.PositionLemmas.{position_more}
 use Rattle.fare_service.proofs.Signing.{signed, signs_more, earlier_stay, new_own, merged-nil}
 use Rattle.fare_service.proofs.Signing.{made_own}
 use Rattle.fare_service.proofs.VisitLemmas.{marks-set_same, marks-set_other}
@@ -68,37 +68,37 @@ of_joined old other new j = record {
 }
 
 -- the passes of one shard more
-pub join_step : (fn yielded into : List PassView) (place : ℕ) (old pass new : PassView) (shard : ℕ)
-    → AreJoinedAt shard fn yielded into → place ≡ length yielded → place < length into
-    → old ≡ get_or into place old → IsJoined old pass new
-    → AreJoinedAt shard fn (yielded ++ pass ∷ []) (set into place new)
-join_step fn yielded into place old pass new shard before at within is joined =
-    by_place (eqb_tells shard place)
+pub join_step : (fn yielded into : List PassView) (position : ℕ) (old pass new : PassView) (shard : ℕ)
+    → AreJoinedAt shard fn yielded into → position ≡ length yielded → position < length into
+    → old ≡ get_or into position old → IsJoined old pass new
+    → AreJoinedAt shard fn (yielded ++ pass ∷ []) (set into position new)
+join_step fn yielded into position old pass new shard before at within is joined =
+    by_position (eqb_tells shard position)
   where
-    by_place : (((shard == place) ≡ true) × (shard ≡ place))
-        ⊎ (((shard == place) ≡ false) × (shard ≢ place))
-        → AreJoinedAt shard fn (yielded ++ pass ∷ []) (set into place new)
-    by_place (inl (b, e)) =
+    by_position : (((shard == position) ≡ true) × (shard ≡ position))
+        ⊎ (((shard == position) ≡ false) × (shard ≢ position))
+        → AreJoinedAt shard fn (yielded ++ pass ∷ []) (set into position new)
+    by_position (inl (b, e)) =
         let none : marks_at shard yielded ≡ [] =
         marks_beyond shard yielded (omega (arith, e, at)) in
         let first : marks_at shard into ≡ marks_at shard fn =
         before.marks
         ∙ (ap (joined_marks (marks_at shard fn)) none ∙ merged-nil (marks_at shard fn)) in
         let here : old.marks ≡ marks_at shard fn =
-        sym (ap (λ s. marks_at s into) e ∙ marks_here into place old within is) ∙ first in
+        sym (ap (λ s. marks_at s into) e ∙ marks_here into position old within is) ∙ first in
         let last : pass.marks ≡ marks_at shard (yielded ++ pass ∷ []) =
         sym (ap (λ s. marks_at s (yielded ++ pass ∷ [])) (e ∙ at) ∙ marks_last yielded pass) in
-        let there : new.marks ≡ marks_at shard (set into place new) =
-        sym (ap (λ s. marks_at s (set into place new)) e ∙ marks-set_same into place new within) in
+        let there : new.marks ≡ marks_at shard (set into position new) =
+        sym (ap (λ s. marks_at s (set into position new)) e ∙ marks-set_same into position new within) in
         same_joined old.marks (marks_at shard fn) pass.marks (marks_at shard (yielded ++ pass ∷ []))
-        new.marks (marks_at shard (set into place new)) here last there
+        new.marks (marks_at shard (set into position new)) here last there
         (of_joined old pass new joined)
-    by_place (inr (b, ne)) =
+    by_position (inr (b, ne)) =
         same_joined (marks_at shard fn) (marks_at shard fn) (marks_at shard yielded)
         (marks_at shard (yielded ++ pass ∷ [])) (marks_at shard into)
-        (marks_at shard (set into place new))
+        (marks_at shard (set into position new))
         refl (sym (marks_else shard yielded pass (λ e. ne (e ∙ sym at))))
-        (sym (marks-set_other into place shard new ne)) before
+        (sym (marks-set_other into position shard new ne)) before
 
 -- the signs of one share more
 pub signed_more : (nobody shard : ℕ) (shares : List ShareView) (share : ShareView)
@@ -119,7 +119,7 @@ signed_more nobody shard shares share passes passes' below s j =
           (subst P (sym j.marks)
           (signs_more i nobody s.signs (marks_at shard passes) (marks_at shard share.passes) below
           s.of_marks));
-      made = place_more (λ w h. by_worker w signs ≡ made_visits_at shard h.passes) shares share
+      made = position_more (λ w h. by_worker w signs ≡ made_visits_at shard h.passes) shares share
           (λ w h at. earlier_stay i nobody w s.signs (marks_at shard passes)
           (marks_at shard share.passes) below (slice_get_within shares w h at) s.of_marks j.apart
           ∙ s.made w h at)
@@ -211,7 +211,7 @@ joined_first drawing books nobody share some is = record {
   signed = λ shard. record {
     signs = signed 0 nobody [] (marks_at shard share.passes);
     of_marks = signs_more 0 nobody [] [] (marks_at shard share.passes) some tt;
-    made = place_more
+    made = position_more
         (λ w h. by_worker w (signed 0 nobody [] (marks_at shard share.passes))
         ≡ made_visits_at shard h.passes) [] share (λ w h at. absurd (cc))
         (new_own 0 nobody [] [] (marks_at shard share.passes) some tt

@@ -15,9 +15,9 @@ pub mod GatheredShares
 pub mod GatheredWork
 pub mod HeadlineLemmas
 pub mod JoinLemmas
-pub mod LentFiles
+pub mod UploadFileSource
 pub mod OrderLemmas
-pub mod PlaceLemmas
+pub mod PositionLemmas
 pub mod OwnVisits
 pub mod PlacingLemmas
 pub mod RunLemmas

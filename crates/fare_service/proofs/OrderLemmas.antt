@@ -69,19 +69,19 @@ below_same shard shards zero taps within = absurd (omega (arith, within))
 below_same shard shards (suc n) taps within =
     ap (run_of shard shards) (below_step shards n taps)
     ∙ (run_of-append shard shards (taps_below shards n taps) (run_of n shards taps)
-    ∙ by_place (λ h. below_same shard shards n taps h) (eqb_tells n shard))
+    ∙ by_position (λ h. below_same shard shards n taps h) (eqb_tells n shard))
   where
-    by_place : (shard < n
+    by_position : (shard < n
         → run_of shard shards (taps_below shards n taps) ≡ run_of shard shards taps)
         → (((n == shard) ≡ true) × (n ≡ shard)) ⊎ (((n == shard) ≡ false) × (n ≢ shard))
         → run_of shard shards (taps_below shards n taps) ++ run_of shard shards
         (run_of n shards taps) ≡ run_of shard shards taps
-    by_place before (inl (b, e)) =
+    by_position before (inl (b, e)) =
         ap (λ ts. ts ++ run_of shard shards (run_of n shards taps))
         (not_below shard shards n taps (omega (arith, e)))
         ∙ (ap (λ s. run_of shard shards (run_of s shards taps)) e
         ∙ same_shard shard shards taps)
-    by_place before (inr (b, ne)) =
+    by_position before (inr (b, ne)) =
         let less : shard < n = by_order (cases_lt shard n) in
         ap (λ ts. ts ++ run_of shard shards (run_of n shards taps)) (before less)
         ∙ (ap (λ ts. run_of shard shards taps ++ ts) (other_shard shard n shards taps ne)

@@ -21,7 +21,7 @@ use Rattle.tap_views.specs.declared.upload_end.UploadEnd.{UploadEnd}
 use Rattle.tap_views.specs.Shards.{run_of}
 use Rattle.fare_service.specs.Headline.{Signed, by_worker}
 use Rattle.fare_service.specs.Outcomes.{OutcomeView}
-use Rattle.fare_service.specs.Placing.{Origin, of_upload, posted_of, StandOnce, WerePostedOf}
+use Rattle.fare_service.specs.Placing.{Origin, of_upload, posted_of, OccurOnce, WerePostedOf}
 use Rattle.tap_views.specs.Layout.{Tap}
 use Rattle.fare_service.specs.Runs.{RunVisit, IsEntered}
 use Rattle.fare_service.specs.Runs.{entries_to}
@@ -551,14 +551,14 @@ exactly_posted given works each once shard upload made own all =
 by_worker_at : (given : Given) (shard : ℕ) (works : List (List Worked)) (book : Book)
     → (is : IsBookOfWork given.table shard given.shards works book) → (w : ℕ)
     → by_worker w is.visits ≡ map entries_made (to_shard shard (works_at w works))
-by_worker_at given shard works book is w = by_place (cases_lt w (length works))
+by_worker_at given shard works book is w = by_position (cases_lt w (length works))
   where
-    by_place : (w < length works) ⊎ (length works ≤ w)
+    by_position : (w < length works) ⊎ (length works ≤ w)
         → by_worker w is.visits ≡ map entries_made (to_shard shard (works_at w works))
-    by_place (inl within) =
+    by_position (inl within) =
         is.order w (works_at w works) (slice_get-get_or works w [] within)
         ∙ sym (entries_are shard (works_at w works))
-    by_place (inr past) =
+    by_position (inr past) =
         ap (map (λ v. v.entries))
         (filter_none (λ v. v.worker == w) is.visits
         (All-weaker (λ v. v.worker < length works) (λ v. (v.worker == w) ≡ false)
@@ -566,11 +566,11 @@ by_worker_at given shard works book is w = by_place (cases_lt w (length works))
         ∙ sym (ap (λ done. map entries_made (to_shard shard done)) (get_or_past works w [] past))
 
 -- each posted tap of a shard has one entry in its book
-pub stands_once : (given : Given) (works : List (List Worked)) (outcome : OutcomeView)
+pub occurs_once : (given : Given) (works : List (List Worked)) (outcome : OutcomeView)
     → IsGathered given works outcome → (shard : ℕ) (book : Book)
     → slice_get outcome.books shard ≡ Some book
-    → StandOnce shard given.shards (all_works works) book.entries
-stands_once given works outcome is shard book at =
+    → OccurOnce shard given.shards (all_works works) book.entries
+occurs_once given works outcome is shard book at =
     let work = is.books shard book at in
     let s = spread (IsMade given works) work.visits (λ w. to_shard shard (works_at w works))
     (by_worker_at given shard works book work) (all_made given works is.each shard) in

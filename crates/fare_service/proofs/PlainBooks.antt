@@ -25,7 +25,7 @@ use Rattle.tap_views.specs.declared.upload_end.UploadEnd.{UploadEnd}
 use Rattle.tap_views.specs.declared.upload_end.UploadEnd.TheVariants.{Posted, Refused, Cut, Undrawn}
 use Rattle.fare_service.specs.Headline.{Signed, by_worker, end_of}
 use Rattle.fare_service.specs.Outcomes.{OutcomeView}
-use Rattle.tap_views.specs.Files.{AreGoodTaps, AreGoodTapsOfEach, HasOneReading}
+use Rattle.tap_views.specs.Files.{AreValidTaps, AreValidTapsOfEach, HasUniqueParse}
 use Rattle.tap_views.proofs.Lists.{All-split}
 use Rattle.fare_service.specs.Plain.{AreApart, WasNotCut}
 use Rattle.histories.specs.Plain.{IsNamed, unanswered, token_of_bytes, plain}
@@ -41,7 +41,7 @@ use Rattle.fare_service.proofs.PlainRuns.{shard_entries, named_entries, all_shar
 use Rattle.fare_service.proofs.VisitLemmas.{entries_to-append}
 use Rattle.fare_service.proofs.GatheredWork.{Given, IsBookOfWork, IsGathered}
 use Rattle.fare_service.proofs.GatherLemmas.{end_other, end_same, fewer_after}
-use Rattle.fare_service.proofs.LentFiles.{IsTest, not_again}
+use Rattle.fare_service.proofs.UploadFileSource.{IsTest, not_again}
 
 entries-cons : (shard : ℕ) (w : Worked) (done : List Worked)
     → history_of_visits (entries_to shard (all_visits (w ∷ done)))
@@ -81,8 +81,8 @@ of_work P shard (w ∷ done) all =
 
 -- ---- the taps of an upload that was worked on
 taps_of_upload : (uploads : List (List ℕ)) (taps : List (List Tap)) (upload : ℕ)
-    → AreGoodTapsOfEach uploads taps → upload < length uploads
-    → AreGoodTaps (slice_index_or uploads upload []) (get_or taps upload [])
+    → AreValidTapsOfEach uploads taps → upload < length uploads
+    → AreValidTaps (slice_index_or uploads upload []) (get_or taps upload [])
 taps_of_upload [] taps upload each within = absurd (omega (arith, within))
 taps_of_upload (file ∷ uploads) [] upload each within = absurd each
 taps_of_upload (file ∷ uploads) (ts ∷ taps) zero each within = each.0
@@ -90,7 +90,7 @@ taps_of_upload (file ∷ uploads) (ts ∷ taps) (suc upload) each within =
     taps_of_upload uploads taps upload each.1 (omega (arith, within))
 
 pub each_length : (uploads : List (List ℕ)) (taps : List (List Tap))
-    → AreGoodTapsOfEach uploads taps → length uploads ≡ length taps
+    → AreValidTapsOfEach uploads taps → length uploads ≡ length taps
 each_length [] [] each = refl
 each_length [] (ts ∷ taps) each = absurd each
 each_length (file ∷ uploads) [] each = absurd each
@@ -114,7 +114,7 @@ record IsRead (shards : ℕ) (token : Token) (taps : List (List Tap)) (w : Worke
       ≡ own token (map unanswered (get_or taps w.upload []))
 
 work_read : (given : Given) (token : Token) (taps : List (List Tap)) (w : Worked) → 0 < given.shards
-    → All HasOneReading given.uploads → AreGoodTapsOfEach given.uploads taps
+    → All HasUniqueParse given.uploads → AreValidTapsOfEach given.uploads taps
     → IsWorkOf given.shards given.uploads w → WasNotCut w.end
     → ((shard : ℕ) → shard < given.shards
     → All IsNamed (history_of_visits (entries_to shard w.visits)))
@@ -204,18 +204,18 @@ end_reported (w ∷ works) once =
 -- ---- all that was gathered
 -- what the laws of a gathering stand on: no upload was cut or left undrawn, and each token of the
 -- books is the name of its bytes
-pub record Stands (given : Given) (works : List (List Worked)) (outcome : OutcomeView)
+pub record Represents (given : Given) (works : List (List Worked)) (outcome : OutcomeView)
     (taps : List (List Tap)) : Type 0 where
   pub gathered : IsGathered given works outcome
   pub some_shard : 0 < given.shards
   pub named : (shard : ℕ) (book : Book) → slice_get outcome.books shard ≡ Some book
       → All IsNamed book.entries
   pub whole : All WasNotCut outcome.ends
-  pub cuts : All HasOneReading given.uploads
-  pub each : AreGoodTapsOfEach given.uploads taps
+  pub cuts : All HasUniqueParse given.uploads
+  pub each : AreValidTapsOfEach given.uploads taps
 
 module _ (given : Given) (works : List (List Worked)) (outcome : OutcomeView)
-    (taps : List (List Tap)) (all : Stands given works outcome taps) where
+    (taps : List (List Tap)) (all : Represents given works outcome taps) where
   pub each_work : All (IsWorkOf given.shards given.uploads) (all_works works)
   each_work = All-flat (IsWorkOf given.shards given.uploads) works all.gathered.each
 
@@ -326,12 +326,12 @@ mine_at token (ts ∷ taps) zero es at = let same : own token (map unanswered ts
 mine_at token (ts ∷ taps) (suc upload) es at = mine_at token taps upload es at
 
 mine_none : (token : Token) (taps : List (List Tap))
-    → ((place : ℕ) (es : List Entry) → slice_get (all_mine token taps) place ≡ Some es → es ≡ [])
+    → ((position : ℕ) (es : List Entry) → slice_get (all_mine token taps) position ≡ Some es → es ≡ [])
     → (upload : ℕ) → mine_of token taps upload ≡ []
 mine_none token [] none upload = own_none token
 mine_none token (ts ∷ taps) none zero = none 0 (own token (map unanswered ts)) refl
 mine_none token (ts ∷ taps) none (suc upload) =
-    mine_none token taps (λ place es at. none (suc place) es at) upload
+    mine_none token taps (λ position es at. none (suc position) es at) upload
 
 mine_within : (token : Token) (taps : List (List Tap)) (upload : ℕ) (first : Entry)
     (rest : List Entry) → mine_of token taps upload ≡ first ∷ rest → upload < length taps
@@ -369,7 +369,7 @@ a_tap token (tap ∷ taps) first rest names is =
         (x, (suc there.0, omega (arith, there.1), there.2), token_is)
 
 module _ (given : Given) (works : List (List Worked)) (outcome : OutcomeView)
-    (taps : List (List Tap)) (all : Stands given works outcome taps) (apart : AreApart taps)
+    (taps : List (List Tap)) (all : Represents given works outcome taps) (apart : AreApart taps)
     (token : Token) where
   -- no other upload than one has taps of the token
   only_one : (one other : ℕ) (first : Entry) (rest : List Entry)
@@ -449,7 +449,7 @@ module _ (given : Given) (works : List (List Worked)) (outcome : OutcomeView)
       within = λ k d few. omega
           (arith, b.signed k d few, length-map works (map (λ (w : Worked). w.upload)))
 
-      by_taps : ((place : ℕ) (es : List Entry) → slice_get (all_mine token taps) place ≡ Some es
+      by_taps : ((position : ℕ) (es : List Entry) → slice_get (all_mine token taps) position ≡ Some es
           → es ≡ []) ⊎ HasOne (all_mine token taps)
           → flat_map (λ v. bares token v.entries) b.visits
           ≡ flat_map (λ es. es) (all_mine token taps)
@@ -458,25 +458,25 @@ module _ (given : Given) (works : List (List Worked)) (outcome : OutcomeView)
           (map (map (λ w. w.upload)) works) b.visits (mine_none token taps none) within theirs
           ∙ sym (flat_none (all_mine token taps) none)
       by_taps (inr one) =
-          let is : mine_of token taps one.place ≡ one.first ∷ one.rest =
-          sym (mine_at token taps one.place (one.first ∷ one.rest) one.at) in
-          let others : (n : ℕ) → n ≢ one.place → mine_of token taps n ≡ [] =
-          λ n ne. only_one one.place n one.first one.rest is ne in
-          let few : one.place < length given.uploads =
+          let is : mine_of token taps one.position ≡ one.first ∷ one.rest =
+          sym (mine_at token taps one.position (one.first ∷ one.rest) one.at) in
+          let others : (n : ℕ) → n ≢ one.position → mine_of token taps n ≡ [] =
+          λ n ne. only_one one.position n one.first one.rest is ne in
+          let few : one.position < length given.uploads =
           omega (
             arith,
-            mine_within token taps one.place one.first one.rest is,
+            mine_within token taps one.position one.first one.rest is,
             each_length given.uploads taps all.each,
           ) in
-          let least = drawn_count (all_works works) one.place
-          (ended given works outcome taps all one.place few) in
-          let most = all.gathered.once one.place in
-          let once : count one.place (flat_map (λ ns. ns) (map (map (λ w. w.upload)) works)) ≡ 1 =
-          ap (count one.place) (flat_uploads works) ∙ omega (arith, least, most) in
-          done_alone (λ v. v.worker) (λ v. bares token v.entries) (mine_of token taps) one.place
+          let least = drawn_count (all_works works) one.position
+          (ended given works outcome taps all one.position few) in
+          let most = all.gathered.once one.position in
+          let once : count one.position (flat_map (λ ns. ns) (map (map (λ w. w.upload)) works)) ≡ 1 =
+          ap (count one.position) (flat_uploads works) ∙ omega (arith, least, most) in
+          done_alone (λ v. v.worker) (λ v. bares token v.entries) (mine_of token taps) one.position
           (map (map (λ w. w.upload)) works) b.visits others once within theirs
           ∙ is ∙ sym
-          (flat_alone (all_mine token taps) one.place (one.first ∷ one.rest) one.at
+          (flat_alone (all_mine token taps) one.position (one.first ∷ one.rest) one.at
           (λ other es there ne. mine_at token taps other es there ∙ others other ne))
 
   -- the token's entries in the book of its shard are those of the plain history

@@ -88,11 +88,11 @@ module _ {A : Type 0} (mine : ℕ → List A) (only : ℕ) (none : (n : ℕ) →
 
 -- of several lists one has the number, and the others do not
 pub record HasAlone (only : ℕ) (lists : List (List ℕ)) : Type 0 where
-  pub place : ℕ
+  pub position : ℕ
   pub list : List ℕ
-  pub at : slice_get lists place ≡ Some list
+  pub at : slice_get lists position ≡ Some list
   pub there : count only list ≡ 1
-  pub others : (other : ℕ) (ns : List ℕ) → slice_get lists other ≡ Some ns → other ≢ place
+  pub others : (other : ℕ) (ns : List ℕ) → slice_get lists other ≡ Some ns → other ≢ position
       → count only ns ≡ 0
 
 none_at : (only : ℕ) (lists : List (List ℕ)) → count only (flat_map (λ ns. ns) lists) ≡ 0
@@ -130,7 +130,7 @@ has_alone only (l ∷ lists) h = by_count (count only l) refl (has_alone only li
     by_count zero e more =
         let rest = more (omega (arith, both, e)) in
         record {
-          place = suc rest.place;
+          position = suc rest.position;
           list = rest.list;
           at = rest.at;
           there =
@@ -139,11 +139,11 @@ has_alone only (l ∷ lists) h = by_count (count only l) refl (has_alone only li
         }
       where
         others : (rest : HasAlone only lists) (other : ℕ) (ns : List ℕ)
-            → slice_get (l ∷ lists) other ≡ Some ns → other ≢ suc rest.place → count only ns ≡ 0
+            → slice_get (l ∷ lists) other ≡ Some ns → other ≢ suc rest.position → count only ns ≡ 0
         others rest zero ns at apart = let same : l ≡ ns = cc in ap (count only) (sym same) ∙ e
         others rest (suc other) ns at apart = rest.others other ns at (λ same. apart (ap suc same))
     by_count (suc k) e more =
-        record { place = 0; list = l; at = refl; there = omega (arith, both, e); others = others }
+        record { position = 0; list = l; at = refl; there = omega (arith, both, e); others = others }
       where
         others : (other : ℕ) (ns : List ℕ) → slice_get (l ∷ lists) other ≡ Some ns → other ≢ 0
             → count only ns ≡ 0
@@ -226,12 +226,12 @@ module _ {V A : Type 0} (worker : V → ℕ) (part : V → List A) where
       → flat_map part visits ≡ mine only
   done_alone mine only works visits none once within theirs =
       let alone = has_alone only works once in
-      let idle = no_part (λ w. w ≢ alone.place) (length works) visits within (λ w few apart.
+      let idle = no_part (λ w. w ≢ alone.position) (length works) visits within (λ w few apart.
       let at = slice_get-get_or works w [] few in
       theirs w (get_or works w []) at
       ∙ not_there mine only none (get_or works w [])
       (alone.others w (get_or works w []) at apart)) in
-      of_worker alone.place visits idle ∙ theirs alone.place alone.list alone.at
+      of_worker alone.position visits idle ∙ theirs alone.position alone.list alone.at
       ∙ once_there mine only none alone.list alone.there
 
   -- if no number has a part, nothing was done
@@ -250,11 +250,11 @@ module _ {V A : Type 0} (worker : V → ℕ) (part : V → List A) where
       no_parts (n ∷ ns) = ap (λ xs. xs ++ flat_map mine ns) (none n) ∙ no_parts ns
 
 -- of lists of which all but one are empty, that one is all
-pub flat_alone : {A : Type 0} (lists : List (List A)) (place : ℕ) (list : List A)
-    → slice_get lists place ≡ Some list
-    → ((other : ℕ) (xs : List A) → slice_get lists other ≡ Some xs → other ≢ place → xs ≡ [])
+pub flat_alone : {A : Type 0} (lists : List (List A)) (position : ℕ) (list : List A)
+    → slice_get lists position ≡ Some list
+    → ((other : ℕ) (xs : List A) → slice_get lists other ≡ Some xs → other ≢ position → xs ≡ [])
     → flat_map (λ xs. xs) lists ≡ list
-flat_alone [] place list at none = absurd (cc)
+flat_alone [] position list at none = absurd (cc)
 flat_alone {A = A} (l ∷ lists) zero list at none =
     let same : l ≡ list = cc in
     ap (λ xs. l ++ xs)
@@ -268,9 +268,9 @@ flat_alone {A = A} (l ∷ lists) zero list at none =
     rest (x ∷ lists) h =
         ap (λ xs. xs ++ flat_map (λ ys. ys) lists) (h 0 x refl)
         ∙ rest lists (λ other. h (suc other))
-flat_alone (l ∷ lists) (suc place) list at none =
+flat_alone (l ∷ lists) (suc position) list at none =
     ap (λ xs. xs ++ flat_map (λ ys. ys) lists) (none 0 l refl (λ e. absurd (omega (arith, e))))
-    ∙ flat_alone lists place list at
+    ∙ flat_alone lists position list at
     (λ other xs there apart. none (suc other) xs there (λ e. apart (omega (arith, e))))
 
 pub flat_none : {A : Type 0} (lists : List (List A))
@@ -283,25 +283,25 @@ flat_none (x ∷ lists) h =
 
 -- all of some lists are empty, or one is not
 pub record HasOne {A : Type 0} (lists : List (List A)) : Type 0 where
-  pub place : ℕ
+  pub position : ℕ
   pub first : A
   pub rest : List A
-  pub at : slice_get lists place ≡ Some (first ∷ rest)
+  pub at : slice_get lists position ≡ Some (first ∷ rest)
 
 pub none_or_one : {A : Type 0} (lists : List (List A))
-    → ((place : ℕ) (list : List A) → slice_get lists place ≡ Some list → list ≡ []) ⊎ HasOne lists
-none_or_one [] = inl (λ place list at. absurd (cc))
-none_or_one ((x ∷ xs) ∷ lists) = inr (record { place = 0; first = x; rest = xs; at = refl })
+    → ((position : ℕ) (list : List A) → slice_get lists position ≡ Some list → list ≡ []) ⊎ HasOne lists
+none_or_one [] = inl (λ position list at. absurd (cc))
+none_or_one ((x ∷ xs) ∷ lists) = inr (record { position = 0; first = x; rest = xs; at = refl })
 none_or_one {A = A} ([] ∷ lists) = by_rest (none_or_one lists)
   where
-    by_rest : ((place : ℕ) (list : List A) → slice_get lists place ≡ Some list → list ≡ [])
+    by_rest : ((position : ℕ) (list : List A) → slice_get lists position ≡ Some list → list ≡ [])
         ⊎ HasOne lists
-        → ((place : ℕ) (list : List A) → slice_get ([] ∷ lists) place ≡ Some list → list ≡ [])
+        → ((position : ℕ) (list : List A) → slice_get ([] ∷ lists) position ≡ Some list → list ≡ [])
         ⊎ HasOne ([] ∷ lists)
     by_rest (inl none) = inl all
       where
-        all : (place : ℕ) (list : List A) → slice_get ([] ∷ lists) place ≡ Some list → list ≡ []
+        all : (position : ℕ) (list : List A) → slice_get ([] ∷ lists) position ≡ Some list → list ≡ []
         all zero list at = let e : [] ≡ list = cc in sym e
-        all (suc place) list at = none place list at
+        all (suc position) list at = none position list at
     by_rest (inr one) = inr
-        (record { place = suc one.place; first = one.first; rest = one.rest; at = one.at })
+        (record { position = suc one.position; first = one.first; rest = one.rest; at = one.at })

@@ -11,7 +11,7 @@ use Rattle.histories.specs.Sums.{sums}
 use Rattle.tap_views.specs.declared.upload_end.UploadEnd.{UploadEnd}
 use Rattle.tap_views.specs.UploadEnds.{end_by, IsPlainEnd, ArePlainEnds}
 use Rattle.report_texts.specs.OverHistory.{IsReportOver}
-use Rattle.tap_views.specs.Files.{IsEndAfterBatches, HasOneReading}
+use Rattle.tap_views.specs.Files.{IsEndAfterBatches, HasUniqueParse}
 use Rattle.tap_views.proofs.Deciding.{same_fault}
 use Rattle.report_texts.specs.Report.{report}
 
@@ -23,11 +23,11 @@ same_reported file rest None (Some (offset, fault)) one two =
 same_reported file rest (Some (offset, fault)) None one two =
     absurd (omega (arith, ap length two, one.some_byte))
 same_reported file rest (Some (offset, fault)) (Some (offset', other)) one two =
-    ap (λ n. Some (n, fault)) (omega (arith, one.stands_at, two.stands_at))
+    ap (λ n. Some (n, fault)) (omega (arith, one.holds_at, two.holds_at))
     ∙ ap (λ f. Some (offset', f)) (same_fault rest fault other one.is_fault two.is_fault)
 
 -- an upload has one plain end
-same_end : (file : List ℕ) (end other : UploadEnd) → HasOneReading file → IsPlainEnd file end
+same_end : (file : List ℕ) (end other : UploadEnd) → HasUniqueParse file → IsPlainEnd file end
     → IsPlainEnd file other → end ≡ other
 same_end file end other cut one two =
     let same = cut one.batches two.batches one.rest two.rest one.is_file two.is_file in
@@ -38,7 +38,7 @@ same_end file end other cut one two =
     (same_reported file two.rest one.fault two.fault (subst F same.1 one.is_fault) two.is_fault)
     ∙ sym two.ended
 
-pub same_ends : (files : List (List ℕ)) (ends others : List UploadEnd) → All HasOneReading files
+pub same_ends : (files : List (List ℕ)) (ends others : List UploadEnd) → All HasUniqueParse files
     → ArePlainEnds files ends → ArePlainEnds files others → ends ≡ others
 same_ends [] [] [] cuts one two = refl
 same_ends [] [] (o ∷ others) cuts one two = absurd two
@@ -46,13 +46,13 @@ same_ends [] (e ∷ ends) others cuts one two = absurd one
 same_ends (file ∷ files) [] others cuts one two = absurd one
 same_ends (file ∷ files) (e ∷ ends) [] cuts one two = absurd two
 same_ends (file ∷ files) (e ∷ ends) (o ∷ others) cuts one two =
-    ap (λ x. x ∷ ends) (same_end file e o (All-head HasOneReading file files cuts) one.0 two.0)
+    ap (λ x. x ∷ ends) (same_end file e o (All-head HasUniqueParse file files cuts) one.0 two.0)
     ∙ ap (λ xs. o ∷ xs)
-    (same_ends files ends others (All-tail HasOneReading file files cuts) one.1 two.1)
+    (same_ends files ends others (All-tail HasUniqueParse file files cuts) one.1 two.1)
 
 -- uploads have one report over a history
 pub one_report : (files : List (List ℕ)) (history : List Entry) (text other : List ℕ)
-    → All HasOneReading files → IsReportOver files history text → IsReportOver files history other
+    → All HasUniqueParse files → IsReportOver files history text → IsReportOver files history other
     → text ≡ other
 one_report files history text other cuts one two =
     one.shown ∙ ap

@@ -15,13 +15,13 @@ use Rattle.histories.specs.SumsByKey.{sums_by_validator, sums_by_token}
 use Rattle.histories.specs.Keys.{same_token}
 use Rattle.histories.specs.Sums.{sums}
 use Rattle.histories.proofs.OwnEntries.{own-append}
-use Rattle.histories.proofs.SameEntries.{RisingNumbers, RisingTokens, same_by_token}
+use Rattle.histories.proofs.SameEntries.{IncreasingNumbers, IncreasingTokens, same_by_token}
 use Rattle.histories.proofs.SameEntries.{same_by_validator, same_entries, same_sums}
 use Rattle.tap_views.specs.Token.{bytes_of}
 use Rattle.fare_service.specs.Outcomes.{OutcomeView}
 use Rattle.fare_service.specs.Plain.{IsUncutGathering}
 use Rattle.report_texts.specs.OverHistory.{IsReportOver}
-use Rattle.tap_views.specs.Files.{HasOneReading}
+use Rattle.tap_views.specs.Files.{HasUniqueParse}
 use Rattle.fare_service.specs.Printed.{report_of, report_with}
 use Rattle.report_texts.specs.Report.{report}
 use Rattle.tap_views.specs.declared.upload_end.UploadEnd.{UploadEnd}
@@ -68,7 +68,7 @@ AllHere outcome = (shard : ℕ) (book : Book) → slice_get outcome.books shard 
 
 module _ (given : Given) (outcome : OutcomeView) (history : List Entry)
     (some : 0 < length outcome.books) (named : AllNamed outcome) (here : AllHere outcome)
-    (cuts : All HasOneReading given.uploads)
+    (cuts : All HasUniqueParse given.uploads)
     (w : IsUncutGathering given.table given.shards given.uploads outcome history) where
   -- the entries of a token in all books are those of the plain history
   pub own_all : (token : Token) → own token (all_entries outcome.books) ≡ own token history
@@ -80,20 +80,20 @@ module _ (given : Given) (outcome : OutcomeView) (history : List Entry)
       let book = get_or outcome.books shard empty in
       own_books token outcome.books
       ∙ flat_alone (map (λ b. own token b.entries) outcome.books) shard (own token book.entries)
-      (at_place shard book there) elsewhere
+      (at_position shard book there) elsewhere
       ∙ same_own given outcome history some named cuts w token book there
     where
-      at_place : (shard : ℕ) (book : Book) → slice_get outcome.books shard ≡ Some book
+      at_position : (shard : ℕ) (book : Book) → slice_get outcome.books shard ≡ Some book
           → slice_get (map (λ b. own token b.entries) outcome.books) shard
           ≡ Some (own token book.entries)
-      at_place shard book there = map_place outcome.books shard there
+      at_position shard book there = map_position outcome.books shard there
         where
-          map_place : (books : List Book) (n : ℕ) → slice_get books n ≡ Some book
+          map_position : (books : List Book) (n : ℕ) → slice_get books n ≡ Some book
               → slice_get (map (λ b. own token b.entries) books) n ≡ Some (own token book.entries)
-          map_place [] n e = absurd (cc)
-          map_place (b ∷ books) zero e = let same : b ≡ book = cc in
+          map_position [] n e = absurd (cc)
+          map_position (b ∷ books) zero e = let same : b ≡ book = cc in
               ap (λ x. Some (own token x.entries)) same
-          map_place (b ∷ books) (suc n) e = map_place books n e
+          map_position (b ∷ books) (suc n) e = map_position books n e
 
       elsewhere : (other : ℕ) (es : List Entry)
           → slice_get (map (λ b. own token b.entries) outcome.books) other ≡ Some es
@@ -112,7 +112,7 @@ module _ (given : Given) (outcome : OutcomeView) (history : List Entry)
           (λ e. apart (sym e))
 
   -- with any ends of uploads, the sums of the report are those of the plain history
-  pub same_sums_with : RisingNumbers → RisingTokens → (ends : List UploadEnd)
+  pub same_sums_with : IncreasingNumbers → IncreasingTokens → (ends : List UploadEnd)
       → report_with ends outcome
       ≡ report ends (sums history) (sums_by_validator history) (sums_by_token history)
   same_sums_with numbers names ends =
@@ -123,7 +123,7 @@ module _ (given : Given) (outcome : OutcomeView) (history : List Entry)
       (same_by_token numbers names entries history own_all i)
 
   -- the report is that over the plain history
-  pub same_report : RisingNumbers → RisingTokens
+  pub same_report : IncreasingNumbers → IncreasingTokens
       → IsReportOver given.uploads history (report_of outcome)
   same_report numbers names =
       record {

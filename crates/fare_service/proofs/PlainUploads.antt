@@ -15,14 +15,14 @@ use Rattle.histories.specs.Statement.{IsStatement}
 use Rattle.histories.specs.Sums.{sums}
 use Rattle.tap_views.specs.Token.{bytes_of}
 use Rattle.fare_service.specs.Outcomes.{OutcomeView}
-use Rattle.tap_views.specs.Files.{HasOneReading}
+use Rattle.tap_views.specs.Files.{HasUniqueParse}
 use Rattle.histories.specs.Plain.{IsNamed}
 use Rattle.fare_service.specs.Plain.{IsUncutGathering}
 use Rattle.report_texts.specs.OverHistory.{IsStatementOver}
 use Rattle.fare_service.specs.Printed.{IsStatementOf}
 use Rattle.fare_texts.specs.StatementText.{IsStatementText}
 use Rattle.fare_service.proofs.HeadlineLemmas.{gathered_of}
-use Rattle.fare_service.proofs.PlainBooks.{Stands, own_plain}
+use Rattle.fare_service.proofs.PlainBooks.{Represents, own_plain}
 use Rattle.fare_service.proofs.GatheredWork.{Given}
 
 -- ---- statements
@@ -30,11 +30,11 @@ abbrev pub AllNamed : OutcomeView → Type 0
 AllNamed outcome = (shard : ℕ) (book : Book) → slice_get outcome.books shard ≡ Some book
     → All IsNamed book.entries
 
-pub stands : (given : Given) (outcome : OutcomeView) (history : List Entry)
-    → 0 < length outcome.books → AllNamed outcome → All HasOneReading given.uploads
+pub holds : (given : Given) (outcome : OutcomeView) (history : List Entry)
+    → 0 < length outcome.books → AllNamed outcome → All HasUniqueParse given.uploads
     → (w : IsUncutGathering given.table given.shards given.uploads outcome history)
-    → Stands given w.works outcome w.plain_is.taps
-stands given outcome history some named cuts w = record {
+    → Represents given w.works outcome w.plain_is.taps
+holds given outcome history some named cuts w = record {
   gathered = gathered_of given w.works outcome w.headline;
   some_shard = omega (arith, some, w.headline.shards_are);
   named = named;
@@ -45,7 +45,7 @@ stands given outcome history some named cuts w = record {
 
 -- the entries of a token in the book of its shard are those of the plain history
 pub same_own : (given : Given) (outcome : OutcomeView) (history : List Entry)
-    → 0 < length outcome.books → AllNamed outcome → All HasOneReading given.uploads
+    → 0 < length outcome.books → AllNamed outcome → All HasUniqueParse given.uploads
     → IsUncutGathering given.table given.shards given.uploads outcome history
     → (token : Token) (book : Book)
     → slice_get outcome.books (shard_of_token (bytes_of token) (length outcome.books)) ≡ Some book
@@ -53,7 +53,7 @@ pub same_own : (given : Given) (outcome : OutcomeView) (history : List Entry)
 same_own given outcome history some named cuts w token book at =
     let S : ℕ → Type 0 =
     λ n. slice_get outcome.books (shard_of_token (bytes_of token) n) ≡ Some book in
-    own_plain given w.works outcome w.plain_is.taps (stands given outcome history some named cuts w)
+    own_plain given w.works outcome w.plain_is.taps (holds given outcome history some named cuts w)
     w.apart token book (subst S w.headline.shards_are at)
     ∙ ap (own token) (sym w.plain_is.entries)
 
@@ -72,7 +72,7 @@ statement_same fares xs ys token statement same is = record {
 
 -- the text of a token's statement is that over the plain history
 pub same_statement : (given : Given) (outcome : OutcomeView) (history : List Entry)
-    → 0 < length outcome.books → AllNamed outcome → All HasOneReading given.uploads
+    → 0 < length outcome.books → AllNamed outcome → All HasUniqueParse given.uploads
     → IsUncutGathering given.table given.shards given.uploads outcome history
     → (token : Token) (text : List ℕ)
     → IsStatementOf outcome token text ↔ IsStatementOver given.table history token text

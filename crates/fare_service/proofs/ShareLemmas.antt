@@ -65,7 +65,7 @@ pub worked_one : (service : ServiceView) (old new : ShareView) (w : Worked) → 
     → HasVisited (shards_of service) old.passes new.passes old.totals new.totals w.visits
     → new.run ≡ with_loads old.run (loads_from (origin_at service.uploads w.upload) w.file)
     → HasWorked service old new (w ∷ [])
-worked_one service old new w is claims drawn done made lent =
+worked_one service old new w is claims drawn done made provided =
     let loads = loads_from (origin_at service.uploads w.upload) w.file in
     let P : List RunVisit → Type 0 =
     λ vs. HasVisited (shards_of service) old.passes new.passes old.totals new.totals vs in
@@ -75,7 +75,7 @@ worked_one service old new w is claims drawn done made lent =
       drawn = drawn;
       done = done;
       made = subst P (sym (append-nil w.visits)) made;
-      loads = lent ∙ ap (with_loads old.run) (sym (append-nil loads));
+      loads = provided ∙ ap (with_loads old.run) (sym (append-nil loads));
     }
 
 -- some uploads, and then others
@@ -155,10 +155,10 @@ pub next_done : (service : ServiceView) (drawer drawer' : DrawerView)
     → HasWorked service (holding drawer passes totals done run)
     (holding drawer' passes' totals' done' run') (worked upload file end visits ∷ [])
 next_done service drawer drawer' passes passes' totals totals' done done' upload file end visits
-    run run' claims drawn more made is lent =
+    run run' claims drawn more made is provided =
     worked_one service (holding drawer passes totals done run)
     (holding drawer' passes' totals' done' run') (worked upload file end visits) is claims drawn
-    more made lent
+    more made provided
 
 pub next_share : (service : ServiceView) (drawer drawer' : DrawerView)
     (passes passes' : List PassView) (totals totals' : Sums) (done done' : List Done) (upload : ℕ)
@@ -173,13 +173,13 @@ pub next_share : (service : ServiceView) (drawer drawer' : DrawerView)
     → run' ≡ with_loads run (loads_from (origin_at service.uploads upload) file)
     → IsShareOf service (holding drawer' passes' totals' done' run')
 next_share service drawer drawer' passes passes' totals totals' done done' upload file end run run'
-    old is share claims drawn drawn_from more (visits, made, did) few lent =
+    old is share claims drawn drawn_from more (visits, made, did) few provided =
     let P : ShareView → Type 0 = IsShareOf service in
     share_more service (holding drawer passes totals done run)
     (holding drawer' passes' totals' done' run')
     (worked upload file end visits ∷ []) (subst P (sym is) share)
     (next_done service drawer drawer' passes passes' totals totals' done done' upload file end
-    visits run run' claims drawn more made did lent) drawn_from (omega (arith, few))
+    visits run run' claims drawn more made did provided) drawn_from (omega (arith, few))
 
 -- passes of which none made a visit
 pub own_none : {A : Type 0} (f : A → PassView) → ((x : A) → made_visits (f x).marks ≡ [])

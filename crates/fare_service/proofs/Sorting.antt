@@ -11,7 +11,7 @@ use Rattle.histories.specs.Entry.{is_of, own}
 use Rattle.tap_views.specs.Token.{token_cmp, token_eq}
 use Rattle.histories.specs.declared.entry.Entry.{Entry}
 use Rattle.tap_views.specs.declared.token.Token.{Token}
-use Rattle.fare_texts.specs.Lines.{NoFall, NoFallFrom}
+use Rattle.fare_texts.specs.Lines.{Nondecreasing, NondecreasingFrom}
 use Rattle.fare_texts.specs.ByToken.{IsByToken}
 use Rattle.fare_service.specs.inside.Spots.{entry_at_spot, entries_at_spots}
 use Rattle.fare_service.specs.declared.spot.Spot.{Spot}
@@ -21,13 +21,13 @@ use Rattle.shard_book.specs.Book.{Book}
 abbrev pub key : List Book → Spot → Token
 key books spot = (entry_at_spot books spot).token
 
-rise_from : (books : List Book) (first : Spot) (list : List Spot)
+ascend_from : (books : List Book) (first : Spot) (list : List Spot)
     → IsSortedByKey (key books) token_cmp (first ∷ list)
-    → NoFallFrom (key books first) (entries_at_spots books list)
-rise_from books first [] sorted = tt
-rise_from books first (next ∷ list) sorted = (
+    → NondecreasingFrom (key books first) (entries_at_spots books list)
+ascend_from books first [] sorted = tt
+ascend_from books first (next ∷ list) sorted = (
   sorted 0 first (omega arith) (omega arith),
-  rise_from books next list (λ k d low within.
+  ascend_from books next list (λ k d low within.
       let step : suc k + 1 ≡ suc (k + 1) = omega arith in
       subst (λ n. is_lt
       (token_cmp (key books (get_or (first ∷ next ∷ list) n d))
@@ -35,10 +35,10 @@ rise_from books first (next ∷ list) sorted = (
       (sorted (suc k) d (omega arith) (omega (arith, within)))),
 )
 
-no_fall : (books : List Book) (list : List Spot) → IsSortedByKey (key books) token_cmp list
-    → NoFall (entries_at_spots books list)
-no_fall books [] sorted = tt
-no_fall books (first ∷ list) sorted = rise_from books first list sorted
+nondecreasing : (books : List Book) (list : List Spot) → IsSortedByKey (key books) token_cmp list
+    → Nondecreasing (entries_at_spots books list)
+nondecreasing books [] sorted = tt
+nondecreasing books (first ∷ list) sorted = ascend_from books first list sorted
 
 -- tokens tie in the order if they are the same
 tied : (a b : Token) → (not (is_lt (token_cmp a b)) && not (is_lt (token_cmp b a))) ≡ token_eq b a
@@ -131,6 +131,6 @@ pub sorted_by_token : (books : List Book) (old new : List Spot) → IsPermutatio
     → IsByToken (entries_at_spots books old) (entries_at_spots books new)
 sorted_by_token books old new moved sorted stable = record {
   moved = IsPermutation-map (entry_at_spot books) old new moved;
-  no_fall = no_fall books new sorted;
+  nondecreasing = nondecreasing books new sorted;
   kept = λ token. kept books token old new moved stable;
 }

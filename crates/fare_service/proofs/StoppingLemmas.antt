@@ -16,7 +16,7 @@ use Rattle.fare_service.specs.inside.Shares.{worked}
 use Rattle.fare_service.specs.Lending.{origin_at}
 use Rattle.world.specs.Origins.{loads_from, with_loads}
 use Rattle.world.specs.Run.{Run}
-use Rattle.fare_service.specs.Stopping.{SomeFull, MayGoOn, StoppedWell, WasCut}
+use Rattle.fare_service.specs.Stopping.{SomeFull, MayGoOn, StoppedCleanly, WasCut}
 use Rattle.fare_service.proofs.ShareLemmas.{holding, next_done, worked_none}
 use Rattle.fare_service.proofs.ShareLemmas.{worked_more}
 
@@ -48,7 +48,7 @@ going_more service old a b w (more, worked, all) one full goes = (
 pub stopped_none : (service : ServiceView) (old a b : ShareView) → Going service old a
     → HasWorked service a b [] → (SomeFull a.passes → SomeFull b.passes)
     → b.drawer.seen ≡ length service.uploads
-    → StoppedWell service old b
+    → StoppedCleanly service old b
 stopped_none service old a b (more, worked, all) none full seen = record {
   before = more;
   last = None;
@@ -60,7 +60,7 @@ stopped_none service old a b (more, worked, all) none full seen = record {
 -- the last upload was cut
 pub stopped_cut : (service : ServiceView) (old a b : ShareView) (w : Worked) → Going service old a
     → HasWorked service a b (w ∷ []) → (SomeFull a.passes → SomeFull b.passes) → WasCut w.end
-    → StoppedWell service old b
+    → StoppedCleanly service old b
 stopped_cut service old a b w (more, worked, all) one full cut = record {
   before = more;
   last = Some w;
@@ -69,7 +69,7 @@ stopped_cut service old a b w (more, worked, all) one full cut = record {
   stopped = cut;
 }
 
-pub stopped_went_on : (service : ServiceView) (old new : ShareView) → StoppedWell service old new
+pub stopped_went_on : (service : ServiceView) (old new : ShareView) → StoppedCleanly service old new
     → WentOn service old new
 stopped_went_on service old new s = (s.before ++ option_to_list s.last, s.worked)
 
@@ -90,12 +90,12 @@ module _ (service : ServiceView) (old : ShareView) (drawer drawer' : DrawerView)
     (did : (visits : List RunVisit)
     × HasVisited (shards_of service) passes passes' totals totals' visits
     × IsWorked service (worked next.upload file next.end visits))
-    (lent : run' ≡ with_loads run (loads_from (origin_at service.uploads next.upload) file))
+    (provided : run' ≡ with_loads run (loads_from (origin_at service.uploads next.upload) file))
     (full : SomeFull passes → SomeFull passes') where
   one : HasWorked service (holding drawer passes totals done run)
       (holding drawer' passes' totals' done' run') (worked next.upload file next.end did.0 ∷ [])
   one = next_done service drawer drawer' passes passes' totals totals' done done' next.upload file
-      next.end did.0 run run' claims drawn more did.1 did.2 lent
+      next.end did.0 run run' claims drawn more did.1 did.2 provided
 
   pub going_next : WasNotCut next.end ⊎ SomeFull passes'
       → Going service old (holding drawer' passes' totals' done' run')
@@ -104,7 +104,7 @@ module _ (service : ServiceView) (old : ShareView) (drawer drawer' : DrawerView)
       one full goes
 
   pub cut_next : WasCut next.end
-      → StoppedWell service old (holding drawer' passes' totals' done' run')
+      → StoppedCleanly service old (holding drawer' passes' totals' done' run')
   cut_next cut = stopped_cut service old (holding drawer passes totals done run)
       (holding drawer' passes' totals' done' run') (worked next.upload file next.end did.0) going
       one full cut
@@ -120,7 +120,7 @@ module _ (service : ServiceView) (drawer drawer' : DrawerView) (passes : List Pa
 
   pub none_next : (old : ShareView) → Going service old (holding drawer passes totals done run)
       → drawer'.seen ≡ length service.uploads
-      → StoppedWell service old (holding drawer' passes totals done run)
+      → StoppedCleanly service old (holding drawer' passes totals done run)
   none_next old going seen =
       stopped_none service old (holding drawer passes totals done run)
       (holding drawer' passes totals done run) going stays (λ h. h) seen

@@ -12,7 +12,7 @@ use Rattle.std.proofs.lemmas.Slice.Zip.{AllZip-long}
 use Rattle.tap_views.specs.Layout.{Tap}
 use Rattle.tap_views.specs.Files.{IsFile}
 use Rattle.tap_views.specs.Shards.{shard_of_token, run_of}
-use Rattle.tap_views.proofs.ReadingLemmas.{batch_room}
+use Rattle.tap_views.proofs.ParseLemmas.{batch_room}
 use Rattle.histories.specs.Entry.{IsEntryOf}
 use Rattle.fare_service.specs.Runs.{PostedRun, posted_run, if_any, runs_below, runs_of, RunVisit}
 use Rattle.fare_service.specs.Runs.{IsEntered, run_of_visit, ArePostedWhole, AreCut, entries_of}

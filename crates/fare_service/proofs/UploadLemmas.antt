@@ -48,12 +48,12 @@ by_end : (service : ServiceView) (upload : ℕ) (end : UploadEnd) (file : List �
     → IsFile file batches rest → HasVisited (shards_of service) p q s t visits
     → IsEndOf (shards_of service) file batches rest visits end
     → Worked_as service upload file end p q s t
-by_end service upload end file batches rest visits p q s t within lent is made ended = (
+by_end service upload end file batches rest visits p q s t within provided is made ended = (
   visits,
   made,
   record {
     within = within;
-    from = lent;
+    from = provided;
     batches = batches;
     rest = rest;
     is_file = is;
@@ -67,11 +67,11 @@ pub upload_whole : (service : ServiceView) (upload taps : ℕ) (found : Option (
     → upload < length service.uploads → IsFrom (origin_at service.uploads upload) file
     → Ended (shards_of service) file p q s t r → r ≡ Ok found → taps ≡ t.taps - s.taps
     → Worked_as service upload file (end_by taps found) p q s t
-upload_whole service upload taps found file p q s t r within lent ended e counted =
+upload_whole service upload taps found file p q s t r within provided ended e counted =
     let P : Result (Option (ℕ × LayoutFault)) Stop → Type 0 =
     Ended (shards_of service) file p q s t in
     let (batches, rest, is, (more, made, posted), fault) = subst P e ended in
-    by_end service upload (end_by taps found) file batches rest more p q s t within lent is made
+    by_end service upload (end_by taps found) file batches rest more p q s t within provided is made
     (ended_so batches rest more made posted found fault)
   where
     ended_so : (batches : List (List Tap)) (rest : List ℕ) (more : List RunVisit)
@@ -89,9 +89,9 @@ pub upload_cut : (service : ServiceView) (upload taps : ℕ) (stop : Stop) (file
     → upload < length service.uploads → IsFrom (origin_at service.uploads upload) file
     → Ended (shards_of service) file p q s t r → r ≡ Err stop → taps ≡ t.taps - s.taps
     → Worked_as service upload file (Cut taps) p q s t
-upload_cut service upload taps stop file p q s t r within lent ended e counted =
+upload_cut service upload taps stop file p q s t r within provided ended e counted =
     let P : Result (Option (ℕ × LayoutFault)) Stop → Type 0 =
     Ended (shards_of service) file p q s t in
     let (batches, rest, is, (more, made, posted), any) = subst P e ended in
-    by_end service upload (Cut taps) file batches rest more p q s t within lent is made
+    by_end service upload (Cut taps) file batches rest more p q s t within provided is made
     (posted, posted_taps_are (shards_of service) p q s t more taps made counted)

@@ -21,7 +21,7 @@ ledger_of_all books first fares list head lines there table by_token along is_he
     let all = all_entries books in
     record {
       first = first;
-      stands_first = there;
+      holds_first = there;
       over = record {
         lines = lines;
         of_each = subst (λ (f : Fares). AreLinesOfEach f all (tokens all) lines) table

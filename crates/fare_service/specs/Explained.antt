@@ -8,5 +8,5 @@ use Rattle.fare_texts.specs.Explained.{IsExplainedOver}
 -- table of the first
 pub record IsExplainedOf (books : List Book) (token : Token) (text : List ℕ) : Type 0 where
   pub first : Book
-  pub stands_first : slice_get books 0 ≡ Some first
+  pub holds_first : slice_get books 0 ≡ Some first
   pub over : IsExplainedOver first.table (all_entries books) token text

@@ -44,11 +44,11 @@ abbrev pub MissesNothing : RunFault → Type 0
 MissesNothing run.Workers = Unit {0}
 MissesNothing run.NoMemory = Unit {0}
 MissesNothing (run.Gather fault) = IsForMemory fault
-MissesNothing (run.Unlent unlent) = Unit {0}
+MissesNothing (run.Unavailable unavailable) = Unit {0}
 
 -- the number of workers is refused first
 abbrev pub IsRunFault : ℕ → RunFault → Type 0
 IsRunFault workers run.Workers = (workers ≡ 0) ⊎ (16 < workers)
 IsRunFault workers run.NoMemory = (0 < workers) × (workers ≤ 16)
 IsRunFault workers (run.Gather fault) = (0 < workers) × (workers ≤ 16)
-IsRunFault workers (run.Unlent unlent) = (0 < workers) × (workers ≤ 16)
+IsRunFault workers (run.Unavailable unavailable) = (0 < workers) × (workers ≤ 16)

@@ -12,11 +12,11 @@ use Rattle.shared_books.specs.Drawing.{NoneTwice}
 use Rattle.tap_views.specs.declared.upload_end.UploadEnd.{UploadEnd}
 use Rattle.tap_views.specs.declared.upload_end.UploadEnd.TheVariants.{Undrawn}
 use Rattle.fare_service.specs.Adding.{AddUp}
-use Rattle.fare_service.specs.Lending.{AreLentAs, origin_at}
+use Rattle.fare_service.specs.Lending.{AreProvidedAs, origin_at}
 use Rattle.fare_service.specs.ServiceView.{ServiceView, shards_of}
 use Rattle.fare_service.specs.ShareView.{ShareView}
 use Rattle.fare_service.specs.Outcomes.{OutcomeView}
-use Rattle.fare_service.specs.Placing.{StandOnce}
+use Rattle.fare_service.specs.Placing.{OccurOnce}
 use Rattle.fare_service.specs.Runs.{entries_to}
 use Rattle.fare_service.specs.Shares.{Worked, all_works, all_visits, IsWorkOf, KeepsWorks}
 use Rattle.fare_service.specs.Shares.{file_at, loads_of}
@@ -48,7 +48,7 @@ end_of upload (w ∷ works) = if w.upload == upload then w.end else end_of uploa
 
 -- What an outcome of files is, under a table and with `shards` shards, by what each worker did. A
 -- field marked `follows` says again, in the subject's words, what the named fields imply. No field
--- says why an upload was cut or left undrawn: see `HaveStopped` and `StoppedWell`.
+-- says why an upload was cut or left undrawn: see `HaveStopped` and `StoppedCleanly`.
 pub record Headline (fares : Fares) (shards : ℕ) (files : List (List ℕ))
     (works : List (List Worked)) (outcome : OutcomeView) : Type 0 where
   -- Each worker posted of the uploads that it drew what their bytes call for, and no upload was
@@ -68,8 +68,8 @@ pub record Headline (fares : Fares) (shards : ℕ) (files : List (List ℕ))
   -- whose history is one thread's, each worker's visits in its own order:
   pub one_thread : EachBook (λ shard book. IsOneThread shard works book.entries) outcome.books
   -- every posted tap is in it once (follows from `worked`, `drawn_once` and `one_thread`),
-  pub stand_once : EachBook
-      (λ shard book. StandOnce shard shards (all_works works) book.entries) outcome.books
+  pub occur_once : EachBook
+      (λ shard book. OccurOnce shard shards (all_works works) book.entries) outcome.books
   -- and each answer and charge is the account rule's for the earlier taps of the token.
   pub legal : EachBook (λ shard book. IsLegal fares book.entries) outcome.books
   -- The totals equal the workers' sums, and the books' and the uploads'. Its fields `books` and
@@ -106,7 +106,7 @@ pub record AreLoaded (uploads : List Origin) (files : List (List ℕ)) (drawn : 
 pub record HasRunOver (fares : Fares) (shards : ℕ) (uploads : List Origin)
     (workers : ℕ) (outcome : OutcomeView) : Type 0 where
   pub files : List (List ℕ)
-  pub lent : AreLentAs uploads files
+  pub provided : AreProvidedAs uploads files
   pub run : HasRun fares shards files workers outcome
   pub loaded : AreLoaded uploads files (drawn_by run.0) outcome.run
 
@@ -115,7 +115,7 @@ pub record HasRunOver (fares : Fares) (shards : ℕ) (uploads : List Origin)
 pub record HasOutcome (service : ServiceView) (shares : List ShareView) (outcome : OutcomeView)
     : Type 0 where
   pub files : List (List ℕ)
-  pub lent : AreLentAs service.uploads files
+  pub provided : AreProvidedAs service.uploads files
   pub works : List (List Worked)
   pub kept : AllZip (KeepsWorks service) shares works
   pub headline : Headline service.table (shards_of service) files works outcome

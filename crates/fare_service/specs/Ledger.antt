@@ -8,5 +8,5 @@ use Rattle.fare_texts.specs.Ledger.{IsLedgerOver}
 -- first
 pub record IsLedgerOfBooks (books : List Book) (only : Option Token) (text : List ℕ) : Type 0 where
   pub first : Book
-  pub stands_first : slice_get books 0 ≡ Some first
+  pub holds_first : slice_get books 0 ≡ Some first
   pub over : IsLedgerOver first.table (all_entries books) only text

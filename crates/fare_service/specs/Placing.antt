@@ -51,7 +51,7 @@ posted_of upload works =
 -- Each entry of a shard's book represents a tap of an upload, and has the fields of its bytes. Of
 -- each upload these are exactly its posted taps of the shard, each once, in the order of the
 -- upload.
-pub record StandOnce (shard shards : ℕ) (works : List Worked) (entries : List Entry) : Type 0 where
+pub record OccurOnce (shard shards : ℕ) (works : List Worked) (entries : List Entry) : Type 0 where
   pub origins : List Origin
   pub fields : AllZip (λ origin entry. IsEntryOf origin.tap entry) origins entries
   pub exactly : (upload : ℕ)

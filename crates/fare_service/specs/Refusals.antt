@@ -2,8 +2,8 @@
 use Rattle.std.specs.Prelude.{◌≡◌, ℕ, List, length, All}
 use Rattle.fare_service.specs.declared.faults.RunFault.{RunFault}
 use Rattle.fare_service.specs.declared.faults.RunFault.TheVariants.{Workers, NoMemory, Gather}
-use Rattle.fare_service.specs.declared.faults.RunFault.TheVariants.{Unlent}
-use Rattle.fare_service.specs.Lending.{IsUnlent}
+use Rattle.fare_service.specs.declared.faults.RunFault.TheVariants.{Unavailable}
+use Rattle.fare_service.specs.Lending.{IsUnavailable}
 use Rattle.fare_service.specs.Closing.{ReportsFirst}
 use Rattle.fare_service.specs.Faults.{IsGatherFault}
 use Rattle.fare_service.specs.ServiceView.{ServiceView, shards_of}
@@ -19,4 +19,4 @@ WasNotGathered service workers (Gather fault) =
     (shares : List ShareView) × (length shares ≡ workers) × All (IsShareOf service) shares
     × IsGatherFault (shards_of service) shares fault
     × ReportsFirst service.books (length service.uploads) shares fault
-WasNotGathered service workers (Unlent unlent) = IsUnlent service.uploads unlent.upload
+WasNotGathered service workers (Unavailable unavailable) = IsUnavailable service.uploads unavailable.upload

@@ -79,7 +79,7 @@ file_at files upload = slice_index_or files upload []
 -- what was done with an upload of these files: its visits and its end are those of its bytes
 pub record IsWorkOf (shards : ℕ) (files : List (List ℕ)) (w : Worked) : Type 0 where
   pub within : w.upload < length files
-  pub lent : w.file ≡ file_at files w.upload
+  pub provided : w.file ≡ file_at files w.upload
   pub batches : List (List Tap)
   pub rest : List ℕ
   pub is_file : IsFile (file_at files w.upload) batches rest

@@ -32,7 +32,7 @@ MayGoOn passes w = WasNotCut w.end ⊎ SomeFull passes
 
 -- A worker went on after these uploads, and stopped at one that was cut; or at none, since all
 -- uploads are drawn.
-pub record StoppedWell (service : ServiceView) (old new : ShareView) : Type 0 where
+pub record StoppedCleanly (service : ServiceView) (old new : ShareView) : Type 0 where
   pub before : List Worked
   pub last : Option Worked
   pub worked : HasWorked service old new (before ++ option_to_list last)

@@ -32,8 +32,8 @@ fn push_book(
         (entries_at_spots books.now list.new.items
         ≡ entries_at_spots books.now list.old.items ++ book.now.entries) }
 {
-    for place in 0..book.len() {
-        let spot = Spot::of(index, place)?;
+    for position in 0..book.len() {
+        let spot = Spot::of(index, position)?;
         list.push(spot)?;
     }
     Ok(())

@@ -4,7 +4,7 @@ ghost use Rattle.std.specs.Prelude.{◌≡◌, ◌<◌, ℕ, List, ◌++◌, IfE
 ghost use Rattle.std.specs.Prelude.{string_bytes};
 ghost use Rattle.std.specs.Io.KnownBytes.{Appends};
 ghost use Rattle.fare_service.specs.Explained.{IsExplainedOf};
-ghost use Rattle.fare_texts.specs.PrintFaults.{KeepsUnlessWrite};
+ghost use Rattle.fare_texts.specs.PrintFaults.{UnchangedUnlessWrite};
 ghost use Rattle.fare_texts.specs.WrittenOut.{Begins};
 ghost use Rattle.fare_texts.specs.declared.print_fault.PrintFault.TheVariants.{Write as ForWrite};
 
@@ -38,10 +38,10 @@ pub fn write_explained<W: Write>(
     requires { 0 < length books.now }
     ensures ok { OnOk result ((text : List ℕ) × IsExplainedOf books.now token text
         × Appends (W.contents out.old) (W.contents out.new) text) }
-    ensures begun { IfErr result (λ fault. fault ≡ ForWrite
+    ensures started { IfErr result (λ fault. fault ≡ ForWrite
         → (text : List ℕ) × IsExplainedOf books.now token text
         × Begins (W.contents out.old) (W.contents out.new) text) }
-    ensures fault { IfErr result (λ fault. KeepsUnlessWrite fault (out.new ≡ out.old)) }
+    ensures fault { IfErr result (λ fault. UnchangedUnlessWrite fault (out.new ≡ out.old)) }
 {
     let mut text = explained_text(alloc, books, token)?;
     pass_on(&mut text, out)?;

@@ -1,6 +1,6 @@
 //! What may keep a service from opening, running or gathering.
 
-use crate::lending::Unlent;
+use crate::lending::Unavailable;
 use std::alloc::AllocError;
 use tap_views::NoMemory;
 
@@ -46,7 +46,7 @@ pub enum RunFault {
     Gather(GatherFault),
     /// An upload was not lent. The other workers' shares were dropped too.
     #[error("{0}")]
-    Unlent(Unlent),
+    Unavailable(Unavailable),
 }
 
 impl From<NoMemory> for OpenFault {

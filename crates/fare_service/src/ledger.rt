@@ -3,7 +3,7 @@
 ghost use Rattle.std.specs.Prelude.{◌≡◌, ◌<◌, ℕ, List, ◌++◌, IfErr, IfOk, OnOk, None, Some};
 ghost use Rattle.std.specs.Prelude.{length, slice_get, string_bytes};
 ghost use Rattle.std.specs.Io.KnownBytes.{Appends};
-ghost use Rattle.fare_texts.specs.PrintFaults.{KeepsUnlessWrite};
+ghost use Rattle.fare_texts.specs.PrintFaults.{UnchangedUnlessWrite};
 ghost use Rattle.fare_texts.specs.WrittenOut.{Begins};
 ghost use Rattle.fare_texts.specs.declared.print_fault.PrintFault.TheVariants.{Write as ForWrite};
 ghost use Rattle.shard_book.specs.Book.{Book, all_entries};
@@ -31,10 +31,10 @@ pub(crate) fn table_of(books: &[ShardBook]) -> &FareTable
 }
 
 /// The text has room for a piece and a line more.
-fn begun(alloc: Global, books: &[ShardBook]) -> Result<(String, Vec<Spot>), NoMemory>
-    ensures head { IfOk result (λ begun. string_bytes begun.0 ≡ head_text) }
+fn started(alloc: Global, books: &[ShardBook]) -> Result<(String, Vec<Spot>), NoMemory>
+    ensures head { IfOk result (λ started. string_bytes started.0 ≡ head_text) }
     ensures entries { IfOk result
-        (λ begun. IsByToken (all_entries books.now) (entries_at_spots books.now begun.1.items)) }
+        (λ started. IsByToken (all_entries books.now) (entries_at_spots books.now started.1.items)) }
 {
     let spots = by_token(alloc, books)?;
     let text = head_with_room(alloc, LINE_ROOM_BYTES)?;
@@ -45,14 +45,14 @@ fn write_all<W: Write>(alloc: Global, books: &[ShardBook], out: &mut W) -> Resul
     requires { 0 < length books.now }
     ensures ok { OnOk result ((text : List ℕ) × IsLedgerOfBooks books.now None text
         × Appends (W.contents out.old) (W.contents out.new) text) }
-    ensures begun { IfErr result (λ fault. fault ≡ ForWrite
+    ensures started { IfErr result (λ fault. fault ≡ ForWrite
         → (text : List ℕ) × IsLedgerOfBooks books.now None text
         × Begins (W.contents out.old) (W.contents out.new) text) }
-    ensures fault { IfErr result (λ fault. KeepsUnlessWrite fault (out.new ≡ out.old)) }
+    ensures fault { IfErr result (λ fault. UnchangedUnlessWrite fault (out.new ≡ out.old)) }
 {
     let table = table_of(books);
     let clock = table.clock(alloc)?;
-    let (mut text, spots) = begun(alloc, books)?;
+    let (mut text, spots) = started(alloc, books)?;
     write_lines(&mut text, table, &clock, books, spots.as_slice(), out)?;
     Ok(())
 }
@@ -76,10 +76,10 @@ fn write_own<W: Write>(
     requires { 0 < length books.now }
     ensures ok { OnOk result ((text : List ℕ) × IsLedgerOfBooks books.now (Some token) text
         × Appends (W.contents out.old) (W.contents out.new) text) }
-    ensures begun { IfErr result (λ fault. fault ≡ ForWrite
+    ensures started { IfErr result (λ fault. fault ≡ ForWrite
         → (text : List ℕ) × IsLedgerOfBooks books.now (Some token) text
         × Begins (W.contents out.old) (W.contents out.new) text) }
-    ensures fault { IfErr result (λ fault. KeepsUnlessWrite fault (out.new ≡ out.old)) }
+    ensures fault { IfErr result (λ fault. UnchangedUnlessWrite fault (out.new ≡ out.old)) }
 {
     let mut text = own_text(alloc, books, token)?;
     pass_on(&mut text, out)?;
@@ -99,10 +99,10 @@ pub fn write_ledger<W: Write>(
     requires { 0 < length books.now }
     ensures ok { OnOk result ((text : List ℕ) × IsLedgerOfBooks books.now only text
         × Appends (W.contents out.old) (W.contents out.new) text) }
-    ensures begun { IfErr result (λ fault. fault ≡ ForWrite
+    ensures started { IfErr result (λ fault. fault ≡ ForWrite
         → (text : List ℕ) × IsLedgerOfBooks books.now only text
         × Begins (W.contents out.old) (W.contents out.new) text) }
-    ensures fault { IfErr result (λ fault. KeepsUnlessWrite fault (out.new ≡ out.old)) }
+    ensures fault { IfErr result (λ fault. UnchangedUnlessWrite fault (out.new ≡ out.old)) }
 {
     match only {
         None => write_all(alloc, books, out),

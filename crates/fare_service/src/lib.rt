@@ -18,7 +18,7 @@ pub use explained::write_explained;
 pub use fare_texts::PrintFault;
 pub use faults::{GatherFault, OpenFault, RunFault};
 pub use ledger::write_ledger;
-pub use lending::{LentUploads, Unlent};
+pub use lending::{Unavailable, UploadSource};
 pub use outcome::Outcome;
 pub use service::Service;
 pub use service::share::{Done, Share};

@@ -3,7 +3,7 @@
 ghost use Rattle.std.specs.Prelude.{◌≡◌, ℕ, List, [], ◌++◌, IfErr, OnErr, OnOk, string_bytes};
 ghost use Rattle.std.specs.Io.KnownBytes.{Appends};
 ghost use Rattle.fare_texts.specs.declared.print_fault.PrintFault.TheVariants.{Write as ForWrite};
-ghost use Rattle.fare_texts.specs.Lines.{AreLinesAlong, NoFall, NoFallFrom};
+ghost use Rattle.fare_texts.specs.Lines.{AreLinesAlong, Nondecreasing, NondecreasingFrom};
 ghost use Rattle.fare_texts.specs.WrittenOut.{Begins, GoesOut};
 ghost use Rattle.fare_service.specs.inside.Spots.{entries_at_spots};
 
@@ -25,12 +25,12 @@ fn write_pieces<W: Write>(
     out: &mut W,
 ) -> Result<(), PrintFault>
     requires clock { clock.now ≡ table.now.zone }
-    requires no_fall { NoFallFrom first (entries_at_spots books.now spots.now) }
+    requires nondecreasing { NondecreasingFrom first (entries_at_spots books.now spots.now) }
     ensures lines { OnOk result ((lines : List ℕ)
         × AreLinesAlong table.now [] (entries_at_spots books.now spots.now) lines
         × GoesOut (W.contents out.old) (string_bytes text.old) (W.contents out.new)
         (string_bytes text.new) lines) }
-    ensures begun { OnErr result ((lines : List ℕ)
+    ensures started { OnErr result ((lines : List ℕ)
         × AreLinesAlong table.now [] (entries_at_spots books.now spots.now) lines
         × Begins (W.contents out.old) (W.contents out.new) (string_bytes text.old ++ lines)) }
     ensures fault { IfErr result (λ fault. fault ≡ ForWrite) }
@@ -58,12 +58,12 @@ fn write_some<W: Write>(
     out: &mut W,
 ) -> Result<(), PrintFault>
     requires clock { clock.now ≡ table.now.zone }
-    requires no_fall { NoFall (entries_at_spots books.now spots.now) }
+    requires nondecreasing { Nondecreasing (entries_at_spots books.now spots.now) }
     ensures lines { OnOk result ((lines : List ℕ)
         × AreLinesAlong table.now [] (entries_at_spots books.now spots.now) lines
         × GoesOut (W.contents out.old) (string_bytes text.old) (W.contents out.new)
         (string_bytes text.new) lines) }
-    ensures begun { OnErr result ((lines : List ℕ)
+    ensures started { OnErr result ((lines : List ℕ)
         × AreLinesAlong table.now [] (entries_at_spots books.now spots.now) lines
         × Begins (W.contents out.old) (W.contents out.new) (string_bytes text.old ++ lines)) }
     ensures fault { IfErr result (λ fault. fault ≡ ForWrite) }
@@ -86,11 +86,11 @@ pub(crate) fn write_lines<W: Write>(
     out: &mut W,
 ) -> Result<(), PrintFault>
     requires clock { clock.now ≡ table.now.zone }
-    requires no_fall { NoFall (entries_at_spots books.now spots.now) }
+    requires nondecreasing { Nondecreasing (entries_at_spots books.now spots.now) }
     ensures ok { OnOk result ((lines : List ℕ)
         × AreLinesAlong table.now [] (entries_at_spots books.now spots.now) lines
         × Appends (W.contents out.old) (W.contents out.new) (string_bytes text.old ++ lines)) }
-    ensures begun { OnErr result ((lines : List ℕ)
+    ensures started { OnErr result ((lines : List ℕ)
         × AreLinesAlong table.now [] (entries_at_spots books.now spots.now) lines
         × Begins (W.contents out.old) (W.contents out.new) (string_bytes text.old ++ lines)) }
     ensures fault { IfErr result (λ fault. fault ≡ ForWrite) }

@@ -7,7 +7,7 @@ ghost use Rattle.histories.specs.Shown.{validator_sum};
 ghost use Rattle.shard_book.specs.Book.{all_entries};
 ghost use Rattle.histories.specs.SumsByKey.{sums_by_token, sums_by_validator};
 ghost use Rattle.fare_service.specs.Printed.{report_of, report_with, IsStatementOf};
-ghost use Rattle.fare_texts.specs.PrintFaults.{KeepsUnlessWrite};
+ghost use Rattle.fare_texts.specs.PrintFaults.{UnchangedUnlessWrite};
 ghost use Rattle.fare_texts.specs.WrittenOut.{Begins};
 ghost use Rattle.fare_texts.specs.declared.print_fault.PrintFault.TheVariants.{Write as ForWrite};
 
@@ -58,9 +58,9 @@ impl Outcome {
     ) -> Result<(), PrintFault>
         ensures ok { OnOk result
             (Appends (W.contents out.old) (W.contents out.new) (report_of self.now)) }
-        ensures begun { IfErr result (λ fault. fault ≡ ForWrite
+        ensures started { IfErr result (λ fault. fault ≡ ForWrite
             → Begins (W.contents out.old) (W.contents out.new) (report_of self.now)) }
-        ensures fault { IfErr result (λ fault. KeepsUnlessWrite fault (out.new ≡ out.old)) }
+        ensures fault { IfErr result (λ fault. UnchangedUnlessWrite fault (out.new ≡ out.old)) }
     {
         self.write_report_with(rt, alloc, self.ends.as_slice(), out)
     }
@@ -75,9 +75,9 @@ impl Outcome {
     ) -> Result<(), PrintFault>
         ensures ok { OnOk result
             (Appends (W.contents out.old) (W.contents out.new) (report_with ends.now self.now)) }
-        ensures begun { IfErr result (λ fault. fault ≡ ForWrite
+        ensures started { IfErr result (λ fault. fault ≡ ForWrite
             → Begins (W.contents out.old) (W.contents out.new) (report_with ends.now self.now)) }
-        ensures fault { IfErr result (λ fault. KeepsUnlessWrite fault (out.new ≡ out.old)) }
+        ensures fault { IfErr result (λ fault. UnchangedUnlessWrite fault (out.new ≡ out.old)) }
     {
         let Ok((validators, tokens)) = self.sums(rt, alloc) else {
             return Err(PrintFault::NoMemory);
@@ -96,10 +96,10 @@ impl Outcome {
     ) -> Result<(), PrintFault>
         ensures ok { OnOk result ((text : List ℕ) × IsStatementOf self.now token.now text
             × Appends (W.contents out.old) (W.contents out.new) text) }
-        ensures begun { IfErr result (λ fault. fault ≡ ForWrite
+        ensures started { IfErr result (λ fault. fault ≡ ForWrite
             → (text : List ℕ) × IsStatementOf self.now token.now text
             × Begins (W.contents out.old) (W.contents out.new) text) }
-        ensures fault { IfErr result (λ fault. KeepsUnlessWrite fault (out.new ≡ out.old)) }
+        ensures fault { IfErr result (λ fault. UnchangedUnlessWrite fault (out.new ≡ out.old)) }
     {
         let Ok(text) = self.statement(alloc, token) else {
             return Err(PrintFault::NoMemory);

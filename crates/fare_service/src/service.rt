@@ -1,7 +1,7 @@
 //! A service: uploads that workers draw, and a shared book for each shard.
 
 use crate::faults::OpenFault;
-use crate::lending::LentUploads;
+use crate::lending::UploadSource;
 use crate::service::shard_books::open_books;
 use crate::service::share::{Posting, Share};
 use shard_book::{HashSeed, Totals};
@@ -26,7 +26,7 @@ const MAX_UPLOADS: usize = 65_535;
 
 /// The uploads, a shared book for each shard, and the fare table, at which many threads work.
 #[derive(Drop)]
-pub struct Service<U: LentUploads + Drop> {
+pub struct Service<U: UploadSource + Drop> {
     pub(crate) table: FareTable,
     /// The workers draw the uploads' numbers from it.
     pub(crate) draw: Draw,
@@ -34,7 +34,7 @@ pub struct Service<U: LentUploads + Drop> {
     pub(crate) uploads: U,
 }
 
-impl<U: LentUploads + Drop> Model for Service<U> {
+impl<U: UploadSource + Drop> Model for Service<U> {
     ghost use Rattle.fare_service.specs.ServiceView.{ServiceView};
     ghost use Rattle.fare_service.specs.inside.ServiceView.{IsService};
 
@@ -55,7 +55,7 @@ impl<U: LentUploads + Drop> Model for Service<U> {
     }) };
 }
 
-impl<U: LentUploads + Drop> Service<U> {
+impl<U: UploadSource + Drop> Service<U> {
     ghost use Rattle.std.specs.Prelude.{◌≡◌, ◌<◌, ◌≤◌, IfOk, IfErr, MatchResult, length};
     ghost use Rattle.fare_service.specs.Claims.{HasAllClaims, HasHalf, left_share};
     ghost use Rattle.fare_service.specs.ServiceView.{shards_of};

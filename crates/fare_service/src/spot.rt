@@ -2,7 +2,7 @@
 
 ghost use Rattle.std.specs.Prelude.{◌≡◌, IfOk};
 ghost use Rattle.fare_service.specs.inside.Spots.{book_at, entry_in, entry_at_spot, no_entry};
-ghost use Rattle.fare_service.specs.inside.Spots.{place_at};
+ghost use Rattle.fare_service.specs.inside.Spots.{position_at};
 
 use account_rule::Answer;
 use shard_book::{Entry, ShardBook};
@@ -12,7 +12,7 @@ use tap_views::{NoMemory, Token};
 const MAX_BOOKS: u64 = 65_536;
 
 /// 2^48, above every index of an entry in its book.
-const MAX_PLACES: u64 = 281_474_976_710_656;
+const MAX_POSITIONS: u64 = 281_474_976_710_656;
 
 /// The position of an entry. A reference would take as much, but a book lends none.
 #[derive(Clone, Copy)]
@@ -38,16 +38,16 @@ fn nothing() -> Entry
 
 impl Spot {
     /// Indices that do not fit, of some 2^48 entries, are reported as `NoMemory`.
-    pub(crate) fn of(book: usize, place: u64) -> Result<Self, NoMemory>
+    pub(crate) fn of(book: usize, position: u64) -> Result<Self, NoMemory>
         ensures book { IfOk result (λ spot. book_at spot ≡ book) }
-        ensures place { IfOk result (λ spot. place_at spot ≡ place) }
+        ensures position { IfOk result (λ spot. position_at spot ≡ position) }
     {
         let number = book as u64;
-        if number >= MAX_BOOKS || place >= MAX_PLACES {
+        if number >= MAX_BOOKS || position >= MAX_POSITIONS {
             return Err(NoMemory);
         }
         Ok(Spot {
-            bits: place * MAX_BOOKS + number,
+            bits: position * MAX_BOOKS + number,
         })
     }
 
@@ -67,12 +67,12 @@ impl Spot {
 }
 
 #[inline(always)]
-fn entry_at(books: &[ShardBook], index: usize, place: u64) -> Option<Entry>
-    ensures { result ≡ entry_in books.now index place }
+fn entry_at(books: &[ShardBook], index: usize, position: u64) -> Option<Entry>
+    ensures { result ≡ entry_in books.now index position }
 {
     let book = books.get(index)?;
-    if place < book.len() {
-        Some(book.entry(place))
+    if position < book.len() {
+        Some(book.entry(position))
     } else {
         None
     }

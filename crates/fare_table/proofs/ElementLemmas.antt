@@ -9,8 +9,8 @@ use Rattle.std.specs.Ordering.{nat_cmp}
 use Rattle.std.specs.Prelude.{pos, nat_le, if◌then◌else◌}
 use Rattle.toml.specs.Data.{Data, Items, no_items, item, Members, string, integer, array, table}
 use Rattle.toml.specs.Data.{as_table, get_member, get_item}
-use Rattle.fare_table.proofs.OverlapLemmas.{stands-insert, comes_after, comes_before}
-use Rattle.fare_table.proofs.OverlapLemmas.{free_apart, rest_stands, with_one}
+use Rattle.fare_table.proofs.OverlapLemmas.{holds-insert, comes_after, comes_before}
+use Rattle.fare_table.proofs.OverlapLemmas.{free_apart, rest_holds, with_one}
 use Rattle.fare_table.proofs.PartLemmas.{bind_ok, parts}
 use Rattle.fare_table.proofs.ReadLemmas.{array-read, is_table, number-read, text-read}
 use Rattle.fare_table.specs.TextRanges.{RangeGives, RangeHas, HasRange, HasValidator, NamesMode}
@@ -20,7 +20,7 @@ use Rattle.fare_table.specs.Modes.{mode_named}
 use Rattle.fare_table.specs.OrFault.{OrFault, ◌>>=◌}
 use Rattle.tariffs.specs.TableMeaning.{TableMeaning}
 use Rattle.fare_table.specs.TableMeaning.{meaning_of_tree}
-use Rattle.tariffs.specs.Validators.{stand_apart}
+use Rattle.tariffs.specs.Validators.{are_disjoint}
 use Rattle.fare_table.specs.Validators.{range_in, range_of, ranges_from, ranges_of}
 use Rattle.fare_table.specs.Validators.{share_number, with_range}
 use Rattle.fare_table.specs.declared.fault.Key.TheVariants as the_key
@@ -62,15 +62,15 @@ found_step n range other more order further free ih = elim (free_apart range oth
 -- own
 found_with : (n : ℕ) (range : ℕ × RangeRest) (ranges : List (ℕ × RangeRest))
     → range.0 ≤ range.1.last
-    → stand_apart ranges ≡ true → list_any (share_number range) ranges ≡ false
+    → are_disjoint ranges ≡ true → list_any (share_number range) ranges ≡ false
     → find (has_number n) (with_one range ranges)
     ≡ cond (has_number n range) (Some range) (find (has_number n) ranges)
 unfolding with_one
-found_with n range [] order stands free = refl
-found_with n range (other ∷ more) order stands free =
+found_with n range [] order holds free = refl
+found_with n range (other ∷ more) order holds free =
     let apart = or_parts (share_number range other) (list_any (share_number range) more) free in
-    found_step n range other more order (begins_first other more stands) apart.0
-    (found_with n range more order (rest_stands other more stands) apart.1)
+    found_step n range other more order (begins_first other more holds) apart.0
+    (found_with n range more order (rest_holds other more holds) apart.1)
 
 -- ranges that both have a number share it
 both_have : (n : ℕ) (range other : ℕ × RangeRest) → has_number n range ≡ true
@@ -210,8 +210,8 @@ reads modes value range is =
 -- ---- the ranges behind some elements
 -- the item at the place reads as the range
 abbrev pub IsRangeAt : List (List ℕ) → Items → ℕ → ℕ × RangeRest → Type 0
-IsRangeAt modes items place range =
-    (value : Data) × (get_item place items ≡ Some value) × (range_in modes value ≡ Ok range)
+IsRangeAt modes items position range =
+    (value : Data) × (get_item position items ≡ Some value) × (range_in modes value ≡ Ok range)
 
 pub record Steps (modes : List (List ℕ)) (earlier : List (ℕ × RangeRest)) (value : Data)
     (more : Items)
@@ -221,7 +221,7 @@ pub record Steps (modes : List (List ℕ)) (earlier : List (ℕ × RangeRest)) (
   pub next : List (ℕ × RangeRest)
   pub free : list_any (share_number range) earlier ≡ false
   pub order : range.0 ≤ range.1.last
-  pub stands : stand_apart next ≡ true
+  pub holds : are_disjoint next ≡ true
   pub found : (n : ℕ) → find (has_number n) next
       ≡ cond (has_number n range) (Some range) (find (has_number n) earlier)
   pub rest : ranges_from modes next more ≡ Ok ranges
@@ -233,10 +233,10 @@ after_range modes earlier more range =
 
 pub step : (modes : List (List ℕ)) (earlier : List (ℕ × RangeRest)) (value : Data) (more : Items)
     (ranges : List (ℕ × RangeRest))
-    → ranges_from modes earlier (item value more) ≡ Ok ranges → stand_apart earlier ≡ true
+    → ranges_from modes earlier (item value more) ≡ Ok ranges → are_disjoint earlier ≡ true
     → Steps modes earlier value more ranges
 unfolding with_one
-step modes earlier value more ranges is stands =
+step modes earlier value more ranges is holds =
     let one = bind_ok (range_in modes value) (after_range modes earlier more) ranges is in
     let two = bind_ok (with_range earlier one.0) (λ next. ranges_from modes next more) ranges
     one.2 in
@@ -248,9 +248,9 @@ step modes earlier value more ranges is stands =
       next = two.0;
       free = added.free;
       order = order;
-      stands = rw added.one (stands-insert one.0 earlier order stands added.free);
+      holds = rw added.one (holds-insert one.0 earlier order holds added.free);
       found = λ n. ap (find (has_number n)) added.one
-          ∙ found_with n one.0 earlier order stands added.free;
+          ∙ found_with n one.0 earlier order holds added.free;
       rest = two.2;
     }
 
@@ -267,44 +267,44 @@ has_if false n range found next is = (found, is)
 still : (modes : List (List ℕ)) (n : ℕ) (earlier : List (ℕ × RangeRest)) (items : Items)
     (ranges : List (ℕ × RangeRest)) (found : ℕ × RangeRest)
     → ranges_from modes earlier items ≡ Ok ranges
-    → stand_apart earlier ≡ true
+    → are_disjoint earlier ≡ true
     → find (has_number n) earlier ≡ Some found → find (has_number n) ranges ≡ Some found
-still modes n earlier no_items ranges found is stands at = let same : earlier ≡ ranges = cc in
+still modes n earlier no_items ranges found is holds at = let same : earlier ≡ ranges = cc in
     rw (← same) at
-still modes n earlier (item value more) ranges found is stands at =
-    let s = step modes earlier value more ranges is stands in
+still modes n earlier (item value more) ranges found is holds at =
+    let s = step modes earlier value more ranges is holds in
     elim (cases_Bool (has_number n s.range)) [
       | inl both ↦ absurd (false≢true (sym s.free ∙ shares n s.range found earlier both at))
-      | inr none ↦ still modes n s.next more ranges found s.rest s.stands (s.found n
+      | inr none ↦ still modes n s.next more ranges found s.rest s.holds (s.found n
           ∙ ap (λ b. cond b (Some s.range) (find (has_number n) earlier)) none ∙ at)
     ]
 
 -- what an element reads as, and that it is found by its numbers
 there : (modes : List (List ℕ)) (n : ℕ) (earlier : List (ℕ × RangeRest)) (items : Items)
-    (ranges : List (ℕ × RangeRest)) (place : ℕ) (value : Data)
-    → ranges_from modes earlier items ≡ Ok ranges → stand_apart earlier ≡ true
-    → get_item place items ≡ Some value
+    (ranges : List (ℕ × RangeRest)) (position : ℕ) (value : Data)
+    → ranges_from modes earlier items ≡ Ok ranges → are_disjoint earlier ≡ true
+    → get_item position items ≡ Some value
     → (range : ℕ × RangeRest) × (range_in modes value ≡ Ok range)
     × (has_number n range ≡ true → find (has_number n) ranges ≡ Some range)
-there modes n earlier no_items ranges place value is stands at = absurd (cc)
-there modes n earlier (item first more) ranges zero value is stands at =
-    let s = step modes earlier first more ranges is stands in
+there modes n earlier no_items ranges position value is holds at = absurd (cc)
+there modes n earlier (item first more) ranges zero value is holds at =
+    let s = step modes earlier first more ranges is holds in
     let same : first ≡ value = cc in (
       s.range,
       ap (range_in modes) (sym same) ∙ s.read,
-      λ has. still modes n s.next more ranges s.range s.rest s.stands (s.found n
+      λ has. still modes n s.next more ranges s.range s.rest s.holds (s.found n
           ∙ ap (λ b. cond b (Some s.range) (find (has_number n) earlier)) has),
     )
-there modes n earlier (item first more) ranges (suc place) value is stands at =
-    let s = step modes earlier first more ranges is stands in
-    there modes n s.next more ranges place value s.rest s.stands at
+there modes n earlier (item first more) ranges (suc position) value is holds at =
+    let s = step modes earlier first more ranges is holds in
+    there modes n s.next more ranges position value s.rest s.holds at
 
 came_if : (modes : List (List ℕ)) (n : ℕ) (earlier : List (ℕ × RangeRest)) (value : Data)
     (more : Items)
     (range found : ℕ × RangeRest) (b : Bool) → range_in modes value ≡ Ok range
     → cond b (Some range) (find (has_number n) earlier) ≡ Some found
     → (find (has_number n) earlier ≡ Some found)
-    ⊎ ((place : ℕ) × IsRangeAt modes (item value more) place found)
+    ⊎ ((position : ℕ) × IsRangeAt modes (item value more) position found)
 came_if modes n earlier value more range found true read at = let same : range ≡ found = cc in
     inr (zero, (value, refl, read ∙ ap (λ r. Ok r) same))
 came_if modes n earlier value more range found false read at = inl at
@@ -313,35 +313,35 @@ came_if modes n earlier value more range found false read at = inl at
 came : (modes : List (List ℕ)) (n : ℕ) (earlier : List (ℕ × RangeRest)) (items : Items)
     (ranges : List (ℕ
     × RangeRest)) (found : ℕ × RangeRest) → ranges_from modes earlier items ≡ Ok ranges
-    → stand_apart earlier ≡ true
+    → are_disjoint earlier ≡ true
     → find (has_number n) ranges ≡ Some found → (find (has_number n) earlier ≡ Some found)
-    ⊎ ((place : ℕ) × IsRangeAt modes items place found)
-came modes n earlier no_items ranges found is stands at = let same : earlier ≡ ranges = cc in
+    ⊎ ((position : ℕ) × IsRangeAt modes items position found)
+came modes n earlier no_items ranges found is holds at = let same : earlier ≡ ranges = cc in
     inl (rw same at)
-came modes n earlier (item value more) ranges found is stands at =
-    let s = step modes earlier value more ranges is stands in
+came modes n earlier (item value more) ranges found is holds at =
+    let s = step modes earlier value more ranges is holds in
     ⊎_elim
     (λ before. came_if modes n earlier value more s.range found (has_number n s.range) s.read
     (sym (s.found n) ∙ before))
     (λ later. inr (suc later.0, later.1))
-    (came modes n s.next more ranges found s.rest s.stands at)
+    (came modes n s.next more ranges found s.rest s.holds at)
 
 -- no element has a number that an earlier range has
 again : (modes : List (List ℕ)) (n : ℕ) (earlier : List (ℕ × RangeRest)) (items : Items)
-    (ranges : List (ℕ × RangeRest)) (place : ℕ) (value : Data) (range : ℕ × RangeRest)
-    → ranges_from modes earlier items ≡ Ok ranges → stand_apart earlier ≡ true
-    → HasOne n earlier → get_item place items ≡ Some value → range_in modes value ≡ Ok range
+    (ranges : List (ℕ × RangeRest)) (position : ℕ) (value : Data) (range : ℕ × RangeRest)
+    → ranges_from modes earlier items ≡ Ok ranges → are_disjoint earlier ≡ true
+    → HasOne n earlier → get_item position items ≡ Some value → range_in modes value ≡ Ok range
     → has_number n range ≡ true → ⊥
-again modes n earlier no_items ranges place value range is stands old at read has = absurd (cc)
-again modes n earlier (item first more) ranges zero value range is stands old at read has =
-    let s = step modes earlier first more ranges is stands in
+again modes n earlier no_items ranges position value range is holds old at read has = absurd (cc)
+again modes n earlier (item first more) ranges zero value range is holds old at read has =
+    let s = step modes earlier first more ranges is holds in
     let same : first ≡ value = cc in
     let both : Ok s.range ≡ Ok range = sym s.read ∙ ap (range_in modes) same ∙ read in
     let one : s.range ≡ range = cc in
     false≢true (sym s.free ∙ shares n s.range old.0 earlier (rw one has) old.1)
-again modes n earlier (item first more) ranges (suc place) value range is stands old at read has =
-    let s = step modes earlier first more ranges is stands in
-    again modes n s.next more ranges place value range s.rest s.stands
+again modes n earlier (item first more) ranges (suc position) value range is holds old at read has =
+    let s = step modes earlier first more ranges is holds in
+    again modes n s.next more ranges position value range s.rest s.holds
     (has_if (has_number n s.range) n s.range old.0 s.next (s.found n
     ∙ ap (λ o. cond (has_number n s.range) (Some s.range) o) old.1)) at read has
 
@@ -362,34 +362,34 @@ first_has modes n earlier first value one range next is found at read has =
 -- an element that has a number is the only one
 only : (modes : List (List ℕ)) (n : ℕ) (earlier : List (ℕ × RangeRest)) (items : Items)
     (ranges : List (ℕ
-    × RangeRest)) (place place' : ℕ) (value value' : Data) (range range' : ℕ × RangeRest)
-    → ranges_from modes earlier items ≡ Ok ranges → stand_apart earlier ≡ true
-    → get_item place items ≡ Some value → range_in modes value ≡ Ok range
+    × RangeRest)) (position position' : ℕ) (value value' : Data) (range range' : ℕ × RangeRest)
+    → ranges_from modes earlier items ≡ Ok ranges → are_disjoint earlier ≡ true
+    → get_item position items ≡ Some value → range_in modes value ≡ Ok range
     → has_number n range ≡ true
-    → get_item place' items ≡ Some value' → range_in modes value' ≡ Ok range'
-    → has_number n range' ≡ true → place ≡ place'
-only modes n earlier no_items ranges place place' value value' range range' is stands at read has
+    → get_item position' items ≡ Some value' → range_in modes value' ≡ Ok range'
+    → has_number n range' ≡ true → position ≡ position'
+only modes n earlier no_items ranges position position' value value' range range' is holds at read has
     at'
     read' has' = absurd (cc)
-only modes n earlier (item first more) ranges zero zero value value' range range' is stands at read
+only modes n earlier (item first more) ranges zero zero value value' range range' is holds at read
     has at' read' has' = refl
-only modes n earlier (item first more) ranges zero (suc place') value value' range range' is stands
+only modes n earlier (item first more) ranges zero (suc position') value value' range range' is holds
     at read has at' read' has' =
-    let s = step modes earlier first more ranges is stands in
-    absurd (again modes n s.next more ranges place' value' range' s.rest s.stands
+    let s = step modes earlier first more ranges is holds in
+    absurd (again modes n s.next more ranges position' value' range' s.rest s.holds
     (first_has modes n earlier first value s.range range s.next s.read (s.found n) at read has)
     at' read' has')
-only modes n earlier (item first more) ranges (suc place) zero value value' range range' is stands
+only modes n earlier (item first more) ranges (suc position) zero value value' range range' is holds
     at
     read has at' read' has' =
-    let s = step modes earlier first more ranges is stands in
-    absurd (again modes n s.next more ranges place value range s.rest s.stands
+    let s = step modes earlier first more ranges is holds in
+    absurd (again modes n s.next more ranges position value range s.rest s.holds
     (first_has modes n earlier first value' s.range range' s.next s.read (s.found n) at' read'
     has') at read has)
-only modes n earlier (item first more) ranges (suc place) (suc place') value value' range range' is
-    stands at read has at' read' has' =
-    let s = step modes earlier first more ranges is stands in
-    ap suc (only modes n s.next more ranges place place' value value' range range' s.rest s.stands
+only modes n earlier (item first more) ranges (suc position) (suc position') value value' range range' is
+    holds at read has at' read' has' =
+    let s = step modes earlier first more ranges is holds in
+    ap suc (only modes n s.next more ranges position position' value value' range range' s.rest s.holds
     at
     read has at' read' has')
 
@@ -481,12 +481,12 @@ gives modes tree ranges validator mode text at = ⊎_elim
     (λ element.
     let r = reads modes element.1.0 at.0 element.1.2 in
     record {
-      place = element.0;
+      position = element.0;
       element = r.element;
       listed = record {
         items = text.items;
         listed = text.listed;
-        stands = element.1.1 ∙ ap (λ (v : Data). Some v) r.is_table;
+        holds = element.1.1 ∙ ap (λ (v : Data). Some v) r.is_table;
       };
       has = has_it modes element.1.0 at.0 validator r
           (found_says (has_number validator) ranges at.0 at.1);
@@ -500,35 +500,35 @@ gives modes tree ranges validator mode text at = ⊎_elim
 
 -- an element that has the validator reads as the range that is found
 pub record IsFound (modes : List (List ℕ)) (ranges : List (ℕ × RangeRest)) (validator : ℕ)
-    (items : Items) (place : ℕ) (element : Members) : Type 0 where
+    (items : Items) (position : ℕ) (element : Members) : Type 0 where
   pub range : ℕ × RangeRest
-  pub stands : get_item place items ≡ Some (table element)
+  pub holds : get_item position items ≡ Some (table element)
   pub read : range_in modes (table element) ≡ Ok range
   pub has : has_number validator range ≡ true
   pub found : find (has_number validator) ranges ≡ Some range
 
 is_found : (modes : List (List ℕ)) (tree : Members) (ranges : List (ℕ × RangeRest))
-    (validator place : ℕ)
-    (element : Members) (text : AreRead modes tree ranges) → HasRange tree place element
+    (validator position : ℕ)
+    (element : Members) (text : AreRead modes tree ranges) → HasRange tree position element
     → HasValidator element validator
-    → IsFound modes ranges validator text.items place element
-is_found modes tree ranges validator place element text listed has =
+    → IsFound modes ranges validator text.items position element
+is_found modes tree ranges validator position element text listed has =
     let both : Some (array listed.items) ≡ Some (array text.items) =
     sym listed.listed ∙ text.listed in
     let same : listed.items ≡ text.items = cc in
-    let stands : get_item place text.items ≡ Some (table element) =
-    ap (get_item place) (sym same) ∙ listed.stands in
-    let at = there modes validator [] text.items ranges place (table element) text.read refl
-    stands in
+    let holds : get_item position text.items ≡ Some (table element) =
+    ap (get_item position) (sym same) ∙ listed.holds in
+    let at = there modes validator [] text.items ranges position (table element) text.read refl
+    holds in
     let here = agrees modes element at.0 validator (reads modes (table element) at.0 at.1) has in
-    record { range = at.0; stands = stands; read = at.1; has = here; found = at.2 here }
+    record { range = at.0; holds = holds; read = at.1; has = here; found = at.2 here }
 
 is_given : (modes : List (List ℕ)) (tree : Members) (ranges : List (ℕ × RangeRest))
     (validator mode : ℕ)
     → AreRead modes tree ranges → RangeGives modes tree validator mode
     → option_map (λ (range : ℕ × RangeRest). range.1.mode) (range_at ranges validator) ≡ Some mode
 is_given modes tree ranges validator mode text g =
-    let f = is_found modes tree ranges validator g.place g.element text g.listed g.has in
+    let f = is_found modes tree ranges validator g.position g.element text g.listed g.has in
     let r = reads modes (table g.element) f.range f.read in
     let whole : table g.element ≡ table r.element = r.is_table in
     let same : g.element ≡ r.element = cc in
@@ -562,31 +562,31 @@ maps_none o range is none = let no : Some range.1.mode ≡ None =
 
 pub mode-none : (tree : Members) (meaning : TableMeaning) (validator : ℕ)
     → meaning_of_tree tree ≡ Ok meaning
-    → (mode_in meaning validator ≡ None) ↔ ((place : ℕ) → ¬ RangeHas tree validator place)
+    → (mode_in meaning validator ≡ None) ↔ ((position : ℕ) → ¬ RangeHas tree validator position)
 mode-none tree meaning validator is =
     let text = ranges_read meaning.modes tree meaning.ranges
     (parts tree meaning is).ranges in (
-      λ none place e.
-          let f = is_found meaning.modes tree meaning.ranges validator place e.element
+      λ none position e.
+          let f = is_found meaning.modes tree meaning.ranges validator position e.element
           text
           e.listed e.has in
           maps_none (range_at meaning.ranges validator) f.range f.found none,
       λ none. none_or_gives (mode_in meaning validator) (λ mode at.
           let g = gives meaning.modes tree meaning.ranges validator mode text
           (maps (range_at meaning.ranges validator) mode at) in
-          none g.place (record { element = g.element; listed = g.listed; has = g.has })),
+          none g.position (record { element = g.element; listed = g.listed; has = g.has })),
     )
 
-pub one-entry : (tree : Members) (meaning : TableMeaning) (validator place place' : ℕ)
+pub one-entry : (tree : Members) (meaning : TableMeaning) (validator position position' : ℕ)
     → meaning_of_tree tree ≡ Ok meaning
-    → RangeHas tree validator place → RangeHas tree validator place' → place ≡ place'
-one-entry tree meaning validator place place' is one other =
+    → RangeHas tree validator position → RangeHas tree validator position' → position ≡ position'
+one-entry tree meaning validator position position' is one other =
     let text = ranges_read meaning.modes tree meaning.ranges (parts tree meaning is).ranges in
-    let f = is_found meaning.modes tree meaning.ranges validator place one.element text one.listed
+    let f = is_found meaning.modes tree meaning.ranges validator position one.element text one.listed
     one.has in
-    let g = is_found meaning.modes tree meaning.ranges validator place' other.element text
+    let g = is_found meaning.modes tree meaning.ranges validator position' other.element text
     other.listed
     other.has in
-    only meaning.modes validator [] text.items meaning.ranges place place' (table one.element)
-    (table other.element) f.range g.range text.read refl f.stands f.read f.has g.stands g.read
+    only meaning.modes validator [] text.items meaning.ranges position position' (table one.element)
+    (table other.element) f.range g.range text.read refl f.holds f.read f.has g.holds g.read
     g.has

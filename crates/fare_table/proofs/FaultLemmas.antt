@@ -20,7 +20,7 @@ use Rattle.fare_table.proofs.PartLemmas.{bind_ok}
 use Rattle.fare_table.proofs.PayLemmas.{by_table, by_tables, if_else, same_ok, terms_by}
 use Rattle.fare_table.proofs.ElementLemmas.{if_ok}
 use Rattle.fare_table.specs.Classes.{ceiling_of, class_named, class_of, classes_from, classes_of}
-use Rattle.fare_table.specs.Classes.{default_of, fares_from, fares_of, is_empty, place_of}
+use Rattle.fare_table.specs.Classes.{default_of, fares_from, fares_of, is_empty, position_of}
 use Rattle.fare_table.specs.Classes.{ride_transfers_of, terms_of}
 use Rattle.tariffs.specs.declared.class.Class.{Class}
 use Rattle.fare_table.specs.Faults.{FaultRow, Where, top, class, mode_fare, a_row, are_pairs}
@@ -233,13 +233,13 @@ pairs-read found (item value more) =
 abbrev is_unknown : List (List ℕ) → List ℕ × List ℕ → Bool
 is_unknown modes pair = not (is_mode modes pair.0 && is_mode modes pair.1)
 
-place_if : (from to : Option ℕ) (f : ℕ × ℕ → OrFault (List (ℕ × ℕ))) (rest : Option TableFault)
-    → ((places : ℕ × ℕ) → fault_in (f places) ≡ rest)
+position_if : (from to : Option ℕ) (f : ℕ × ℕ → OrFault (List (ℕ × ℕ))) (rest : Option TableFault)
+    → ((positions : ℕ × ℕ) → fault_in (f positions) ≡ rest)
     → fault_in ((ok_or from Mode >>= (λ a. ok_or to Mode >>= (λ b. Ok (a, b)))) >>= f)
     ≡ cond (not (is_some from && is_some to)) (Some Mode) rest
-place_if None to f rest same = refl
-place_if (Some a) None f rest same = refl
-place_if (Some a) (Some b) f rest same = same (a, b)
+position_if None to f rest same = refl
+position_if (Some a) None f rest same = refl
+position_if (Some a) (Some b) f rest same = same (a, b)
 
 any_if : (b c : Bool)
     → cond b (Some Mode) (cond c (Some Mode) None) ≡ cond (b || c) (Some Mode) None
@@ -251,10 +251,10 @@ transfers_report : (modes : List (List ℕ)) (found : List (ℕ × ℕ)) (names 
     ≡ cond (list_any (is_unknown modes) names) (Some Mode) None
 transfers_report modes found [] = refl
 transfers_report modes found (pair ∷ more) =
-    place_if (position (same_name pair.0) modes) (position (same_name pair.1) modes) (λ places.
-    transfers_from modes (with_pair found places.0 places.1) more)
+    position_if (position (same_name pair.0) modes) (position (same_name pair.1) modes) (λ positions.
+    transfers_from modes (with_pair found positions.0 positions.1) more)
     (cond (list_any (is_unknown modes) more) (Some Mode) None)
-    (λ places. transfers_report modes (with_pair found places.0 places.1) more)
+    (λ positions. transfers_report modes (with_pair found positions.0 positions.1) more)
     ∙ any_if (is_unknown modes pair) (list_any (is_unknown modes) more)
 
 pairs_if : (b : Bool) (modes : List (List ℕ)) (names : List (List ℕ × List ℕ))
@@ -304,19 +304,19 @@ transfers-reported tree modes known =
 
 -- ---- classes
 -- some members are those of a whole from a place on
-abbrev pub Stand : Members → ℕ → Members → Type 0
-Stand whole n part = (k j : ℕ) → j ≡ n + k → member_at j whole ≡ member_at k part
+abbrev pub AlignedAt : Members → ℕ → Members → Type 0
+AlignedAt whole n part = (k j : ℕ) → j ≡ n + k → member_at j whole ≡ member_at k part
 
-pub stand_here : (whole : Members) (n : ℕ) (key : List ℕ) (value : Data) (more : Members)
-    → Stand whole n (member key value more) → member_at n whole ≡ Some (key, value)
-stand_here whole n key value more stand = stand zero n (omega arith)
+pub aligned_here : (whole : Members) (n : ℕ) (key : List ℕ) (value : Data) (more : Members)
+    → AlignedAt whole n (member key value more) → member_at n whole ≡ Some (key, value)
+aligned_here whole n key value more aligned = aligned zero n (omega arith)
 
-pub stand_next : (whole : Members) (n : ℕ) (key : List ℕ) (value : Data) (more : Members)
-    → Stand whole n (member key value more) → Stand whole (suc n) more
-stand_next whole n key value more stand k j is = stand (suc k) j (omega (arith, is))
+pub aligned_next : (whole : Members) (n : ℕ) (key : List ℕ) (value : Data) (more : Members)
+    → AlignedAt whole n (member key value more) → AlignedAt whole (suc n) more
+aligned_next whole n key value more aligned k j is = aligned (suc k) j (omega (arith, is))
 
-pub stand_all : (whole : Members) → Stand whole 0 whole
-stand_all whole k j is = let same : j ≡ k = omega (arith, is) in ap (λ n. member_at n whole) same
+pub aligned_all : (whole : Members) → AlignedAt whole 0 whole
+aligned_all whole k j is = let same : j ≡ k = omega (arith, is) in ap (λ n. member_at n whole) same
 
 ceiling_reports : (price fare rides : ℕ) (o : Option Data)
     → fault_in (ceiling_of price o >>= (λ ceiling. Ok (terms_by fare rides ceiling)))
@@ -357,10 +357,10 @@ terms-reported tree n =
 
 -- ---- the fares of a class by mode
 mode_if : (o : Option ℕ) (f : ℕ → OrFault (List ℕ)) (rest : Option TableFault)
-    → ((place : ℕ) → fault_in (f place) ≡ rest)
+    → ((index : ℕ) → fault_in (f index) ≡ rest)
     → fault_in (ok_or o Mode >>= f) ≡ cond (not (is_some o)) (Some Mode) rest
 mode_if None f rest same = refl
-mode_if (Some place) f rest same = same place
+mode_if (Some index) f rest same = same index
 
 cents_if : (b : Bool) (n : ℕ) (f : ℕ → OrFault (List ℕ)) (rest : Option TableFault)
     → ((cents : ℕ) → fault_in (f cents) ≡ rest)
@@ -377,22 +377,22 @@ fare_reports modes o rest =
     (option_map (λ (one : List ℕ × Data). one.1) o)) (Some (Range the_key.Fares)) rest)
 
 fares-from-reported : (tree : Members) (modes : List (List ℕ)) (n k : ℕ) (fares : List ℕ)
-    (part : Members) → mode_names tree ≡ modes → Stand (fares_in tree n) k part
+    (part : Members) → mode_names tree ≡ modes → AlignedAt (fares_in tree n) k part
     → hold_numbers part ≡ true
     → fault_in (fares_from modes fares part) ≡ first_row tree (fare_rows n k part)
-fares-from-reported tree modes n k fares no_members known stand numbers = refl
-fares-from-reported tree modes n k fares (member name (integer z) more) known stand numbers =
+fares-from-reported tree modes n k fares no_members known aligned numbers = refl
+fares-from-reported tree modes n k fares (member name (integer z) more) known aligned numbers =
     let at : fare_at tree n k ≡ Some (name, integer z) =
-    stand_here (fares_in tree n) k name (integer z) more stand in
+    aligned_here (fares_in tree n) k name (integer z) more aligned in
     let rest = first_row tree (fare_rows n (suc k) more) in
     mode_if (position (same_name name) modes)
-    (λ place. number_in the_key.Fares 0 100_000 (integer z)
-    >>= (λ cents. fares_from modes (slice_set fares place cents) more))
+    (λ index. number_in the_key.Fares 0 100_000 (integer z)
+    >>= (λ cents. fares_from modes (slice_set fares index cents) more))
     (cond (not (int_le (pos 0) z && int_le z (pos 100_000))) (Some (Range the_key.Fares)) rest)
-    (λ place. cents_if (int_le (pos 0) z && int_le z (pos 100_000)) (unsigned_abs z)
-    (λ cents. fares_from modes (slice_set fares place cents) more) rest
-    (λ cents. fares-from-reported tree modes n (suc k) (slice_set fares place cents) more known
-    (stand_next (fares_in tree n) k name (integer z) more stand) numbers))
+    (λ index. cents_if (int_le (pos 0) z && int_le z (pos 100_000)) (unsigned_abs z)
+    (λ cents. fares_from modes (slice_set fares index cents) more) rest
+    (λ cents. fares-from-reported tree modes n (suc k) (slice_set fares index cents) more known
+    (aligned_next (fares_in tree n) k name (integer z) more aligned) numbers))
     ∙ ap (λ (names : List (List ℕ)). fare_reports names (Some (name, integer z)) rest) (sym known)
     ∙ ap (λ (o : Option (List ℕ × Data)). fare_reports (mode_names tree) o rest) (sym at)
     ∙ sym (reported tree (mode_fare n k) Mode (a_row (mode_fare n k) (Range the_key.Fares)
@@ -400,7 +400,7 @@ fares-from-reported tree modes n k fares (member name (integer z) more) known st
     ∙ ap (λ (x : Option TableFault).
     cond (is_wrong tree (mode_fare n k) Mode) (Some Mode) x)
     (reported tree (mode_fare n k) (Range the_key.Fares) (fare_rows n (suc k) more)))
-fares-from-reported tree modes n k fares (member name _ more) known stand numbers =
+fares-from-reported tree modes n k fares (member name _ more) known aligned numbers =
     absurd (false≢true numbers)
 
 numbers_if : (b : Bool) (modes : List (List ℕ)) (fares : List ℕ) (part : Members)
@@ -430,8 +430,8 @@ fares-reported tree modes n fare known =
     fares_steps o modes fare (λ part. first_row tree (fare_rows n 0 part)) refl
     (λ part is numbers.
     fares-from-reported tree modes n 0 (replicate 32 fare) part known
-    (subst (λ (m : Members). Stand (fares_in tree n) 0 m) (ap members_of is)
-    (stand_all (fares_in tree n))) numbers)
+    (subst (λ (m : Members). AlignedAt (fares_in tree n) 0 m) (ap members_of is)
+    (aligned_all (fares_in tree n))) numbers)
     ∙ sym (reported tree (class n) (Kind the_key.Fares) (fare_rows n 0 (fares_in tree n)))
 
 -- ---- what the rides of a class give
@@ -472,22 +472,22 @@ class-reported tree modes n known =
     (λ fares is'. done (ride_transfers_of inner) _ ∙ ride_transfers-reported tree n))
 
 pub list-from-reported : (tree : Members) (modes : List (List ℕ)) (n : ℕ) (earlier : List Class)
-    (part : Members) → mode_names tree ≡ modes → Stand (classes_in tree) n part
+    (part : Members) → mode_names tree ≡ modes → AlignedAt (classes_in tree) n part
     → hold_tables part ≡ true
     → fault_in (classes_from modes earlier part) ≡ first_row tree (class_rows tree n part)
-list-from-reported tree modes n earlier no_members known stand tables = refl
-list-from-reported tree modes n earlier (member name (table inner) more) known stand tables =
+list-from-reported tree modes n earlier no_members known aligned tables = refl
+list-from-reported tree modes n earlier (member name (table inner) more) known aligned tables =
     let here : members_at (class n) tree ≡ inner =
     ap (λ (o : Option (List ℕ × Data)).
     members_of (option_map (λ (one : List ℕ × Data). one.1) o))
-    (stand_here (classes_in tree) n name (table inner) more stand) in
+    (aligned_here (classes_in tree) n name (table inner) more aligned) in
     steps tree (class_of modes inner) (λ one. classes_from modes (earlier ++ one ∷ []) more)
     (rows_of_class tree n) (class_rows tree (suc n) more)
     (ap (λ (m : Members). fault_in (class_of modes m)) (sym here)
     ∙ class-reported tree modes n known)
     (λ one is. list-from-reported tree modes (suc n) (earlier ++ one ∷ []) more known
-    (stand_next (classes_in tree) n name (table inner) more stand) tables)
-list-from-reported tree modes n earlier (member name _ more) known stand tables =
+    (aligned_next (classes_in tree) n name (table inner) more aligned) tables)
+list-from-reported tree modes n earlier (member name _ more) known aligned tables =
     absurd (false≢true tables)
 
 pub list-reported : (tree : Members) (modes : List (List ℕ)) (part : Members) (earlier : List Class)
@@ -496,7 +496,7 @@ pub list-reported : (tree : Members) (modes : List (List ℕ)) (part : Members) 
     ≡ first_row tree (class_rows tree 0 (classes_in tree))
 list-reported tree modes part earlier known same tables =
     list-from-reported tree modes 0 earlier part known
-    (subst (λ (m : Members). Stand (classes_in tree) 0 m) same (stand_all (classes_in tree))) tables
+    (subst (λ (m : Members). AlignedAt (classes_in tree) 0 m) same (aligned_all (classes_in tree))) tables
     ∙ ap (λ (m : Members). first_row tree (class_rows tree 0 m)) (sym same)
 
 class_need : Option Data → Option TableFault
@@ -556,37 +556,37 @@ classes_tables tree classes is =
 
 -- ---- the default class
 -- a class has a place if its name has a value
-some-place : (name : List ℕ) (classes : Members)
-    → is_none (place_of name classes) ≡ is_none (get_member name classes)
-some-place name no_members = refl
-some-place name (member key value more) =
+some-index : (name : List ℕ) (classes : Members)
+    → is_none (position_of name classes) ≡ is_none (get_member name classes)
+some-index name no_members = refl
+some-index name (member key value more) =
     let same : same_name name key ≡ is_eq (slice_cmp nat_cmp name key) =
     sym (is_eq-slice_cmp name key) in
-    rw same (placed (slice_cmp nat_cmp name key) (place_of name more) (get_member name more) value
-    (some-place name more))
+    rw same (placed (slice_cmp nat_cmp name key) (position_of name more) (get_member name more) value
+    (some-index name more))
   where
     none_of : (o : Option ℕ) → is_none (option_map suc o) ≡ is_none o
     none_of None = refl
     none_of (Some n) = refl
 
-    placed : (order : Ordering) (place : Option ℕ) (found : Option Data) (value : Data)
-        → is_none place ≡ is_none found
-        → is_none (if is_eq order then Some 0 else option_map suc place)
+    placed : (order : Ordering) (index : Option ℕ) (found : Option Data) (value : Data)
+        → is_none index ≡ is_none found
+        → is_none (if is_eq order then Some 0 else option_map suc index)
         ≡ is_none (match_ordering order found (Some value) found)
-    placed Less place found value same = none_of place ∙ same
-    placed Equal place found value same = refl
-    placed Greater place found value same = none_of place ∙ same
+    placed Less index found value same = none_of index ∙ same
+    placed Equal index found value same = refl
+    placed Greater index found value same = none_of index ∙ same
 
-place_reports : (o : Option ℕ) → fault_in (ok_or o Rider) ≡ cond (is_none o) (Some Rider) None
-place_reports None = refl
-place_reports (Some place) = refl
+position_reports : (o : Option ℕ) → fault_in (ok_or o Rider) ≡ cond (is_none o) (Some Rider) None
+position_reports None = refl
+position_reports (Some index) = refl
 
 pub named-reported : (classes : Members) (name : List ℕ)
     → fault_in (class_named classes name)
     ≡ cond (is_none (get_member name classes)) (Some Rider) None
 named-reported classes name =
-    place_reports (place_of name classes)
-    ∙ ap (λ b. cond b (Some Rider) None) (some-place name classes)
+    position_reports (position_of name classes)
+    ∙ ap (λ b. cond b (Some Rider) None) (some-index name classes)
 
 default_steps : (o : Option Data) (classes : Members)
     → fault_in ((ok_or o (Missing the_key.DefaultClass)

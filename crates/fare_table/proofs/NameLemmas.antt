@@ -16,7 +16,7 @@ use Rattle.toml.specs.Data.{Members, no_members, member, is_before}
 use Rattle.toml.specs.View.{members_view}
 use Rattle.toml.specs.declared.value.Value.{Value}
 use Rattle.fare_table.specs.ByteOrder.{in_byte_order}
-use Rattle.fare_table.specs.Classes.{count_of, place_of}
+use Rattle.fare_table.specs.Classes.{count_of, position_of}
 use Rattle.tariffs.specs.Names.{same_name}
 use Rattle.fare_table.specs.Classes.{names_in}
 use Rattle.tariffs.proofs.ByteLemmas.{is_itself}
@@ -60,22 +60,22 @@ not_same name other less =
     ∙ ap is_eq ((nat_list_cmp_total).antisymm name other ∙ ap ordering_reverse less)
 
 -- the place at which a name stands is the place of the class of the name
-pub place_at : (members : Members) (name : List ℕ) (n : ℕ) → in_byte_order members ≡ true
+pub position_at : (members : Members) (name : List ℕ) (n : ℕ) → in_byte_order members ≡ true
     → n < length (names_in members) → get_or (names_in members) n [] ≡ name
-    → place_of name members ≡ Some n
-place_at no_members name n order below at = absurd (omega (arith, below))
-place_at (member key value more) name zero order below at =
+    → position_of name members ≡ Some n
+position_at no_members name n order below at = absurd (omega (arith, below))
+position_at (member key value more) name zero order below at =
     let here : same_name name key ≡ true =
     sym (is_eq-slice_cmp name key) ∙ ap (λ (k : List ℕ). is_eq (slice_cmp nat_cmp name k)) at
     ∙ is_itself name in
     rw here refl
-place_at (member key value more) name (suc n) order below at =
+position_at (member key value more) name (suc n) order below at =
     let parts = and_parts (is_before key more) (in_byte_order more) order in
     let less : slice_cmp nat_cmp key name ≡ Less =
     ap (λ (k : List ℕ). slice_cmp nat_cmp key k) (sym at)
     ∙ before_all key more n [] parts.0 parts.1 (omega (arith, below)) in
     let other : same_name name key ≡ false = not_same name key less in
-    let rest = place_at more name n parts.1 (omega (arith, below)) at in
+    let rest = position_at more name n parts.1 (omega (arith, below)) at in
     rw (other, rest) refl
 
 pub count_names : (members : Members) → length (names_in members) ≡ count_of members
@@ -92,19 +92,19 @@ names_push (first ∷ earlier) found one name more same is =
     (names_push earlier (earlier ++ one ∷ []) one name more refl is))
 
 -- a name that stands at a place is found there
-pub found_at : (names : List (Bor (List ℕ))) (members : Members) (name : List ℕ) (place : ℕ)
+pub found_at : (names : List (Bor (List ℕ))) (members : Members) (name : List ℕ) (position : ℕ)
     (d : Bor (List ℕ)) → map (λ one. one.now) names ≡ names_in members
-    → in_byte_order members ≡ true → place < length names
-    → slice_cmp nat_cmp (get_or names place d).now name ≡ Equal
-    → (place_of name members ≡ Some place) × (place < count_of members)
-found_at names members name place d listed rising below same =
+    → in_byte_order members ≡ true → position < length names
+    → slice_cmp nat_cmp (get_or names position d).now name ≡ Equal
+    → (position_of name members ≡ Some position) × (position < count_of members)
+found_at names members name position d listed increasing below same =
     let long : length names ≡ length (names_in members) =
     sym (length-map names (λ one. one.now)) ∙ ap length listed in
-    let here : get_or (names_in members) place [] ≡ name =
-    ap (λ (ns : List (List ℕ)). get_or ns place []) (sym listed)
-    ∙ get_or-map (λ one. one.now) names place d [] below
-    ∙ exact_bytes (get_or names place d).now name same in
-    let inside : place < length (names_in members) = omega (arith, below, long) in (
-      place_at members name place rising inside here,
+    let here : get_or (names_in members) position [] ≡ name =
+    ap (λ (ns : List (List ℕ)). get_or ns position []) (sym listed)
+    ∙ get_or-map (λ one. one.now) names position d [] below
+    ∙ exact_bytes (get_or names position d).now name same in
+    let inside : position < length (names_in members) = omega (arith, below, long) in (
+      position_at members name position increasing inside here,
       omega (arith, inside, count_names members),
     )

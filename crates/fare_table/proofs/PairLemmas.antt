@@ -14,7 +14,7 @@ use Rattle.fare_table.specs.OrFault.{OrFault, ◌>>=◌}
 use Rattle.tariffs.specs.TableMeaning.{TableMeaning}
 use Rattle.fare_table.specs.TableMeaning.{meaning_of_tree}
 use Rattle.tariffs.specs.Transfers.{has_pair, joins}
-use Rattle.fare_table.specs.Transfers.{named_pairs, pairs_from, places_of}
+use Rattle.fare_table.specs.Transfers.{named_pairs, pairs_from, positions_of}
 use Rattle.fare_table.specs.Transfers.{transfers_from, transfers_of, ListsPair}
 use Rattle.tariffs.specs.Transfers.{with_pair}
 use Rattle.fare_table.specs.declared.fault.Key.TheVariants as the_key
@@ -79,7 +79,7 @@ only pairs f t from to has = only_if (has_pair pairs f t) pairs f t from to has
 -- the pairs behind the first one, after it was read
 abbrev after : List (List ℕ) → List (ℕ × ℕ) → List (List ℕ × List ℕ) → ℕ × ℕ
     → OrFault (List (ℕ × ℕ))
-after modes found more places = transfers_from modes (with_pair found places.0 places.1) more
+after modes found more positions = transfers_from modes (with_pair found positions.0 positions.1) more
 
 -- the pairs found stay
 still : (modes : List (List ℕ)) (found : List (ℕ × ℕ)) (names : List (List ℕ × List ℕ))
@@ -88,7 +88,7 @@ still : (modes : List (List ℕ)) (found : List (ℕ × ℕ)) (names : List (Lis
 still modes found [] pairs is from to has = let same : found ≡ pairs = cc in
     subst (λ (ps : List (ℕ × ℕ)). has_pair ps from to ≡ true) same has
 still modes found (pair ∷ more) pairs is from to has =
-    let step = bind_ok (places_of modes pair) (after modes found more) pairs is in
+    let step = bind_ok (positions_of modes pair) (after modes found more) pairs is in
     still modes (with_pair found step.0.0 step.0.1) more pairs step.2 from to
     (keeps found step.0.0 step.0.1 from to has)
 
@@ -96,25 +96,25 @@ still modes found (pair ∷ more) pairs is from to has =
 there : (modes : List (List ℕ)) (found : List (ℕ × ℕ)) (names : List (List ℕ × List ℕ))
     (pairs : List (ℕ × ℕ)) → transfers_from modes found names ≡ Ok pairs
     → (from to : ℕ) (pair : List ℕ × List ℕ) → Contains names pair
-    → places_of modes pair ≡ Ok (pair_by from to) → has_pair pairs from to ≡ true
-there modes found [] pairs is from to pair at places = absurd (omega (arith, at.1))
-there modes found (first ∷ more) pairs is from to pair at places =
-    let step = bind_ok (places_of modes first) (after modes found more) pairs is in
+    → positions_of modes pair ≡ Ok (pair_by from to) → has_pair pairs from to ≡ true
+there modes found [] pairs is from to pair at positions = absurd (omega (arith, at.1))
+there modes found (first ∷ more) pairs is from to pair at positions =
+    let step = bind_ok (positions_of modes first) (after modes found more) pairs is in
     ⊎_elim
     (λ same.
-    let one : Ok step.0 ≡ Ok (pair_by from to) = sym step.1 ∙ ap (places_of modes) same ∙ places in
+    let one : Ok step.0 ≡ Ok (pair_by from to) = sym step.1 ∙ ap (positions_of modes) same ∙ positions in
     let here : step.0 ≡ pair_by from to = cc in
     still modes (with_pair found step.0.0 step.0.1) more pairs step.2 from to
     (subst (λ (p : ℕ × ℕ). has_pair (with_pair found p.0 p.1) from to ≡ true) (sym here)
     (adds found from to)))
     (λ later. there modes (with_pair found step.0.0 step.0.1) more pairs step.2 from to pair later
-    places)
+    positions)
     (cons_cases first more pair at.0 at.1 at.2)
 
 -- a pair of names of these places is listed
 abbrev IsListed : List (List ℕ) → List (List ℕ × List ℕ) → ℕ → ℕ → Type 0
 IsListed modes names from to =
-    (pair : List ℕ × List ℕ) × Contains names pair × (places_of modes pair ≡ Ok (pair_by from to))
+    (pair : List ℕ × List ℕ) × Contains names pair × (positions_of modes pair ≡ Ok (pair_by from to))
 
 -- each pair was found before, or is listed
 came : (modes : List (List ℕ)) (found : List (ℕ × ℕ)) (names : List (List ℕ × List ℕ))
@@ -124,7 +124,7 @@ came : (modes : List (List ℕ)) (found : List (ℕ × ℕ)) (names : List (List
 came modes found [] pairs is from to has = let same : found ≡ pairs = cc in
     inl (subst (λ (ps : List (ℕ × ℕ)). has_pair ps from to ≡ true) (sym same) has)
 came modes found (first ∷ more) pairs is from to has =
-    let step = bind_ok (places_of modes first) (after modes found more) pairs is in
+    let step = bind_ok (positions_of modes first) (after modes found more) pairs is in
     ⊎_elim
     (λ before. ⊎_elim (λ old. inl old)
     (λ same. inr (
@@ -164,7 +164,7 @@ pairs-listed modes tree pairs from to is =
             listed = text.1;
             pair = listed.0;
             is_one = listed.1;
-            places = listed.2;
+            positions = listed.2;
           })
           (came modes [] text.0 pairs text.2 from to has),
       λ listed.
@@ -172,7 +172,7 @@ pairs-listed modes tree pairs from to is =
           let same : listed.pairs ≡ text.0 = cc in
           let C : List (List ℕ × List ℕ) → Type 0 = λ names. Contains names listed.pair in
           there modes [] text.0 pairs text.2 from to listed.pair (subst C same listed.is_one)
-          listed.places,
+          listed.positions,
     )
 
 -- the law

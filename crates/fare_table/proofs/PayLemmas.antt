@@ -13,7 +13,7 @@ use Rattle.fare_table.proofs.ElementLemmas.{if_ok}
 use Rattle.fare_table.proofs.PartLemmas.{bind_ok, parts}
 use Rattle.fare_table.proofs.ReadLemmas.{is_number, is_table, number-read, table-read, text-read}
 use Rattle.fare_table.specs.Classes.{ceiling_of, class_in, class_named, class_of, classes_from}
-use Rattle.fare_table.specs.Classes.{classes_of, default_of, fares_of, is_empty, place_of, terms_of}
+use Rattle.fare_table.specs.Classes.{classes_of, default_of, fares_of, is_empty, position_of, terms_of}
 use Rattle.fare_table.specs.Classes.{ride_transfers_of}
 use Rattle.tariffs.specs.Names.{same_name}
 use Rattle.tariffs.specs.declared.class.Class.{Class}
@@ -59,7 +59,7 @@ is_ceiling price (Some value) ceiling is =
 -- the class of this name is in the table, and its element has these terms
 pub record IsNamed (classes : Members) (class : List ℕ) (terms : Terms) : Type 0 where
   pub element : Members
-  pub stands : get_member class classes ≡ Some (table element)
+  pub holds : get_member class classes ≡ Some (table element)
   pub fare : get_member (codes "fare") element ≡ Some (integer (pos terms.fare))
   pub rides : get_member (codes "rides") element ≡ Some (integer (pos terms.rides))
   pub ceiling : IsCeiling (terms.rides * terms.fare) (get_member (codes "ceiling") element)
@@ -76,7 +76,7 @@ entry_terms : (classes element : Members) (class : List ℕ) (terms : Terms)
     → get_member class classes ≡ Some (table element) → terms_of element ≡ Ok terms
     → IsNamed classes class terms
 unfolding terms_of
-entry_terms classes element class terms stands is =
+entry_terms classes element class terms holds is =
     let fare = bind_ok (number_at (codes "fare") the_key.Fare 1 100_000 element) (by_fare element)
     terms
     is in
@@ -87,7 +87,7 @@ entry_terms classes element class terms stands is =
     moved classes class fare.0 rides.0 ceiling.0 terms ceiling.2
     (record {
       element = element;
-      stands = stands;
+      holds = holds;
       fare = (number-read (codes "fare") the_key.Fare 1 100_000 element fare.0 fare.1).is;
       rides = (number-read (codes "rides") the_key.Rides 1 1_000 element rides.0 rides.1).is;
       ceiling = is_ceiling (rides.0 * fare.0) (get_member (codes "ceiling") element) ceiling.0
@@ -98,7 +98,7 @@ entry_terms classes element class terms stands is =
 pub record HasClass (modes : List (List ℕ)) (classes : Members) (name : List ℕ) (one : Class) : Type
     0 where
   pub value : Data
-  pub stands : get_member name classes ≡ Some value
+  pub holds : get_member name classes ≡ Some value
   pub read : class_in modes value ≡ Ok one
 
 abbrev class_by : Terms → List ℕ → TransferTerms → Class
@@ -144,7 +144,7 @@ named_terms : (modes : List (List ℕ)) (classes : Members) (name : List ℕ) (o
 named_terms modes classes name one has =
     let element = bind_ok (of_kind the_key.Classes (as_table has.value)) (class_of modes) one
     has.read in
-    entry_terms classes element.0 name one.terms (has.stands
+    entry_terms classes element.0 name one.terms (has.holds
     ∙ ap (λ (d : Data). Some d) (is_table has.value the_key.Classes element.0 element.1))
     (class_parts modes element.0 one element.2).terms
 
@@ -207,37 +207,37 @@ at_end [] one n is = rw is refl
 at_end (first ∷ earlier) one n is = rw is (at_end earlier one (length earlier) refl)
 
 -- where the class of a name stands in the list
-pub record IsPlaced (modes : List (List ℕ)) (list : List Class) (place : ℕ) (classes : Members)
+pub record IsPlaced (modes : List (List ℕ)) (list : List Class) (position : ℕ) (classes : Members)
     (name : List ℕ) : Type 0 where
   pub one : Class
-  pub at : slice_get list place ≡ Some one
+  pub at : slice_get list position ≡ Some one
   pub has : HasClass modes classes name one
 
 pub placed : (modes : List (List ℕ)) (earlier list : List Class) (name : List ℕ) (part : Members)
-    (place there : ℕ) → classes_from modes earlier part ≡ Ok list
-    → place_of name part ≡ Some place → there ≡ length earlier + place
+    (position there : ℕ) → classes_from modes earlier part ≡ Ok list
+    → position_of name part ≡ Some position → there ≡ length earlier + position
     → IsPlaced modes list there part name
-placed modes earlier list name no_members place there is at same = absurd (cc)
-placed modes earlier list name (member key value more) place there is at same =
+placed modes earlier list name no_members position there is at same = absurd (cc)
+placed modes earlier list name (member key value more) position there is at same =
     let first = bind_ok (class_in modes value) (λ c. classes_from modes (earlier ++ c ∷ []) more)
     list is in
     elim (cases_Bool (same_name name key)) [
       | inl here ↦
-          let zero_place : place ≡ 0 = first_place (rw here at at) in
+          let zero_position : position ≡ 0 = first_position (rw here at at) in
           record {
             one = first.0;
             at = kept-class modes there (earlier ++ first.0 ∷ []) list first.0 more first.2
-                (at_end earlier first.0 there (omega (arith, same, zero_place)));
+                (at_end earlier first.0 there (omega (arith, same, zero_position)));
             has = record {
               value = value;
-              stands = choice (slice_cmp nat_cmp name key) (get_member name more) value
+              holds = choice (slice_cmp nat_cmp name key) (get_member name more) value
                   ∙ ap (λ b. cond b (Some value) (get_member name more))
                   (is_eq-slice_cmp name key ∙ here);
               read = first.1;
             };
           }
       | inr other ↦
-          let next = later_place (place_of name more) place (rw other at at) in
+          let next = later_position (position_of name more) position (rw other at at) in
           let rest = placed modes (earlier ++ first.0 ∷ []) list name more next.0 there first.2
           next.1
           (omega (arith, same, next.2, length-append-one earlier first.0)) in
@@ -246,46 +246,46 @@ placed modes earlier list name (member key value more) place there is at same =
             at = rest.at;
             has = record {
               value = rest.has.value;
-              stands = member-later name key value more (is_eq-slice_cmp name key ∙ other)
-                  ∙ rest.has.stands;
+              holds = member-later name key value more (is_eq-slice_cmp name key ∙ other)
+                  ∙ rest.has.holds;
               read = rest.has.read;
             };
           }
     ]
   where
-    first_place : {p : ℕ} → Some 0 ≡ Some p → p ≡ 0
-    first_place is = cc
+    first_position : {p : ℕ} → Some 0 ≡ Some p → p ≡ 0
+    first_position is = cc
 
-    later_place : (o : Option ℕ) (p : ℕ) → option_map suc o ≡ Some p
+    later_position : (o : Option ℕ) (p : ℕ) → option_map suc o ≡ Some p
         → (n : ℕ) × (o ≡ Some n) × (p ≡ suc n)
-    later_place None p is = absurd (cc)
-    later_place (Some n) p is = (n, refl, cc)
+    later_position None p is = absurd (cc)
+    later_position (Some n) p is = (n, refl, cc)
 
     length-append-one : (xs : List Class) (x : Class) → length (xs ++ x ∷ []) ≡ suc (length xs)
     length-append-one [] x = refl
     length-append-one (y ∷ ys) x = ap suc (length-append-one ys x)
 
-pub place_found : (o : Option ℕ) (place : ℕ) → ok_or o Rider ≡ Ok place → o ≡ Some place
-place_found None place is = absurd (cc)
-place_found (Some p) place is = let same : p ≡ place = cc in ap (λ n. Some n) same
+pub position_found : (o : Option ℕ) (position : ℕ) → ok_or o Rider ≡ Ok position → o ≡ Some position
+position_found None position is = absurd (cc)
+position_found (Some p) position is = let same : p ≡ position = cc in ap (λ n. Some n) same
 
 -- the class of this name has the terms in the text too
 pub has_terms : (modes : List (List ℕ)) (tree classes : Members) (list : List Class)
     (class : List ℕ)
-    (place : ℕ) → classes_of tree ≡ Ok classes → classes_from modes [] classes ≡ Ok list
-    → class_named classes class ≡ Ok place
-    → HasTerms tree class (slice_index_or list place no_class).terms
-has_terms modes tree classes list class place read listed is =
-    let p = placed modes [] list class classes place place listed
-    (place_found (place_of class classes) place is) (sym (zero-add place)) in
+    (position : ℕ) → classes_of tree ≡ Ok classes → classes_from modes [] classes ≡ Ok list
+    → class_named classes class ≡ Ok position
+    → HasTerms tree class (slice_index_or list position no_class).terms
+has_terms modes tree classes list class position read listed is =
+    let p = placed modes [] list class classes position position listed
+    (position_found (position_of class classes) position is) (sym (zero-add position)) in
     let n = named_terms modes classes class p.one p.has in
-    let same : p.one ≡ slice_index_or list place no_class =
-    sym (get_or_from_slice_get list place p.one no_class p.at) in
+    let same : p.one ≡ slice_index_or list position no_class =
+    sym (get_or_from_slice_get list position p.one no_class p.at) in
     subst (λ (c : Class). HasTerms tree class c.terms) same (record {
       classes = classes;
       listed = classes_read tree classes read;
       element = n.element;
-      stands = n.stands;
+      holds = n.holds;
       fare = n.fare;
       rides = n.rides;
       ceiling = n.ceiling;
@@ -316,7 +316,7 @@ one_terms tree class terms terms' one two =
     let classes = table_of (get_member (codes "classes") tree) one.classes two.classes one.listed
     two.listed in
     let element = table_of (get_member class two.classes) one.element two.element
-    (ap (get_member class) (sym classes) ∙ one.stands) two.stands in
+    (ap (get_member class) (sym classes) ∙ one.holds) two.holds in
     let fare = number_of (get_member (codes "fare") two.element) terms.fare terms'.fare
     (ap (get_member (codes "fare")) (sym element) ∙ one.fare) two.fare in
     let rides = number_of (get_member (codes "rides") two.element) terms.rides terms'.rides
@@ -399,7 +399,7 @@ came_from classes tree riders token terms are at = ⊎_elim
       record {
         riders = some.0;
         listed = some.1;
-        stands = c.at;
+        holds = c.at;
         named = c.named;
       },
       c.has,
@@ -420,10 +420,10 @@ default_named classes tree terms is =
     (name.0, text-read (codes "default_class") the_key.DefaultClass tree name.0 name.1, name.2)
 
 -- the class by which a token pays, and its place
-pub record HasClassOf (tree classes : Members) (token : List ℕ) (place : ℕ) : Type 0 where
+pub record HasClassOf (tree classes : Members) (token : List ℕ) (position : ℕ) : Type 0 where
   pub class : List ℕ
   pub is : IsClassOf tree token class
-  pub named : class_named classes class ≡ Ok place
+  pub named : class_named classes class ≡ Ok position
 
 pub class_if : (tree classes : Members) (meaning : TableMeaning) (token : List ℕ) (o : Option ℕ)
     → default_of classes tree ≡ Ok meaning.standard
@@ -438,14 +438,14 @@ class_if tree classes meaning token None standard are at =
         d.1,
         λ key other n.
             let t = there classes token [] n.riders meaning.riders key other
-            (named_from classes tree meaning.riders token key other are n) n.stands n.named in
+            (named_from classes tree meaning.riders token key other are n) n.holds n.named in
             let no : None ≡ Some t.0 = sym at ∙ t.2 in
             absurd (cc (no)),
       );
       named = d.2;
     }
-class_if tree classes meaning token (Some place) standard are at =
-    let c = came_from classes tree meaning.riders token place are at in
+class_if tree classes meaning token (Some position) standard are at =
+    let c = came_from classes tree meaning.riders token position are at in
     record { class = c.1; is = inl (c.0, c.2); named = c.3 }
 
 pays : (tree : Members) (meaning : TableMeaning) (token : List ℕ)
@@ -472,7 +472,7 @@ one-key tree meaning token key key' class class' is one two =
     table_of (get_member (codes "riders") tree) one.riders two.riders one.listed two.listed in
     one_key p.table token [] two.riders meaning.riders key key' class class'
     (named_from p.table tree meaning.riders token key' class' are two)
-    (ap (get_member key) (sym same) ∙ one.stands) one.named two.stands two.named
+    (ap (get_member key) (sym same) ∙ one.holds) one.named two.holds two.named
 
 text_of : (o : Option Data) (n m : List ℕ) → o ≡ Some (string n) → o ≡ Some (string m) → n ≡ m
 text_of o n m one two = let both : Some (string n) ≡ Some (string m) = sym one ∙ two in cc
@@ -488,7 +488,7 @@ one_class tree meaning token class class' is (inl one) (inl two) =
     two.1.listed in
     text_of (get_member two.0 two.1.riders) class class'
     (ap (λ (m : Members). get_member two.0 m) (sym same)
-    ∙ ap (λ k. get_member k one.1.riders) (sym key) ∙ one.1.stands) two.1.stands
+    ∙ ap (λ k. get_member k one.1.riders) (sym key) ∙ one.1.holds) two.1.holds
 one_class tree meaning token class class' is (inl one) (inr two) = absurd (two.1 one.0 class one.1)
 one_class tree meaning token class class' is (inr one) (inl two) = absurd (one.1 two.0 class' two.1)
 one_class tree meaning token class class' is (inr one) (inr two) =

@@ -22,10 +22,10 @@ use Rattle.fare_table.proofs.ElementLemmas.{if_ok}
 use Rattle.fare_table.proofs.OrderLemmas.{nested-ordered}
 use Rattle.fare_table.proofs.PartLemmas.{bind_ok, parts}
 use Rattle.fare_table.proofs.PayLemmas.{AreClassParts, class_if, class_parts, classes_read}
-use Rattle.fare_table.proofs.PayLemmas.{has_terms, place_found, placed, riders_read, same_ok}
+use Rattle.fare_table.proofs.PayLemmas.{has_terms, position_found, placed, riders_read, same_ok}
 use Rattle.fare_table.proofs.ReadLemmas.{is_number, is_table}
 use Rattle.fare_table.specs.ByteOrder.{in_byte_order}
-use Rattle.fare_table.specs.Classes.{class_of as class_by, fares_from, fares_of, place_of}
+use Rattle.fare_table.specs.Classes.{class_of as class_by, fares_from, fares_of, position_of}
 use Rattle.fare_table.specs.Classes.{ride_transfers_of}
 use Rattle.tariffs.specs.Fares.{class_at, class_of, no_class, ride_terms, transfer_terms}
 use Rattle.fare_table.specs.Members.{array_at, hold_numbers, number_in, number_or, of_kind}
@@ -56,19 +56,19 @@ same_by name key other one two =
     ∙ sym (same_bytes key other (is_eq-slice_cmp key other ∙ two))
 
 -- the first name that passes the test stands at the place
-record IsAt (test : List ℕ → Bool) (names : List (List ℕ)) (place : ℕ) : Type 0 where
-  below : place < length names
-  passes : test (get_or names place []) ≡ true
+record IsAt (test : List ℕ → Bool) (names : List (List ℕ)) (index : ℕ) : Type 0 where
+  below : index < length names
+  passes : test (get_or names index []) ≡ true
 
-found_if : (b : Bool) (n place : ℕ) → cond b (Some n) None ≡ Some place → (b ≡ true) × (n ≡ place)
-found_if true n place is = (refl, cc)
-found_if false n place is = absurd (cc)
+found_if : (b : Bool) (n index : ℕ) → cond b (Some n) None ≡ Some index → (b ≡ true) × (n ≡ index)
+found_if true n index is = (refl, cc)
+found_if false n index is = absurd (cc)
 
-is_at : (test : List ℕ → Bool) (names : List (List ℕ)) (place : ℕ)
-    → position test names ≡ Some place → IsAt test names place
-is_at test names place is =
+is_at : (test : List ℕ → Bool) (names : List (List ℕ)) (index : ℕ)
+    → position test names ≡ Some index → IsAt test names index
+is_at test names index is =
     let first = position_or_len test names in
-    let found = found_if (nat_lt first (length names)) first place is in
+    let found = found_if (nat_lt first (length names)) first index is in
     let below : first < length names = ltb-true first (length names) found.0 in
     record {
       below = subst (λ n. n < length names) found.1 below;
@@ -76,12 +76,12 @@ is_at test names place is =
           (passes_at_first test names [] below);
     }
 
-one_name : (names : List (List ℕ)) (name key : List ℕ) (place : ℕ)
-    → position (same_name name) names ≡ Some place → position (same_name key) names ≡ Some place
+one_name : (names : List (List ℕ)) (name key : List ℕ) (index : ℕ)
+    → position (same_name name) names ≡ Some index → position (same_name key) names ≡ Some index
     → name ≡ key
-one_name names name key place one two =
-    same_by name key (get_or names place []) (is_at (same_name name) names place one).passes
-    (is_at (same_name key) names place two).passes
+one_name names name key index one two =
+    same_by name key (get_or names index []) (is_at (same_name name) names index one).passes
+    (is_at (same_name key) names index two).passes
 
 -- ---- keys in byte order
 
@@ -96,19 +96,19 @@ not_later key (member first value rest) before order =
     ∙ not_later key rest (before_rest key first rest less parts.0) parts.1
 
 -- ---- the fares of a class
-mode_found : (o : Option ℕ) (place : ℕ) → ok_or o Mode ≡ Ok place → o ≡ Some place
-mode_found None place is = absurd (cc)
-mode_found (Some p) place is = let same : p ≡ place = cc in ap (λ n. Some n) same
+mode_found : (o : Option ℕ) (index : ℕ) → ok_or o Mode ≡ Ok index → o ≡ Some index
+mode_found None index is = absurd (cc)
+mode_found (Some p) index is = let same : p ≡ index = cc in ap (λ n. Some n) same
 
-some_place : (one other : ℕ) → Some one ≡ Some other → one ≡ other
-some_place one other is = cc
+some_position : (one other : ℕ) → Some one ≡ Some other → one ≡ other
+some_position one other is = cc
 
 abbrev by_cents : List (List ℕ) → List ℕ → Members → ℕ → ℕ → OrFault (List ℕ)
-by_cents modes fares more place cents = fares_from modes (set fares place cents) more
+by_cents modes fares more index cents = fares_from modes (set fares index cents) more
 
-abbrev by_place : List (List ℕ) → List ℕ → Data → Members → ℕ → OrFault (List ℕ)
-by_place modes fares value more place =
-    number_in the_key.Fares 0 100_000 value >>= by_cents modes fares more place
+abbrev by_position : List (List ℕ) → List ℕ → Data → Members → ℕ → OrFault (List ℕ)
+by_position modes fares value more index =
+    number_in the_key.Fares 0 100_000 value >>= by_cents modes fares more index
 
 fare_named : (modes : List (List ℕ)) (name : List ℕ) (mode : ℕ) (fares list : List ℕ)
     (named : Members) (own : ℕ) → position (same_name name) modes ≡ Some mode
@@ -118,22 +118,22 @@ fare_named modes name mode fares list no_members own at below order is has =
     let same : fares ≡ list = cc in ap (λ (l : List ℕ). get_or l mode 0) (sym same) ∙ has
 fare_named modes name mode fares list (member key value more) own at below order is has =
     let parts = and_parts (is_before key more) (in_byte_order more) order in
-    let place = bind_ok (mode_named modes key) (by_place modes fares value more) list is in
+    let index = bind_ok (mode_named modes key) (by_position modes fares value more) list is in
     let cents = bind_ok (number_in the_key.Fares 0 100_000 value)
-    (by_cents modes fares more place.0)
-    list place.2 in
-    let found = mode_found (position (same_name key) modes) place.0 place.1 in
-    let next = set fares place.0 cents.0 in
-    let long : mode < length next = omega (arith, below, length-set fares place.0 cents.0) in
+    (by_cents modes fares more index.0)
+    list index.2 in
+    let found = mode_found (position (same_name key) modes) index.0 index.1 in
+    let next = set fares index.0 cents.0 in
+    let long : mode < length next = omega (arith, below, length-set fares index.0 cents.0) in
     elim (cases_Bool (is_eq (slice_cmp nat_cmp name key))) [
       | inl same ↦
           let one : name ≡ key = same_bytes name key same in
-          let here : mode ≡ place.0 =
-          some_place mode place.0 (sym at ∙ ap (λ (n : List ℕ). position (same_name n) modes) one
+          let here : mode ≡ index.0 =
+          some_position mode index.0 (sym at ∙ ap (λ (n : List ℕ). position (same_name n) modes) one
           ∙ found) in
-          let room : place.0 < length fares = omega (arith, below, here) in
+          let room : index.0 < length fares = omega (arith, below, here) in
           let rest = fare_named modes name mode next list more cents.0 at long parts.1 cents.2
-          (get_or-set_at fares place.0 mode cents.0 0 here room) in
+          (get_or-set_at fares index.0 mode cents.0 0 here room) in
           let none : get_member name more ≡ None =
           ap (λ (n : List ℕ). get_member n more) one ∙ not_later key more parts.0 parts.1 in
           let fare : get_or list mode 0 ≡ cents.0 =
@@ -145,13 +145,13 @@ fare_named modes name mode fares list (member key value more) own at below order
           ((is_number value the_key.Fares 0 100_000 cents.0 cents.1).is
           ∙ ap (λ (n : ℕ). integer (pos n)) (sym fare))
       | inr other ↦
-          let apart : mode ≢ place.0 =
+          let apart : mode ≢ index.0 =
           λ same. false≢true (sym other
           ∙ ap (λ (k : List ℕ). is_eq (slice_cmp nat_cmp name k))
           (sym (one_name modes name key mode at (found ∙ ap (λ (n : ℕ). Some n) (sym same))))
           ∙ is_itself name) in
           let rest = fare_named modes name mode next list more own at long parts.1 cents.2
-          (get_or-set_other fares place.0 mode cents.0 0 apart ∙ has) in
+          (get_or-set_other fares index.0 mode cents.0 0 apart ∙ has) in
           subst (λ (o : Option Data). IsNumberOr own o (get_or list mode 0))
           (sym (member-later name key value more other)) rest
     ]
@@ -205,14 +205,14 @@ unfolding modes_of
 modes_few tree modes is =
     let items = bind_ok (array_at (codes "modes") the_key.Modes tree) by_items modes is in
     let names = bind_ok (strings_from [] items.0) by_names modes items.2 in
-    let good = names_if (are_mode_names names.0) names.0 modes names.2 in
+    let valid = names_if (are_mode_names names.0) names.0 modes names.2 in
     let low = nat_le 1 (length names.0) in
     let high = nat_le (length names.0) 32 in
     let words = list_all is_mode_name names.0 in
-    let front = and_parts (low && high && words) (are_distinct names.0) good.0 in
+    let front = and_parts (low && high && words) (are_distinct names.0) valid.0 in
     let counts = and_parts (low && high) words front.0 in
     let few : length names.0 ≤ 32 = leb-true (length names.0) 32 (and_parts low high counts.0).1 in
-    subst (λ (n : List (List ℕ)). length n ≤ 32) good.1 few
+    subst (λ (n : List (List ℕ)). length n ≤ 32) valid.1 few
 
 -- ---- what rides give
 is_number_or : (o : Option Data) (key : Key) (default low high n : ℕ)
@@ -275,15 +275,15 @@ token_class : (tree : Members) (meaning : TableMeaning) (token : List ℕ)
     → meaning_of_tree tree ≡ Ok meaning → IsTokenClass tree meaning token
 token_class tree meaning token is =
     let p = parts tree meaning is in
-    let place = class_of meaning token in
+    let index = class_of meaning token in
     let h = class_if tree p.table meaning token (Named token meaning.riders) p.standard
     (riders_read p.table tree meaning.riders p.riders) refl in
-    let there = placed meaning.modes [] meaning.classes h.class p.table place place p.classes
-    (place_found (place_of h.class p.table) place h.named) (sym (zero-add place)) in
+    let there = placed meaning.modes [] meaning.classes h.class p.table index index p.classes
+    (position_found (position_of h.class p.table) index h.named) (sym (zero-add index)) in
     let element = bind_ok (of_kind the_key.Classes (as_table there.has.value))
     (class_by meaning.modes) there.one there.has.read in
-    let same : there.one ≡ class_at meaning place =
-    sym (get_or_from_slice_get meaning.classes place there.one no_class there.at) in
+    let same : there.one ≡ class_at meaning index =
+    sym (get_or_from_slice_get meaning.classes index there.one no_class there.at) in
     record {
       class = h.class;
       is = h.is;
@@ -291,12 +291,12 @@ token_class tree meaning token is =
       keys = record {
         classes = p.table;
         listed = classes_read tree p.table p.members;
-        stands = there.has.stands ∙ ap (λ (d : Data). Some d)
+        holds = there.has.holds ∙ ap (λ (d : Data). Some d)
             (is_table there.has.value the_key.Classes element.0 element.1);
       };
       reads = subst (λ (c : Class). AreClassParts meaning.modes element.0 c) same
           (class_parts meaning.modes element.0 there.one element.2);
-      has = has_terms meaning.modes tree p.table meaning.classes h.class place p.members p.classes
+      has = has_terms meaning.modes tree p.table meaning.classes h.class index p.members p.classes
           h.named;
     }
 
@@ -323,7 +323,7 @@ pays-on text tree meaning token name mode written is at =
       fare = fare_on modes name mode one.terms.fare (get_member (codes "fares") t.element) one.fares
           at below
           (λ named here. nested-ordered text (codes "classes") t.class (codes "fares") tree
-          t.keys.classes t.element named written t.keys.listed t.keys.stands here) t.reads.fares;
+          t.keys.classes t.element named written t.keys.listed t.keys.holds here) t.reads.fares;
       rides = refl;
       ceiling = refl;
     }

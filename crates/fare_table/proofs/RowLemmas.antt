@@ -17,13 +17,13 @@ use Rattle.toml.specs.Data.{Data, Items, no_items, item, Members, no_members, me
 use Rattle.toml.specs.Data.{integer, array, table, get_member, get_item, as_str, as_array}
 use Rattle.toml.specs.Parse.{parse_document}
 use Rattle.fare_table.proofs.ElementLemmas.{Reads, by_mode, by_tables, reads}
-use Rattle.fare_table.proofs.FaultLemmas.{Stand, classes-reported, classes_tables, default-reported}
+use Rattle.fare_table.proofs.FaultLemmas.{AlignedAt, classes-reported, classes_tables, default-reported}
 use Rattle.fare_table.proofs.FaultLemmas.{done, fails, fault_in, list-reported, modes-known}
 use Rattle.fare_table.proofs.FaultLemmas.{modes-reported, named-reported, needs, number_reports}
-use Rattle.fare_table.proofs.FaultLemmas.{stand_all, stand_here, stand_next, steps, reported}
+use Rattle.fare_table.proofs.FaultLemmas.{aligned_all, aligned_here, aligned_next, steps, reported}
 use Rattle.fare_table.proofs.FaultLemmas.{reported_needed, reported_two, transfers-reported}
-use Rattle.fare_table.proofs.OverlapLemmas.{stands-insert, comes_after, comes_before}
-use Rattle.fare_table.proofs.OverlapLemmas.{free_apart, rest_stands, with_one}
+use Rattle.fare_table.proofs.OverlapLemmas.{holds-insert, comes_after, comes_before}
+use Rattle.fare_table.proofs.OverlapLemmas.{free_apart, rest_holds, with_one}
 use Rattle.fare_table.proofs.PayLemmas.{classes_read}
 use Rattle.fare_table.proofs.ReadLemmas.{number-read}
 use Rattle.fare_table.specs.Classes.{class_named, classes_from, classes_of, default_of}
@@ -47,7 +47,7 @@ use Rattle.fare_table.specs.Riders as riders
 use Rattle.tariffs.specs.TableMeaning.{TableMeaning}
 use Rattle.fare_table.specs.TableMeaning.{meaning_in, meaning_of_tree}
 use Rattle.fare_table.specs.Transfers.{transfers_of}
-use Rattle.tariffs.specs.Validators.{stand_apart}
+use Rattle.tariffs.specs.Validators.{are_disjoint}
 use Rattle.fare_table.specs.Validators.{range_of, ranges_from, ranges_of, share_number}
 use Rattle.fare_table.specs.Validators.{with_range}
 use Rattle.fare_table.specs.Window.{window_in, window_of}
@@ -74,10 +74,10 @@ reported_three tree at one two three =
     ∙ ap (λ (x : Option TableFault). cond (is_wrong tree at one) (Some one) x)
     (reported_two tree at two three)
 
-place_reports : (o : Option ℕ) (first last : ℕ)
+position_reports : (o : Option ℕ) (first last : ℕ)
     → fault_in (ok_or o Mode >>= by_mode first last) ≡ cond (not (is_some o)) (Some Mode) None
-place_reports None first last = refl
-place_reports (Some n) first last = refl
+position_reports None first last = refl
+position_reports (Some n) first last = refl
 
 abbrev by_word : List (List ℕ) → ℕ → ℕ → List ℕ → OrFault (ℕ × RangeRest)
 by_word modes first last name = mode_named modes name >>= by_mode first last
@@ -93,7 +93,7 @@ mode_steps : (o : Option Data) (modes : List (List ℕ)) (first last : ℕ)
     ≡ mode_need o modes
 mode_steps None modes first last = refl
 mode_steps (Some (string s)) modes first last =
-    place_reports (position (same_name s) modes) first last
+    position_reports (position (same_name s) modes) first last
 mode_steps (Some _) modes first last = refl
 
 amount_is : (o : Option Data) (n : ℕ) → o ≡ Some (integer (pos n)) → amount_of o ≡ n
@@ -142,18 +142,18 @@ any_step test one other more order further free ih = elim (free_apart one other 
 -- a test of ranges holds of one more range or of the others
 any_with : (test : ℕ × RangeRest → Bool) (one : ℕ × RangeRest) (ranges : List (ℕ × RangeRest))
     → one.0 ≤ one.1.last
-    → stand_apart ranges ≡ true → list_any (share_number one) ranges ≡ false
+    → are_disjoint ranges ≡ true → list_any (share_number one) ranges ≡ false
     → list_any test (with_one one ranges) ≡ (test one || list_any test ranges)
 unfolding with_one
-any_with test one [] order stands free = refl
-any_with test one (other ∷ more) order stands free =
+any_with test one [] order holds free = refl
+any_with test one (other ∷ more) order holds free =
     let apart = or_parts (share_number one other) (list_any (share_number one) more) free in
-    any_step test one other more order (begins_first other more stands) apart.0
-    (any_with test one more order (rest_stands other more stands) apart.1)
+    any_step test one other more order (begins_first other more holds) apart.0
+    (any_with test one more order (rest_holds other more holds) apart.1)
 
 -- the range shares a number with the element at a place
 abbrev meets : Members → ℕ × RangeRest → ℕ → Bool
-meets tree one place = nat_le one.0 (last_at tree place) && nat_le (first_at tree place) one.1.last
+meets tree one index = nat_le one.0 (last_at tree index) && nat_le (first_at tree index) one.1.last
 
 -- the ranges are those of the elements before a place
 abbrev AreEarlier : Members → ℕ → List (ℕ × RangeRest) → Type 0
@@ -161,8 +161,8 @@ AreEarlier tree n earlier =
     (one : ℕ × RangeRest) → list_any (share_number one) earlier ≡ is_earlier (meets tree one) n
 
 -- some items are those of a whole from a place on
-abbrev StandItems : Items → ℕ → Items → Type 0
-StandItems whole n part = (k j : ℕ) → j ≡ n + k → get_item j whole ≡ get_item k part
+abbrev AlignedItems : Items → ℕ → Items → Type 0
+AlignedItems whole n part = (k j : ℕ) → j ≡ n + k → get_item j whole ≡ get_item k part
 
 overlap_if : (b : Bool) (next : List (ℕ × RangeRest)) (f : List (ℕ × RangeRest)
     → OrFault (List (ℕ × RangeRest))) (rest : Option TableFault)
@@ -205,23 +205,23 @@ met tree n one other is =
     ∙ ap (λ (b : ℕ). nat_le other.0 (last_at tree n) && nat_le b other.1.last) (sym is.first)
 
 earlier_next : (tree : Members) (n : ℕ) (one : ℕ × RangeRest) (earlier : List (ℕ × RangeRest))
-    → Numbers tree n one → one.0 ≤ one.1.last → stand_apart earlier ≡ true
+    → Numbers tree n one → one.0 ≤ one.1.last → are_disjoint earlier ≡ true
     → list_any (share_number one) earlier ≡ false
     → AreEarlier tree n earlier → AreEarlier tree (suc n) (with_one one earlier)
-earlier_next tree n one earlier is order stands free are other =
-    any_with (share_number other) one earlier order stands free
+earlier_next tree n one earlier is order holds free are other =
+    any_with (share_number other) one earlier order holds free
     ∙ ap (λ (b : Bool). b || list_any (share_number other) earlier) (met tree n one other is)
     ∙ ap (λ (b : Bool). meets tree other n || b) (are other)
 
 ranges-reported : (tree : Members) (modes : List (List ℕ)) (n : ℕ) (earlier : List (ℕ × RangeRest))
-    (part : Items) → mode_names tree ≡ modes → StandItems (elements_in tree) n part
+    (part : Items) → mode_names tree ≡ modes → AlignedItems (elements_in tree) n part
     → are_tables part ≡ true
-    → stand_apart earlier ≡ true → AreEarlier tree n earlier
+    → are_disjoint earlier ≡ true → AreEarlier tree n earlier
     → fault_in (ranges_from modes earlier part) ≡ first_row tree (range_rows n part)
 unfolding with_one
-ranges-reported tree modes n earlier no_items known stand tables stands are = refl
-ranges-reported tree modes n earlier (item (table inner) more) known stand tables stands are =
-    let at : get_item n (elements_in tree) ≡ Some (table inner) = stand zero n (omega arith) in
+ranges-reported tree modes n earlier no_items known aligned tables holds are = refl
+ranges-reported tree modes n earlier (item (table inner) more) known aligned tables holds are =
+    let at : get_item n (elements_in tree) ≡ Some (table inner) = aligned zero n (omega arith) in
     let here : members_at (range n) tree ≡ inner = ap members_of at in
     steps tree (range_of modes inner) (λ one.
     with_range earlier one >>= (λ next. ranges_from modes next more)) (rows_of_range n)
@@ -234,13 +234,13 @@ ranges-reported tree modes n earlier (item (table inner) more) known stand table
     overlap_if (list_any (share_number one) earlier) (with_one one earlier) (λ next.
     ranges_from modes next more) (first_row tree (range_rows (suc n) more))
     (λ free. ranges-reported tree modes (suc n) (with_one one earlier) more known (λ k j same.
-    stand (suc k) j (omega (arith, same))) tables
-    (stands-insert one earlier r.order stands free)
-    (earlier_next tree n one earlier nums r.order stands free are))
+    aligned (suc k) j (omega (arith, same))) tables
+    (holds-insert one earlier r.order holds free)
+    (earlier_next tree n one earlier nums r.order holds free are))
     ∙ ap (λ (b : Bool). cond b (Some Overlap) (first_row tree (range_rows (suc n) more))) (are one
     ∙ shared tree n one nums)
     ∙ sym (reported tree (range n) Overlap (range_rows (suc n) more)))
-ranges-reported tree modes n earlier (item _ more) known stand tables stands are =
+ranges-reported tree modes n earlier (item _ more) known aligned tables holds are =
     absurd (false≢true tables)
 
 entries_if : (b : Bool) (modes : List (List ℕ)) (ds : Items) (rest : Option TableFault)
@@ -262,8 +262,8 @@ entries_steps (Some (array ds)) modes rest same =
     entries_if (are_tables ds) modes ds rest (λ tables. same ds refl tables)
 entries_steps (Some _) modes rest same = refl
 
-stand_items : (whole part : Items) → whole ≡ part → StandItems whole 0 part
-stand_items whole part same k j is = let one : j ≡ k = omega (arith, is) in
+aligned_items : (whole part : Items) → whole ≡ part → AlignedItems whole 0 part
+aligned_items whole part same k j is = let one : j ≡ k = omega (arith, is) in
     ap (λ (n : ℕ). get_item n whole) one ∙ ap (get_item k) same
 
 entries-reported : (tree : Members) (modes : List (List ℕ)) → mode_names tree ≡ modes
@@ -275,7 +275,7 @@ entries-reported tree modes known =
     let o = get_member (codes "validators") tree in
     entries_steps o modes (first_row tree (range_rows 0 (elements_in tree))) (λ ds is tables.
     let same : elements_in tree ≡ ds = ap items_of is in
-    ranges-reported tree modes 0 [] ds known (stand_items (elements_in tree) ds same) tables refl
+    ranges-reported tree modes 0 [] ds known (aligned_items (elements_in tree) ds same) tables refl
     (λ one.
     refl) ∙ ap (λ (d : Items). first_row tree (range_rows 0 d)) (sym same))
     ∙ sym (reported tree top (Missing the_key.Validators) (a_row top (Kind the_key.Validators)
@@ -288,7 +288,7 @@ entries-reported tree modes known =
 abbrev AreBefore : Members → ℕ → List (List ℕ × ℕ) → Type 0
 AreBefore tree n earlier =
     (token : List ℕ) → is_rider earlier token
-    ≡ is_earlier (λ place. is_token token (token_at tree place)) n
+    ≡ is_earlier (λ index. is_token token (token_at tree index)) n
 
 some_cond : (b : Bool) (terms : ℕ) (o : Option ℕ)
     → is_some (cond b (Some terms) o) ≡ (b || is_some o)
@@ -304,7 +304,7 @@ before_next tree n earlier token terms at free are other =
     ∙ some_cond (is_eq (slice_cmp nat_cmp other token)) terms (Named other earlier)
     ∙ ap (λ (b : Bool). is_eq (slice_cmp nat_cmp other token) || b) (are other)
     ∙ ap (λ (o : Option (List ℕ)).
-    is_token other o || is_earlier (λ place. is_token other (token_at tree place)) n) (sym at)
+    is_token other o || is_earlier (λ index. is_token other (token_at tree index)) n) (sym at)
 
 again_if : (b : Bool) (next : List (List ℕ × ℕ)) (f : List (List ℕ × ℕ)
     → OrFault (List (List ℕ × ℕ))) (rest : Option TableFault)
@@ -352,14 +352,14 @@ rider_if (Some token) classes name earlier again f rest later are =
     ∙ ap (λ (b : Bool). cond b (Some Rider) rest) (are token refl))
 
 riders-reported : (tree classes : Members) (n : ℕ) (earlier : List (List ℕ × ℕ)) (part : Members)
-    → classes_in tree ≡ classes → Stand (riders_in tree) n part
+    → classes_in tree ≡ classes → AlignedAt (riders_in tree) n part
     → hold_strings part ≡ true
     → AreBefore tree n earlier
     → fault_in (riders_from classes earlier part) ≡ first_row tree (rider_rows n part)
-riders-reported tree classes n earlier no_members known stand strings are = refl
-riders-reported tree classes n earlier (member key (string name) more) known stand strings are =
+riders-reported tree classes n earlier no_members known aligned strings are = refl
+riders-reported tree classes n earlier (member key (string name) more) known aligned strings are =
     let at : member_at n (riders_in tree) ≡ Some (key, string name) =
-    stand_here (riders_in tree) n key (string name) more stand in
+    aligned_here (riders_in tree) n key (string name) more aligned in
     let token : token_at tree n ≡ result_ok (decode_sized key 16) =
     ap (λ (o : Option (List ℕ × Data)).
     option_and_then (λ (one : List ℕ × Data). result_ok (decode_sized one.0 16)) o) at in
@@ -368,16 +368,16 @@ riders-reported tree classes n earlier (member key (string name) more) known sta
     ap (λ (o : Option (List ℕ × Data)).
     string_of (option_map (λ (one : List ℕ × Data). one.1) o)) at in
     rider_if (result_ok (decode_sized key 16)) classes name earlier (λ t.
-    is_earlier (λ place. is_token t (token_at tree place)) n) (λ next.
+    is_earlier (λ index. is_token t (token_at tree index)) n) (λ next.
     riders_from classes next more) (first_row tree (rider_rows (suc n) more))
     (λ t terms is free. riders-reported tree classes (suc n)
     (insert_entry (slice_cmp nat_cmp) earlier t terms) more known
-    (stand_next (riders_in tree) n key (string name) more stand) strings
+    (aligned_next (riders_in tree) n key (string name) more aligned) strings
     (before_next tree n earlier t terms (token ∙ is) free are))
     (λ t is. are t)
     ∙ ap (λ (o : Option (List ℕ)).
     cond (is_none o || (is_none (get_member name classes) || holds_of_some (λ t.
-    is_earlier (λ place. is_token t (token_at tree place)) n) o)) (Some Rider)
+    is_earlier (λ index. is_token t (token_at tree index)) n) o)) (Some Rider)
     (first_row tree (rider_rows (suc n) more))) (sym token)
     ∙ ap (λ (w : List ℕ).
     cond (is_none (token_at tree n) || (is_none (get_member w classes) || is_again tree n))
@@ -388,7 +388,7 @@ riders-reported tree classes n earlier (member key (string name) more) known sta
     (string_of (option_map (λ (one : List ℕ × Data). one.1) (member_at n (riders_in tree)))) m)
     || is_again tree n)) (Some Rider) (first_row tree (rider_rows (suc n) more))) (sym known)
     ∙ sym (reported tree (rider n) Rider (rider_rows (suc n) more))
-riders-reported tree classes n earlier (member key _ more) known stand strings are =
+riders-reported tree classes n earlier (member key _ more) known aligned strings are =
     absurd (false≢true strings)
 
 strings_if : (b : Bool) (classes part : Members) (rest : Option TableFault)
@@ -409,8 +409,8 @@ riders_steps (Some (table part)) tree classes rest none same =
     strings_if (hold_strings part) classes part (rest part) (λ strings. same part refl strings)
 riders_steps (Some _) tree classes rest none same = refl
 
-stand_members : (whole part : Members) → whole ≡ part → Stand whole 0 part
-stand_members whole part same = subst (λ (m : Members). Stand whole 0 m) same (stand_all whole)
+aligned_members : (whole part : Members) → whole ≡ part → AlignedAt whole 0 part
+aligned_members whole part same = subst (λ (m : Members). AlignedAt whole 0 m) same (aligned_all whole)
 
 keys-reported : (tree classes : Members) → classes_in tree ≡ classes
     → fault_in (riders_of classes tree)
@@ -421,7 +421,7 @@ keys-reported tree classes known =
     riders_steps o tree classes (λ part. first_row tree (rider_rows 0 part)) refl
     (λ part is strings.
     riders-reported tree classes 0 [] part known
-    (stand_members (riders_in tree) part (ap members_of is)) strings (λ token. refl))
+    (aligned_members (riders_in tree) part (ap members_of is)) strings (λ token. refl))
     ∙ sym (reported tree top (Kind the_key.Riders) (rider_rows 0 (riders_in tree)))
 
 -- ---- the zone

@@ -10,7 +10,7 @@ use Rattle.toml.specs.Data.{Data, Items, no_items, item, Members, no_members, me
 use Rattle.toml.specs.Data.{as_str, as_integer, as_array, as_table}
 use Rattle.fare_table.specs.Classes.{ceiling_of, class_in, class_named, class_of, classes_from}
 use Rattle.fare_table.specs.Classes.{classes_of, default_of, fares_from, fares_of, is_empty}
-use Rattle.fare_table.specs.Classes.{place_of, ride_transfers_of, terms_of}
+use Rattle.fare_table.specs.Classes.{position_of, ride_transfers_of, terms_of}
 use Rattle.tariffs.specs.declared.class.Class.{Class}
 use Rattle.fare_table.specs.Members.{are_tables, array_at, hold_numbers, hold_strings, hold_tables}
 use Rattle.fare_table.specs.Members.{needed, number_at, number_in, number_or, of_kind, table_at}
@@ -20,7 +20,7 @@ use Rattle.fare_table.specs.OrFault.{OrFault, ◌>>=◌}
 use Rattle.fare_table.specs.Riders.{rider_of, riders_from, riders_at, riders_of, token_of_digits}
 use Rattle.fare_table.specs.Riders.{with_rider}
 use Rattle.fare_table.specs.TableMeaning.{meaning_of_tree}
-use Rattle.fare_table.specs.Transfers.{name_pair, pairs_from, places_of, transfers_from}
+use Rattle.fare_table.specs.Transfers.{name_pair, pairs_from, positions_of, transfers_from}
 use Rattle.fare_table.specs.Transfers.{transfers_of}
 use Rattle.tariffs.specs.Transfers.{with_pair}
 use Rattle.fare_table.specs.Validators.{range_in, range_of, ranges_from, ranges_of, with_range}
@@ -122,8 +122,8 @@ pairs_from-text found (item value more) =
     pairs_from (found ++ pair ∷ []) more) (of_kind-text the_key.Transfers (name_pair value))
     (λ pair. pairs_from-text (found ++ pair ∷ []) more)
 
-places_of-text : (modes : List (List ℕ)) (pair : List ℕ × List ℕ) → NotText (places_of modes pair)
-places_of-text modes pair =
+positions_of-text : (modes : List (List ℕ)) (pair : List ℕ × List ℕ) → NotText (positions_of modes pair)
+positions_of-text modes pair =
     steps (mode_named modes pair.0) _ (mode_named-text modes pair.0) (λ from.
     steps (mode_named modes pair.1) _ (mode_named-text modes pair.1) (λ to. an_ok (from, to)))
 
@@ -131,9 +131,9 @@ transfers_from-text : (modes : List (List ℕ)) (found : List (ℕ × ℕ)) (pai
     × List ℕ)) → NotText (transfers_from modes found pairs)
 transfers_from-text modes found [] = an_ok found
 transfers_from-text modes found (pair ∷ more) =
-    steps (places_of modes pair) (λ places.
-    transfers_from modes (with_pair found places.0 places.1) more) (places_of-text modes pair)
-    (λ places. transfers_from-text modes (with_pair found places.0 places.1) more)
+    steps (positions_of modes pair) (λ positions.
+    transfers_from modes (with_pair found positions.0 positions.1) more) (positions_of-text modes pair)
+    (λ positions. transfers_from-text modes (with_pair found positions.0 positions.1) more)
 
 transfers_of-text : (modes : List (List ℕ)) (tree : Members) → NotText (transfers_of modes tree)
 unfolding transfers_of
@@ -160,10 +160,10 @@ fares_from-text : (modes : List (List ℕ)) (fares : List ℕ) (members : Member
     → NotText (fares_from modes fares members)
 fares_from-text modes fares no_members = an_ok fares
 fares_from-text modes fares (member name value more) =
-    steps (mode_named modes name) _ (mode_named-text modes name) (λ place.
+    steps (mode_named modes name) _ (mode_named-text modes name) (λ position.
     steps (number_in the_key.Fares 0 100_000 value) _
     (number_in-text the_key.Fares 0 100_000 value) (λ cents.
-    fares_from-text modes (slice_set fares place cents) more))
+    fares_from-text modes (slice_set fares position cents) more))
 
 fares_of-text : (modes : List (List ℕ)) (fare : ℕ) (value : Option Data)
     → NotText (fares_of modes fare value)
@@ -224,7 +224,7 @@ classes_of-text tree = steps (table_at (codes "classes") the_key.Classes tree) _
 
 class_named-text : (classes : Members) (name : List ℕ) → NotText (class_named classes name)
 class_named-text classes name =
-    a_part (place_of name classes) the_fault.Rider (λ is. cc)
+    a_part (position_of name classes) the_fault.Rider (λ is. cc)
 
 default_of-text : (classes tree : Members) → NotText (default_of classes tree)
 unfolding default_of

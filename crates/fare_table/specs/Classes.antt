@@ -35,9 +35,9 @@ terms_of element = do
 abbrev pub fares_from : List (List ℕ) → List ℕ → Members → OrFault (List ℕ)
 fares_from modes fares no_members = Ok fares
 fares_from modes fares (member name value more) = do
-  place ← mode_named modes name
+  position ← mode_named modes name
   cents ← number_in the_key.Fares 0 100_000 value
-  fares_from modes (slice_set fares place cents) more
+  fares_from modes (slice_set fares position cents) more
 
 -- the fares by the places of the modes: the class's own, if none is named
 abbrev pub fares_of : List (List ℕ) → ℕ → Option Data → OrFault (List ℕ)
@@ -103,14 +103,14 @@ classes_of tree = do
   if is_empty tables then Err (Range the_key.Classes) else Ok tables
 
 -- the place of the class of this name, in the byte order of the names
-abbrev pub place_of : List ℕ → Members → Option ℕ
-place_of name no_members = None
-place_of name (member key value more) =
-    if same_name name key then Some 0 else option_map suc (place_of name more)
+abbrev pub position_of : List ℕ → Members → Option ℕ
+position_of name no_members = None
+position_of name (member key value more) =
+    if same_name name key then Some 0 else option_map suc (position_of name more)
 
 -- the place of the class of this name, which has to be there
 abbrev pub class_named : Members → List ℕ → OrFault ℕ
-class_named classes name = ok_or (place_of name classes) Rider
+class_named classes name = ok_or (position_of name classes) Rider
 
 -- the place of the class that `default_class` names
 unfoldable pub default_of : Members → Members → OrFault ℕ

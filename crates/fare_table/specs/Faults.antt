@@ -89,9 +89,9 @@ pairs (item value more) = cons_option (name_pair value) (pairs more)
 
 -- the key and the value at a place
 abbrev pub member_at : ℕ → Members → Option (List ℕ × Data)
-member_at place no_members = None
+member_at index no_members = None
 member_at zero (member key value more) = Some (key, value)
-member_at (suc place) (member key value more) = member_at place more
+member_at (suc index) (member key value more) = member_at index more
 
 -- the names that the text has for modes
 abbrev pub mode_names : Members → List (List ℕ)
@@ -112,23 +112,23 @@ riders_in tree = members_of (get_member (codes "riders") tree)
 -- the keys and values where a row looks
 abbrev pub members_at : Where → Members → Members
 members_at top tree = tree
-members_at (class place) tree =
-    members_of (option_map (λ one. one.1) (member_at place (classes_in tree)))
-members_at (mode_fare place key) tree = no_members
-members_at (range place) tree = members_of (get_item place (elements_in tree))
-members_at (rider place) tree = no_members
+members_at (class index) tree =
+    members_of (option_map (λ one. one.1) (member_at index (classes_in tree)))
+members_at (mode_fare index key) tree = no_members
+members_at (range index) tree = members_of (get_item index (elements_in tree))
+members_at (rider index) tree = no_members
 
 -- the `fares` of the class at a place
 abbrev pub fares_in : Members → ℕ → Members
-fares_in tree place = members_of (get_member (codes "fares") (members_at (class place) tree))
+fares_in tree index = members_of (get_member (codes "fares") (members_at (class index) tree))
 
 -- the name and the number at a place of the `fares` of a class
 abbrev pub fare_at : Members → ℕ → ℕ → Option (List ℕ × Data)
-fare_at tree place key = member_at key (fares_in tree place)
+fare_at tree index key = member_at key (fares_in tree index)
 
 -- the value at a key; of one fare by mode its own value
 abbrev pub value_at : Where → Key → Members → Option Data
-value_at (mode_fare place at) key tree = option_map (λ one. one.1) (fare_at tree place at)
+value_at (mode_fare index at) key tree = option_map (λ one. one.1) (fare_at tree index at)
 value_at at key tree = get_member (key_word key) (members_at at tree)
 
 -- ---- what is wrong with it
@@ -200,40 +200,40 @@ abbrev pub names_no_mode : Where → Members → Bool
 names_no_mode top tree =
     list_any (λ pair. not (is_mode (mode_names tree) pair.0 && is_mode (mode_names tree) pair.1))
     (pairs (items_of (get_member (codes "transfers") tree)))
-names_no_mode (class place) tree = false
-names_no_mode (mode_fare place key) tree =
-    holds_of_some (λ one. not (is_mode (mode_names tree) one.0)) (fare_at tree place key)
-names_no_mode (range place) tree =
-    not (is_mode (mode_names tree) (string_of (value_at (range place) the_key.ModeName tree)))
-names_no_mode (rider place) tree = false
+names_no_mode (class index) tree = false
+names_no_mode (mode_fare index key) tree =
+    holds_of_some (λ one. not (is_mode (mode_names tree) one.0)) (fare_at tree index key)
+names_no_mode (range index) tree =
+    not (is_mode (mode_names tree) (string_of (value_at (range index) the_key.ModeName tree)))
+names_no_mode (rider index) tree = false
 
 -- the test holds of an earlier place
 abbrev pub is_earlier : (ℕ → Bool) → ℕ → Bool
 is_earlier test zero = false
-is_earlier test (suc place) = test place || is_earlier test place
+is_earlier test (suc index) = test index || is_earlier test index
 
 -- the first validator of the element at a place
 abbrev pub first_at : Members → ℕ → ℕ
-first_at tree place = amount_of (value_at (range place) the_key.First tree)
+first_at tree index = amount_of (value_at (range index) the_key.First tree)
 
 -- the last validator of the element at a place
 abbrev pub last_at : Members → ℕ → ℕ
-last_at tree place = amount_of (value_at (range place) the_key.Last tree)
+last_at tree index = amount_of (value_at (range index) the_key.Last tree)
 
 -- the element shares a validator with an earlier one
 abbrev pub shares_validator : Where → Members → Bool
 shares_validator top tree = false
-shares_validator (class place) tree = false
-shares_validator (mode_fare place key) tree = false
-shares_validator (range place) tree =
-    is_earlier (λ earlier. nat_le (first_at tree place) (last_at tree earlier)
-    && nat_le (first_at tree earlier) (last_at tree place)) place
-shares_validator (rider place) tree = false
+shares_validator (class index) tree = false
+shares_validator (mode_fare index key) tree = false
+shares_validator (range index) tree =
+    is_earlier (λ earlier. nat_le (first_at tree index) (last_at tree earlier)
+    && nat_le (first_at tree earlier) (last_at tree index)) index
+shares_validator (rider index) tree = false
 
 -- the token that a key of `riders` names
 abbrev pub token_at : Members → ℕ → Option (List ℕ)
-token_at tree place =
-    option_and_then (λ one. result_ok (decode_sized one.0 16)) (member_at place (riders_in tree))
+token_at tree index =
+    option_and_then (λ one. result_ok (decode_sized one.0 16)) (member_at index (riders_in tree))
 
 -- the one token is the other one, if there is one
 abbrev pub is_token : List ℕ → Option (List ℕ) → Bool
@@ -241,9 +241,9 @@ is_token token other = holds_of_some (λ o. is_eq (slice_cmp nat_cmp token o)) o
 
 -- the key names the token that an earlier key names
 abbrev pub is_again : Members → ℕ → Bool
-is_again tree place =
-    holds_of_some (λ token. is_earlier (λ earlier. is_token token (token_at tree earlier)) place)
-    (token_at tree place)
+is_again tree index =
+    holds_of_some (λ token. is_earlier (λ earlier. is_token token (token_at tree earlier)) index)
+    (token_at tree index)
 
 -- the text has no class of this name
 abbrev pub is_no_class : Members → List ℕ → Bool
@@ -253,13 +253,13 @@ is_no_class tree name = is_none (get_member name (classes_in tree))
 -- a token, or is the token of an earlier key
 abbrev pub names_no_rider : Where → Members → Bool
 names_no_rider top tree = is_no_class tree (string_of (get_member (codes "default_class") tree))
-names_no_rider (class place) tree = false
-names_no_rider (mode_fare place key) tree = false
-names_no_rider (range place) tree = false
-names_no_rider (rider place) tree =
-    is_none (token_at tree place)
+names_no_rider (class index) tree = false
+names_no_rider (mode_fare index key) tree = false
+names_no_rider (range index) tree = false
+names_no_rider (rider index) tree =
+    is_none (token_at tree index)
     || (is_no_class tree (string_of
-    (option_map (λ one. one.1) (member_at place (riders_in tree)))) || is_again tree place)
+    (option_map (λ one. one.1) (member_at index (riders_in tree)))) || is_again tree index)
 
 -- the zone is a text that reads as no rule
 abbrev pub is_no_zone : Option Data → Bool
@@ -303,58 +303,58 @@ optional_rows at key = a_row at (Kind key) ∷ a_row at (Range key) ∷ []
 
 -- key by key of the `fares` of a class: a mode, and its number
 abbrev pub fare_rows : ℕ → ℕ → Members → List FaultRow
-fare_rows place key no_members = []
-fare_rows place key (member name value more) =
-    a_row (mode_fare place key) Mode ∷ a_row (mode_fare place key) (Range the_key.Fares)
-    ∷ fare_rows place (suc key) more
+fare_rows index key no_members = []
+fare_rows index key (member name value more) =
+    a_row (mode_fare index key) Mode ∷ a_row (mode_fare index key) (Range the_key.Fares)
+    ∷ fare_rows index (suc key) more
 
 -- of the terms of one class: `fare`, `rides`, `ceiling`
 abbrev pub rows_of_terms : ℕ → List FaultRow
-rows_of_terms place =
-    needed_rows (class place) the_key.Fare
-    ++ (needed_rows (class place) the_key.Rides
-    ++ optional_rows (class place) the_key.Ceiling)
+rows_of_terms index =
+    needed_rows (class index) the_key.Fare
+    ++ (needed_rows (class index) the_key.Rides
+    ++ optional_rows (class index) the_key.Ceiling)
 
 -- of its `fares`: their kind, and then key by key
 abbrev pub rows_of_fares : Members → ℕ → List FaultRow
-rows_of_fares tree place =
-    a_row (class place) (Kind the_key.Fares) ∷ fare_rows place 0 (fares_in tree place)
+rows_of_fares tree index =
+    a_row (class index) (Kind the_key.Fares) ∷ fare_rows index 0 (fares_in tree index)
 
 -- of what its rides give: `transfers`, `transfer_minutes`
 abbrev pub rows_of_transfers : ℕ → List FaultRow
-rows_of_transfers place =
-    optional_rows (class place) the_key.RideTransfers
-    ++ optional_rows (class place) the_key.TransferMinutes
+rows_of_transfers index =
+    optional_rows (class index) the_key.RideTransfers
+    ++ optional_rows (class index) the_key.TransferMinutes
 
 -- of one class: its terms, its `fares`, and what its rides give
 abbrev pub rows_of_class : Members → ℕ → List FaultRow
-rows_of_class tree place =
-    rows_of_terms place ++ (rows_of_fares tree place ++ rows_of_transfers place)
+rows_of_class tree index =
+    rows_of_terms index ++ (rows_of_fares tree index ++ rows_of_transfers index)
 
 -- of one element of `validators`: `first`, `last`, `mode`
 abbrev pub rows_of_range : ℕ → List FaultRow
-rows_of_range place =
-    needed_rows (range place) the_key.First
-    ++ (needed_rows (range place) the_key.Last
-    ++ (a_row (range place) (Missing the_key.ModeName) ∷ a_row (range place) (Kind the_key.ModeName)
-    ∷ a_row (range place) Mode ∷ []))
+rows_of_range index =
+    needed_rows (range index) the_key.First
+    ++ (needed_rows (range index) the_key.Last
+    ++ (a_row (range index) (Missing the_key.ModeName) ∷ a_row (range index) (Kind the_key.ModeName)
+    ∷ a_row (range index) Mode ∷ []))
 
 -- class by class, from this place on
 abbrev pub class_rows : Members → ℕ → Members → List FaultRow
-class_rows tree place no_members = []
-class_rows tree place (member name value more) =
-    rows_of_class tree place ++ class_rows tree (suc place) more
+class_rows tree index no_members = []
+class_rows tree index (member name value more) =
+    rows_of_class tree index ++ class_rows tree (suc index) more
 
 -- element by element, each with the elements before it
 abbrev pub range_rows : ℕ → Items → List FaultRow
-range_rows place no_items = []
-range_rows place (item value more) =
-    rows_of_range place ++ (a_row (range place) Overlap ∷ range_rows (suc place) more)
+range_rows index no_items = []
+range_rows index (item value more) =
+    rows_of_range index ++ (a_row (range index) Overlap ∷ range_rows (suc index) more)
 
 -- key by key of the riders
 abbrev pub rider_rows : ℕ → Members → List FaultRow
-rider_rows place no_members = []
-rider_rows place (member key value more) = a_row (rider place) Rider ∷ rider_rows (suc place) more
+rider_rows index no_members = []
+rider_rows index (member key value more) = a_row (rider index) Rider ∷ rider_rows (suc index) more
 
 -- the step `transfers`
 abbrev pub transfers_step : List FaultRow

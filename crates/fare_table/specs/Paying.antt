@@ -9,7 +9,7 @@ use Rattle.tariffs.specs.declared.transfer_terms.TransferTerms.{TransferTerms}
 pub record NamesRider (tree : Members) (token key class : List ℕ) : Type 0 where
   pub riders : Members
   pub listed : get_member (codes "riders") tree ≡ Some (table riders)
-  pub stands : get_member key riders ≡ Some (string class)
+  pub holds : get_member key riders ≡ Some (string class)
   pub named : token_of_digits key ≡ Ok token
 
 -- the class of the key that names the token, else the default class if no key names it
@@ -29,7 +29,7 @@ pub record HasTerms (tree : Members) (class : List ℕ) (terms : Terms) : Type 0
   pub classes : Members
   pub listed : get_member (codes "classes") tree ≡ Some (table classes)
   pub element : Members
-  pub stands : get_member class classes ≡ Some (table element)
+  pub holds : get_member class classes ≡ Some (table element)
   pub fare : get_member (codes "fare") element ≡ Some (integer (pos terms.fare))
   pub rides : get_member (codes "rides") element ≡ Some (integer (pos terms.rides))
   pub ceiling : IsCeiling (terms.rides * terms.fare)
@@ -45,7 +45,7 @@ pub record Pays (tree : Members) (token : List ℕ) (terms : Terms) : Type 0 whe
 pub record IsElementOf (tree : Members) (class : List ℕ) (element : Members) : Type 0 where
   pub classes : Members
   pub listed : get_member (codes "classes") tree ≡ Some (table classes)
-  pub stands : get_member class classes ≡ Some (table element)
+  pub holds : get_member class classes ≡ Some (table element)
 
 -- the number that is there, else the one that holds if none is
 abbrev pub IsNumberOr : ℕ → Option Data → ℕ → Type 0

@@ -4,10 +4,10 @@ use Rattle.toml.specs.Data.{Items, Members, string, integer, array, table, get_m
 use Rattle.fare_table.specs.Modes.{mode_named}
 
 -- the text's `validators` have this element at this place
-pub record HasRange (tree : Members) (place : ℕ) (element : Members) : Type 0 where
+pub record HasRange (tree : Members) (position : ℕ) (element : Members) : Type 0 where
   pub items : Items
   pub listed : get_member (codes "validators") tree ≡ Some (array items)
-  pub stands : get_item place items ≡ Some (table element)
+  pub holds : get_item position items ≡ Some (table element)
 
 -- the validator is not below the element's first number, and not above its last one
 pub record HasValidator (element : Members) (validator : ℕ) : Type 0 where
@@ -25,15 +25,15 @@ pub record NamesMode (modes : List (List ℕ)) (element : Members) (mode : ℕ) 
   pub named : mode_named modes name ≡ Ok mode
 
 -- the text's element at this place has the validator
-pub record RangeHas (tree : Members) (validator place : ℕ) : Type 0 where
+pub record RangeHas (tree : Members) (validator position : ℕ) : Type 0 where
   pub element : Members
-  pub listed : HasRange tree place element
+  pub listed : HasRange tree position element
   pub has : HasValidator element validator
 
 -- an element of the text has the validator, and names the mode
 pub record RangeGives (modes : List (List ℕ)) (tree : Members) (validator mode : ℕ) : Type 0 where
-  pub place : ℕ
+  pub position : ℕ
   pub element : Members
-  pub listed : HasRange tree place element
+  pub listed : HasRange tree position element
   pub has : HasValidator element validator
   pub names : NamesMode modes element mode

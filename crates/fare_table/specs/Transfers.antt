@@ -28,8 +28,8 @@ pairs_from found (item value more) =
     of_kind the_key.Transfers (name_pair value) >>= (λ pair. pairs_from (found ++ pair ∷ []) more)
 
 -- the places of a pair of names
-abbrev pub places_of : List (List ℕ) → List ℕ × List ℕ → OrFault (ℕ × ℕ)
-places_of modes pair = do
+abbrev pub positions_of : List (List ℕ) → List ℕ × List ℕ → OrFault (ℕ × ℕ)
+positions_of modes pair = do
   from ← mode_named modes pair.0
   to ← mode_named modes pair.1
   Ok (from, to)
@@ -39,8 +39,8 @@ abbrev pub transfers_from : List (List ℕ) → List (ℕ × ℕ) → List (List
     → OrFault (List (ℕ × ℕ))
 transfers_from modes found [] = Ok found
 transfers_from modes found (pair ∷ more) =
-    places_of modes pair >>= (λ places.
-    transfers_from modes (with_pair found places.0 places.1) more)
+    positions_of modes pair >>= (λ positions.
+    transfers_from modes (with_pair found positions.0 positions.1) more)
 
 -- the pairs of places of modes that the text permits, each once
 unfoldable pub transfers_of : List (List ℕ) → Members → OrFault (List (ℕ × ℕ))
@@ -62,4 +62,4 @@ pub record ListsPair (modes : List (List ℕ)) (tree : Members) (from to : ℕ) 
   pub listed : named_pairs tree ≡ Ok pairs
   pub pair : List ℕ × List ℕ
   pub is_one : Contains pairs pair
-  pub places : places_of modes pair ≡ Ok (from, to)
+  pub positions : positions_of modes pair ≡ Ok (from, to)

@@ -18,7 +18,7 @@ ghost use Rattle.tariffs.specs.TableMeaning.{TableMeaning};
 ghost use Rattle.fare_table.specs.TableMeaning.{meaning_in, meaning_of_tree};
 ghost use Rattle.tariffs.specs.Transfers.{has_pair};
 ghost use Rattle.fare_table.specs.Transfers.{ListsPair};
-ghost use Rattle.tariffs.specs.Validators.{stand_apart};
+ghost use Rattle.tariffs.specs.Validators.{are_disjoint};
 ghost use Rattle.fare_table.specs.declared.fault.TableFault.{TableFault};
 ghost use Rattle.tariffs.specs.declared.terms.Terms.{Terms};
 
@@ -42,10 +42,10 @@ pub fn modes_are_of_ranges()
         ↔ RangeGives meaning.modes tree validator mode }
     ensures none { (tree : Members) (meaning : TableMeaning) (validator : ℕ)
         → meaning_of_tree tree ≡ Ok meaning
-        → (mode_in meaning validator ≡ None) ↔ ((place : ℕ) → ¬ RangeHas tree validator place) }
-    ensures one { (tree : Members) (meaning : TableMeaning) (validator place place' : ℕ)
-        → meaning_of_tree tree ≡ Ok meaning → RangeHas tree validator place
-        → RangeHas tree validator place' → place ≡ place' }
+        → (mode_in meaning validator ≡ None) ↔ ((index : ℕ) → ¬ RangeHas tree validator index) }
+    ensures one { (tree : Members) (meaning : TableMeaning) (validator index index' : ℕ)
+        → meaning_of_tree tree ≡ Ok meaning → RangeHas tree validator index
+        → RangeHas tree validator index' → index ≡ index' }
 {}
 
 /// A token's terms are those of the class of its only key in `riders`, else of the default class.
@@ -78,9 +78,9 @@ pub fn keys_come_in_byte_order()
 {}
 
 /// A table's ranges are disjoint and increasing, and its riders in the byte order of their tokens.
-pub fn ranges_and_riders_rise()
+pub fn ranges_and_riders_increase()
     ensures ranges { (tree : Members) (meaning : TableMeaning) → meaning_of_tree tree ≡ Ok meaning
-        → stand_apart meaning.ranges ≡ true }
+        → are_disjoint meaning.ranges ≡ true }
     ensures riders { (tree : Members) (meaning : TableMeaning) → meaning_of_tree tree ≡ Ok meaning
         → IsStrictlySortedBy (slice_cmp nat_cmp) (keys_of meaning.riders) }
 {}

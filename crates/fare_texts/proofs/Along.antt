@@ -5,17 +5,17 @@ use Rattle.tariffs.specs.Fares.{Fares}
 use Rattle.histories.specs.declared.entry.Entry.{Entry}
 use Rattle.fare_texts.specs.LedgerLines.{head_text}
 use Rattle.fare_texts.specs.Ledger.{IsLedgerOver}
-use Rattle.fare_texts.specs.Lines.{AreLinesAlong, NoFall}
+use Rattle.fare_texts.specs.Lines.{AreLinesAlong, Nondecreasing}
 use Rattle.fare_texts.proofs.ByToken.{every_token}
 
 -- the lines of entries whose tokens do not fall are their ledger
-pub ledger_along : (fares : Fares) (history : List Entry) (text : List ℕ) → NoFall history
+pub ledger_along : (fares : Fares) (history : List Entry) (text : List ℕ) → Nondecreasing history
     → AreLinesAlong fares [] history text → IsLedgerOver fares history None (head_text ++ text)
-ledger_along fares history text no_fall along = record {
+ledger_along fares history text nondecreasing along = record {
   lines = text;
   of_each = every_token fares history history text (record {
     moved = IsPermutation-refl history;
-    no_fall = no_fall;
+    nondecreasing = nondecreasing;
     kept = λ token. refl;
   }) along;
   whole = refl;

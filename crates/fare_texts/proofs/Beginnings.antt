@@ -17,17 +17,17 @@ begins_whole a b text written =
 
 -- a beginning of a text that goes on
 pub begins_front : (a b : Option (List ℕ)) (x y : List ℕ) → Begins a b x → Begins a b (x ++ y)
-begins_front a b x y begun = record {
-  front = begun.front;
-  rest = begun.rest ++ y;
-  whole = ap (λ text. text ++ y) begun.whole ∙ append_assoc begun.front begun.rest y;
-  written = begun.written;
+begins_front a b x y started = record {
+  front = started.front;
+  rest = started.rest ++ y;
+  whole = ap (λ text. text ++ y) started.whole ∙ append_assoc started.front started.rest y;
+  written = started.written;
 }
 
 -- a whole text, and a beginning of the last one
-pub begins_behind : (a b c : Option (List ℕ)) (x y : List ℕ) → Appends a b x → Begins b c y
+pub begins_after : (a b c : Option (List ℕ)) (x y : List ℕ) → Appends a b x → Begins b c y
     → Begins a c (x ++ y)
-begins_behind a b c x y first next = record {
+begins_after a b c x y first next = record {
   front = x ++ next.front;
   rest = next.rest;
   whole = ap (λ text. x ++ text) next.whole ∙ sym (append_assoc x next.front next.rest);
@@ -38,22 +38,22 @@ begins_behind a b c x y first next = record {
 pub begins_more : (a b c : Option (List ℕ)) (x y z : List ℕ) → Appends a b x → Begins b c y
     → Begins a c (x ++ (y ++ z))
 begins_more a b c x y z first next =
-    begins_behind a b c x (y ++ z) first (begins_front b c y z next)
+    begins_after a b c x (y ++ z) first (begins_front b c y z next)
 
 pub begins_kept : (a b c : Option (List ℕ)) (text : List ℕ) → Begins a b text → Keeps b c
     → Begins a c text
-begins_kept a b c text begun kept = record {
-  front = begun.front;
-  rest = begun.rest;
-  whole = begun.whole;
-  written = Appends-kept a b c begun.front begun.written kept;
+begins_kept a b c text started kept = record {
+  front = started.front;
+  rest = started.rest;
+  whole = started.whole;
+  written = Appends-kept a b c started.front started.written kept;
 }
 
 -- a beginning of a text, and some bytes more of the rest
-pub begun_more : (text front rest left : List ℕ) (count : ℕ) → text ≡ front ++ rest
+pub started_more : (text front rest left : List ℕ) (count : ℕ) → text ≡ front ++ rest
     → left ≡ take (length rest - count) (drop count rest)
     → text ≡ (front ++ take count rest) ++ left
-begun_more text front rest left count whole is =
+started_more text front rest left count whole is =
     let all : take (length rest - count) (drop count rest) ≡ drop count rest =
     take_all (length rest - count) (drop count rest) (omega (arith, length-drop count rest)) in
     whole ∙ ap (λ (t : List ℕ). front ++ t) (sym (take-append-drop count rest))
@@ -76,15 +76,15 @@ goes_on a b c first next last x y one other = record {
 }
 
 -- a text that waits
-pub goes_behind : (o : Option (List ℕ)) (old new text : List ℕ) → new ≡ old ++ text
+pub goes_after : (o : Option (List ℕ)) (old new text : List ℕ) → new ≡ old ++ text
     → GoesOut o old o new text
-goes_behind o old new text grown = record { front = []; whole = sym grown; written = Appends-nil o }
+goes_after o old new text grown = record { front = []; whole = sym grown; written = Appends-nil o }
 
 -- the buffer grows
 pub goes_grown : (a b : Option (List ℕ)) (old new longer x line : List ℕ) → GoesOut a old b new x
     → longer ≡ new ++ line → GoesOut a old b longer (x ++ line)
 goes_grown a b old new longer x line gone grown =
-    goes_on a b b old new longer x line gone (goes_behind b new longer line grown)
+    goes_on a b b old new longer x line gone (goes_after b new longer line grown)
 
 -- some of what waits goes out
 pub goes_passed : (a b c : Option (List ℕ)) (old new last x : List ℕ) → GoesOut a old b new x
@@ -102,39 +102,39 @@ goes_empty a b old new written empty =
 -- and if a beginning of what waits goes out too
 pub goes_then : (a b c : Option (List ℕ)) (old new x : List ℕ) → GoesOut a old b new x
     → Begins b c new → Begins a c (old ++ x)
-goes_then a b c old new x gone begun = record {
-  front = gone.front ++ begun.front;
-  rest = begun.rest;
-  whole = gone.whole ∙ ap (λ t. gone.front ++ t) begun.whole
-      ∙ sym (append_assoc gone.front begun.front begun.rest);
-  written = Appends-trans a b c gone.front begun.front gone.written begun.written;
+goes_then a b c old new x gone started = record {
+  front = gone.front ++ started.front;
+  rest = started.rest;
+  whole = gone.whole ∙ ap (λ t. gone.front ++ t) started.whole
+      ∙ sym (append_assoc gone.front started.front started.rest);
+  written = Appends-trans a b c gone.front started.front gone.written started.written;
 }
 
 -- and more of the text is to come
 pub goes_then_on : (a b c : Option (List ℕ)) (old new x y : List ℕ) → GoesOut a old b new x
     → Begins b c new → Begins a c (old ++ (x ++ y))
-goes_then_on a b c old new x y gone begun =
+goes_then_on a b c old new x y gone started =
     subst (λ t. Begins a c t) (append_assoc old x y)
-    (begins_front a c (old ++ x) y (goes_then a b c old new x gone begun))
+    (begins_front a c (old ++ x) y (goes_then a b c old new x gone started))
 
 -- and if a beginning of what waits and of a text behind it goes out
 pub goes_begins : (a b c : Option (List ℕ)) (old new x y : List ℕ) → GoesOut a old b new x
     → Begins b c (new ++ y) → Begins a c (old ++ (x ++ y))
-goes_begins a b c old new x y gone begun = record {
-  front = gone.front ++ begun.front;
-  rest = begun.rest;
+goes_begins a b c old new x y gone started = record {
+  front = gone.front ++ started.front;
+  rest = started.rest;
   whole = sym (append_assoc old x y) ∙ ap (λ t. t ++ y) gone.whole
-      ∙ append_assoc gone.front new y ∙ ap (λ t. gone.front ++ t) begun.whole
-      ∙ sym (append_assoc gone.front begun.front begun.rest);
-  written = Appends-trans a b c gone.front begun.front gone.written begun.written;
+      ∙ append_assoc gone.front new y ∙ ap (λ t. gone.front ++ t) started.whole
+      ∙ sym (append_assoc gone.front started.front started.rest);
+  written = Appends-trans a b c gone.front started.front gone.written started.written;
 }
 
 -- and more of the text is to come
 pub goes_begins_on : (a b c : Option (List ℕ)) (old new x y z : List ℕ) → GoesOut a old b new x
     → Begins b c (new ++ y) → Begins a c (old ++ (x ++ (y ++ z)))
-goes_begins_on a b c old new x y z gone begun =
+goes_begins_on a b c old new x y z gone started =
     goes_begins a b c old new x (y ++ z) gone
-    (subst (λ t. Begins b c t) (append_assoc new y z) (begins_front b c (new ++ y) z begun))
+    (subst (λ t. Begins b c t) (append_assoc new y z) (begins_front b c (new ++ y) z started))
 
 -- all that waited goes out, and then bytes
 pub goes_through : (a b c : Option (List ℕ)) (old new x : List ℕ) → Appends a b old → new ≡ []

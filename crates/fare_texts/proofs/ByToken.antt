@@ -9,23 +9,23 @@ use Rattle.std.proofs.Math.Bool.{or_self_left}
 use Rattle.tariffs.specs.Fares.{Fares}
 use Rattle.histories.specs.Entry.{own}
 use Rattle.histories.specs.SumsByKey.{token_of, tokens}
-use Rattle.histories.specs.Rising.{IsRising, rising}
+use Rattle.histories.specs.Increasing.{IsIncreasing, increasing}
 use Rattle.tap_views.specs.Token.{token_cmp, token_eq}
 use Rattle.histories.specs.declared.entry.Entry.{Entry}
 use Rattle.tap_views.specs.declared.token.Token.{Token}
 use Rattle.tap_views.proofs.TokenLemmas.{same_token, token_eq-refl, token_eq-sym, token_cmp-total}
 use Rattle.tap_views.proofs.TokenLemmas.{token_cmp-ties}
 use Rattle.tap_views.proofs.TokenLemmas.{among}
-use Rattle.histories.proofs.RisingLemmas.{rising-only, below_all}
+use Rattle.histories.proofs.IncreasingLemmas.{increasing-only, below_all}
 use Rattle.histories.proofs.OwnEntries.{own-append, own_none, own_other, own_same}
 use Rattle.fare_texts.specs.LedgerLines.{AreLedgerLinesAfter, AreLedgerLines, IsLedgerLine}
 use Rattle.fare_texts.specs.LedgerLines.{reason_after}
 use Rattle.fare_texts.specs.Ledger.{AreLinesOfEach}
-use Rattle.fare_texts.specs.Lines.{AreLinesAlong, AreUpTo, IsLineAfter, NoFall, NoFallFrom}
+use Rattle.fare_texts.specs.Lines.{AreLinesAlong, AreUpTo, IsLineAfter, Nondecreasing, NondecreasingFrom}
 use Rattle.tap_views.specs.TokenOrder.{IsUpTo}
 use Rattle.fare_texts.specs.ByToken.{IsByToken}
-use Rattle.fare_texts.proofs.Rising.{none_above, none_below}
-use Rattle.fare_texts.proofs.Rising.{own_push, up_push, up_weaker}
+use Rattle.fare_texts.proofs.Increasing.{none_above, none_below}
+use Rattle.fare_texts.proofs.Increasing.{own_push, up_push, up_weaker}
 use Rattle.tap_views.proofs.TokensUp.{up_apart, up_itself}
 
 abbrev ties : Token → Token → Bool
@@ -38,7 +38,7 @@ record RestOfToken (fares : Fares) (whole : List Entry) (token : Token) (before 
   pub own_lines : List ℕ
   pub of_own : AreLedgerLinesAfter fares token (own token before) (own token rest) own_lines
   pub others : List Token
-  pub rises : IsStrictlySortedBy token_cmp (token ∷ others)
+  pub increases : IsStrictlySortedBy token_cmp (token ∷ others)
   pub members : (key : Token)
       → (ties key token || among others key) ≡ (ties key token || among (map token_of rest) key)
   pub other_lines : List ℕ
@@ -72,7 +72,7 @@ module _ (fares : Fares) (whole before : List Entry) (entry : Entry) (rest : Lis
               refl,
             );
         others = g.others;
-        rises = g.rises;
+        increases = g.increases;
         members = λ key.
             g.members key ∙ sym (or_self_left (ties key token) (among (map token_of rest) key))
             ∙ ap (λ (t : Token). ties key token || (ties key t || among (map token_of rest) key))
@@ -122,28 +122,28 @@ module _ (fares : Fares) (whole before : List Entry) (entry : Entry) (rest : Lis
 
   -- the entry is of a later token than the one whose lines were written
   next_case : (token : Token) → AreUpTo before token → IsUpTo token entry.token
-      → NoFallFrom entry.token rest → token_eq entry.token token ≡ false
+      → NondecreasingFrom entry.token rest → token_eq entry.token token ≡ false
       → token_eq token entry.token ≡ false
       → RestOfToken fares whole entry.token (before ++ entry ∷ []) rest more
       → RestOfToken fares whole token before (entry ∷ rest) text
   unfolding IsStrictlySortedBy
-  next_case token up to no_fall apart beyond g =
+  next_case token up to nondecreasing apart beyond g =
       let less = up_apart token entry.token to apart in
       record {
         own_lines = [];
         of_own = subst
             (λ (es : List Entry). AreLedgerLinesAfter fares token (own token before) es [])
             (sym (own_other token entry rest apart
-            ∙ none_above token entry.token rest to apart no_fall))
+            ∙ none_above token entry.token rest to apart nondecreasing))
             refl;
         others = entry.token ∷ g.others;
-        rises = (
+        increases = (
           (
             less,
             below_all token_cmp-total token_cmp-ties token entry.token g.others less
-                g.rises.0,
+                g.increases.0,
           ),
-          g.rises,
+          g.increases,
         );
         members = λ key. ap (λ (b : Bool). ties key token || b) (g.members key);
         other_lines = text;
@@ -158,7 +158,7 @@ no_more fares whole token before text none = record {
   own_lines = [];
   of_own = refl;
   others = [];
-  rises = (tt, tt);
+  increases = (tt, tt);
   members = λ key. refl;
   other_lines = [];
   of_others = refl;
@@ -166,11 +166,11 @@ no_more fares whole token before text none = record {
 }
 
 rest_of_token : (fares : Fares) (whole : List Entry) (token : Token) (before rest : List Entry)
-    (text : List ℕ) → whole ≡ before ++ rest → AreUpTo before token → NoFallFrom token rest
+    (text : List ℕ) → whole ≡ before ++ rest → AreUpTo before token → NondecreasingFrom token rest
     → AreLinesAlong fares before rest text → RestOfToken fares whole token before rest text
-rest_of_token fares whole token before [] text is up no_fall none =
+rest_of_token fares whole token before [] text is up nondecreasing none =
     no_more fares whole token before text none
-rest_of_token fares whole token before (entry ∷ rest) text is up no_fall
+rest_of_token fares whole token before (entry ∷ rest) text is up nondecreasing
     (line, more, explained, along, shown) =
     let longer : whole ≡ (before ++ entry ∷ []) ++ rest =
     is ∙ sym (append_assoc before (entry ∷ []) rest) in
@@ -181,28 +181,28 @@ rest_of_token fares whole token before (entry ∷ rest) text is up no_fall
     (rest_of_token fares whole token (before ++ entry ∷ []) rest more longer
     (up_push before entry token up
     (subst (λ (t : Token). IsUpTo t token) (sym same) (up_itself token)))
-    (subst (λ (t : Token). NoFallFrom t rest) same no_fall.1) along))
+    (subst (λ (t : Token). NondecreasingFrom t rest) same nondecreasing.1) along))
     (λ (apart : token_eq entry.token token ≡ false).
-    next_case fares whole before entry rest line more text is explained shown token up no_fall.0
-    no_fall.1
+    next_case fares whole before entry rest line more text is explained shown token up nondecreasing.0
+    nondecreasing.1
     apart (token_eq-sym token entry.token ∙ apart)
     (rest_of_token fares whole entry.token (before ++ entry ∷ []) rest more longer
-    (up_push before entry entry.token (up_weaker before token entry.token up no_fall.0)
-    (up_itself entry.token)) no_fall.1 along))
+    (up_push before entry entry.token (up_weaker before token entry.token up nondecreasing.0)
+    (up_itself entry.token)) nondecreasing.1 along))
     (cases_Bool (token_eq entry.token token))
 
 -- the lines along entries in order of token are those of each token, rising
-each_token : (fares : Fares) (entries : List Entry) (text : List ℕ) → NoFall entries
+each_token : (fares : Fares) (entries : List Entry) (text : List ℕ) → Nondecreasing entries
     → AreLinesAlong fares [] entries text
-    → (order : List Token) × IsRising token_cmp (map token_of entries) order
+    → (order : List Token) × IsIncreasing token_cmp (map token_of entries) order
     × AreLinesOfEach fares entries order text
 unfolding IsStrictlySortedBy
-each_token fares [] text no_fall none = ([], record { rises = tt; same = λ key. refl }, none)
-each_token fares (entry ∷ rest) text no_fall (line, more, explained, along, shown) =
+each_token fares [] text nondecreasing none = ([], record { increases = tt; same = λ key. refl }, none)
+each_token fares (entry ∷ rest) text nondecreasing (line, more, explained, along, shown) =
     let g = rest_of_token fares (entry ∷ rest) entry.token (entry ∷ []) rest more refl
-    (up_itself entry.token, tt) no_fall along in (
+    (up_itself entry.token, tt) nondecreasing along in (
       entry.token ∷ g.others,
-      record { rises = g.rises; same = g.members },
+      record { increases = g.increases; same = g.members },
       each_lines fares (entry ∷ rest) [] entry rest line more text refl explained shown
           (own_none entry.token) g,
     )
@@ -226,10 +226,10 @@ pub every_token : (fares : Fares) (entries list : List Entry) (text : List ℕ)
     → AreLinesOfEach fares entries (tokens entries) text
 unfolding tokens
 every_token fares entries list text is along =
-    let (order, risen, each) = each_token fares list text is.no_fall along in
-    let same : order ≡ rising token_cmp (map token_of entries) =
-    rising-only token_cmp-total token_cmp-ties (map token_of entries) order (record {
-      rises = risen.rises;
+    let (order, risen, each) = each_token fares list text is.nondecreasing along in
+    let same : order ≡ increasing token_cmp (map token_of entries) =
+    increasing-only token_cmp-total token_cmp-ties (map token_of entries) order (record {
+      increases = risen.increases;
       same = λ key. risen.same key
           ∙ sym (list_any-IsPermutation (eq_by_cmp token_cmp key) (map token_of entries)
           (map token_of list) (IsPermutation-map token_of entries list is.moved));

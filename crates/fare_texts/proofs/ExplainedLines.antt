@@ -45,19 +45,19 @@ lines-push fares token earlier (first ∷ entries) entry text line (start, rest,
     )
 
 -- the lines of the first entries, and the next one's
-pub next_explained : (fares : Fares) (token : Token) (entries : List Entry) (place : ℕ)
+pub next_explained : (fares : Fares) (token : Token) (entries : List Entry) (position : ℕ)
     (other : Entry)
-    → place < length entries → (text line : List ℕ) (why : Reason) (none : Option NoTransfer)
-    → why ≡ reason_after fares token (take place entries) (get_or entries place other)
-    → none ≡ no_transfer_after fares token (take place entries) (get_or entries place other)
-    → AreExplainedAfter fares token [] (take place entries) text
-    → IsExplainedLine fares (get_or entries place other) why none line
-    → AreExplainedAfter fares token [] (take (place + 1) entries) (text ++ line)
-next_explained fares token entries place other within text line why none is_why is_none are is =
-    let done = take place entries in
-    let entry = get_or entries place other in
+    → position < length entries → (text line : List ℕ) (why : Reason) (none : Option NoTransfer)
+    → why ≡ reason_after fares token (take position entries) (get_or entries position other)
+    → none ≡ no_transfer_after fares token (take position entries) (get_or entries position other)
+    → AreExplainedAfter fares token [] (take position entries) text
+    → IsExplainedLine fares (get_or entries position other) why none line
+    → AreExplainedAfter fares token [] (take (position + 1) entries) (text ++ line)
+next_explained fares token entries position other within text line why none is_why is_none are is =
+    let done = take position entries in
+    let entry = get_or entries position other in
     subst (λ (es : List Entry). AreExplainedAfter fares token [] es (text ++ line))
-    (sym (taken entries place other within))
+    (sym (taken entries position other within))
     (lines-push fares token [] done entry text line are
     (subst (λ (n : Option NoTransfer).
     IsExplainedLine fares entry (reason_after fares token done entry) n line) is_none
@@ -79,14 +79,14 @@ windows-push clocks (first ∷ windows) window text line (start, rest, shown, ar
 )
 
 -- the lines of the first windows, and the next one's
-pub next_window : (clocks : ClockView) (windows : List WindowView) (place : ℕ)
+pub next_window : (clocks : ClockView) (windows : List WindowView) (position : ℕ)
     (other : WindowView)
-    → place < length windows → (text line : List ℕ)
-    → AreEarlierLines clocks (take place windows) text
-    → IsExplainedWindow clocks (codes "earlier window ") (get_or windows place other) line
-    → AreEarlierLines clocks (take (place + 1) windows) (text ++ line)
-next_window clocks windows place other within text line are is =
-    let more : take (place + 1) windows ≡ take place windows ++ get_or windows place other ∷ [] =
-    rw (add-one) (take-suc windows place other within) in
+    → position < length windows → (text line : List ℕ)
+    → AreEarlierLines clocks (take position windows) text
+    → IsExplainedWindow clocks (codes "earlier window ") (get_or windows position other) line
+    → AreEarlierLines clocks (take (position + 1) windows) (text ++ line)
+next_window clocks windows position other within text line are is =
+    let more : take (position + 1) windows ≡ take position windows ++ get_or windows position other ∷ [] =
+    rw (add-one) (take-suc windows position other within) in
     subst (λ (ws : List WindowView). AreEarlierLines clocks ws (text ++ line)) (sym more)
-    (windows-push clocks (take place windows) (get_or windows place other) text line are is)
+    (windows-push clocks (take position windows) (get_or windows position other) text line are is)

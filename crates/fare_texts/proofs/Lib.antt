@@ -9,7 +9,7 @@ pub mod LocalLemmas
 mod Modes
 pub mod MomentLemmas
 pub mod Parts
-pub mod Rising
+pub mod Increasing
 pub mod StatementLines
 pub mod TermsLines
 pub mod TextsExist

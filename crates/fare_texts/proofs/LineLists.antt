@@ -33,23 +33,23 @@ lines-push fares token earlier (first ∷ entries) entry text line (start, rest,
     )
 
 -- one more of the first entries
-pub taken : (entries : List Entry) (place : ℕ) (other : Entry) → place < length entries
-    → take (place + 1) entries ≡ take place entries ++ get_or entries place other ∷ []
-taken entries place other within = rw (add-one) (take-suc entries place other within)
+pub taken : (entries : List Entry) (position : ℕ) (other : Entry) → position < length entries
+    → take (position + 1) entries ≡ take position entries ++ get_or entries position other ∷ []
+taken entries position other within = rw (add-one) (take-suc entries position other within)
 
-pub more : {A : Type 0} (f : A → TapIn) (xs : List A) (place : ℕ) (other : A) → place < length xs
-    → map f (take (place + 1) xs) ≡ map f (take place xs) ++ f (get_or xs place other) ∷ []
-more f xs place other within =
-    rw (add-one, take-suc xs place other within)
-    (map-append f (take place xs) (get_or xs place other ∷ []))
+pub more : {A : Type 0} (f : A → TapIn) (xs : List A) (position : ℕ) (other : A) → position < length xs
+    → map f (take (position + 1) xs) ≡ map f (take position xs) ++ f (get_or xs position other) ∷ []
+more f xs position other within =
+    rw (add-one, take-suc xs position other within)
+    (map-append f (take position xs) (get_or xs position other ∷ []))
 
 -- the lines of the first entries, and the next one's
-pub next_lines : (fares : Fares) (token : Token) (entries : List Entry) (place : ℕ) (other : Entry)
-    → place < length entries → (text line : List ℕ)
-    → AreLedgerLines fares token (take place entries) text
-    → IsLedgerLineAfter fares token (take place entries) (get_or entries place other) line
-    → AreLedgerLines fares token (take (place + 1) entries) (text ++ line)
-next_lines fares token entries place other within text line are is =
+pub next_lines : (fares : Fares) (token : Token) (entries : List Entry) (position : ℕ) (other : Entry)
+    → position < length entries → (text line : List ℕ)
+    → AreLedgerLines fares token (take position entries) text
+    → IsLedgerLineAfter fares token (take position entries) (get_or entries position other) line
+    → AreLedgerLines fares token (take (position + 1) entries) (text ++ line)
+next_lines fares token entries position other within text line are is =
     subst (λ (es : List Entry). AreLedgerLines fares token es (text ++ line))
-    (sym (taken entries place other within))
-    (lines-push fares token [] (take place entries) (get_or entries place other) text line are is)
+    (sym (taken entries position other within))
+    (lines-push fares token [] (take position entries) (get_or entries position other) text line are is)

@@ -5,7 +5,7 @@ use Rattle.tariffs.specs.declared.mode.Mode.{Mode}
 use Rattle.account_rule.specs.Kept.{Kept, kept_of}
 use Rattle.account_rule.specs.Reasons.{reason}
 use Rattle.account_rule.specs.TokenRules.{TokenRules, rules_of}
-use Rattle.account_rule.specs.Stands.{KeepsOf, Stands}
+use Rattle.account_rule.specs.Represents.{KeepsOf, Represents}
 use Rattle.account_rule.specs.Taps.{LiveTap, live_at}
 use Rattle.account_rule.specs.declared.account.Account.{Account}
 use Rattle.account_rule.specs.declared.reason.Reason.{Reason}
@@ -23,20 +23,20 @@ same-mode ride moment mode same = ap (λ (t : LiveTap). t.mode) same
 within : (rules : TokenRules) (kept : Option Kept) (taps : List TapIn) (tap : TapIn) (moment : ℕ)
     (mode : Mode)
     → KeepsOf rules kept taps → reason rules taps tap ≡ Transfer moment mode
-    → mode.place < rules.modes
-within rules kept taps tap moment mode stands is =
+    → mode.position < rules.modes
+within rules kept taps tap moment mode holds is =
     let (trip, found, ride) = giver-ride rules taps tap moment mode is in
-    subst (λ (m : Mode). m.place < rules.modes) (same-mode trip.ride moment mode ride)
-    (stands.ride_mode trip (stands.trip ∙ found))
+    subst (λ (m : Mode). m.position < rules.modes) (same-mode trip.ride moment mode ride)
+    (holds.ride_mode trip (holds.trip ∙ found))
 
 -- the reason for a tap has a mode of the table, if it has one
 pub has_mode : (fares : Fares) (token : List ℕ) (account : Account) (taps : List TapIn)
     (tap : TapIn) (why : Reason)
-    → Stands (rules_of fares token) account taps → why ≡ reason (rules_of fares token) taps tap
+    → Represents (rules_of fares token) account taps → why ≡ reason (rules_of fares token) taps tap
     → HasModeOf fares why
-unfolding Stands rules_of
-has_mode fares token account taps tap Unknown stands is = tt
-has_mode fares token account taps tap (Stale latest) stands is = tt
-has_mode fares token account taps tap (Transfer moment mode) stands is =
-    within (rules_of fares token) (kept_of account) taps tap moment mode stands (sym is)
-has_mode fares token account taps tap (Ride start until charge) stands is = tt
+unfolding Represents rules_of
+has_mode fares token account taps tap Unknown holds is = tt
+has_mode fares token account taps tap (Stale latest) holds is = tt
+has_mode fares token account taps tap (Transfer moment mode) holds is =
+    within (rules_of fares token) (kept_of account) taps tap moment mode holds (sym is)
+has_mode fares token account taps tap (Ride start until charge) holds is = tt

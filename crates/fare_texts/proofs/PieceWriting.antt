@@ -13,40 +13,40 @@ use Rattle.tap_views.specs.declared.token.Token.{Token}
 use Rattle.tap_views.proofs.TokenLemmas.{token_eq-refl}
 use Rattle.fare_texts.specs.Explainers.{HasExplained}
 use Rattle.fare_texts.specs.WrittenOut.{Begins, GoesOut}
-use Rattle.fare_texts.specs.Lines.{AreLinesAlong, AreUpTo, HasCome, IsLineAfter, NoFall}
+use Rattle.fare_texts.specs.Lines.{AreLinesAlong, AreUpTo, HasConsumed, IsLineAfter, Nondecreasing}
 use Rattle.tap_views.specs.TokenOrder.{IsUpTo}
-use Rattle.fare_texts.specs.Lines.{NoFallFrom}
+use Rattle.fare_texts.specs.Lines.{NondecreasingFrom}
 use Rattle.fare_texts.specs.declared.explainer.Explainer.{Explainer}
-use Rattle.fare_texts.proofs.Rising.{none_below, own_push, up_push, up_weaker}
+use Rattle.fare_texts.proofs.Increasing.{none_below, own_push, up_push, up_weaker}
 use Rattle.tap_views.proofs.TokensUp.{up_itself}
 use Rattle.fare_texts.proofs.Beginnings.{goes_then_on}
 use Rattle.fare_texts.proofs.TextsExist.{along_exist}
 
 -- ---- the explainer
-pub come_first : (fares : Fares) (explainer : Explainer) → HasExplained fares explainer []
-    → HasCome fares explainer []
+pub consumed_first : (fares : Fares) (explainer : Explainer) → HasExplained fares explainer []
+    → HasConsumed fares explainer []
 unfolding own
-come_first fares explainer explained = record { explained = explained; up = tt }
+consumed_first fares explainer explained = record { explained = explained; up = tt }
 
-pub come_on : (fares : Fares) (old new : Explainer) (earlier : List Entry)
-    → HasCome fares old earlier
+pub consumed_on : (fares : Fares) (old new : Explainer) (earlier : List Entry)
+    → HasConsumed fares old earlier
     → IsUpTo old.token new.token → token_eq old.token new.token ≡ false → HasExplained fares new []
-    → HasCome fares new earlier
-come_on fares old new earlier come to apart fresh =
+    → HasConsumed fares new earlier
+consumed_on fares old new earlier consumed to apart fresh =
     let none : [] ≡ own new.token earlier =
-    sym (none_below earlier old.token new.token come.up to apart) in
+    sym (none_below earlier old.token new.token consumed.up to apart) in
     record {
       explained = subst (λ (es : List Entry). HasExplained fares new es) none fresh;
-      up = up_weaker earlier old.token new.token come.up to;
+      up = up_weaker earlier old.token new.token consumed.up to;
     }
 
 -- the explainer has come one entry further in its token's entries
-pub come_next : (fares : Fares) (old new : Explainer) (earlier : List Entry) (entry : Entry)
+pub consumed_next : (fares : Fares) (old new : Explainer) (earlier : List Entry) (entry : Entry)
     → old.token ≡ entry.token
-    → new.token ≡ old.token → HasCome fares old earlier
+    → new.token ≡ old.token → HasConsumed fares old earlier
     → HasExplained fares new (own old.token earlier ++ entry ∷ [])
-    → HasCome fares new (earlier ++ entry ∷ [])
-come_next fares old new earlier entry same token come explained =
+    → HasConsumed fares new (earlier ++ entry ∷ [])
+consumed_next fares old new earlier entry same token consumed explained =
     let here : token_eq entry.token old.token ≡ true =
     ap (λ (t : Token). token_eq t old.token) (sym same) ∙ token_eq-refl old.token in
     let all = earlier ++ entry ∷ [] in
@@ -55,7 +55,7 @@ come_next fares old new earlier entry same token come explained =
           (subst (λ (es : List Entry). HasExplained fares new es)
           (sym (own_push old.token earlier entry here)) explained);
       up = subst (λ (t : Token). AreUpTo all t) (sym token)
-          (up_push earlier entry old.token come.up
+          (up_push earlier entry old.token consumed.up
           (subst (λ (t : Token). IsUpTo t old.token) same (up_itself old.token)));
     }
 
@@ -100,26 +100,26 @@ along_push fares earlier (first ∷ entries) entry text line (start, rest, expla
     )
 
 -- lines of the first entries, and those of the others behind them
-pub along_all : (fares : Fares) (entries : List Entry) (place : ℕ) (written : List ℕ)
-    → AreLinesAlong fares [] (take place entries) written
+pub along_all : (fares : Fares) (entries : List Entry) (position : ℕ) (written : List ℕ)
+    → AreLinesAlong fares [] (take position entries) written
     → (more : List ℕ) × AreLinesAlong fares [] entries (written ++ more)
-along_all fares entries place written along =
-    let others = along_exist fares (take place entries) (drop place entries) in (
+along_all fares entries position written along =
+    let others = along_exist fares (take position entries) (drop position entries) in (
       others.0,
       subst (λ (es : List Entry). AreLinesAlong fares [] es (written ++ others.0))
-          (take-append-drop place entries)
-          (along_append fares [] (take place entries) (drop place entries) written others.0 along
+          (take-append-drop position entries)
+          (along_append fares [] (take position entries) (drop position entries) written others.0 along
           others.1),
     )
 
 -- if a beginning of what waits goes out, what has gone out is a beginning of all lines
-pub lines_begun : (fares : Fares) (entries : List Entry) (place : ℕ) (written : List ℕ)
+pub lines_started : (fares : Fares) (entries : List Entry) (position : ℕ) (written : List ℕ)
     (a b c : Option (List ℕ)) (old new : List ℕ)
-    → AreLinesAlong fares [] (take place entries) written → GoesOut a old b new written
+    → AreLinesAlong fares [] (take position entries) written → GoesOut a old b new written
     → Begins b c new
     → (lines : List ℕ) × AreLinesAlong fares [] entries lines × Begins a c (old ++ lines)
-lines_begun fares entries place written a b c old new along gone begun =
-    let all = along_all fares entries place written along in
-    (written ++ all.0, all.1, goes_then_on a b c old new written all.0 gone begun)
+lines_started fares entries position written a b c old new along gone started =
+    let all = along_all fares entries position written along in
+    (written ++ all.0, all.1, goes_then_on a b c old new written all.0 gone started)
 
 -- ---- the bytes

@@ -4,10 +4,10 @@ use Rattle.std.specs.List.Sorted.{IsPermutation}
 use Rattle.histories.specs.Entry.{own}
 use Rattle.histories.specs.declared.entry.Entry.{Entry}
 use Rattle.tap_views.specs.declared.token.Token.{Token}
-use Rattle.fare_texts.specs.Lines.{NoFall}
+use Rattle.fare_texts.specs.Lines.{Nondecreasing}
 
 -- the list has these entries in order of token, and those of each token as they were
 pub record IsByToken (entries list : List Entry) : Type 0 where
   pub moved : IsPermutation entries list
-  pub no_fall : NoFall list
+  pub nondecreasing : Nondecreasing list
   pub kept : (token : Token) → own token list ≡ own token entries

@@ -4,7 +4,7 @@ use Rattle.tariffs.specs.Fares.{Fares}
 use Rattle.account_rule.specs.Replies.{reply}
 use Rattle.account_rule.specs.declared.reply.Answer.TheVariants.{Unknown}
 use Rattle.account_rule.specs.TokenRules.{rules_of}
-use Rattle.account_rule.specs.Stands.{Stands}
+use Rattle.account_rule.specs.Represents.{Represents}
 use Rattle.histories.specs.Entry.{tap_of}
 use Rattle.tap_views.specs.Token.{bytes_of}
 use Rattle.histories.specs.declared.entry.Entry.{Entry}
@@ -36,6 +36,6 @@ next_entry fares token earlier validator moment =
 -- them
 pub record HasExplained (fares : Fares) (explainer : Explainer)
     (entries : List Entry) : Type 0 where
-  pub stands : Stands (rules_of fares (bytes_of explainer.token)) explainer.account
+  pub holds : Represents (rules_of fares (bytes_of explainer.token)) explainer.account
       (map (tap_of fares) entries)
   pub counted : explainer.number ≡ length entries

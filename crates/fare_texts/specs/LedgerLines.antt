@@ -27,7 +27,7 @@ head_text =
 -- the name of a mode by its place, or nothing for none
 abbrev pub name_or_empty : List (List ℕ) → Option ℕ → List ℕ
 name_or_empty names None = []
-name_or_empty names (Some place) = slice_index_or names place []
+name_or_empty names (Some position) = slice_index_or names position []
 
 -- the name of a validator's mode at a moment, or nothing if the table does not know the validator
 abbrev pub mode_field : Fares → ℕ → ℕ → List ℕ
@@ -48,14 +48,14 @@ entry_fields fares entry =
     ++ (codes "," ++ (decimal entry.cents ++ codes ",")))))))
 
 -- `,1,full,`: the ride's place in its window, from 1
-unfoldable pub place_fields : ℕ → List ℕ → List ℕ
-place_fields place word = codes "," ++ (decimal (place + 1) ++ (codes "," ++ (word ++ codes ",")))
+unfoldable pub position_fields : ℕ → List ℕ → List ℕ
+position_fields position word = codes "," ++ (decimal (position + 1) ++ (codes "," ++ (word ++ codes ",")))
 
 -- a ride's place and what decided its cents; no place if the ride limit is reached
 abbrev pub ride_rest : Charge → List ℕ
-ride_rest (Full place cents) = place_fields place (codes "full")
-ride_rest (CeilingCut place cents) = place_fields place (codes "ceiling-cut")
-ride_rest (CeilingReached place) = place_fields place (codes "ceiling")
+ride_rest (Full position cents) = position_fields position (codes "full")
+ride_rest (CeilingCut position cents) = position_fields position (codes "ceiling-cut")
+ride_rest (CeilingReached position) = position_fields position (codes "ceiling")
 ride_rest RideLimitReached = codes ",,ride-limit,"
 
 -- the window's start and end, the ride's place and what decided its cents

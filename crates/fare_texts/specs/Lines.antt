@@ -15,14 +15,14 @@ AreUpTo [] token = Unit {0}
 AreUpTo (entry ∷ entries) token = IsUpTo entry.token token × AreUpTo entries token
 
 -- the entries' tokens never fall, from this one on
-abbrev pub NoFallFrom : Token → List Entry → Type 0
-NoFallFrom token [] = Unit {0}
-NoFallFrom token (entry ∷ entries) = IsUpTo token entry.token × NoFallFrom entry.token entries
+abbrev pub NondecreasingFrom : Token → List Entry → Type 0
+NondecreasingFrom token [] = Unit {0}
+NondecreasingFrom token (entry ∷ entries) = IsUpTo token entry.token × NondecreasingFrom entry.token entries
 
 -- the entries' tokens never fall
-abbrev pub NoFall : List Entry → Type 0
-NoFall [] = Unit {0}
-NoFall (entry ∷ entries) = NoFallFrom entry.token entries
+abbrev pub Nondecreasing : List Entry → Type 0
+Nondecreasing [] = Unit {0}
+Nondecreasing (entry ∷ entries) = NondecreasingFrom entry.token entries
 
 -- the line of an entry that is after these: the one that it has among the entries of its token
 abbrev pub IsLineAfter : Fares → List Entry → Entry → List ℕ → Type 0
@@ -37,6 +37,6 @@ AreLinesAlong fares earlier (entry ∷ entries) text =
     × AreLinesAlong fares (earlier ++ entry ∷ []) entries rest × (text ≡ line ++ rest)
 
 -- of these entries, the explainer has taken those of its token; no token of theirs is above it
-pub record HasCome (fares : Fares) (explainer : Explainer) (earlier : List Entry) : Type 0 where
+pub record HasConsumed (fares : Fares) (explainer : Explainer) (earlier : List Entry) : Type 0 where
   pub explained : HasExplained fares explainer (own explainer.token earlier)
   pub up : AreUpTo earlier explainer.token

@@ -57,8 +57,8 @@ IsNoTransferText fares moment (AfterTransfer last) text = IsAfterTransferText la
 IsNoTransferText fares moment (RideTooLate ride) text =
     IsRideTooLateText ride (moment - ride) text
 IsNoTransferText fares moment (NotPermitted from to) text =
-    text ≡ pair_words (slice_index_or fares.meaning.modes from.place [])
-    (slice_index_or fares.meaning.modes to.place [])
+    text ≡ pair_words (slice_index_or fares.meaning.modes from.position [])
+    (slice_index_or fares.meaning.modes to.position [])
 
 -- the text says why an entry that has this reason is no transfer: nothing, unless it is a ride
 abbrev pub IsNoTransferEnd : Fares → ℕ → Reason → Option NoTransfer → List ℕ → Type 0

@@ -3,6 +3,6 @@ use Rattle.fare_texts.specs.declared.print_fault.PrintFault.{PrintFault}
 use Rattle.fare_texts.specs.declared.print_fault.PrintFault.TheVariants.{Write, NoMemory}
 
 -- `kept` holds, unless the fault is a write that failed
-abbrev pub KeepsUnlessWrite : PrintFault → Type 0 → Type 0
-KeepsUnlessWrite Write kept = Unit {0}
-KeepsUnlessWrite NoMemory kept = kept
+abbrev pub UnchangedUnlessWrite : PrintFault → Type 0 → Type 0
+UnchangedUnlessWrite Write kept = Unit {0}
+UnchangedUnlessWrite NoMemory kept = kept

@@ -13,25 +13,25 @@ use Rattle.fare_texts.specs.Moments.{IsMomentText}
 abbrev pub HasModeOf : Fares → Reason → Type 0
 HasModeOf fares Unknown = Unit {0}
 HasModeOf fares (Stale latest) = Unit {0}
-HasModeOf fares (Transfer moment mode) = mode.place < length fares.meaning.modes
+HasModeOf fares (Transfer moment mode) = mode.position < length fares.meaning.modes
 HasModeOf fares (Ride start until charge) = Unit {0}
 
 -- ` because it is ride 3 of the window`
-unfoldable pub place_start : ℕ → List ℕ
-place_start place = codes " because it is ride " ++ (decimal (place + 1) ++ codes " of the window")
+unfoldable pub position_start : ℕ → List ℕ
+position_start position = codes " because it is ride " ++ (decimal (position + 1) ++ codes " of the window")
 
 -- the words of a charge before the window: ` because it is ride 3 of the window`
 unfoldable pub charge_start : Charge → List ℕ
-charge_start (Full place cents) = place_start place
-charge_start (CeilingCut place cents) = place_start place
-charge_start (CeilingReached place) = place_start place
+charge_start (Full position cents) = position_start position
+charge_start (CeilingCut position cents) = position_start position
+charge_start (CeilingReached position) = position_start position
 charge_start RideLimitReached = codes " because the ride limit of the window"
 
 -- the words of a charge after the window: ` at full fare`
 abbrev pub charge_end : Charge → List ℕ
-charge_end (Full place cents) = codes " at full fare"
-charge_end (CeilingCut place cents) = codes " cut by the ceiling"
-charge_end (CeilingReached place) = codes " past the ceiling"
+charge_end (Full position cents) = codes " at full fare"
+charge_end (CeilingCut position cents) = codes " cut by the ceiling"
+charge_end (CeilingReached position) = codes " past the ceiling"
 charge_end RideLimitReached = codes " is reached"
 
 -- ` from 2024-03-08T17:00:00.000Z until 2024-03-15T17:00:00.000Z`
@@ -69,5 +69,5 @@ abbrev pub IsReasonWords : Fares → Reason → List ℕ → Type 0
 IsReasonWords fares Unknown text = text ≡ codes " because the table has no such validator"
 IsReasonWords fares (Stale latest) text = IsStaleText latest text
 IsReasonWords fares (Transfer moment mode) text =
-    IsTransferText (slice_index_or fares.meaning.modes mode.place []) moment text
+    IsTransferText (slice_index_or fares.meaning.modes mode.position []) moment text
 IsReasonWords fares (Ride start until charge) text = IsRideText start until charge text

@@ -27,7 +27,7 @@ answer_text Unknown = codes "unknown"
 -- the name of a mode by its place, or `-` for none
 abbrev pub name_of : List (List ℕ) → Option ℕ → List ℕ
 name_of names None = codes "-"
-name_of names (Some place) = slice_index_or names place []
+name_of names (Some position) = slice_index_or names position []
 
 -- the name of a validator's mode at a moment, or `-` if the table does not know the validator
 abbrev pub mode_text : Fares → ℕ → ℕ → List ℕ

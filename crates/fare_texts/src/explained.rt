@@ -5,7 +5,7 @@ ghost use Rattle.std.specs.Prelude.{string_bytes};
 ghost use Rattle.std.specs.Io.KnownBytes.{Appends};
 ghost use Rattle.histories.specs.Sums.{sums, sums_of};
 ghost use Rattle.fare_texts.specs.Explained.{IsExplained};
-ghost use Rattle.fare_texts.specs.PrintFaults.{KeepsUnlessWrite};
+ghost use Rattle.fare_texts.specs.PrintFaults.{UnchangedUnlessWrite};
 ghost use Rattle.fare_texts.specs.WrittenOut.{Begins};
 ghost use Rattle.fare_texts.specs.declared.print_fault.PrintFault.TheVariants.{Write as ForWrite};
 
@@ -55,10 +55,10 @@ pub fn write_explained_of<W: Write>(
 ) -> Result<(), PrintFault>
     ensures ok { OnOk result ((text : List ℕ) × IsExplained table.now token entries.now text
         × Appends (W.contents out.old) (W.contents out.new) text) }
-    ensures begun { IfErr result (λ fault. fault ≡ ForWrite
+    ensures started { IfErr result (λ fault. fault ≡ ForWrite
         → (text : List ℕ) × IsExplained table.now token entries.now text
         × Begins (W.contents out.old) (W.contents out.new) text) }
-    ensures fault { IfErr result (λ fault. KeepsUnlessWrite fault (out.new ≡ out.old)) }
+    ensures fault { IfErr result (λ fault. UnchangedUnlessWrite fault (out.new ≡ out.old)) }
 {
     let mut text = explained_text_of(alloc, table, token, entries)?;
     pass_on(&mut text, out)?;

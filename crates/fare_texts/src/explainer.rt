@@ -27,7 +27,7 @@ use tariffs::{Clock, FareTable};
 fn tap_of(table: &FareTable, entry: &Entry) -> Result<TapIn, NoMemory>
     ensures tap { IfOk result (λ tap. tap ≡ tap_of table.now entry.now) }
     ensures mode { IfOk result (λ tap. ForSome tap.mode (λ mode.
-        mode.place < length table.now.meaning.modes)) }
+        mode.position < length table.now.meaning.modes)) }
     ensures early { IfOk result (λ tap. tap.moment < 4_102_444_800_000) }
     ensures late { OnErr result (4_102_444_800_000 ≤ entry.now.moment) }
 {

@@ -3,7 +3,7 @@
 ghost use Rattle.std.specs.Prelude.{◌≡◌, ◌≤◌, List, [], IfErr, OnErr, OnOk, string_bytes};
 ghost use Rattle.std.specs.Io.KnownBytes.{Appends, Keeps, append_known};
 ghost use Rattle.fare_texts.specs.declared.print_fault.PrintFault.TheVariants.{Write as ForWrite};
-ghost use Rattle.fare_texts.specs.Lines.{HasCome};
+ghost use Rattle.fare_texts.specs.Lines.{HasConsumed};
 ghost use Rattle.tap_views.specs.TokenOrder.{IsUpTo};
 ghost use Rattle.fare_texts.specs.WrittenOut.{Begins, GoesOut};
 ghost use Rattle.tariffs.specs.Fares.{Fares};
@@ -24,7 +24,7 @@ pub fn pass_on<W: Write>(text: &mut String, out: &mut W) -> Result<(), PrintFaul
     ensures whole { OnOk result (Appends (W.contents out.old) (W.contents out.new)
         (string_bytes text.old)) }
     ensures empty { OnOk result (string_bytes text.new ≡ []) }
-    ensures begun { OnErr result (Begins (W.contents out.old) (W.contents out.new)
+    ensures started { OnErr result (Begins (W.contents out.old) (W.contents out.new)
         (string_bytes text.old)) }
     ensures fault { IfErr result (λ fault. fault ≡ ForWrite) }
 {
@@ -39,7 +39,7 @@ pub fn pass_piece<W: Write>(text: &mut String, out: &mut W) -> Result<(), PrintF
         (append_known (W.contents out.new) (string_bytes text.new))) }
     ensures gone { OnOk result (GoesOut (W.contents out.old) (string_bytes text.old)
         (W.contents out.new) (string_bytes text.new) []) }
-    ensures begun { OnErr result (Begins (W.contents out.old) (W.contents out.new)
+    ensures started { OnErr result (Begins (W.contents out.old) (W.contents out.new)
         (string_bytes text.old)) }
     ensures fault { IfErr result (λ fault. fault ≡ ForWrite) }
 {
@@ -53,8 +53,8 @@ pub fn pass_piece<W: Write>(text: &mut String, out: &mut W) -> Result<(), PrintF
 /// Goes on with the token of the next entry, which is not below the explainer's own: another token
 /// begins afresh.
 pub fn go_on_to(explainer: &mut Explainer, token: Token)
-    ensures come { (fares : Fares) (earlier : List Entry) → HasCome fares explainer.old earlier
-        → IsUpTo explainer.old.token token → HasCome fares explainer.new earlier }
+    ensures consumed { (fares : Fares) (earlier : List Entry) → HasConsumed fares explainer.old earlier
+        → IsUpTo explainer.old.token token → HasConsumed fares explainer.new earlier }
     ensures token { explainer.new.token ≡ token }
     ensures few { explainer.new.number ≤ explainer.old.number }
 {

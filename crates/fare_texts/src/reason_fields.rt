@@ -3,7 +3,7 @@
 
 ghost use Rattle.std.specs.Prelude.{◌≡◌, ◌+◌, ◌≤◌, ◌++◌, List, ℕ, length};
 ghost use Rattle.fare_texts.specs.LedgerLines.{IsReasonFields, IsPointing, IsRideFields};
-ghost use Rattle.fare_texts.specs.LedgerLines.{place_fields};
+ghost use Rattle.fare_texts.specs.LedgerLines.{position_fields};
 ghost use Rattle.fare_texts.specs.LedgerLines.{ride_rest};
 
 use crate::line::Line;
@@ -65,25 +65,25 @@ fn put_ride_rest(line: &mut Line, charge: Charge)
     ensures short { length line.new ≤ length line.old + 59 }
 {
     match charge {
-        Charge::Full { place, cents: _ } => put_placed(line, place, b"full"),
-        Charge::CeilingCut { place, cents: _ } => put_placed(line, place, b"ceiling-cut"),
-        Charge::CeilingReached { place } => put_placed(line, place, b"ceiling"),
+        Charge::Full { position, cents: _ } => put_placed(line, position, b"full"),
+        Charge::CeilingCut { position, cents: _ } => put_placed(line, position, b"ceiling-cut"),
+        Charge::CeilingReached { position } => put_placed(line, position, b"ceiling"),
         Charge::RideLimitReached => line.put(b",,ride-limit,"),
     }
 }
 
 /// Puts a ride's place, counted from 1, and a word.
 #[inline(always)]
-#[tactic(auto, unfolding(crate::specs::LedgerLines::place_fields))]
-fn put_placed(line: &mut Line, place: u32, word: &[u8])
+#[tactic(auto, unfolding(crate::specs::LedgerLines::position_fields))]
+fn put_placed(line: &mut Line, position: u32, word: &[u8])
     requires few { length word.now ≤ 16 }
     requires room { length line.old + 59 ≤ 384 }
-    ensures put { line.new ≡ place_fields place word.now ++ line.old }
+    ensures put { line.new ≡ position_fields position word.now ++ line.old }
     ensures short { length line.new ≤ length line.old + 59 }
 {
     line.put(b",");
     line.put(word);
     line.put(b",");
-    line.put_short(u64::from(place) + 1);
+    line.put_short(u64::from(position) + 1);
     line.put(b",");
 }

@@ -4,7 +4,7 @@ ghost use Rattle.std.specs.Prelude.{◌≡◌, ◌<◌, ◌+◌, ◌++◌, lengt
 ghost use Rattle.fare_texts.specs.ReasonWords.{IsRideText, IsTransferText, IsReasonWords};
 ghost use Rattle.fare_texts.specs.ReasonWords.{IsWindowText};
 ghost use Rattle.fare_texts.specs.ReasonWords.{charge_end, charge_start, giver_start};
-ghost use Rattle.fare_texts.specs.ReasonWords.{place_start};
+ghost use Rattle.fare_texts.specs.ReasonWords.{position_start};
 ghost use Rattle.fare_texts.specs.ReasonWords.{HasModeOf};
 
 use crate::write_moment;
@@ -75,19 +75,19 @@ fn write_start(text: &mut String, charge: Charge) -> Result<(), AllocError>
     ensures { OnOk result (string_bytes text.new ≡ string_bytes text.old ++ charge_start charge) }
 {
     match charge {
-        Charge::Full { place, cents: _ } => write_place(text, place),
-        Charge::CeilingCut { place, cents: _ } => write_place(text, place),
-        Charge::CeilingReached { place } => write_place(text, place),
+        Charge::Full { position, cents: _ } => write_position(text, position),
+        Charge::CeilingCut { position, cents: _ } => write_position(text, position),
+        Charge::CeilingReached { position } => write_position(text, position),
         Charge::RideLimitReached => text.push_str(" because the ride limit of the window"),
     }
 }
 
 /// Appends ` because it is ride 3 of the window`, for the place 2.
-#[tactic(auto, unfolding(crate::specs::ReasonWords::place_start))]
-fn write_place(text: &mut String, place: u32) -> Result<(), AllocError>
-    ensures { OnOk result (string_bytes text.new ≡ string_bytes text.old ++ place_start place) }
+#[tactic(auto, unfolding(crate::specs::ReasonWords::position_start))]
+fn write_position(text: &mut String, position: u32) -> Result<(), AllocError>
+    ensures { OnOk result (string_bytes text.new ≡ string_bytes text.old ++ position_start position) }
 {
-    let ride = u64::from(place) + 1;
+    let ride = u64::from(position) + 1;
     write!(text, " because it is ride {ride} of the window")
 }
 

@@ -47,8 +47,8 @@ fn write_lines(text: &mut String, table: &FareTable, lines: &Lines) -> Result<()
     ensures { OnOk result ((written : List ℕ) × AreEntryLines table.now lines.now written
         × (string_bytes text.new ≡ string_bytes text.old ++ written)) }
 {
-    for place in 0..lines.len() {
-        write_entry(text, table, lines.get(place))?;
+    for position in 0..lines.len() {
+        write_entry(text, table, lines.get(position))?;
     }
     Ok(())
 }

@@ -12,7 +12,7 @@ use std::io::{ErrorKind, Write};
 /// Writes the bytes at once. If a write fails, a prefix of them was written.
 pub fn write_bytes<W: Write>(bytes: &[u8], out: &mut W) -> io::Result<()>
     ensures whole { OnOk result (Appends (W.contents out.old) (W.contents out.new) bytes.now) }
-    ensures begun { OnErr result (Begins (W.contents out.old) (W.contents out.new) bytes.now) }
+    ensures started { OnErr result (Begins (W.contents out.old) (W.contents out.new) bytes.now) }
 {
     let mut rest = bytes;
     for _write in 0..u64::MAX {
@@ -35,7 +35,7 @@ pub fn write_bytes<W: Write>(bytes: &[u8], out: &mut W) -> io::Result<()>
 /// Writes the bytes at once. If the writer fails, a prefix of them was written.
 pub fn write_out<W: Write>(bytes: &[u8], out: &mut W) -> Result<(), PrintFault>
     ensures ok { OnOk result (Appends (W.contents out.old) (W.contents out.new) bytes.now) }
-    ensures begun { OnErr result (Begins (W.contents out.old) (W.contents out.new) bytes.now) }
+    ensures started { OnErr result (Begins (W.contents out.old) (W.contents out.new) bytes.now) }
     ensures fault { IfErr result (λ fault. fault ≡ ForWrite) }
 {
     match write_bytes(bytes, out) {

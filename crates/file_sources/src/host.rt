@@ -1,6 +1,6 @@
 //! The files and the standard input of the system.
 
-use crate::files_ahead::{Disk, take_next};
+use crate::prefetched_files::{Disk, take_next};
 use crate::sampling::push_file_sample;
 use crate::source::Source;
 use placed_files::{Unopened, open_regular};
@@ -22,7 +22,7 @@ impl Disk for HostRuntime {
     }
 
     // What is not a regular file, as a pipe, may give other bytes before it is due.
-    fn size_ahead(&self, name: &str) -> Option<u64> {
+    fn prefetch_size(&self, name: &str) -> Option<u64> {
         match fs::metadata(self, name) {
             Ok(about) if about.is_file() && about.len() <= LOAD_LIMIT_BYTES as u64 => {
                 Some(about.len())
@@ -107,7 +107,7 @@ impl<R: Files + Input + AllocGlobal> Source for Host<'_, R>
 where
     R::Reader: Drop,
 {
-    fn keep_ahead(&mut self, ahead: Vec<Loaded>) {
+    fn keep_prefetched(&mut self, ahead: Vec<Loaded>) {
         self.ahead = ahead;
     }
 

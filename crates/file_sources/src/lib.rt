@@ -1,11 +1,11 @@
 //! The program's bytes: the system's files, standard input, files read ahead, samples of tokens.
 #![tactic(auto)]
 
-mod files_ahead;
 mod host;
+mod prefetched_files;
 mod sampling;
 mod source;
 
-pub use files_ahead::{Amount, Disk, read_ahead};
 pub use host::Host;
+pub use prefetched_files::{Amount, Disk, prefetch_files};
 pub use source::Source;

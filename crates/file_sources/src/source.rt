@@ -10,7 +10,7 @@ pub trait Source: FileSource {
     ghost use Rattle.program_manners.specs.Refusals.{Refuses};
 
     /// Takes what was read of the next files, the first one last. Each is loaded by name later.
-    fn keep_ahead(&mut self, ahead: Vec<Loaded>)
+    fn keep_prefetched(&mut self, ahead: Vec<Loaded>)
         ensures { Self.loaded self.new ≡ Self.loaded self.old };
 
     /// All bytes of standard input. No clause says what a fault leaves loaded.

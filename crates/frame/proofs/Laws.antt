@@ -92,8 +92,8 @@ right_started Right loads a status right = record {
 }
 
 -- the task was stopped
-pub task_halts : {Asked : Type 0} (Right : Asked → List Load → Answer → ℕ → Type 0)
-    (names : Asked → List (List ℕ)) (x y : Asked) (start new : Run) (why : Stop) → x ≡ y
+pub task_halts : {Request : Type 0} (Right : Request → List Load → Answer → ℕ → Type 0)
+    (names : Request → List (List ℕ)) (x y : Request) (start new : Run) (why : Stop) → x ≡ y
     → ((loads : List Load) × (a : Answer) × Leaves (names x) why (did start loads a) new
     × IsStarted (Right x) loads a × IsNamed (names x) why)
     → IsHalted (Right y) (names y) start new why
@@ -106,8 +106,8 @@ task_halts Right names x y start new why e (loads, a, leaves, started, named) = 
 }
 
 -- a write of what it gave failed
-pub write_halts : {Asked : Type 0} (Right : Asked → List Load → Answer → ℕ → Type 0)
-    (names : Asked → List (List ℕ)) (x y : Asked) (start new : Run) (loads : List Load)
+pub write_halts : {Request : Type 0} (Right : Request → List Load → Answer → ℕ → Type 0)
+    (names : Request → List (List ℕ)) (x y : Request) (start new : Run) (loads : List Load)
     (whole : Answer) (why : Stop) → x ≡ y → IsStarted (Right x) loads whole
     → IsHaltedIn start new loads whole why → IsHalted (Right y) (names y) start new why
 write_halts Right names x y start new loads whole why e started k =

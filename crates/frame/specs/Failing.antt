@@ -36,7 +36,7 @@ IsCause names Wrong run (unwritten why) = run.unwritten why
 IsCause names Wrong run no_memory = ⊤
 
 -- The output grew by a prefix of a right text, or by nothing.
-pub record HasBegun (Right : List ℕ → Type 0) (out out' : Option (List ℕ)) : Type 0 where
+pub record HasStarted (Right : List ℕ → Type 0) (out out' : Option (List ℕ)) : Type 0 where
   pub front : List ℕ
   pub grown : Appends out out' front
   pub rest : List ℕ
@@ -48,4 +48,4 @@ pub record Fails (names : List (List ℕ)) (Wrong : List ℕ → Option ℕ → 
     (Right : List ℕ → Type 0) (run : Remembered) (out out' : Option (List ℕ)) (cause : Cause)
     : Type 0 where
   pub is_cause : IsCause names Wrong run cause
-  pub begun : HasBegun Right out out'
+  pub started : HasStarted Right out out'

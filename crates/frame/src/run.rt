@@ -12,9 +12,9 @@ use world::World;
 fn pull<T: Task<W>, W: World>(alloc: Global, task: &mut T, world: &mut W) -> Result<u8, Stop>
     requires { T.has_given task.old [] no_answer }
     ensures done { IfOk result
-        (IsDone (T.right (T.asked task.old)) (W.run world.old) (W.run world.new)) }
-    ensures halted { IfErr result (IsHalted (T.right (T.asked task.old))
-        (T.names (T.asked task.old)) (W.run world.old) (W.run world.new)) }
+        (IsDone (T.right (T.request task.old)) (W.run world.old) (W.run world.new)) }
+    ensures halted { IfErr result (IsHalted (T.right (T.request task.old))
+        (T.names (T.request task.old)) (W.run world.old) (W.run world.new)) }
 {
     let mut piece = Vec::new(alloc);
     for _ in 0..u64::MAX {
@@ -47,7 +47,7 @@ fn report<T: Task<W>, W: World>(task: &T, why: Stop, world: &mut W)
 /// Runs the task and writes its answer. What stops it from outside is reported, with status 1.
 pub fn run_task<T: Task<W>, W: World>(alloc: Global, task: &mut T, world: &mut W) -> u8
     requires { T.has_given task.old [] no_answer }
-    ensures { Ends (T.right (T.asked task.old)) (T.names (T.asked task.old)) (W.run world.old)
+    ensures { Ends (T.right (T.request task.old)) (T.names (T.request task.old)) (W.run world.old)
         (W.run world.new) result }
 {
     match pull(alloc, task, world) {

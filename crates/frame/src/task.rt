@@ -27,17 +27,17 @@ pub trait Task<I: Inputs> {
     ghost use Rattle.frame.specs.Ends.{Answer, IsStarted, did};
     ghost use Rattle.frame.specs.Tasks.{Goes};
 
-    type Asked;
+    type Request;
 
     type Line: Display + Drop;
 
-    ghost asked: { Self → Self.Asked };
+    ghost request: { Self → Self.Request };
 
     // Which answer and status are right of the files that were loaded.
-    ghost right: { Self.Asked → List Load → Answer → ℕ → Type 0 };
+    ghost right: { Self.Request → List Load → Answer → ℕ → Type 0 };
 
     // The words that name files.
-    ghost names: { Self.Asked → List (List ℕ) };
+    ghost names: { Self.Request → List (List ℕ) };
 
     // The task can be here after these loads, when it has given this.
     ghost has_given: { Self → List Load → Answer → Type 0 };
@@ -47,13 +47,13 @@ pub trait Task<I: Inputs> {
 
     fn next(&mut self, alloc: Global, files: &mut I, piece: &mut Vec<u8>) -> Result<Step, Stop>
         requires { piece.old.items ≡ [] }
-        ensures asked { asked self.new ≡ asked self.old }
+        ensures request { request self.new ≡ request self.old }
         ensures given { (start : Run) (loads : List Load) (a : Answer)
             → has_given self.old loads a → I.run files.old ≡ did start loads a
-            → Goes (has_given self.new) (right (asked self.old)) (names (asked self.old)) start a
+            → Goes (has_given self.new) (right (request self.old)) (names (request self.old)) start a
             (I.run files.new) piece.new.items result };
 
     // A law: whatever a task has given is a prefix of a right answer.
     ghost started: { (t : Self) (loads : List Load) (a : Answer)
-        → has_given t loads a → IsStarted (right (asked t)) loads a };
+        → has_given t loads a → IsStarted (right (request t)) loads a };
 }

@@ -13,8 +13,8 @@ use Rattle.std.specs.Ordering.{eq_by_cmp, is_eq}
 use Rattle.std.proofs.lemmas.List.Sorted.{list_any-IsPermutation}
 use Rattle.std.proofs.lemmas.Map.Keys.{IsDistinct-IsPermutation}
 use Rattle.std.proofs.lemmas.Map.Made.{is_some-lookup}
-use Rattle.histories.specs.Rising.{rising}
-use Rattle.histories.proofs.RisingLemmas.{rising-only, sorted-rises}
+use Rattle.histories.specs.Increasing.{increasing}
+use Rattle.histories.proofs.IncreasingLemmas.{increasing-only, sorted-increases}
 use Rattle.account_rule.specs.declared.reply.Reply.{Reply}
 use Rattle.std.specs.Option.{is_some, unwrap_or}
 use Rattle.std.specs.Set.{is_member}
@@ -57,14 +57,14 @@ tally_in None other = other
 tally_in (Some pair) other = pair.1
 
 -- the tally that stands at a key's place holds the sums that are kept for the key
-pub kept-at : {K : Type 0} (pairs : List (K × Tally)) (place : ℕ) (key there : K)
-    (tally kept : Tally) (found : Option Tally) → slice_get pairs place ≡ Some (key, tally)
-    → slice_get pairs place ≡ Some (there, kept) → found ≡ Some tally
+pub kept-at : {K : Type 0} (pairs : List (K × Tally)) (position : ℕ) (key there : K)
+    (tally kept : Tally) (found : Option Tally) → slice_get pairs position ≡ Some (key, tally)
+    → slice_get pairs position ≡ Some (there, kept) → found ≡ Some tally
     → sums_of_tally kept ≡ kept_sums found
 unfolding tally_in
-kept-at {K = K} pairs place key there tally kept found at same_place is =
+kept-at {K = K} pairs position key there tally kept found at same_position is =
     let same : tally ≡ kept =
-    ap (λ (o : Option (K × Tally)). tally_in o kept) (sym at ∙ same_place) in
+    ap (λ (o : Option (K × Tally)). tally_in o kept) (sym at ∙ same_position) in
     ap sums_of_tally (sym same) ∙ sym (ap kept_sums is)
 
 -- a with_key is no longer than the entries
@@ -174,45 +174,45 @@ module _ {K : Type 0} {eq : K → K → Bool} (laws : IsEquivalence eq)
 
   -- the same, if the tally at the key's place was written
   pub by_key-at : {S : Type 0} (before : List Entry) (entry : Entry) (key there : K)
-      (m : HashMap K Tally S) (place : ℕ) (tally kept totals : Tally) (answered : Reply)
+      (m : HashMap K Tally S) (position : ℕ) (tally kept totals : Tally) (answered : Reply)
       → key ≡ key_of entry
       → IsUnique eq m
-      → slice_get m.entries place ≡ Some (key, tally)
+      → slice_get m.entries position ≡ Some (key, tally)
       → get eq m key ≡ Some tally
-      → slice_get m.entries place ≡ Some (there, kept)
+      → slice_get m.entries position ≡ Some (there, kept)
       → answered ≡ reply_of entry
       → sums_of_tally totals ≡ add_sums (sums_of_tally kept) (sums_of_replies (answered ∷ []))
       → AreByKey eq key_of before m.entries
-      → AreByKey eq key_of (before ++ entry ∷ []) (set_value_at m.entries place totals)
-  by_key-at before entry key there m place tally kept totals answered is_key unique at is same_place
+      → AreByKey eq key_of (before ++ entry ∷ []) (set_value_at m.entries position totals)
+  by_key-at before entry key there m position tally kept totals answered is_key unique at is same_position
       is_reply added by_key =
-      by_key-push before entry m.entries (set_value_at m.entries place totals) totals
-      (λ q. (updates-with_value_at m place totals laws unique key tally at).0 q
+      by_key-push before entry m.entries (set_value_at m.entries position totals) totals
+      (λ q. (updates-with_value_at m position totals laws unique key tally at).0 q
       ∙ ap (λ (k : K). cond (eq k q) (Some totals) (lookup (eq q) m.entries)) is_key)
       (added
       ∙ ap (λ (s : Sums). add_sums s (sums_of_replies (answered ∷ [])))
-      (kept-at m.entries place key there tally kept (get eq m key) at same_place is
+      (kept-at m.entries position key there tally kept (get eq m key) at same_position is
       ∙ ap (λ (k : K). kept_sums (get eq m k)) is_key)
       ∙ ap (λ (r : Reply). add_sums (kept_sums (get eq m (key_of entry)))
       (sums_of_replies (r ∷ []))) is_reply)
       by_key
 
 -- the keys of the totals, once sorted, are the rising keys of the entries
-pub keys-rising : {K : Type 0} {cmp : K → K → Ordering} {eq : K → K → Bool}
+pub keys-increasing : {K : Type 0} {cmp : K → K → Ordering} {eq : K → K → Bool}
     (total : IsTotalOrder cmp) (laws : IsEquivalence eq) (same : (a b : K) → eq a b ≡ true → a ≡ b)
     (ties : (a b : K) → eq a b ≡ eq_by_cmp cmp a b)
     (key_of : Entry → K) (entries : List Entry) (pairs : List (K × Tally)) (keys sorted : List K)
     → keys ≡ keys_of pairs → IsDistinct eq (keys_of pairs) → IsPermutation keys sorted
     → IsSorted cmp sorted → AreByKey eq key_of entries pairs
-    → sorted ≡ rising cmp (map key_of entries)
-keys-rising {K = K} {cmp = cmp} {eq = eq} total laws same ties key_of entries pairs keys sorted
+    → sorted ≡ increasing cmp (map key_of entries)
+keys-increasing {K = K} {cmp = cmp} {eq = eq} total laws same ties key_of entries pairs keys sorted
     is_keys distinct moved in_order by_key =
     let alike : eq ≡ eq_by_cmp cmp = λ i a b. ties a b i in
     let apart : IsDistinct eq keys =
     subst (λ (ks : List K). IsDistinct eq ks) (sym is_keys) distinct in
-    rising-only total (λ a b tied. same a b (ties a b ∙ ap is_eq tied)) (map key_of entries) sorted
+    increasing-only total (λ a b tied. same a b (ties a b ∙ ap is_eq tied)) (map key_of entries) sorted
     (record {
-      rises = sorted-rises total (λ a b tied. same a b (ties a b ∙ ap is_eq tied)) sorted in_order
+      increases = sorted-increases total (λ a b tied. same a b (ties a b ∙ ap is_eq tied)) sorted in_order
           (subst (λ (e : K → K → Bool). IsDistinct e sorted) alike
           (IsDistinct-IsPermutation eq laws.symm keys sorted moved apart));
       same = λ q. subst
@@ -229,7 +229,7 @@ pub sums-listed : {K : Type 0} (cmp : K → K → Ordering) (eq : K → K → Bo
     → shown ≡ map (λ key. (key, kept_sums (lookup (eq key) pairs))) (take n items)
     → length items ≤ n
     → items ≡ keys
-    → keys ≡ rising cmp (map key_of entries)
+    → keys ≡ increasing cmp (map key_of entries)
     → AreByKey eq key_of entries pairs
     → shown ≡ sums_by cmp eq key_of entries
 unfolding sums_by
@@ -238,7 +238,7 @@ sums-listed {K = K} cmp eq key_of entries pairs keys items n shown is whole same
     is
     ∙ ap (λ (ks : List K). map (λ key. (key, kept_sums (lookup (eq key) pairs))) ks)
     (take_all n items whole ∙ same_items ∙ risen)
-    ∙ (λ i. map (λ key. (key, by_key.sums key i)) (rising cmp (map key_of entries)))
+    ∙ (λ i. map (λ key. (key, by_key.sums key i)) (increasing cmp (map key_of entries)))
 
 -- no totals stand for no entries
 pub by_key-none : {K : Type 0} (eq : K → K → Bool) (key_of : Entry → K) (pairs : List (K × Tally))

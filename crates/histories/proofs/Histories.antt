@@ -11,7 +11,7 @@ use Rattle.tariffs.specs.declared.mode.Mode.{Mode}
 use Rattle.account_rule.specs.declared.tap.TapIn.{TapIn}
 use Rattle.histories.specs.declared.entry.Entry.{Entry}
 use Rattle.tap_views.specs.declared.token.Token.{Token}
-use Rattle.histories.specs.Entry.{is_of, own, tap_of, taps_of, mode_of_place}
+use Rattle.histories.specs.Entry.{is_of, own, tap_of, taps_of, mode_of_position}
 use Rattle.histories.specs.History.{IsReplied, IsLegal}
 
 -- a list with one element at its end, cut before some element: it is the last one, or it stands
@@ -65,18 +65,18 @@ taps-push table token entries entry =
     ]
 
 -- the mode that the table has for a validator, as the account rule takes it
-pub mode_at_place : (mode : Option Mode) (place : Option ℕ) → option_map (λ m. m.place) mode ≡ place
-    → mode ≡ option_map mode_of_place place
-mode_at_place None place is = ap (λ (p : Option ℕ). option_map mode_of_place p) is
-mode_at_place (Some mode) place is = ap (λ (p : Option ℕ). option_map mode_of_place p) is
+pub mode_at_position : (mode : Option Mode) (position : Option ℕ) → option_map (λ m. m.position) mode ≡ position
+    → mode ≡ option_map mode_of_position position
+mode_at_position None position is = ap (λ (p : Option ℕ). option_map mode_of_position p) is
+mode_at_position (Some mode) position is = ap (λ (p : Option ℕ). option_map mode_of_position p) is
 
 -- the tap that the account rule is given is the entry's
 pub tap_of-post : (table : Fares) (entry : Entry) (mode : Option Mode)
-    → option_map (λ m. m.place) mode ≡ mode_at table entry.moment entry.validator
+    → option_map (λ m. m.position) mode ≡ mode_at table entry.moment entry.validator
     → tap_of table entry ≡ record { moment = entry.moment; mode = mode }
 unfolding tap_of
 tap_of-post table entry mode is_mode =
-    sym (ap (λ (m : Option Mode). tap_in entry.moment m) (mode_at_place mode _ is_mode))
+    sym (ap (λ (m : Option Mode). tap_in entry.moment m) (mode_at_position mode _ is_mode))
   where
     tap_in : ℕ → Option Mode → TapIn
     tap_in moment m = record { moment = moment; mode = m }

@@ -5,7 +5,7 @@ pub mod OwnEntries
 pub mod PlainFields
 pub mod PlainReplies
 pub mod PlainUploads
-pub mod RisingLemmas
+pub mod IncreasingLemmas
 pub mod SameEntries
 pub mod SameUnderKeys
 pub mod TallyLemmas

@@ -12,7 +12,7 @@ use Rattle.std.proofs.lemmas.Nat.{be_bytes_8}
 use Rattle.tariffs.specs.Fares.{Fares}
 use Rattle.tap_views.specs.Layout.{Tap, Layout, Tap1, Tap2, IsTapOf, spelling, magic, shared}
 use Rattle.tap_views.specs.Layout.{IsBatch}
-use Rattle.tap_views.specs.Files.{IsFile, AreGoodTaps, AreGoodTapsOfEach}
+use Rattle.tap_views.specs.Files.{IsFile, AreValidTaps, AreValidTapsOfEach}
 use Rattle.histories.specs.declared.entry.Entry.{Entry}
 use Rattle.tap_views.specs.Token.{bytes_of}
 use Rattle.tap_views.proofs.Lists.{All-split}
@@ -30,11 +30,11 @@ AreBytes bytes = All (λ byte. byte < 256) bytes
 
 -- the byte at a place, or 0 behind the last one, is a byte
 pub byte_at : (bytes : List ℕ) → AreBytes bytes → (i : ℕ) → get_or bytes i 0 < 256
-byte_at bytes all i = by_place (cases_lt i (length bytes))
+byte_at bytes all i = by_position (cases_lt i (length bytes))
   where
-    by_place : (i < length bytes) ⊎ (length bytes ≤ i) → get_or bytes i 0 < 256
-    by_place (inl within) = All-get_or (λ byte. byte < 256) bytes i 0 within all
-    by_place (inr past) = omega (arith, get_or_past bytes i 0 past)
+    by_position : (i < length bytes) ⊎ (length bytes ≤ i) → get_or bytes i 0 < 256
+    by_position (inl within) = All-get_or (λ byte. byte < 256) bytes i 0 within all
+    by_position (inr past) = omega (arith, get_or_past bytes i 0 past)
 
 -- the token of 16 bytes has these bytes
 named : (bytes : List ℕ) → length bytes ≡ 16 → AreBytes bytes
@@ -73,16 +73,16 @@ batch_named : (bytes : List ℕ) (taps : List Tap) → IsBatch bytes taps → Ar
 batch_named bytes taps (layout, batch) all =
     let B : List ℕ → Type 0 = AreBytes in
     let records = flat_map (spelling layout) taps in
-    let behind_magic =
+    let after_magic =
     (All-split (λ byte. byte < 256) (magic layout)
     (batch.count ++ (0 ∷ 0 ∷ (shared layout ++ records))) (subst B batch.spelt all)).1 in
-    let behind_count =
+    let after_count =
     (All-split (λ byte. byte < 256) batch.count (0 ∷ 0 ∷ (shared layout ++ records))
-    behind_magic).1 in
-    let behind_flags = All-tail (λ byte. byte < 256) 0 (shared layout ++ records)
-    (All-tail (λ byte. byte < 256) 0 (0 ∷ (shared layout ++ records)) behind_count) in
+    after_magic).1 in
+    let after_flags = All-tail (λ byte. byte < 256) 0 (shared layout ++ records)
+    (All-tail (λ byte. byte < 256) 0 (0 ∷ (shared layout ++ records)) after_count) in
     taps_named layout taps batch.each
-    (All-split (λ byte. byte < 256) (shared layout) records behind_flags).1
+    (All-split (λ byte. byte < 256) (shared layout) records after_flags).1
 
 file_named : (file : List ℕ) (batches : List (List Tap)) (rest : List ℕ) → IsFile file batches rest
     → AreBytes file → All IsName (flat_map (λ batch. batch) batches)
@@ -93,13 +93,13 @@ file_named file (batch ∷ batches) rest (front, back, is_batch, whole, is) all 
     All-append IsName batch (flat_map (λ b. b) batches) (batch_named front batch is_batch first)
     (file_named back batches rest is others)
 
-upload_named : (file : List ℕ) (taps : List Tap) → AreGoodTaps file taps → AreBytes file
+upload_named : (file : List ℕ) (taps : List Tap) → AreValidTaps file taps → AreBytes file
     → All IsName taps
 upload_named file taps is all =
     let N : List Tap → Type 0 = All IsName in
     subst N (sym is.all) (file_named file is.batches is.rest is.is_file all)
 
-uploads_named : (files : List (List ℕ)) (taps : List (List Tap)) → AreGoodTapsOfEach files taps
+uploads_named : (files : List (List ℕ)) (taps : List (List Tap)) → AreValidTapsOfEach files taps
     → All AreBytes files → All IsName (flat_map (λ ts. ts) taps)
 uploads_named [] [] each all = All-nil IsName
 uploads_named [] (ts ∷ taps) each all = absurd each

@@ -4,22 +4,22 @@ use Rattle.std.specs.List.{flat_map}
 use Rattle.std.proofs.Common.{refl, sym, ◌∙◌, ap, subst}
 use Rattle.tariffs.specs.Fares.{Fares}
 use Rattle.tap_views.specs.Layout.{Tap}
-use Rattle.tap_views.specs.Files.{AreGoodTapsOfEach, HasOneReading}
-use Rattle.tap_views.proofs.ReadingLemmas.{one_list}
+use Rattle.tap_views.specs.Files.{AreValidTapsOfEach, HasUniqueParse}
+use Rattle.tap_views.proofs.ParseLemmas.{one_list}
 use Rattle.histories.specs.declared.entry.Entry.{Entry}
 use Rattle.histories.specs.History.{IsLegal}
 use Rattle.histories.specs.Plain.{IsPlain, plain}
 use Rattle.histories.proofs.PlainReplies.{plain_legal}
 
 pub one_plain : (fares : Fares) (files : List (List ℕ)) (history other : List Entry)
-    → All HasOneReading files → IsPlain fares files history → IsPlain fares files other
+    → All HasUniqueParse files → IsPlain fares files history → IsPlain fares files other
     → history ≡ other
 one_plain fares files history other cuts a b =
     a.entries ∙ ap (λ taps. plain fares (flat_map (λ ts. ts) taps))
     (one_list files a.taps b.taps cuts a.each b.each) ∙ sym b.entries
 
 pub some_plain : (fares : Fares) (files : List (List ℕ)) (taps : List (List Tap))
-    → AreGoodTapsOfEach files taps → (history : List Entry) × IsPlain fares files history
+    → AreValidTapsOfEach files taps → (history : List Entry) × IsPlain fares files history
 some_plain fares files taps each =
     (plain fares (flat_map (λ ts. ts) taps), record { taps = taps; each = each; entries = refl })
 

@@ -12,7 +12,7 @@ use Rattle.histories.specs.Entry.{is_of, is_at, own, reply_of}
 use Rattle.histories.specs.SumsByKey.{entries_of_validator, validators, tokens, sums_by_validator}
 use Rattle.histories.specs.SumsByKey.{sums_by_token, validator_of, token_of}
 use Rattle.histories.specs.Keys.{same_token}
-use Rattle.histories.specs.Rising.{rising, IsRising}
+use Rattle.histories.specs.Increasing.{increasing, IsIncreasing}
 use Rattle.histories.specs.Sums.{sums, sums_of_replies, is_paid, is_transfer, is_capped, is_stale}
 use Rattle.histories.specs.Sums.{is_unknown}
 use Rattle.tap_views.specs.Token.{token_cmp, token_eq}
@@ -42,13 +42,13 @@ same_sums xs ys moved =
       cents = sym (sum_by-IsPermutation (λ (r : Reply). r.cents) one other replies) i;
     }
 
-pub same_rising : {K : Type 0} (cmp : K → K → Ordering)
-    → ((keys risen : List K) → IsRising cmp keys risen ↔ (risen ≡ rising cmp keys))
-    → (xs ys : List K) → IsPermutation xs ys → rising cmp xs ≡ rising cmp ys
-same_rising cmp law xs ys moved =
-    let is = (law xs (rising cmp xs)).1 refl in
-    (law ys (rising cmp xs)).0 (record {
-      rises = is.rises;
+pub same_increasing : {K : Type 0} (cmp : K → K → Ordering)
+    → ((keys risen : List K) → IsIncreasing cmp keys risen ↔ (risen ≡ increasing cmp keys))
+    → (xs ys : List K) → IsPermutation xs ys → increasing cmp xs ≡ increasing cmp ys
+same_increasing cmp law xs ys moved =
+    let is = (law xs (increasing cmp xs)).1 refl in
+    (law ys (increasing cmp xs)).0 (record {
+      increases = is.increases;
       same = λ key. is.same key ∙ list_any-IsPermutation (eq_by_cmp cmp key) xs ys moved;
     })
 
@@ -70,34 +70,34 @@ same_at validator xs ys same token =
     ∙ sym (filter-filter (is_of token) (is_at validator) ys)
 
 -- numbers rise to one list
-abbrev pub RisingNumbers : Type 0
-RisingNumbers = (keys risen : List ℕ) → IsRising nat_cmp keys risen ↔ (risen ≡ rising nat_cmp keys)
+abbrev pub IncreasingNumbers : Type 0
+IncreasingNumbers = (keys risen : List ℕ) → IsIncreasing nat_cmp keys risen ↔ (risen ≡ increasing nat_cmp keys)
 
 -- tokens rise to one list
-abbrev pub RisingTokens : Type 0
-RisingTokens = (keys risen : List Token) → IsRising token_cmp keys risen
-    ↔ (risen ≡ rising token_cmp keys)
+abbrev pub IncreasingTokens : Type 0
+IncreasingTokens = (keys risen : List Token) → IsIncreasing token_cmp keys risen
+    ↔ (risen ≡ increasing token_cmp keys)
 
-module _ (numbers : RisingNumbers) (names : RisingTokens) (xs ys : List Entry)
+module _ (numbers : IncreasingNumbers) (names : IncreasingTokens) (xs ys : List Entry)
     (same : (token : Token) → own token xs ≡ own token ys) where
   -- the sums by validator are the same
   pub same_by_validator : sums_by_validator xs ≡ sums_by_validator ys
   unfolding sums_by_validator validators
   same_by_validator =
-      let keys = same_rising nat_cmp numbers (map validator_of xs) (map validator_of ys)
+      let keys = same_increasing nat_cmp numbers (map validator_of xs) (map validator_of ys)
       (IsPermutation-map validator_of xs ys (same_entries xs ys same)) in
       let each : (v : ℕ) → sums (entries_of_validator v xs) ≡ sums (entries_of_validator v ys) =
       λ v. same_sums (entries_of_validator v xs) (entries_of_validator v ys)
       (same_entries (entries_of_validator v xs) (entries_of_validator v ys)
       (same_at v xs ys same)) in
       ap (map (λ (v : ℕ). (v, sums (entries_of_validator v xs)))) keys
-      ∙ (λ i. map (λ (v : ℕ). (v, each v i)) (rising nat_cmp (map validator_of ys)))
+      ∙ (λ i. map (λ (v : ℕ). (v, each v i)) (increasing nat_cmp (map validator_of ys)))
 
   -- the sums by token are the same
   pub same_by_token : sums_by_token xs ≡ sums_by_token ys
   unfolding sums_by_token tokens
   same_by_token =
-      let keys = same_rising token_cmp names (map token_of xs) (map token_of ys)
+      let keys = same_increasing token_cmp names (map token_of xs) (map token_of ys)
       (IsPermutation-map token_of xs ys (same_entries xs ys same)) in
       ap (map (λ (t : Token). (t, sums (own t xs)))) keys
-      ∙ (λ i. map (λ (t : Token). (t, sums (same t i))) (rising token_cmp (map token_of ys)))
+      ∙ (λ i. map (λ (t : Token). (t, sums (same t i))) (increasing token_cmp (map token_of ys)))

@@ -12,14 +12,14 @@ use Rattle.tap_views.specs.Token.{token_cmp, token_eq}
 use Rattle.tap_views.specs.TokenOrder.{AreBelow}
 use Rattle.tap_views.specs.declared.token.Token.{Token}
 use Rattle.histories.specs.Entry.{is_of, own}
-use Rattle.histories.specs.Rising.{rising}
+use Rattle.histories.specs.Increasing.{increasing}
 use Rattle.histories.specs.Sums.{Sums, sums}
 use Rattle.histories.specs.SumsByKey.{sums_by_token, token_of, tokens}
 use Rattle.histories.specs.declared.entry.Entry.{Entry}
 use Rattle.tap_views.proofs.TokenLemmas.{token_eq-sym, token_cmp-total, token_cmp-ties}
 use Rattle.tap_views.proofs.TokenLemmas.{among, among-append, less_apart}
 use Rattle.tap_views.proofs.Lists.{each-append}
-use Rattle.histories.proofs.RisingLemmas.{rising-is, rising-only}
+use Rattle.histories.proofs.IncreasingLemmas.{increasing-is, increasing-only}
 use Rattle.std.specs.Ordering.{eq_by_cmp}
 use Rattle.std.specs.Set.{is_member}
 use Rattle.std.proofs.Math.Bool.{or_self_left}
@@ -39,33 +39,33 @@ sorted_append (x ∷ xs) ys front back below = (
 )
 
 -- what holds of all keys holds of them in their order
-all_keys : (P : Token → Type 0) (keys : List Token) → All P keys → All P (rising token_cmp keys)
-unfolding rising
+all_keys : (P : Token → Type 0) (keys : List Token) → All P keys → All P (increasing token_cmp keys)
+unfolding increasing
 all_keys P [] all = All-nil P
 all_keys P (key ∷ keys) all =
-    All-insert_key token_cmp key P (rising token_cmp keys)
+    All-insert_key token_cmp key P (increasing token_cmp keys)
     (all_keys P keys (All-tail P key keys all)) (All-head P key keys all)
 
 below_keys : (xs ys : List Token) → AreBelow xs ys
-    → AreBelow (rising token_cmp xs) (rising token_cmp ys)
+    → AreBelow (increasing token_cmp xs) (increasing token_cmp ys)
 below_keys xs ys below =
     All-weaker (λ t. All (λ o. token_cmp t o ≡ Less) ys)
-    (λ t. All (λ o. token_cmp t o ≡ Less) (rising token_cmp ys))
-    (λ t all. all_keys (λ o. token_cmp t o ≡ Less) ys all) (rising token_cmp xs)
+    (λ t. All (λ o. token_cmp t o ≡ Less) (increasing token_cmp ys))
+    (λ t all. all_keys (λ o. token_cmp t o ≡ Less) ys all) (increasing token_cmp xs)
     (all_keys (λ t. All (λ o. token_cmp t o ≡ Less) ys) xs below)
 
 keys_joined : (xs ys : List Token) → AreBelow xs ys
-    → rising token_cmp xs ++ rising token_cmp ys ≡ rising token_cmp (xs ++ ys)
+    → increasing token_cmp xs ++ increasing token_cmp ys ≡ increasing token_cmp (xs ++ ys)
 keys_joined xs ys below =
-    let front = rising-is token_cmp-total token_cmp-ties xs in
-    let back = rising-is token_cmp-total token_cmp-ties ys in
-    rising-only token_cmp-total token_cmp-ties (xs ++ ys)
-    (rising token_cmp xs ++ rising token_cmp ys) (record {
-      rises = sorted_append (rising token_cmp xs) (rising token_cmp ys) front.rises back.rises
+    let front = increasing-is token_cmp-total token_cmp-ties xs in
+    let back = increasing-is token_cmp-total token_cmp-ties ys in
+    increasing-only token_cmp-total token_cmp-ties (xs ++ ys)
+    (increasing token_cmp xs ++ increasing token_cmp ys) (record {
+      increases = sorted_append (increasing token_cmp xs) (increasing token_cmp ys) front.increases back.increases
           (below_keys xs ys below);
       same = λ key.
-          among-append (rising token_cmp xs) (rising token_cmp ys) key
-          ∙ ap (λ b. b || among (rising token_cmp ys) key) (front.same key)
+          among-append (increasing token_cmp xs) (increasing token_cmp ys) key
+          ∙ ap (λ b. b || among (increasing token_cmp ys) key) (front.same key)
           ∙ ap (λ b. among xs key || b) (back.same key)
           ∙ sym (among-append xs ys key);
     })
@@ -126,27 +126,27 @@ by_token_joined xs ys below =
     let kx = map token_of xs in
     let ky = map token_of ys in
     let f : Token → Sums = λ t. sums (own t (xs ++ ys)) in
-    let front : All (λ t. f t ≡ sums (own t xs)) (rising token_cmp kx) =
+    let front : All (λ t. f t ≡ sums (own t xs)) (increasing token_cmp kx) =
     All-weaker (λ t. All (λ o. token_cmp t o ≡ Less) ky) (λ t. f t ≡ sums (own t xs))
     (λ t all. ap sums (filter-append (is_of t) xs ys
     ∙ ap (λ (es : List Entry). filter (is_of t) xs ++ es)
     (none_of t ys
     (All-weaker (λ o. token_cmp t o ≡ Less) (λ o. token_eq o t ≡ false)
     (λ o less. less_apart t o less) ky all))
-    ∙ append-nil (filter (is_of t) xs))) (rising token_cmp kx)
+    ∙ append-nil (filter (is_of t) xs))) (increasing token_cmp kx)
     (all_keys (λ t. All (λ o. token_cmp t o ≡ Less) ky) kx below) in
-    let back : All (λ t. f t ≡ sums (own t ys)) (rising token_cmp ky) =
+    let back : All (λ t. f t ≡ sums (own t ys)) (increasing token_cmp ky) =
     All-weaker (λ t. All (λ o. token_eq o t ≡ false) kx) (λ t. f t ≡ sums (own t ys))
     (λ t all. ap sums (filter-append (is_of t) xs ys
-    ∙ ap (λ (es : List Entry). es ++ filter (is_of t) ys) (none_of t xs all))) (rising token_cmp ky)
+    ∙ ap (λ (es : List Entry). es ++ filter (is_of t) ys) (none_of t xs all))) (increasing token_cmp ky)
     (all_keys (λ t. All (λ o. token_eq o t ≡ false) kx) ky (flipped kx ky below)) in
-    ap (λ (ks : List Token). paired f (rising token_cmp ks)) (map-append token_of xs ys)
+    ap (λ (ks : List Token). paired f (increasing token_cmp ks)) (map-append token_of xs ys)
     ∙ ap (paired f) (sym (keys_joined kx ky below))
-    ∙ paired_append f (rising token_cmp kx) (rising token_cmp ky)
-    ∙ ap (λ (ps : List (Token × Sums)). ps ++ paired f (rising token_cmp ky))
-    (pairs_same f (λ t. sums (own t xs)) (rising token_cmp kx) front)
-    ∙ ap (λ (ps : List (Token × Sums)). paired (λ t. sums (own t xs)) (rising token_cmp kx) ++ ps)
-    (pairs_same f (λ t. sums (own t ys)) (rising token_cmp ky) back)
+    ∙ paired_append f (increasing token_cmp kx) (increasing token_cmp ky)
+    ∙ ap (λ (ps : List (Token × Sums)). ps ++ paired f (increasing token_cmp ky))
+    (pairs_same f (λ t. sums (own t xs)) (increasing token_cmp kx) front)
+    ∙ ap (λ (ps : List (Token × Sums)). paired (λ t. sums (own t xs)) (increasing token_cmp kx) ++ ps)
+    (pairs_same f (λ t. sums (own t ys)) (increasing token_cmp ky) back)
 
 -- ---- entries of one token
 among_one : (token key : Token) (entry : Entry) (entries : List Entry)
@@ -165,19 +165,19 @@ among_one token key entry (next ∷ entries) all =
     (All-head (λ (e : Entry). e.token ≡ token) entry (next ∷ entries) all)
     ∙ or_self_left (eq_by_cmp token_cmp key token) false
 
-one_rises : (token : Token) → IsStrictlySortedBy token_cmp (token ∷ [])
+one_increases : (token : Token) → IsStrictlySortedBy token_cmp (token ∷ [])
 unfolding IsStrictlySortedBy
-one_rises token = (tt, tt)
+one_increases token = (tt, tt)
 
 pub one_token : (token : Token) (entry : Entry) (entries : List Entry)
     → All (λ entry. entry.token ≡ token) (entry ∷ entries)
     → sums_by_token (entry ∷ entries) ≡ (token, sums (entry ∷ entries)) ∷ []
 unfolding sums_by_token tokens
 one_token token entry entries all =
-    let keys : token ∷ [] ≡ rising token_cmp (map token_of (entry ∷ entries)) =
-    rising-only token_cmp-total token_cmp-ties (map token_of (entry ∷ entries)) (token ∷ [])
+    let keys : token ∷ [] ≡ increasing token_cmp (map token_of (entry ∷ entries)) =
+    increasing-only token_cmp-total token_cmp-ties (map token_of (entry ∷ entries)) (token ∷ [])
     (record {
-      rises = one_rises token;
+      increases = one_increases token;
       same = λ key. sym (among_one token key entry entries all);
     }) in
     let row : Token → Token × Sums = λ t. (t, sums (own t (entry ∷ entries))) in
@@ -186,7 +186,7 @@ one_token token entry entries all =
 
 -- no entries have no sums
 pub no_sums : (list : List (Token × Sums)) → list ≡ [] → list ≡ sums_by_token []
-unfolding sums_by_token tokens rising
+unfolding sums_by_token tokens increasing
 no_sums list none = none
 
 -- entries of one token have its sums alone

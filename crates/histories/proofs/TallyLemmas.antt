@@ -5,24 +5,24 @@ use Rattle.account_rule.specs.declared.reply.Answer.{Answer}
 use Rattle.account_rule.specs.declared.reply.Answer.TheVariants.{Paid, Transfer, Capped, Stale}
 use Rattle.account_rule.specs.declared.reply.Answer.TheVariants.{Unknown}
 use Rattle.account_rule.specs.declared.reply.Reply.{Reply}
-use Rattle.histories.specs.Places.{count_place}
+use Rattle.histories.specs.Positions.{count_position}
 use Rattle.histories.specs.Sums.{sums_of_replies, add_sums}
-use Rattle.histories.specs.Tally.{sums_of_places}
+use Rattle.histories.specs.Tally.{sums_of_positions}
 use Rattle.histories.proofs.SumsLemmas.{same_seven}
 
 -- the count at the answer's place is one more, and the cents are the reply's more
 pub tallied : (counts : List ℕ) (cents : ℕ) (reply : Reply) → length counts ≡ 5
-    → sums_of_places
-    (set counts (count_place reply.answer) (slice_index counts (count_place reply.answer) + 1))
-    (cents + reply.cents) ≡ add_sums (sums_of_places counts cents) (sums_of_replies (reply ∷ []))
+    → sums_of_positions
+    (set counts (count_position reply.answer) (slice_index counts (count_position reply.answer) + 1))
+    (cents + reply.cents) ≡ add_sums (sums_of_positions counts cents) (sums_of_replies (reply ∷ []))
 unfolding sums_of_replies
 tallied (a ∷ b ∷ c ∷ d ∷ e ∷ []) cents reply long = by_answer reply.answer reply.cents
   where
     by_answer : (answer : Answer) (more : ℕ)
-        → sums_of_places
-        (set (a ∷ b ∷ c ∷ d ∷ e ∷ []) (count_place answer)
-        (slice_index (a ∷ b ∷ c ∷ d ∷ e ∷ []) (count_place answer) + 1)) (cents + more)
-        ≡ add_sums (sums_of_places (a ∷ b ∷ c ∷ d ∷ e ∷ []) cents)
+        → sums_of_positions
+        (set (a ∷ b ∷ c ∷ d ∷ e ∷ []) (count_position answer)
+        (slice_index (a ∷ b ∷ c ∷ d ∷ e ∷ []) (count_position answer) + 1)) (cents + more)
+        ≡ add_sums (sums_of_positions (a ∷ b ∷ c ∷ d ∷ e ∷ []) cents)
         (sums_of_replies (record { answer = answer; cents = more } ∷ []))
     by_answer Paid more =
         same_seven (omega arith) (omega arith) (omega arith)

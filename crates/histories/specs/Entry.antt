@@ -41,14 +41,14 @@ unfoldable pub own : Token → List Entry → List Entry
 own token entries = filter (is_of token) entries
 
 -- the mode at a place
-abbrev pub mode_of_place : ℕ → Mode
-mode_of_place place = record { place = place }
+abbrev pub mode_of_position : ℕ → Mode
+mode_of_position position = record { position = position }
 
 -- the entry as the account rule sees it: the validator's mode is the table's at the moment
 unfoldable pub tap_of : Fares → Entry → TapIn
 tap_of table entry = record {
   moment = entry.moment;
-  mode = option_map mode_of_place (mode_at table entry.moment entry.validator);
+  mode = option_map mode_of_position (mode_at table entry.moment entry.validator);
 }
 
 -- the token's taps, in history order

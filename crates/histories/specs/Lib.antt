@@ -5,10 +5,10 @@ pub mod Folding
 pub mod SumsByKey
 pub mod History
 pub mod Keys
-pub mod Places
+pub mod Positions
 pub mod Plain
 pub mod Replies
-pub mod Rising
+pub mod Increasing
 pub mod Shown
 pub mod Statement
 pub mod Sums

@@ -3,7 +3,7 @@
 use Rattle.std.specs.List.{flat_map}
 use Rattle.std.specs.Int.{from_be_bytes, w64}
 use Rattle.std.specs.Prelude.{◌≡◌, ℕ, List, [], ◌∷◌, ◌++◌, take, drop}
-use Rattle.tap_views.specs.Files.{AreGoodTapsOfEach}
+use Rattle.tap_views.specs.Files.{AreValidTapsOfEach}
 use Rattle.tap_views.specs.Layout.{Tap, num}
 use Rattle.tariffs.specs.Fares.{Fares}
 use Rattle.tap_views.specs.Token.{bytes_of}
@@ -67,5 +67,5 @@ IsNamed entry = entry.token ≡ token_of_bytes (bytes_of entry.token)
 -- one after the other under the table, without shards or workers
 pub record IsPlain (fares : Fares) (uploads : List (List ℕ)) (history : List Entry) : Type 0 where
   pub taps : List (List Tap)
-  pub each : AreGoodTapsOfEach uploads taps
+  pub each : AreValidTapsOfEach uploads taps
   pub entries : history ≡ plain fares (flat_map (λ upload. upload) taps)

@@ -3,11 +3,11 @@ use Rattle.std.specs.Prelude.{Bool, List, map}
 use Rattle.std.specs.declared.cmp.Ordering.{Ordering}
 use Rattle.histories.specs.declared.entry.Entry.{Entry}
 use Rattle.histories.specs.ByKey.{with_key}
-use Rattle.histories.specs.Rising.{rising}
+use Rattle.histories.specs.Increasing.{increasing}
 use Rattle.histories.specs.Sums.{Sums, sums}
 
 -- the keys of the entries, increasing, each with the sums of its entries
 unfoldable pub sums_by : {K : Type 0} → (K → K → Ordering) → (K → K → Bool) → (Entry → K)
     → List Entry → List (K × Sums)
 sums_by cmp eq key_of entries =
-    map (λ key. (key, sums (with_key eq key_of key entries))) (rising cmp (map key_of entries))
+    map (λ key. (key, sums (with_key eq key_of key entries))) (increasing cmp (map key_of entries))

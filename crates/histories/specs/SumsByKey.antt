@@ -4,7 +4,7 @@ use Rattle.std.specs.Ordering.{nat_cmp}
 use Rattle.histories.specs.declared.entry.Entry.{Entry}
 use Rattle.tap_views.specs.declared.token.Token.{Token}
 use Rattle.histories.specs.Entry.{is_at, own}
-use Rattle.histories.specs.Rising.{rising}
+use Rattle.histories.specs.Increasing.{increasing}
 use Rattle.histories.specs.Sums.{Sums, sums}
 use Rattle.tap_views.specs.Token.{token_cmp}
 
@@ -18,11 +18,11 @@ token_of entry = entry.token
 
 -- the validators of a history, increasing, each once
 unfoldable pub validators : List Entry → List ℕ
-validators entries = rising nat_cmp (map validator_of entries)
+validators entries = increasing nat_cmp (map validator_of entries)
 
 -- the tokens of a history, increasing, each once
 unfoldable pub tokens : List Entry → List Token
-tokens entries = rising token_cmp (map token_of entries)
+tokens entries = increasing token_cmp (map token_of entries)
 
 -- the entries of one validator, in history order
 unfoldable pub entries_of_validator : ℕ → List Entry → List Entry

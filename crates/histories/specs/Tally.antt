@@ -1,12 +1,12 @@
 -- What a tally represents.
 use Rattle.std.specs.Prelude.{ℕ, List, slice_index}
 use Rattle.histories.specs.declared.sums.tally.Tally.{Tally}
-use Rattle.histories.specs.Places.{all_of}
+use Rattle.histories.specs.Positions.{all_of}
 use Rattle.histories.specs.Sums.{Sums}
 
 -- the sums that five counts and the cents are
-abbrev pub sums_of_places : List ℕ → ℕ → Sums
-sums_of_places counts cents = record {
+abbrev pub sums_of_positions : List ℕ → ℕ → Sums
+sums_of_positions counts cents = record {
   taps = all_of counts;
   paid = slice_index counts 0;
   transfers = slice_index counts 1;
@@ -18,4 +18,4 @@ sums_of_places counts cents = record {
 
 -- the sums that a tally represents
 abbrev pub sums_of_tally : Tally → Sums
-sums_of_tally tally = sums_of_places tally.counts tally.cents
+sums_of_tally tally = sums_of_positions tally.counts tally.cents

@@ -1,4 +1,4 @@
 -- What only private functions cite. Who reads the contracts of public calls need not read it.
 pub mod Keys
-pub mod Places
+pub mod Positions
 pub mod Shown

@@ -6,7 +6,7 @@ ghost use Rattle.tariffs.specs.Fares.{Fares};
 ghost use Rattle.histories.specs.declared.entry.Entry.{Entry};
 ghost use Rattle.tap_views.specs.declared.token.Token.{Token};
 ghost use Rattle.histories.specs.History.{IsLegal};
-ghost use Rattle.histories.specs.Rising.{rising, IsRising};
+ghost use Rattle.histories.specs.Increasing.{increasing, IsIncreasing};
 ghost use Rattle.histories.specs.Sums.{sums, add_sums};
 ghost use Rattle.tap_views.specs.Token.{token_cmp};
 
@@ -15,11 +15,11 @@ mod plain;
 pub use plain::plain_history;
 
 /// The sorted list of the keys is the one strictly increasing list with the same members.
-pub fn one_rising_list()
-    ensures numbers { (keys risen : List ℕ) → IsRising nat_cmp keys risen
-        ↔ (risen ≡ rising nat_cmp keys) }
-    ensures tokens { (keys risen : List Token) → IsRising token_cmp keys risen
-        ↔ (risen ≡ rising token_cmp keys) }
+pub fn one_increasing_list()
+    ensures numbers { (keys risen : List ℕ) → IsIncreasing nat_cmp keys risen
+        ↔ (risen ≡ increasing nat_cmp keys) }
+    ensures tokens { (keys risen : List Token) → IsIncreasing token_cmp keys risen
+        ↔ (risen ≡ increasing token_cmp keys) }
 {}
 
 /// The sums of one history after another are the sums of both, added up.

@@ -15,7 +15,7 @@ pub use replies::Replies;
 pub use statement::Statement;
 pub use sums::by_key::{SumKey, add_entry, add_tallies, listed};
 pub use sums::counts::{Counts, TokenCounts};
-pub use sums::tally::{Tally, place_of};
+pub use sums::tally::{Tally, position_of};
 pub use sums::token_sums::TokenSums;
 pub use sums::totals::Totals;
 pub use sums::validator_tallies::ValidatorTallies;

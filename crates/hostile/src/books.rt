@@ -203,8 +203,8 @@ fn adds_up(alloc: Global, book: &ShardBook) -> Case {
     }
     let sums = token_sums_of_books(alloc, std::slice::from_ref(book))?;
     promise(sums.len() == 40, "another number of sums")?;
-    for place in 0..sums.len() {
-        let sum = sums.get(place);
+    for position in 0..sums.len() {
+        let sum = sums.get(position);
         promise(
             sum.totals.taps == 1 && sum.totals.cents == 300,
             "other sums of a token",

@@ -18,9 +18,9 @@ struct Printing<'a, R> {
 }
 
 impl<R: Print> Gatekeeper for Printing<'_, R> {
-    type Begun = u32;
+    type Started = u32;
 
-    ghost begins = { λ begun. begun };
+    ghost begins = { λ started. started };
 
     fn before(&self, upload: u32) -> u32 {
         upload

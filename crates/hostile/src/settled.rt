@@ -57,9 +57,9 @@ fn is_billed(made: &Billed) -> Case {
     promise(made.ends.as_slice() == ENDS.as_slice(), "other ends")?;
     let tokens = &made.bill.tokens;
     promise(tokens.len() == 2, "another number of tokens is billed")?;
-    for place in 0..tokens.len() {
-        let sum = tokens.get(place);
-        let (last, totals) = if place == 0 {
+    for position in 0..tokens.len() {
+        let sum = tokens.get(position);
+        let (last, totals) = if position == 0 {
             (0xa1, SUMS[0])
         } else {
             (0xb2, SUMS[1])

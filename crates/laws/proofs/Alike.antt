@@ -85,7 +85,7 @@ pairs_without R x [] back pairs = pairs.1
 pairs_without R x (y ∷ front) back pairs =
     (all_without (R y) x front back pairs.0, pairs_without R x front back pairs.1)
 
-pub pairs_behind : {X : Type 0} (R : X → X → Type 0) (x : X) (front back : List X)
+pub pairs_after : {X : Type 0} (R : X → X → Type 0) (x : X) (front back : List X)
     → Pairs R (front ++ x ∷ back) → All (R x) back
-pairs_behind R x [] back pairs = pairs.0
-pairs_behind R x (y ∷ front) back pairs = pairs_behind R x front back pairs.1
+pairs_after R x [] back pairs = pairs.0
+pairs_after R x (y ∷ front) back pairs = pairs_after R x front back pairs.1

@@ -11,7 +11,7 @@ use Rattle.std.proofs.lemmas.List.Elements.{All-weaker, Contains-append_left}
 use Rattle.std.proofs.lemmas.List.Sorted.{Contains-permutation, IsPermutation-sym}
 use Rattle.std.proofs.lemmas.List.Sums.{sum_by-cons}
 use Rattle.tap_views.specs.Encoding.{fields_of}
-use Rattle.tap_views.specs.Files.{AreGoodTaps, HasOneReading}
+use Rattle.tap_views.specs.Files.{AreValidTaps, HasUniqueParse}
 use Rattle.tap_views.specs.Layout.{Tap}
 use Rattle.tap_views.specs.declared.encoder.TapFields.{TapFields}
 use Rattle.tariffs.specs.Fares.{Fares}
@@ -33,7 +33,7 @@ use Rattle.histories.specs.Plain.{answered}
 use Rattle.tap_parts.specs.Parts.{taps_of_uploads}
 use Rattle.settlement.specs.Settled.{IsSettledHistory}
 use Rattle.settlement.proofs.Histories.{entry_of}
-use Rattle.tap_views.proofs.ReadingLemmas.{one_list}
+use Rattle.tap_views.proofs.ParseLemmas.{one_list}
 use Rattle.tap_views.proofs.Lists.{filter-filter, AllZip-append}
 use Rattle.laws.specs.Bills.{BillAlike, ChargeAlike, is_live, is_live_answer, live_entries}
 use Rattle.laws.specs.TapSets.{AreSentAgain, HaveSameSetOfTaps, fields_of_uploads}
@@ -191,7 +191,7 @@ among : (xs ys one other : List TapFields) → (z : TapFields) → All (Contains
 among xs ys one other z all from to c = to (All-contains (Contains ys) xs z all (from c))
 
 pub set_is_billed : (fares : Fares) (uploads others : List (List ℕ)) (history again : List Entry)
-    → All HasOneReading uploads → All HasOneReading others → HaveSameSetOfTaps uploads others
+    → All HasUniqueParse uploads → All HasUniqueParse others → HaveSameSetOfTaps uploads others
     → IsSettledHistory fares uploads history → IsSettledHistory fares others again
     → BillAlike fares history again
 set_is_billed fares uploads others history again cuts other_cuts same one other =
@@ -241,7 +241,7 @@ same_set_again uploads more sent =
       taps = sent.taps;
       other_taps = sent.taps ++ sent.more_taps;
       of_uploads = sent.of_uploads;
-      of_others = AllZip-append AreGoodTaps uploads sent.taps more sent.more_taps sent.of_uploads
+      of_others = AllZip-append AreValidTaps uploads sent.taps more sent.more_taps sent.of_uploads
           sent.of_more;
       there = subst A both (All-weaker (Contains mine) (Contains (mine ++ extra))
           (λ f c. Contains-append_left mine extra f c) mine (All-contains_itself mine));
@@ -250,10 +250,10 @@ same_set_again uploads more sent =
     }
 
 pub repeats_billed : (fares : Fares) (uploads more : List (List ℕ)) (history again : List Entry)
-    → All HasOneReading uploads → All HasOneReading more → AreSentAgain uploads more
+    → All HasUniqueParse uploads → All HasUniqueParse more → AreSentAgain uploads more
     → IsSettledHistory fares uploads history → IsSettledHistory fares (uploads ++ more) again
     → BillAlike fares history again
 repeats_billed fares uploads more history again cuts more_cuts sent one other =
     set_is_billed fares uploads (uploads ++ more) history again cuts
-    (All-append HasOneReading uploads more cuts more_cuts) (same_set_again uploads more sent) one
+    (All-append HasUniqueParse uploads more cuts more_cuts) (same_set_again uploads more sent) one
     other

@@ -120,7 +120,7 @@ pub books_are_read : (fares : Fares) (shards : ℕ) (books : List Book) (only : 
     → AreShort text → IsWrittenOf books only text
     → IsLedgerOf fares (reported_entries only (all_entries books)) text
 books_are_read fares shards books only text each postable names few short written =
-    let table : written.first.table ≡ fares = (each 0 written.first written.stands_first).0 in
+    let table : written.first.table ≡ fares = (each 0 written.first written.holds_first).0 in
     let can : CanBePrinted fares only (all_entries books) = record {
       legal = λ token. legal_from fares shards token 0 books (from_none fares shards books each);
       postable = postable;

@@ -24,7 +24,7 @@ posted_few fares bounds earlier (tap ∷ taps) =
     let made = answered fares earlier entry in
     All-cons CostsFew made (posted_after fares (earlier ++ made ∷ []) taps)
     (reply_most (rules_of fares (bytes_of entry.token)) (taps_of fares entry.token earlier)
-    (tap_of fares entry) (λ mode known. bounds (bytes_of entry.token) entry.moment mode.place))
+    (tap_of fares entry) (λ mode known. bounds (bytes_of entry.token) entry.moment mode.position))
     (posted_few fares bounds (earlier ++ made ∷ []) taps)
 
 pub tokens_fit : (fares : Fares) (earlier : List Entry) (taps : List TapFields) → All HasName taps

@@ -25,7 +25,7 @@ use Rattle.tap_views.specs.declared.token.Token.{Token}
 use Rattle.fare_texts.specs.Moments.{IsCivilText, IsMomentText, clock_text, pad3}
 use Rattle.fare_texts.specs.StatementText.{answer_text}
 use Rattle.fare_texts.specs.LedgerLines.{IsReasonFields, IsLedgerLine, entry_fields, line_head}
-use Rattle.fare_texts.specs.LedgerLines.{mode_field, name_or_empty, place_fields, ride_rest}
+use Rattle.fare_texts.specs.LedgerLines.{mode_field, name_or_empty, position_fields, ride_rest}
 use Rattle.ledger_check.specs.Lines.{Lacks}
 use Rattle.ledger_check.proofs.LineLemmas.{has_none, lacks-append, lacks-at, lacks-tested}
 use Rattle.laws.specs.Written.{AreLetters}
@@ -148,16 +148,16 @@ name_lacks (c ∷ name) letters =
     let parts = and_parts (is_ascii_lowercase c) (list_all is_ascii_lowercase name) letters in
     (letter_other c parts.0, name_lacks name parts.1)
 
-named_lacks : (names : List (List ℕ)) (place : ℕ) → AreLetters names
-    → Lacks 10 (slice_index_or names place [])
-named_lacks [] place letters = tt
+named_lacks : (names : List (List ℕ)) (position : ℕ) → AreLetters names
+    → Lacks 10 (slice_index_or names position [])
+named_lacks [] position letters = tt
 named_lacks (name ∷ names) zero letters = name_lacks name letters.0
-named_lacks (name ∷ names) (suc place) letters = named_lacks names place letters.1
+named_lacks (name ∷ names) (suc position) letters = named_lacks names position letters.1
 
 mode_lacks : (names : List (List ℕ)) (mode : Option ℕ) → AreLetters names
     → Lacks 10 (name_or_empty names mode)
 mode_lacks names None letters = tt
-mode_lacks names (Some place) letters = named_lacks names place letters
+mode_lacks names (Some position) letters = named_lacks names position letters
 
 -- ---- the fields
 answer_lacks : (answer : Answer) → Lacks 10 (answer_text answer)
@@ -167,11 +167,11 @@ answer_lacks answer.Capped = lacks-tested 10 (codes "capped") refl
 answer_lacks answer.Stale = lacks-tested 10 (codes "stale") refl
 answer_lacks answer.Unknown = lacks-tested 10 (codes "unknown") refl
 
-head_free : (token : Token) (place : ℕ) → Free (line_head token place)
+head_free : (token : Token) (position : ℕ) → Free (line_head token position)
 unfolding line_head
-head_free token place =
+head_free token position =
     both (free (encode_lower (bytes_of token)) (encoded_lacks (bytes_of token)))
-    (both comma (both (number place) comma))
+    (both comma (both (number position) comma))
 
 fields_free : (fares : Fares) (entry : Entry) → AreLetters fares.meaning.modes
     → Free (entry_fields fares entry)
@@ -184,16 +184,16 @@ fields_free fares entry letters =
     (both comma (both (free (answer_text entry.answer) (answer_lacks entry.answer))
     (both comma (both (number entry.cents) comma)))))))
 
-placed_free : (place : ℕ) (word : List ℕ) → Free word → Free (place_fields place word)
-unfolding place_fields
-placed_free place word is = both comma (both (number (place + 1)) (both comma (both is comma)))
+placed_free : (position : ℕ) (word : List ℕ) → Free word → Free (position_fields position word)
+unfolding position_fields
+placed_free position word is = both comma (both (number (position + 1)) (both comma (both is comma)))
 
 ride_free : (charge : Charge) → Free (ride_rest charge)
-ride_free (Full place cents) = placed_free place (codes "full") (written (codes "full") refl)
-ride_free (CeilingCut place cents) =
-    placed_free place (codes "ceiling-cut") (written (codes "ceiling-cut") refl)
-ride_free (CeilingReached place) =
-    placed_free place (codes "ceiling") (written (codes "ceiling") refl)
+ride_free (Full position cents) = placed_free position (codes "full") (written (codes "full") refl)
+ride_free (CeilingCut position cents) =
+    placed_free position (codes "ceiling-cut") (written (codes "ceiling-cut") refl)
+ride_free (CeilingReached position) =
+    placed_free position (codes "ceiling") (written (codes "ceiling") refl)
 ride_free RideLimitReached = written (codes ",,ride-limit,") refl
 
 reason_fields_lacks : (why : Reason) (text : List ℕ) → IsReasonFields why text → Lacks 10 text
@@ -224,15 +224,15 @@ five a b c d e =
     ∙ ap (λ (t : List ℕ). a ++ t)
     (append_assoc b (c ++ d) e ∙ ap (λ (t : List ℕ). b ++ t) (append_assoc c d e)))
 
-pub line_ends_once : (fares : Fares) (token : Token) (place : ℕ) (entry : Entry) (why : Reason)
+pub line_ends_once : (fares : Fares) (token : Token) (position : ℕ) (entry : Entry) (why : Reason)
     (line : List ℕ) → AreLetters fares.meaning.modes
-    → IsLedgerLine fares token place entry why line → EndsOnce line
-line_ends_once fares token place entry why line letters is = record {
-  front = line_head token place ++ (is.moment ++ (entry_fields fares entry ++ is.reason_fields));
-  lacks = (both (head_free token place)
+    → IsLedgerLine fares token position entry why line → EndsOnce line
+line_ends_once fares token position entry why line letters is = record {
+  front = line_head token position ++ (is.moment ++ (entry_fields fares entry ++ is.reason_fields));
+  lacks = (both (head_free token position)
       (both (free is.moment (moment_lacks entry.moment is.moment is.is))
       (both (fields_free fares entry letters)
       (free is.reason_fields (reason_fields_lacks why is.reason_fields is.explained))))).lacks;
-  shown = is.shown ∙ five (line_head token place) is.moment (entry_fields fares entry)
+  shown = is.shown ∙ five (line_head token position) is.moment (entry_fields fares entry)
       is.reason_fields (10 ∷ []);
 }

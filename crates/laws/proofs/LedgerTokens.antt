@@ -13,7 +13,7 @@ use Rattle.histories.specs.History.{IsLegal}
 use Rattle.tap_views.specs.Token.{token_cmp}
 use Rattle.histories.specs.declared.entry.Entry.{Entry}
 use Rattle.tap_views.specs.declared.token.Token.{Token}
-use Rattle.histories.proofs.RisingLemmas.{rising-is}
+use Rattle.histories.proofs.IncreasingLemmas.{increasing-is}
 use Rattle.histories.proofs.OwnEntries.{own-append}
 use Rattle.tap_views.proofs.TokenLemmas.{token_cmp-total, token_cmp-ties}
 use Rattle.tap_views.proofs.Lists.{each-append, each-weaker}
@@ -32,7 +32,7 @@ abbrev Short : List ℕ → Type 0
 Short line = length line ≤ 255
 
 -- the text is, whole, lines that the entries have after those before, if none is too long
-record Told (fares : Fares) (done entries : List Entry) (text : List ℕ) : Type 0 where
+record Reported (fares : Fares) (done entries : List Entry) (text : List ℕ) : Type 0 where
   pub lines : List (List ℕ)
   pub cut : (more : List ℕ) → lines_of (text ++ more) ≡ lines ++ lines_of more
   pub are : AllByRecursion Short lines → AreNext fares done entries lines
@@ -53,7 +53,7 @@ next_append fares done (e ∷ one) two (l ∷ lines) more first then = (
 
 -- no entries have no lines
 reported_none : (fares : Fares) (done : List Entry) (text : List ℕ) → text ≡ []
-    → Told fares done [] text
+    → Reported fares done [] text
 reported_none fares done text empty = record {
   lines = [];
   cut = λ more. ap (λ (t : List ℕ). lines_of (t ++ more)) empty;
@@ -73,11 +73,11 @@ record IsOwn (fares : Fares) (token : Token) (entries : List Entry) : Type 0 whe
 
 module _ (fares : Fares) (letters : AreLetters fares.meaning.modes) (token : Token)
     (done : List Entry) (below : AreBelow token done) where
-  no_fall : (earlier : List Entry) (entry : Entry) → AllOf token earlier → entry.token ≡ token
+  nondecreasing : (earlier : List Entry) (entry : Entry) → AllOf token earlier → entry.token ≡ token
       → IsPostable entry
       → AllByRecursion (λ before. token_number before.token ≤ token_number entry.token)
       (done ++ earlier)
-  no_fall earlier entry all is postable =
+  nondecreasing earlier entry all is postable =
       each-append _ done earlier
       (each-weaker _ _ done (λ before known.
       let less = less_number before.token entry.token known.0.token postable.token
@@ -114,9 +114,9 @@ module _ (fares : Fares) (letters : AreLetters fares.meaning.modes) (token : Tok
       (reason_after fares t earlier entry) line) (sym is) shown in
       record {
         postable = postable;
-        no_fall = All-from_recursion
+        nondecreasing = All-from_recursion
             (λ (before : Entry). token_number before.token ≤ token_number entry.token)
-            (done ++ earlier) (no_fall earlier entry of.0 is postable);
+            (done ++ earlier) (nondecreasing earlier entry of.0 is postable);
         replied = replied_same fares earlier (done ++ earlier) entry (alone ∙ sym owned)
             (known.legal.each earlier entry rest refl);
         shown = subst (λ (es : List Entry). IsNextLine fares es entry line) (sym owned) line_is;
@@ -132,7 +132,7 @@ module _ (fares : Fares) (letters : AreLetters fares.meaning.modes) (token : Tok
 
   reported_token : (earlier rest : List Entry) (text : List ℕ) → IsOwn fares token (earlier ++ rest)
       → length (done ++ (earlier ++ rest)) ≤ 2 ^ 62
-      → AreLedgerLinesAfter fares token earlier rest text → Told fares (done ++ earlier) rest text
+      → AreLedgerLinesAfter fares token earlier rest text → Reported fares (done ++ earlier) rest text
   reported_token earlier [] text known few lines = reported_none fares (done ++ earlier) text lines
   reported_token earlier (entry ∷ rest) text known few lines =
       let line = lines.0 in
@@ -144,17 +144,17 @@ module _ (fares : Fares) (letters : AreLetters fares.meaning.modes) (token : Tok
       (subst (λ (es : List Entry). length (done ++ es) ≤ 2 ^ 62) (sym same) few) lines.3 in
       let ends = line_ends_once fares token (length earlier + 1) entry
       (reason_after fares token earlier entry) line letters lines.2 in
-      let split : (behind : List ℕ) → text ++ behind ≡ ends.front ++ 10 ∷ (others ++ behind) =
-      λ behind.
-      ap (λ (t : List ℕ). t ++ behind) (lines.4 ∙ ap (λ (t : List ℕ). t ++ others) ends.shown)
-      ∙ append_assoc (ends.front ++ 10 ∷ []) others behind
-      ∙ append_assoc ends.front (10 ∷ []) (others ++ behind) in
+      let split : (trailing : List ℕ) → text ++ trailing ≡ ends.front ++ 10 ∷ (others ++ trailing) =
+      λ trailing.
+      ap (λ (t : List ℕ). t ++ trailing) (lines.4 ∙ ap (λ (t : List ℕ). t ++ others) ends.shown)
+      ∙ append_assoc (ends.front ++ 10 ∷ []) others trailing
+      ∙ append_assoc ends.front (10 ∷ []) (others ++ trailing) in
       record {
         lines = line ∷ more.lines;
-        cut = λ behind. ap lines_of (split behind)
-            ∙ lines-line ends.front (others ++ behind) ends.lacks
-            ∙ ap (λ (l : List ℕ). l ∷ lines_of (others ++ behind)) (sym ends.shown)
-            ∙ ap (λ (ls : List (List ℕ)). line ∷ ls) (more.cut behind);
+        cut = λ trailing. ap lines_of (split trailing)
+            ∙ lines-line ends.front (others ++ trailing) ends.lacks
+            ∙ ap (λ (l : List ℕ). l ∷ lines_of (others ++ trailing)) (sym ends.shown)
+            ∙ ap (λ (ls : List (List ℕ)). line ∷ ls) (more.cut trailing);
         are = λ short. (
           next_is earlier rest entry line known few lines.2 short.0,
           subst (λ (es : List Entry). AreNext fares es rest more.lines)
@@ -164,7 +164,7 @@ module _ (fares : Fares) (letters : AreLetters fares.meaning.modes) (token : Tok
 
 -- tokens that rise, all above those of the entries that have lines
 record Goes (fares : Fares) (history done : List Entry) (list : List Token) : Type 0 where
-  pub rises : IsStrictlySortedBy token_cmp list
+  pub increases : IsStrictlySortedBy token_cmp list
   pub above : AllByRecursion (λ token. AreBelow token done) list
   pub few : length (done ++ flat_map (λ token. own token history) list) ≤ 2 ^ 62
 
@@ -191,8 +191,8 @@ goes_on : (fares : Fares) (history done : List Entry) (token : Token) (list : Li
     → Goes fares history done (token ∷ list) → Goes fares history (done ++ own token history) list
 unfolding IsStrictlySortedBy
 goes_on fares history done token list known goes = record {
-  rises = goes.rises.1;
-  above = by list goes.rises.0 goes.above.1;
+  increases = goes.increases.1;
+  above = by list goes.increases.0 goes.above.1;
   few = subst (λ (es : List Entry). length es ≤ 2 ^ 62)
       (sym (append_assoc done (own token history) (flat_map (λ t. own t history) list))) goes.few;
 }
@@ -211,7 +211,7 @@ reported_each : (fares : Fares) (history done : List Entry) (list : List Token) 
     → AreLetters fares.meaning.modes → ((t : Token) → IsLegal fares (own t history))
     → AllByRecursion IsPostable history → Goes fares history done list
     → AreLinesOfEach fares history list text
-    → Told fares done (flat_map (λ token. own token history) list) text
+    → Reported fares done (flat_map (λ token. own token history) list) text
 reported_each fares history done [] text letters legal postable goes lines =
     reported_none fares done text lines
 reported_each fares history done (token ∷ list) text letters legal postable goes lines =
@@ -232,11 +232,11 @@ reported_each fares history done (token ∷ list) text letters legal postable go
     (goes_on fares history done token list known goes) lines.3 in
     record {
       lines = first.lines ++ then.lines;
-      cut = λ behind. ap (λ (t : List ℕ). lines_of (t ++ behind)) lines.4
-          ∙ ap lines_of (append_assoc lines.0 lines.1 behind)
-          ∙ first.cut (lines.1 ++ behind)
-          ∙ ap (λ (ls : List (List ℕ)). first.lines ++ ls) (then.cut behind)
-          ∙ sym (append_assoc first.lines then.lines (lines_of behind));
+      cut = λ trailing. ap (λ (t : List ℕ). lines_of (t ++ trailing)) lines.4
+          ∙ ap lines_of (append_assoc lines.0 lines.1 trailing)
+          ∙ first.cut (lines.1 ++ trailing)
+          ∙ ap (λ (ls : List (List ℕ)). first.lines ++ ls) (then.cut trailing)
+          ∙ sym (append_assoc first.lines then.lines (lines_of trailing));
       are = λ short.
           let parts = all_parts Short first.lines then.lines short in
           next_append fares done mine others first.lines then.lines
@@ -249,11 +249,11 @@ above_none : (list : List Token) → AllByRecursion (λ token. AreBelow token []
 above_none [] = tt
 above_none (token ∷ list) = (tt, above_none list)
 
-reported_rise : (only : Option Token) (history : List Entry)
+reported_increase : (only : Option Token) (history : List Entry)
     → IsStrictlySortedBy token_cmp (ledger_tokens only history)
 unfolding IsStrictlySortedBy tokens
-reported_rise None history = (rising-is token_cmp-total token_cmp-ties (map token_of history)).rises
-reported_rise (Some token) history = (tt, tt)
+reported_increase None history = (increasing-is token_cmp-total token_cmp-ties (map token_of history)).increases
+reported_increase (Some token) history = (tt, tt)
 
 head_front : List ℕ
 head_front = codes
@@ -268,7 +268,7 @@ written_is_read fares only history text can short over =
     can.legal
     can.postable
     (record {
-      rises = reported_rise only history;
+      increases = reported_increase only history;
       above = above_none (ledger_tokens only history);
       few =
           can.few;

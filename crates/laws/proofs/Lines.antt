@@ -9,11 +9,11 @@ use Rattle.std.proofs.lemmas.List.Elements.{All-head, All-tail, All-weaker}
 use Rattle.std.proofs.lemmas.List.Kept.{IsSortedBy-filter}
 use Rattle.std.proofs.lemmas.List.Sorted.{IsPermutation-sym, ranks_by}
 use Rattle.tap_views.specs.Encoding.{fields_of}
-use Rattle.tap_views.specs.Files.{HasOneReading}
+use Rattle.tap_views.specs.Files.{HasUniqueParse}
 use Rattle.tap_views.specs.Layout.{Tap}
 use Rattle.tap_views.specs.declared.encoder.TapFields.{TapFields}
 use Rattle.tap_views.specs.Token.{bytes_of, token_eq}
-use Rattle.tap_views.proofs.ReadingLemmas.{one_list}
+use Rattle.tap_views.proofs.ParseLemmas.{one_list}
 use Rattle.tariffs.specs.Fares.{Fares}
 use Rattle.histories.specs.Entry.{taps_of}
 use Rattle.histories.specs.Keys.{same_token}
@@ -24,7 +24,7 @@ use Rattle.tap_parts.proofs.Total.{tap_cmp_exact, tap_cmp_total}
 use Rattle.settlement.specs.Settled.{IsSettledHistory}
 use Rattle.settlement.proofs.Histories.{entry_of}
 use Rattle.settlement.proofs.Own.{IsNamedBy}
-use Rattle.settlement.proofs.Placed.{Pairs, Rises, all_rising, no_earlier}
+use Rattle.settlement.proofs.Placed.{Pairs, Ascends, all_ascending, no_earlier}
 use Rattle.settlement.proofs.Unique.{AreAlike, same_sorted}
 use Rattle.laws.specs.Bills.{lines_before}
 use Rattle.laws.specs.TapSets.{HaveTapsAlikeBefore, fields_of_uploads, is_tap_before}
@@ -40,10 +40,10 @@ module _ (fares : Fares) (moment : ℕ) where
 
   -- an entry that is not before the moment is none of a token with a later tap before it
   still_same : (one other : List Entry) (f g : TapFields) → nat_lt f.moment moment ≡ false
-      → IsNamedBy f → IsNamedBy g → Rises f g → SameFor one other g
+      → IsNamedBy f → IsNamedBy g → Ascends f g → SameFor one other g
       → SameFor (one ++ answered fares one (entry_of f) ∷ []) other g
   unfolding answered entry_of
-  still_same one other f g late named named_too rises same = λ before.
+  still_same one other f g late named named_too increases same = λ before.
       push_other fares (token_of_bytes g.token) one (answered fares one (entry_of f))
       (by_token before (token_eq (token_of_bytes f.token) (token_of_bytes g.token)) refl)
       ∙ same before
@@ -57,13 +57,13 @@ module _ (fares : Fares) (moment : ℕ) where
           sym named
           ∙ ap bytes_of (same_token (token_of_bytes f.token) (token_of_bytes g.token) e)
           ∙ named_too in
-          let up = no_earlier f g (rises is) is in
+          let up = no_earlier f g (increases is) is in
           let low = ltb-true g.moment moment before in
           let high = ltb-false f.moment moment late in
           absurd (omega (arith, up, low, high))
 
   lines_after : (one other : List Entry) (fs : List TapFields) → All IsNamedBy fs
-      → Pairs Rises fs → All (SameFor one other) fs
+      → Pairs Ascends fs → All (SameFor one other) fs
       → lines_before moment (after fares one fs)
       ≡ after fares other (filter (is_tap_before moment) fs)
   unfolding after answered entry_of
@@ -97,14 +97,14 @@ module _ (fares : Fares) (moment : ℕ) where
           (filter (is_tap_before moment) fs)) alike
       by_test false e more =
           let entry = answered fares one (entry_of f) in
-          let names_behind = All-tail IsNamedBy f fs names in
-          let same_behind = All-tail (SameFor one other) f fs same in
+          let names_after = All-tail IsNamedBy f fs names in
+          let same_after = All-tail (SameFor one other) f fs same in
           more (one ++ entry ∷ []) other (λ k d within.
           still_same one other f (get fs k d) e (All-head IsNamedBy f fs names)
-          (names_behind k d within) (up.0 k d within) (same_behind k d within))
+          (names_after k d within) (up.0 k d within) (same_after k d within))
 
 pub lines : (fares : Fares) (moment : ℕ) (uploads others : List (List ℕ))
-    (history again : List Entry) → All HasOneReading uploads → All HasOneReading others
+    (history again : List Entry) → All HasUniqueParse uploads → All HasUniqueParse others
     → HaveTapsAlikeBefore moment uploads others
     → (one : IsSettledHistory fares uploads history) (other : IsSettledHistory fares others again)
     → All IsNamedBy (map fields_of one.order) → All IsNamedBy (map fields_of other.order)
@@ -139,9 +139,9 @@ lines fares moment uploads others history again cuts other_cuts same one other n
     let first : history ≡ after fares [] xs = one.entries ∙ plain_is_after fares [] one.order in
     let second : again ≡ after fares [] ys = other.entries ∙ plain_is_after fares [] other.order in
     ap (lines_before moment) first
-    ∙ lines_after fares moment [] [] xs names (all_rising xs one.canonical.sorted)
+    ∙ lines_after fares moment [] [] xs names (all_ascending xs one.canonical.sorted)
     (λ k d within before. refl)
     ∙ ap (after fares []) list
-    ∙ sym (lines_after fares moment [] [] ys more (all_rising ys other.canonical.sorted)
+    ∙ sym (lines_after fares moment [] [] ys more (all_ascending ys other.canonical.sorted)
     (λ k d within before. refl))
     ∙ sym (ap (lines_before moment) second)

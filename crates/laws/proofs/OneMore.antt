@@ -13,19 +13,19 @@ use Rattle.std.proofs.lemmas.List.Kept.{IsSortedBy-filter}
 use Rattle.std.proofs.lemmas.List.Sorted.{Contains-permutation, IsPermutation-sym, ranks_by}
 use Rattle.std.proofs.lemmas.List.Sums.{sum_by-cons}
 use Rattle.tap_views.specs.Encoding.{fields_of}
-use Rattle.tap_views.specs.Files.{HasOneReading}
+use Rattle.tap_views.specs.Files.{HasUniqueParse}
 use Rattle.tap_views.specs.Layout.{Tap}
 use Rattle.tap_views.specs.declared.encoder.TapFields.{TapFields}
 use Rattle.tap_views.specs.Token.{bytes_of}
 use Rattle.tap_views.specs.declared.token.Token.{Token}
-use Rattle.tap_views.proofs.ReadingLemmas.{one_list}
+use Rattle.tap_views.proofs.ParseLemmas.{one_list}
 use Rattle.tap_views.proofs.Lists.{All-split}
 use Rattle.tariffs.specs.Fares.{Fares, mode_at}
 use Rattle.account_rule.specs.Laws.{is_ride}
 use Rattle.account_rule.specs.Replies.{replies}
 use Rattle.account_rule.specs.TokenRules.{rules_of, token_class, transfers_of}
 use Rattle.account_rule.specs.declared.tap.TapIn.{TapIn}
-use Rattle.histories.specs.Entry.{mode_of_place, tap_of, taps_of}
+use Rattle.histories.specs.Entry.{mode_of_position, tap_of, taps_of}
 use Rattle.histories.specs.declared.entry.Entry.{Entry}
 use Rattle.shard_book.proofs.WindowsLemmas.{replies-own}
 use Rattle.tap_parts.specs.Canonical.{tap_cmp}
@@ -41,10 +41,10 @@ use Rattle.settlement.proofs.Unique.{AreAlike, same_sorted}
 use Rattle.laws.specs.Bills.{GivesOneAtMost, rides_of}
 use Rattle.laws.specs.TapSets.{HaveOneMoreTap, fields_of_uploads, is_known_tap, is_tap_of, own_taps}
 use Rattle.laws.proofs.Alike.{alike-filter, alike-without, moved_all, moved_kept}
-use Rattle.laws.proofs.Alike.{pairs_behind, pairs_without, permuted_alike, split_at}
+use Rattle.laws.proofs.Alike.{pairs_after, pairs_without, permuted_alike, split_at}
 use Rattle.laws.proofs.OwnTaps.{own_after, tap_in, taps_after}
 use Rattle.laws.proofs.Posts.{after, plain_is_after}
-use Rattle.laws.proofs.Rides.{GiveOneAtMost, IsBehind, no_fewer_rides}
+use Rattle.laws.proofs.Rides.{GiveOneAtMost, IsAfter, no_fewer_rides}
 
 -- what the class gives is what the rules of the token give
 gives_one : (fares : Fares) (token : Token) → GivesOneAtMost fares token
@@ -76,20 +76,20 @@ rides_by_taps fares token uploads history is =
 mapped_is_some : {X : Type 0} (f : ℕ → X) (found : Option ℕ)
     → is_some (option_map f found) ≡ is_some found
 mapped_is_some f None = refl
-mapped_is_some f (Some place) = refl
+mapped_is_some f (Some position) = refl
 
 module _ (fares : Fares) (token : Token) (x : TapFields) where
   -- a known tap is at another moment than the one that is added
   abbrev Apart : TapFields → Type 0
   Apart f = is_known_tap fares f ≡ true → f.moment ≢ x.moment
 
-  behind_one : (f : TapFields) → IsNamedBy x → IsNamedBy f → is_tap_of token x ≡ true
+  after_one : (f : TapFields) → IsNamedBy x → IsNamedBy f → is_tap_of token x ≡ true
       → is_tap_of token f ≡ true → NotLess x f → Apart f
-      → IsBehind (tap_in fares x) (tap_in fares f)
+      → IsAfter (tap_in fares x) (tap_in fares f)
   unfolding tap_in tap_of entry_of
-  behind_one f named named_too is is_too up apart = λ seen.
+  after_one f named named_too is is_too up apart = λ seen.
       by_order (apart
-      (sym (mapped_is_some mode_of_place (mode_at fares f.moment f.validator)) ∙ seen))
+      (sym (mapped_is_some mode_of_position (mode_at fares f.moment f.validator)) ∙ seen))
       (no_earlier x f up (one_token token x f named named_too is is_too))
       (cases_lt x.moment f.moment)
     where
@@ -99,16 +99,16 @@ module _ (fares : Fares) (token : Token) (x : TapFields) where
       by_order differs least (inl below) = inr below
       by_order differs least (inr above) = absurd (differs (omega (arith, least, above)))
 
-  behind_all : (fs : List TapFields) → IsNamedBy x → All IsNamedBy fs → is_tap_of token x ≡ true
+  after_all : (fs : List TapFields) → IsNamedBy x → All IsNamedBy fs → is_tap_of token x ≡ true
       → All (λ f. is_tap_of token f ≡ true) fs → All (NotLess x) fs → All Apart fs
-      → All (IsBehind (tap_in fares x)) (map (tap_in fares) fs)
-  behind_all [] named names is are up apart = All-nil (IsBehind (tap_in fares x))
-  behind_all (f ∷ fs) named names is are up apart =
+      → All (IsAfter (tap_in fares x)) (map (tap_in fares) fs)
+  after_all [] named names is are up apart = All-nil (IsAfter (tap_in fares x))
+  after_all (f ∷ fs) named names is are up apart =
       let P : TapFields → Type 0 = λ g. is_tap_of token g ≡ true in
-      All-cons (IsBehind (tap_in fares x)) (tap_in fares f) (map (tap_in fares) fs)
-      (behind_one f named (All-head IsNamedBy f fs names) is (All-head P f fs are)
+      All-cons (IsAfter (tap_in fares x)) (tap_in fares f) (map (tap_in fares) fs)
+      (after_one f named (All-head IsNamedBy f fs names) is (All-head P f fs are)
       (All-head (NotLess x) f fs up) (All-head Apart f fs apart))
-      (behind_all fs named (All-tail IsNamedBy f fs names) is (All-tail P f fs are)
+      (after_all fs named (All-tail IsNamedBy f fs names) is (All-tail P f fs are)
       (All-tail (NotLess x) f fs up) (All-tail Apart f fs apart))
 
   -- the sorted taps of a token, and one more among them
@@ -128,15 +128,15 @@ module _ (fares : Fares) (token : Token) (x : TapFields) where
       (alike-without x xs front back (subst (λ zs. AreAlike (x ∷ xs) zs) is alike)) in
       let named = (All-split IsNamedBy front (x ∷ back) (subst (All IsNamedBy) is names)).1 in
       let mine = (All-split P front (x ∷ back) (subst (All P) is are)).1 in
-      let apart_behind = (All-split Apart front back (subst (All Apart) list apart)).1 in
-      let behind = behind_all back (All-head IsNamedBy x back named)
+      let apart_after = (All-split Apart front back (subst (All Apart) list apart)).1 in
+      let trailing = after_all back (All-head IsNamedBy x back named)
       (All-tail IsNamedBy x back named) (All-head P x back mine) (All-tail P x back mine)
-      (pairs_behind NotLess x front back pairs) apart_behind in
+      (pairs_after NotLess x front back pairs) apart_after in
       let rules = rules_of fares (bytes_of token) in
       let t = map (tap_in fares) in
       let rides : List TapIn → ℕ = λ ts. count_by is_ride (replies rules ts) in
       let least = no_fewer_rides rules (gives_one fares token few) (tap_in fares x) (t front)
-      (t back) behind in
+      (t back) trailing in
       let fewer : rides (t xs) ≡ rides (t front ++ t back) =
       ap (λ fs. rides (t fs)) list ∙ ap rides (map-append (tap_in fares) front back) in
       let rest : rides (t ys) ≡ rides (t front ++ tap_in fares x ∷ t back) =
@@ -145,7 +145,7 @@ module _ (fares : Fares) (token : Token) (x : TapFields) where
 
 -- ---- the law
 pub one_more : (fares : Fares) (token : Token) (uploads others : List (List ℕ))
-    (history again : List Entry) → All HasOneReading uploads → All HasOneReading others
+    (history again : List Entry) → All HasUniqueParse uploads → All HasUniqueParse others
     → GivesOneAtMost fares token → HaveOneMoreTap fares token uploads others
     → (one : IsSettledHistory fares uploads history) (two : IsSettledHistory fares others again)
     → All IsNamedBy (map fields_of two.order)

@@ -81,44 +81,44 @@ replied_same fares before other entry same replied =
     (tap_of fares entry)) same
 
 -- where an entry stands in the history of which it is an own one
-record Place (token : Token) (history before : List Entry) (entry : Entry) : Type 0 where
+record Position (token : Token) (history before : List Entry) (entry : Entry) : Type 0 where
   pub front : List Entry
-  pub behind : List Entry
-  pub whole : history ≡ front ++ entry ∷ behind
+  pub trailing : List Entry
+  pub whole : history ≡ front ++ entry ∷ trailing
   pub own_front : own token front ≡ before
   pub is : entry.token ≡ token
 
-place_of : (token : Token) (history before : List Entry) (entry : Entry) (after : List Entry)
+position_of : (token : Token) (history before : List Entry) (entry : Entry) (after : List Entry)
     → own token history ≡ before ++ entry ∷ after
-    → Place token history before entry
-place_of token [] [] entry after is = let bad : [] ≡ entry ∷ after = sym (own_none token) ∙ is in cc
-place_of token [] (b ∷ before) entry after is = let bad : [] ≡ b ∷ (before ++ entry ∷ after) =
+    → Position token history before entry
+position_of token [] [] entry after is = let bad : [] ≡ entry ∷ after = sym (own_none token) ∙ is in cc
+position_of token [] (b ∷ before) entry after is = let bad : [] ≡ b ∷ (before ++ entry ∷ after) =
     sym (own_none token) ∙ is in cc
-place_of token (e ∷ history) before entry after is =
+position_of token (e ∷ history) before entry after is =
     ⊎_elim
     (λ (here : is_of token e ≡ true). at before (sym (own_same token e history here) ∙ is)
     (same_token e.token token here)
-    (λ b same. place_of token history b entry after same))
+    (λ b same. position_of token history b entry after same))
     (λ (other : is_of token e ≡ false).
-    let place = place_of token history before entry after
+    let position = position_of token history before entry after
     (sym (own_other token e history other) ∙ is) in
     record {
-      front = e ∷ place.front;
-      behind = place.behind;
-      whole = ap (λ (es : List Entry). e ∷ es) place.whole;
-      own_front = own_other token e place.front other ∙ place.own_front;
-      is = place.is;
+      front = e ∷ position.front;
+      trailing = position.trailing;
+      whole = ap (λ (es : List Entry). e ∷ es) position.whole;
+      own_front = own_other token e position.front other ∙ position.own_front;
+      is = position.is;
     })
     (cases_Bool (is_of token e))
   where
     at : (before : List Entry) → e ∷ own token history ≡ before ++ entry ∷ after → e.token ≡ token
-        → ((b : List Entry) → own token history ≡ b ++ entry ∷ after → Place token history b entry)
-        → Place token (e ∷ history) before entry
+        → ((b : List Entry) → own token history ≡ b ++ entry ∷ after → Position token history b entry)
+        → Position token (e ∷ history) before entry
     at [] same of further =
         let first : e ≡ entry = cc in
         record {
           front = [];
-          behind = history;
+          trailing = history;
           whole = ap (λ (x : Entry). x ∷ history) first;
           own_front = own_none token;
           is = subst (λ (x : Entry). x.token ≡ token) first of;
@@ -126,15 +126,15 @@ place_of token (e ∷ history) before entry after is =
     at (b ∷ before) same of further =
         let first : e ≡ b = cc in
         let rest : own token history ≡ before ++ entry ∷ after = cc in
-        let place = further before rest in
+        let position = further before rest in
         record {
-          front = e ∷ place.front;
-          behind = place.behind;
-          whole = ap (λ (es : List Entry). e ∷ es) place.whole;
-          own_front = own_same token e place.front (is_own token e of)
-              ∙ ap (λ (es : List Entry). e ∷ es) place.own_front
+          front = e ∷ position.front;
+          trailing = position.trailing;
+          whole = ap (λ (es : List Entry). e ∷ es) position.whole;
+          own_front = own_same token e position.front (is_own token e of)
+              ∙ ap (λ (es : List Entry). e ∷ es) position.own_front
               ∙ ap (λ (x : Entry). x ∷ before) first;
-          is = place.is;
+          is = position.is;
         }
 
 front_of : (token : Token) (before more whole : List Entry) → whole ≡ before ++ more
@@ -150,12 +150,12 @@ pub own_is_legal : (fares : Fares) (history : List Entry) (token : Token) → Is
     → IsLegal fares (own token history)
 own_is_legal fares history token legal = record {
   each = λ before entry after is.
-      let place = place_of token history before entry after is in
+      let position = position_of token history before entry after is in
       let all = (own_each (λ (e : Entry). e ≡ e) token history (none_is history)).1 in
       let owned : own token before ≡ before =
       own_all token before (front_of token before (entry ∷ after) (own token history) is all) in
-      let same : own token place.front ≡ own token before = place.own_front ∙ sym owned in
-      replied_same fares place.front before entry
-      (subst (λ (t : Token). own t place.front ≡ own t before) (sym place.is) same)
-      (legal.each place.front entry place.behind place.whole);
+      let same : own token position.front ≡ own token before = position.own_front ∙ sym owned in
+      replied_same fares position.front before entry
+      (subst (λ (t : Token). own t position.front ≡ own t before) (sym position.is) same)
+      (legal.each position.front entry position.trailing position.whole);
 }

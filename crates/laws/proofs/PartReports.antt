@@ -18,18 +18,18 @@ use Rattle.report_texts.specs.OverHistory.{IsReportOver}
 use Rattle.report_texts.specs.Report.{report}
 use Rattle.settlement.specs.Posted.{posted}
 use Rattle.settlement.proofs.TokenRuns.{posted_length}
-use Rattle.sorted_bills.specs.Parts.{ArePartsOf, DoRise, IsPartOf, PartView, added, numbers_of_parts}
-use Rattle.sorted_taps.specs.Places.{AreSpanned, AreWhole}
-use Rattle.sorted_taps.specs.declared.places.FileSpan.{FileSpan}
+use Rattle.sorted_bills.specs.Parts.{ArePartsOf, AreIncreasing, IsPartOf, PartView, added, numbers_of_parts}
+use Rattle.sorted_taps.specs.Positions.{AreSpanned, AreWhole}
+use Rattle.sorted_taps.specs.declared.positions.FileSpan.{FileSpan}
 use Rattle.tap_views.specs.UploadEnds.{ArePlainEnds}
 use Rattle.part_texts.specs.HistoryParts.{AreRight, Fits, HistoryPart, histories_of, numbers_of, report_of, whole_history}
-use Rattle.part_texts.specs.HistoryParts.{DoRise as HistoriesRise, added as added_up}
+use Rattle.part_texts.specs.HistoryParts.{AreIncreasing as HistoriesIncrease, added as added_up}
 use Rattle.fare_texts.specs.Ledger.{IsLedgerOver}
 use Rattle.part_texts.specs.LedgerParts.{AreReadable, DoJoinUp, IsPartLedger}
 use Rattle.part_texts.specs.Merged.{merge_of}
 use Rattle.part_texts.specs.Shown.{SpanFits, part_text, sum_up}
 use Rattle.laws.specs.PartTexts.{IsLedgerText, history_part, part_report}
-use Rattle.laws.specs.Sizes.{CanBeWritten, HaveBoundedTerms, HaveNumbers, HavePlaces}
+use Rattle.laws.specs.Sizes.{CanBeWritten, HaveBoundedTerms, HaveNumbers, HavePositions}
 use Rattle.laws.proofs.CentsFit.{posted_few, tokens_fit}
 use Rattle.laws.proofs.SumsFit.{CanBeSummed, CostsFew, EntryFits, summed}
 
@@ -77,7 +77,7 @@ module _ (fares : Fares) (bounds : HaveBoundedTerms fares) (files : List (List �
   part_fits : (part : PartView) → IsPartOf fares files part.spans part.lists part.history
       → length files < 2 ^ 64 → AllByRecursion SpanFits part.spans → HaveNumbers part.history
       → length part.history < 2 ^ 47 → Fits (history_part part)
-  part_fits part is few places numbers taps =
+  part_fits part is few positions numbers taps =
       let spans = number_of_spans files part.spans part.lists is.spanned in
       let lists = number_of_lists files part.spans part.lists is.spanned in
       let can = summed part.history taps
@@ -87,7 +87,7 @@ module _ (fares : Fares) (bounds : HaveBoundedTerms fares) (files : List (List �
       (tokens_fit fares [] is.taps is.named)) numbers) in
       record {
         files = omega (arith, spans, few);
-        spans = places;
+        spans = positions;
         uploads = length-map part.lists length ∙ lists ∙ sym spans;
         posted = lists_length part.lists ∙ moved is
             ∙ sym (ap length is.posted_are ∙ posted_length fares [] is.taps);
@@ -116,15 +116,15 @@ module _ (fares : Fares) (bounds : HaveBoundedTerms fares) (files : List (List �
       → AllByRecursion (λ part. HaveNumbers part.history) parts
       → length (flat_map (λ part. part.history) parts) < 2 ^ 47
       → AllByRecursion Fits (map history_part parts)
-  all_fits [] are few places numbers taps = tt
-  all_fits (part ∷ parts) are few places numbers taps =
+  all_fits [] are few positions numbers taps = tt
+  all_fits (part ∷ parts) are few positions numbers taps =
       let both = length-append part.history (flat_map (λ part. part.history) parts) in (
         part_fits part
             (All-head (λ (p : PartView). IsPartOf fares files p.spans p.lists p.history) part parts are)
-            few places.0 numbers.0 (omega (arith, taps, both)),
+            few positions.0 numbers.0 (omega (arith, taps, both)),
         all_fits parts
             (All-tail (λ (p : PartView). IsPartOf fares files p.spans p.lists p.history) part parts are)
-            few places.1 numbers.1 (omega (arith, taps, both)),
+            few positions.1 numbers.1 (omega (arith, taps, both)),
       )
 
 -- ---- the same in the words of both crates
@@ -143,9 +143,9 @@ whole_same : (parts : List PartView)
 whole_same [] = refl
 whole_same (part ∷ parts) = ap (λ (l : List Entry). part.history ++ l) (whole_same parts)
 
-rise_same : (histories : List (List Entry)) → DoRise histories → HistoriesRise histories
-rise_same [] rise = tt
-rise_same (history ∷ later) rise = (rise.0, rise_same later rise.1)
+increase_same : (histories : List (List Entry)) → AreIncreasing histories → HistoriesIncrease histories
+increase_same [] increase = tt
+increase_same (history ∷ later) increase = (increase.0, increase_same later increase.1)
 
 added_same : (xs ys : List ℕ) → added xs ys ≡ added_up xs ys
 added_same [] ys = refl
@@ -165,13 +165,13 @@ texts_same (part ∷ parts) = ap (λ (l : List (List ℕ)). part_report part ∷
 
 pub are_right : (fares : Fares) (files : List (List ℕ)) (parts : List PartView)
     → ArePartsOf fares files parts → AreWhole (map (λ p. p.spans) parts)
-    → DoRise (map (λ p. p.history) parts) → HaveBoundedTerms fares → CanBeWritten files parts
+    → AreIncreasing (map (λ p. p.history) parts) → HaveBoundedTerms fares → CanBeWritten files parts
     → AreRight (length files) (map history_part parts)
-are_right fares files parts are whole rise bounds can = record {
+are_right fares files parts are whole increase bounds can = record {
   number = all_spans fares bounds files parts are;
   whole = subst AreWhole (sym (spans_same parts)) whole;
-  rise = rise_same (histories_of (map history_part parts)) (subst DoRise (sym (histories_same parts)) rise);
-  fit = all_fits fares bounds files parts are can.number can.places can.numbers can.taps;
+  increase = increase_same (histories_of (map history_part parts)) (subst AreIncreasing (sym (histories_same parts)) increase);
+  fit = all_fits fares bounds files parts are can.number can.positions can.numbers can.taps;
   few = (let t = can.taps in let s = ap length (whole_same parts) in omega (arith, t, s));
 }
 
@@ -186,19 +186,19 @@ ReportsMerge = (files : ℕ) (part : HistoryPart) (parts : List HistoryPart)
 
 pub reports_of_parts : (merge : ReportsMerge) (fares : Fares) (files : List (List ℕ))
     (part : PartView) (parts : List PartView) → ArePartsOf fares files (part ∷ parts)
-    → AreWhole (map (λ p. p.spans) (part ∷ parts)) → DoRise (map (λ p. p.history) (part ∷ parts))
+    → AreWhole (map (λ p. p.spans) (part ∷ parts)) → AreIncreasing (map (λ p. p.history) (part ∷ parts))
     → HaveBoundedTerms fares → CanBeWritten files (part ∷ parts)
     → ArePlainEnds files (map Posted (numbers_of_parts (part ∷ parts)))
     → (text : List ℕ) × (merge_of (map part_report (part ∷ parts)) ≡ Ok text)
     × IsReportOver files (flat_map (λ p. p.history) (part ∷ parts)) text
-reports_of_parts merge fares files part parts are whole rise bounds can ends =
+reports_of_parts merge fares files part parts are whole increase bounds can ends =
     let history = flat_map (λ (p : PartView). p.history) (part ∷ parts) in
     let text = report (map Posted (numbers_of_parts (part ∷ parts))) (sums history)
     (sums_by_validator history) (sums_by_token history) in (
       text,
       ap merge_of (sym (texts_same (part ∷ parts)))
           ∙ merge (length files) (history_part part) (map history_part parts)
-          (are_right fares files (part ∷ parts) are whole rise bounds can)
+          (are_right fares files (part ∷ parts) are whole increase bounds can)
           ∙ ap (λ h. Ok (report (map Posted (numbers_of (map history_part (part ∷ parts)))) (sums h)
           (sums_by_validator h) (sums_by_token h))) (whole_same (part ∷ parts))
           ∙ ap (λ ns. Ok (report (map Posted ns) (sums history) (sums_by_validator history)
@@ -222,21 +222,21 @@ module _ (fares : Fares) (files : List (List ℕ)) where
         (All-tail (λ (p : PartView). IsPartOf fares files p.spans p.lists p.history) part parts are),
   )
 
-  places_are : (parts : List PartView)
+  positions_are : (parts : List PartView)
       → AllByRecursion (λ (part : PartView). AllByRecursion SpanFits part.spans) parts
       → AllByRecursion (λ (p : HistoryPart). AllByRecursion SpanFits p.spans) (map history_part parts)
-  places_are [] places = tt
-  places_are (part ∷ parts) places = (places.0, places_are parts places.1)
+  positions_are [] positions = tt
+  positions_are (part ∷ parts) positions = (positions.0, positions_are parts positions.1)
 
   join_up : (parts : List PartView) → ArePartsOf fares files parts
-      → AreWhole (map (λ p. p.spans) parts) → DoRise (map (λ p. p.history) parts)
-      → HavePlaces files parts → DoJoinUp (length files) (map history_part parts)
-  join_up parts are whole rise have = record {
+      → AreWhole (map (λ p. p.spans) parts) → AreIncreasing (map (λ p. p.history) parts)
+      → HavePositions files parts → DoJoinUp (length files) (map history_part parts)
+  join_up parts are whole increase have = record {
     few = have.number;
     number = numbers_are parts are;
-    places = places_are parts have.places;
+    positions = positions_are parts have.positions;
     whole = subst AreWhole (sym (spans_same parts)) whole;
-    rise = rise_same (histories_of (map history_part parts)) (subst DoRise (sym (histories_same parts)) rise);
+    increase = increase_same (histories_of (map history_part parts)) (subst AreIncreasing (sym (histories_same parts)) increase);
   }
 
   texts_of : (parts : List PartView) (texts : List (List ℕ))
@@ -268,16 +268,16 @@ LedgersAreWhole = (fares : Fares) (files : ℕ) (part : HistoryPart) (parts : Li
     → IsLedgerOver fares (whole_history (part ∷ parts)) None text
 
 pub ledgers_of_parts : (law : LedgersAreWhole) (fares : Fares) (files : List (List ℕ))
-    (part : PartView) (parts : List PartView) → HavePlaces files (part ∷ parts)
+    (part : PartView) (parts : List PartView) → HavePositions files (part ∷ parts)
     → ArePartsOf fares files (part ∷ parts)
-    → AreWhole (map (λ p. p.spans) (part ∷ parts)) → DoRise (map (λ p. p.history) (part ∷ parts))
+    → AreWhole (map (λ p. p.spans) (part ∷ parts)) → AreIncreasing (map (λ p. p.history) (part ∷ parts))
     → (texts : List (List ℕ)) → AllZip (IsLedgerText fares) (part ∷ parts) texts
     → (text : List ℕ) → merge_of texts ≡ Ok text
     → IsLedgerOver fares (flat_map (λ p. p.history) (part ∷ parts)) None text
-ledgers_of_parts law fares files part parts have are whole rise texts each text is =
+ledgers_of_parts law fares files part parts have are whole increase texts each text is =
     subst (λ (h : List Entry). IsLedgerOver fares h None text) (whole_same (part ∷ parts))
     (law fares (length files) (history_part part) (map history_part parts) texts
-    (join_up fares files (part ∷ parts) are whole rise have)
+    (join_up fares files (part ∷ parts) are whole increase have)
     (texts_of fares files (part ∷ parts) texts each) text is)
 
 -- readable ledgers of right parts are merged
@@ -289,14 +289,14 @@ LedgersAreMerged = (fares : Fares) (files : ℕ) (part : HistoryPart) (parts : L
     → (text : List ℕ) × (merge_of texts ≡ Ok text)
 
 pub ledgers_merged : (law : LedgersAreMerged) (fares : Fares) (files : List (List ℕ))
-    (part : PartView) (parts : List PartView) → HavePlaces files (part ∷ parts)
+    (part : PartView) (parts : List PartView) → HavePositions files (part ∷ parts)
     → ArePartsOf fares files (part ∷ parts)
-    → AreWhole (map (λ p. p.spans) (part ∷ parts)) → DoRise (map (λ p. p.history) (part ∷ parts))
+    → AreWhole (map (λ p. p.spans) (part ∷ parts)) → AreIncreasing (map (λ p. p.history) (part ∷ parts))
     → (texts : List (List ℕ)) → AllZip (IsLedgerText fares) (part ∷ parts) texts
     → AllByRecursion (λ p. AreReadable fares p.history) (part ∷ parts)
     → (text : List ℕ) × (merge_of texts ≡ Ok text)
-ledgers_merged law fares files part parts have are whole rise texts each readable =
+ledgers_merged law fares files part parts have are whole increase texts each readable =
     law fares (length files) (history_part part) (map history_part parts) texts
-    (join_up fares files (part ∷ parts) are whole rise have)
+    (join_up fares files (part ∷ parts) are whole increase have)
     (texts_of fares files (part ∷ parts) texts each)
     (all_readable fares files (part ∷ parts) are readable)

@@ -19,7 +19,7 @@ use Rattle.histories.specs.Entry.{is_of, own, taps_of}
 use Rattle.histories.specs.Keys.{same_token}
 use Rattle.histories.specs.declared.entry.Entry.{Entry}
 use Rattle.histories.specs.Plain.{answered, token_of_bytes}
-use Rattle.tap_views.specs.Files.{HasOneReading}
+use Rattle.tap_views.specs.Files.{HasUniqueParse}
 use Rattle.fare_service.proofs.OwnVisits.{filter_none}
 use Rattle.tap_parts.specs.Canonical.{tap_cmp}
 use Rattle.tap_parts.proofs.Total.{tap_cmp_total}
@@ -28,7 +28,7 @@ use Rattle.settlement.proofs.Histories.{entry_of}
 use Rattle.settlement.proofs.Contained.{kept_there, was_there}
 use Rattle.settlement.proofs.Own.{IsNamedBy, one_token}
 use Rattle.settlement.proofs.Placed.{NotLess, Pairs, no_earlier, sorted_pairs}
-use Rattle.tap_views.proofs.ReadingLemmas.{one_list}
+use Rattle.tap_views.proofs.ParseLemmas.{one_list}
 use Rattle.laws.specs.Bills.{bill_before, live_entries}
 use Rattle.laws.specs.TapSets.{HaveSameTapsBefore, fields_of_uploads, is_before}
 use Rattle.laws.proofs.Once.{Among}
@@ -59,10 +59,10 @@ module _ (fares : Fares) (token : Token) (moment : ℕ) where
       (All-tail (λ g. is_before token moment g ≡ false) f fs none)
 
   -- behind a tap of the token that is not before the moment, none is
-  none_behind : (f : TapFields) (fs : List TapFields) → IsNamedBy f → All IsNamedBy fs
+  none_after : (f : TapFields) (fs : List TapFields) → IsNamedBy f → All IsNamedBy fs
       → All (NotLess f) fs → token_eq (token_of_bytes f.token) token ≡ true
       → nat_lt f.moment moment ≡ false → NoneBefore fs
-  none_behind f fs named names above is late = λ k d within. of_one (get fs k d)
+  none_after f fs named names above is late = λ k d within. of_one (get fs k d)
       (names k d within) (above k d within)
     where
       get : List TapFields → ℕ → TapFields → TapFields
@@ -75,9 +75,9 @@ module _ (fares : Fares) (token : Token) (moment : ℕ) where
               → (b && nat_lt g.moment moment) ≡ false
           by_token false e = refl
           by_token true e =
-              let rises = no_earlier f g not (one_token token f g named other is e) in
+              let increases = no_earlier f g not (one_token token f g named other is e) in
               let low = ltb-false f.moment moment late in
-              le-ltb g.moment moment (omega (arith, rises, low))
+              le-ltb g.moment moment (omega (arith, increases, low))
 
   -- the entries of the token before the moment are those of its taps before the moment
   pub picked : (one other : List Entry) (fs : List TapFields) → All IsNamedBy fs
@@ -113,7 +113,7 @@ module _ (fares : Fares) (token : Token) (moment : ℕ) where
           (filter (is_before token moment) fs)) alike
       by_tests true false eb ec more =
           let entry = answered fares one (entry_of f) in
-          let none = none_behind f fs (All-head IsNamedBy f fs names)
+          let none = none_after f fs (All-head IsNamedBy f fs names)
           (All-tail IsNamedBy f fs names) up.0 eb ec in
           none_entered (one ++ entry ∷ []) fs none
           ∙ sym (ap (after fares other) (filter_none (is_before token moment) fs none))
@@ -155,7 +155,7 @@ among_picked q mine yours xs ys moved moved_too all = λ z there.
     kept_there q ys z passes (Contains-permutation yours ys z moved_too of_yours)
 
 pub late : (fares : Fares) (token : Token) (moment : ℕ) (uploads others : List (List ℕ))
-    (history again : List Entry) → All HasOneReading uploads → All HasOneReading others
+    (history again : List Entry) → All HasUniqueParse uploads → All HasUniqueParse others
     → HaveSameTapsBefore token moment uploads others
     → (one : IsSettledHistory fares uploads history) (other : IsSettledHistory fares others again)
     → All IsNamedBy (map fields_of one.order) → All IsNamedBy (map fields_of other.order)

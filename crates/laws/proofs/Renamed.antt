@@ -12,12 +12,12 @@ use Rattle.std.proofs.lemmas.List.Elements.{filter_passes}
 use Rattle.std.proofs.lemmas.List.Kept.{IsSortedBy-filter}
 use Rattle.std.proofs.lemmas.List.Sorted.{IsPermutation-sym, ranks_by}
 use Rattle.tap_views.specs.Encoding.{fields_of}
-use Rattle.tap_views.specs.Files.{HasOneReading}
+use Rattle.tap_views.specs.Files.{HasUniqueParse}
 use Rattle.tap_views.specs.Layout.{Tap}
 use Rattle.tap_views.specs.declared.encoder.TapFields.{TapFields}
 use Rattle.tap_views.specs.Token.{bytes_of, token_eq}
 use Rattle.tap_views.specs.declared.token.Token.{Token}
-use Rattle.tap_views.proofs.ReadingLemmas.{one_list}
+use Rattle.tap_views.proofs.ParseLemmas.{one_list}
 use Rattle.tariffs.specs.Fares.{Fares, class_of, meaning_at, terms_on}
 use Rattle.tariffs.specs.declared.class.Class.{Class}
 use Rattle.account_rule.specs.Blocks.{last_block}
@@ -72,18 +72,18 @@ pairs_renamed : (bytes own : List ℕ) (fs : List TapFields) → All (HasBytes o
     → Pairs NotLess fs → Pairs NotLess (map (with_token bytes) fs)
 pairs_renamed bytes own [] all pairs = tt
 pairs_renamed bytes own (f ∷ fs) all pairs = (
-  behind fs (All-tail (HasBytes own) f fs all) pairs.0,
+  trailing fs (All-tail (HasBytes own) f fs all) pairs.0,
   pairs_renamed bytes own fs (All-tail (HasBytes own) f fs all) pairs.1,
 )
   where
-    behind : (gs : List TapFields) → All (HasBytes own) gs → All (NotLess f) gs
+    trailing : (gs : List TapFields) → All (HasBytes own) gs → All (NotLess f) gs
         → All (NotLess (with_token bytes f)) (map (with_token bytes) gs)
-    behind [] rest up = All-nil (NotLess (with_token bytes f))
-    behind (g ∷ gs) rest up =
+    trailing [] rest up = All-nil (NotLess (with_token bytes f))
+    trailing (g ∷ gs) rest up =
         All-cons (NotLess (with_token bytes f)) (with_token bytes g) (map (with_token bytes) gs)
         (same_order bytes own f g (All-head (HasBytes own) f fs all)
         (All-head (HasBytes own) g gs rest) (All-head (NotLess f) g gs up))
-        (behind gs (All-tail (HasBytes own) g gs rest) (All-tail (NotLess f) g gs up))
+        (trailing gs (All-tail (HasBytes own) g gs rest) (All-tail (NotLess f) g gs up))
 
 -- the taps of a token have its bytes
 have_bytes : (token : Token) (fs : List TapFields) → All IsNamedBy fs
@@ -106,32 +106,32 @@ record AnswerAlike (one other : TokenRules) : Type 0 where
 
 -- the place of a class matters to what is kept alone
 of_class : TokenRules → (ℕ → ℕ) → TokenRules
-of_class rules place = record rules { class = place }
+of_class rules position = record rules { class = position }
 
-same_ride_of : (rules : TokenRules) (place : ℕ → ℕ) (window : List LiveTap)
-    → ride_of (of_class rules place) window ≡ ride_of rules window
+same_ride_of : (rules : TokenRules) (position : ℕ → ℕ) (window : List LiveTap)
+    → ride_of (of_class rules position) window ≡ ride_of rules window
 unfolding ride_of of_class
-same_ride_of rules place [] = refl
-same_ride_of rules place (first ∷ window) = refl
+same_ride_of rules position [] = refl
+same_ride_of rules position (first ∷ window) = refl
 
-answer_alike : (rules : TokenRules) (place : ℕ → ℕ) → AnswerAlike rules (of_class rules place)
+answer_alike : (rules : TokenRules) (position : ℕ → ℕ) → AnswerAlike rules (of_class rules position)
 unfolding reply live_reply reason live_reason ends_in_transfer last_trip trips windows rides
     of_class
-answer_alike rules place = record {
+answer_alike rules position = record {
   replies = λ earlier tap. refl;
   reasons = λ earlier tap.
       ap (λ (r : Reason). cond (is_some tap.mode)
       (cond (is_later earlier tap.moment) (cond (ends_in_transfer rules (earlier ++ tap ∷ []))
       (given_by (last_trip rules earlier)) r) (Stale (latest earlier))) Unknown)
-      (same_ride_of rules place (last_block (windows rules (earlier ++ tap ∷ []))));
+      (same_ride_of rules position (last_block (windows rules (earlier ++ tap ∷ []))));
   windows = λ taps. refl;
 }
 
 -- the rules of the class of each moment, at its place
 rules_by : Fares → (ℕ → ℕ) → (ℕ → Class) → TokenRules
-rules_by fares place class = record (rules_of fares []) {
-  class = place;
-  terms = λ ride. terms_on (class ride.moment) ride.mode.place;
+rules_by fares position class = record (rules_of fares []) {
+  class = position;
+  terms = λ ride. terms_on (class ride.moment) ride.mode.position;
   transfers = record {
     count = λ tap. (class tap.moment).transfers.taps;
     time = λ tap. (class tap.moment).transfers.time;
@@ -143,12 +143,12 @@ same_rules : (fares : Fares) (token other : Token) → HaveSameTerms fares token
     → AnswerAlike (rules_of fares (bytes_of token)) (rules_of fares (bytes_of other))
 unfolding rules_of transfers_of token_class rules_by of_class
 same_rules fares token other same =
-    let place = λ (moment : ℕ). class_of (meaning_at fares moment) (bytes_of other) in
+    let position = λ (moment : ℕ). class_of (meaning_at fares moment) (bytes_of other) in
     let back = λ (moment : ℕ). sym (same moment) in
-    let is : rules_of fares (bytes_of other) ≡ of_class (rules_of fares (bytes_of token)) place =
-    λ i. rules_by fares place (λ moment. back moment i) in
+    let is : rules_of fares (bytes_of other) ≡ of_class (rules_of fares (bytes_of token)) position =
+    λ i. rules_by fares position (λ moment. back moment i) in
     subst (λ (rules : TokenRules). AnswerAlike (rules_of fares (bytes_of token)) rules) (sym is)
-    (answer_alike (rules_of fares (bytes_of token)) place)
+    (answer_alike (rules_of fares (bytes_of token)) position)
 
 module _ (fares : Fares) (token other : Token) (bytes : List ℕ)
     (rules : AnswerAlike (rules_of fares (bytes_of token)) (rules_of fares (bytes_of other))) where
@@ -239,7 +239,7 @@ charged fares token other history again rules lines =
 
 -- ---- the law
 pub renamed : (fares : Fares) (token other : Token) (uploads others : List (List ℕ))
-    (history again : List Entry) → All HasOneReading uploads → All HasOneReading others
+    (history again : List Entry) → All HasUniqueParse uploads → All HasUniqueParse others
     → HaveSameTerms fares token other → HaveTapsAlike token other uploads others
     → (one : IsSettledHistory fares uploads history) (two : IsSettledHistory fares others again)
     → All IsNamedBy (map fields_of one.order) → All IsNamedBy (map fields_of two.order)

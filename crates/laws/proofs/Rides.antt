@@ -29,10 +29,10 @@ pub data Ahead (giver other : Option TripEnd) (rides others : ℕ) : Type 0 wher
   free : other ≡ None → rides ≤ others → Ahead giver other rides others
   same : giver ≡ other → rides ≤ others → Ahead giver other rides others
 
-not_behind : (giver other : Option TripEnd) (n m : ℕ) → Ahead giver other n m → n ≤ m
-not_behind giver other n m (by_one more) = omega (arith, more)
-not_behind giver other n m (free none more) = more
-not_behind giver other n m (same alike more) = more
+not_after : (giver other : Option TripEnd) (n m : ℕ) → Ahead giver other n m → n ≤ m
+not_after giver other n m (by_one more) = omega (arith, more)
+not_after giver other n m (free none more) = more
+not_after giver other n m (same alike more) = more
 
 -- the trip that can give a transfer behind a live tap, and the ride that it is, by whether it got a
 -- transfer
@@ -105,35 +105,35 @@ step_more rules giver other shown n m (same alike more) = at (gives rules other 
 
 -- ---- what is later behind a tap that the second walk alone takes
 -- the moment is behind the tap, unless the tap is unknown
-abbrev Behind : TapIn → ℕ → Type 0
-Behind added moment = (is_some added.mode ≡ false) ⊎ (added.moment < moment)
+abbrev After : TapIn → ℕ → Type 0
+After added moment = (is_some added.mode ≡ false) ⊎ (added.moment < moment)
 
 -- each known tap is behind it
-abbrev pub IsBehind : TapIn → TapIn → Type 0
-IsBehind added tap = is_some tap.mode ≡ true
+abbrev pub IsAfter : TapIn → TapIn → Type 0
+IsAfter added tap = is_some tap.mode ≡ true
     → (is_some added.mode ≡ false) ⊎ (added.moment < tap.moment)
 
 -- behind it the same moments are later
 Follows : TapIn → List TapIn → List TapIn → Type 0
 Follows added one other =
-    (moment : ℕ) → Behind added moment → is_later other moment ≡ is_later one moment
+    (moment : ℕ) → After added moment → is_later other moment ≡ is_later one moment
 
 follows-push : (added : TapIn) (one other : List TapIn) (tap : TapIn) → Follows added one other
     → Follows added (one ++ tap ∷ []) (other ++ tap ∷ [])
 unfolding Follows
-follows-push added one other tap follows = λ moment behind.
+follows-push added one other tap follows = λ moment trailing.
     is_later-push other tap moment
-    ∙ ap (λ b. b && (not (is_some tap.mode) || nat_lt tap.moment moment)) (follows moment behind)
+    ∙ ap (λ b. b && (not (is_some tap.mode) || nat_lt tap.moment moment)) (follows moment trailing)
     ∙ sym (is_later-push one tap moment)
 
 follows-added : (added : TapIn) (one : List TapIn) → Follows added one (one ++ added ∷ [])
 unfolding Follows
-follows-added added one = λ moment behind.
-    is_later-push one added moment ∙ by_case (is_later one moment) moment behind
+follows-added added one = λ moment trailing.
+    is_later-push one added moment ∙ by_case (is_later one moment) moment trailing
   where
-    by_case : (b : Bool) (moment : ℕ) → Behind added moment
+    by_case : (b : Bool) (moment : ℕ) → After added moment
         → (b && (not (is_some added.mode) || nat_lt added.moment moment)) ≡ b
-    by_case false moment behind = refl
+    by_case false moment trailing = refl
     by_case true moment (inl unknown) =
         ap (λ k. not k || nat_lt added.moment moment) unknown
     by_case true moment (inr below) = by_known (is_some added.mode)
@@ -143,15 +143,15 @@ follows-added added one = λ moment behind.
         by_known false = refl
 
 same_live : (added : TapIn) (one other : List TapIn) (tap : TapIn) → Follows added one other
-    → IsBehind added tap → live_tap one tap ≡ live_tap other tap
+    → IsAfter added tap → live_tap one tap ≡ live_tap other tap
 unfolding Follows live_tap
-same_live added one other tap follows behind = by_mode tap.mode refl
+same_live added one other tap follows trailing = by_mode tap.mode refl
   where
     by_mode : (mode : Option Mode) → tap.mode ≡ mode → live_tap one tap ≡ live_tap other tap
     by_mode None none = not_known one tap none ∙ sym (not_known other tap none)
     by_mode (Some mode) known =
         ap (λ b. cond b (option_map (live_at tap.moment) tap.mode) None)
-        (sym (follows tap.moment (behind (ap (λ (m : Option Mode). is_some m) known))))
+        (sym (follows tap.moment (trailing (ap (λ (m : Option Mode). is_some m) known))))
 
 -- ---- what a tap does to the number of rides and to the trip that can give a transfer
 abbrev ride_of : Reply → ℕ
@@ -315,22 +315,22 @@ module _ (rules : TokenRules) (few : GiveOneAtMost rules.transfers) where
       sum_by-cons ride_of (reply rules earlier tap) (replies_after rules (earlier ++ tap ∷ []) taps)
 
   walk : (added : TapIn) (taps one other : List TapIn) (n m : ℕ)
-      → Ahead (giver one) (giver other) n m → Follows added one other → All (IsBehind added) taps
+      → Ahead (giver one) (giver other) n m → Follows added one other → All (IsAfter added) taps
       → n + rides_after one taps ≤ m + rides_after other taps
   unfolding replies_after
   walk added [] one other n m ahead follows all =
-      let least = not_behind (giver one) (giver other) n m ahead in omega (arith, least)
+      let least = not_after (giver one) (giver other) n m ahead in omega (arith, least)
   walk added (tap ∷ taps) one other n m ahead follows all =
       let rest = walk added taps (one ++ tap ∷ []) (other ++ tap ∷ [])
       (n + ride_of (reply rules one tap)) (m + ride_of (reply rules other tap))
       (both one other tap n m ahead
-      (same_live added one other tap follows (All-head (IsBehind added) tap taps all)))
-      (follows-push added one other tap follows) (All-tail (IsBehind added) tap taps all) in
+      (same_live added one other tap follows (All-head (IsAfter added) tap taps all)))
+      (follows-push added one other tap follows) (All-tail (IsAfter added) tap taps all) in
       let here = rides-cons one tap taps in
       let there = rides-cons other tap taps in
       omega (arith, rest, here, there)
 
-  added_after : (added : TapIn) (front taps earlier : List TapIn) → All (IsBehind added) taps
+  added_after : (added : TapIn) (front taps earlier : List TapIn) → All (IsAfter added) taps
       → rides_after earlier (front ++ taps) ≤ rides_after earlier (front ++ added ∷ taps)
   added_after added [] taps earlier all =
       let first = walk added taps earlier (earlier ++ added ∷ []) 0
@@ -346,7 +346,7 @@ module _ (rules : TokenRules) (few : GiveOneAtMost rules.transfers) where
       omega (arith, rest, here, there)
 
   -- one more tap, before which no known tap of those behind it is, makes no fewer rides
-  pub no_fewer_rides : (added : TapIn) (front taps : List TapIn) → All (IsBehind added) taps
+  pub no_fewer_rides : (added : TapIn) (front taps : List TapIn) → All (IsAfter added) taps
       → count_by is_ride (replies rules (front ++ taps))
       ≤ count_by is_ride (replies rules (front ++ added ∷ taps))
   unfolding replies

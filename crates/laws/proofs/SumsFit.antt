@@ -22,10 +22,10 @@ use Rattle.histories.specs.declared.entry.Entry.{Entry}
 use Rattle.histories.specs.Entry.{is_at, is_of, own, reply_of}
 use Rattle.histories.specs.SumsByKey.{entries_of_validator, sums_by_token, sums_by_validator}
 use Rattle.histories.specs.SumsByKey.{token_of, tokens, validator_of, validators}
-use Rattle.histories.specs.Rising.{rising}
+use Rattle.histories.specs.Increasing.{increasing}
 use Rattle.histories.specs.Sums.{is_capped, is_paid, is_stale, is_transfer, is_unknown, sums}
 use Rattle.histories.specs.Sums.{Sums, sums_of_replies}
-use Rattle.part_texts.proofs.HistoryParts.{all_rising, rising_few}
+use Rattle.part_texts.proofs.HistoryParts.{all_ascending, increasing_few}
 use Rattle.report_texts.specs.Numbers.{AreCounts, IsTokenSum, IsValidatorSum}
 
 -- the sums of the history can be those of taps, in 64 bits
@@ -121,10 +121,10 @@ summed entries small few fit =
     let names = map token_of entries in
     let by_number : ℕ → ℕ × Sums = λ v. (v, sums (filter (is_at v) entries)) in
     let by_name : Token → Token × Sums = λ t. (t, sums (filter (is_of t) entries)) in
-    let numbers_fit = all_rising nat_cmp (λ v. v < 2 ^ 32) numbers
+    let numbers_fit = all_ascending nat_cmp (λ v. v < 2 ^ 32) numbers
     (All-map (λ v. v < 2 ^ 32) validator_of entries
     (All-weaker EntryFits (λ e. e.validator < 2 ^ 32) (λ e fits. fits.0) entries fit)) in
-    let names_fit = all_rising token_cmp Fits names
+    let names_fit = all_ascending token_cmp Fits names
     (All-map Fits token_of entries
     (All-weaker EntryFits (λ e. Fits e.token) (λ e fits. fits.1) entries fit)) in
     record {
@@ -132,27 +132,27 @@ summed entries small few fit =
       validators_number = omega (
         arith,
         small,
-        length-map (rising nat_cmp numbers) by_number,
-        rising_few nat_cmp numbers,
+        length-map (increasing nat_cmp numbers) by_number,
+        increasing_few nat_cmp numbers,
         length-map entries validator_of,
       );
-      validators = All-map IsValidatorSum by_number (rising nat_cmp numbers)
+      validators = All-map IsValidatorSum by_number (increasing nat_cmp numbers)
           (All-weaker (λ v. v < 2 ^ 32) (λ v. IsValidatorSum (by_number v))
           (λ v fits. record {
             validator = fits;
             counts = some_fit (is_at v) entries small few;
-          }) (rising nat_cmp numbers) numbers_fit);
+          }) (increasing nat_cmp numbers) numbers_fit);
       tokens_number = omega (
         arith,
         small,
-        length-map (rising token_cmp names) by_name,
-        rising_few token_cmp names,
+        length-map (increasing token_cmp names) by_name,
+        increasing_few token_cmp names,
         length-map entries token_of,
       );
-      tokens = All-map IsTokenSum by_name (rising token_cmp names)
+      tokens = All-map IsTokenSum by_name (increasing token_cmp names)
           (All-weaker Fits (λ t. IsTokenSum (by_name t))
           (λ t fits. record {
             token = fits;
             counts = some_fit (is_of t) entries small few;
-          }) (rising token_cmp names) names_fit);
+          }) (increasing token_cmp names) names_fit);
     }

@@ -9,24 +9,24 @@ use Rattle.settled_texts.specs.Columns.{columns_of, with_columns}
 use Rattle.settled_texts.specs.declared.trace.TracedTap.{TracedTap}
 use Rattle.laws.specs.Traced.{line_of}
 
-put_behind : (fields column text : List ℕ) (columns : List (List ℕ)) → Lacks 10 fields
+put_after : (fields column text : List ℕ) (columns : List (List ℕ)) → Lacks 10 fields
     → with_columns (fields ++ 10 ∷ text) (column ∷ columns)
     ≡ fields ++ (column ++ 10 ∷ with_columns text columns)
-put_behind [] column text columns lacks = refl
-put_behind (byte ∷ fields) column text columns lacks =
+put_after [] column text columns lacks = refl
+put_after (byte ∷ fields) column text columns lacks =
     ap (λ (b : Bool). if b then column ++ byte ∷ with_columns (fields ++ 10 ∷ text) columns
     else byte ∷ with_columns (fields ++ 10 ∷ text) (column ∷ columns)) (ne_eqb byte 10 lacks.0)
-    ∙ ap (λ (t : List ℕ). byte ∷ t) (put_behind fields column text columns lacks.1)
+    ∙ ap (λ (t : List ℕ). byte ∷ t) (put_after fields column text columns lacks.1)
 
-spelt : (fields class upload place rest : List ℕ)
-    → fields ++ ((44 ∷ (class ++ 44 ∷ (upload ++ 44 ∷ place))) ++ 10 ∷ rest)
-    ≡ (fields ++ 44 ∷ (class ++ 44 ∷ (upload ++ 44 ∷ (place ++ 10 ∷ [])))) ++ rest
-spelt fields class upload place rest = simp append_assoc
+spelt : (fields class upload position rest : List ℕ)
+    → fields ++ ((44 ∷ (class ++ 44 ∷ (upload ++ 44 ∷ position))) ++ 10 ∷ rest)
+    ≡ (fields ++ 44 ∷ (class ++ 44 ∷ (upload ++ 44 ∷ (position ++ 10 ∷ [])))) ++ rest
+spelt fields class upload position rest = simp append_assoc
 
 pub line_written : (fields class text : List ℕ) (traced : TracedTap) (columns : List (List ℕ))
     → Lacks 10 fields
     → with_columns (fields ++ 10 ∷ text) (columns_of class traced ∷ columns)
     ≡ traced_text (line_of fields class traced) ++ with_columns text columns
 line_written fields class text traced columns lacks =
-    put_behind fields (columns_of class traced) text columns lacks
-    ∙ spelt fields class (decimal traced.upload) (decimal traced.place) (with_columns text columns)
+    put_after fields (columns_of class traced) text columns lacks
+    ∙ spelt fields class (decimal traced.upload) (decimal traced.position) (with_columns text columns)

@@ -20,14 +20,14 @@ abbrev pub HaveNumbers : List Entry → Type 0
 HaveNumbers history = All (λ entry. entry.validator < 2 ^ 32) history
 
 -- there are fewer than 2 ^ 64 files, and the places in them have 64 bits
-pub record HavePlaces (files : List (List ℕ)) (parts : List PartView) : Type 0 where
+pub record HavePositions (files : List (List ℕ)) (parts : List PartView) : Type 0 where
   pub number : length files < 2 ^ 64
-  pub places : AllByRecursion (λ part. AllByRecursion SpanFits part.spans) parts
+  pub positions : AllByRecursion (λ part. AllByRecursion SpanFits part.spans) parts
 
 -- There are fewer than 2 ^ 64 files, and the places in them have 64 bits. All parts have fewer than
 -- 2 ^ 47 taps, so that 64 bits hold their cents.
 pub record CanBeWritten (files : List (List ℕ)) (parts : List PartView) : Type 0 where
   pub number : length files < 2 ^ 64
-  pub places : AllByRecursion (λ part. AllByRecursion SpanFits part.spans) parts
+  pub positions : AllByRecursion (λ part. AllByRecursion SpanFits part.spans) parts
   pub numbers : AllByRecursion (λ part. HaveNumbers part.history) parts
   pub taps : length (flat_map (λ part. part.history) parts) < 2 ^ 47

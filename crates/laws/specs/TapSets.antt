@@ -4,7 +4,7 @@ use Rattle.std.specs.Prelude.{is_some, map, nat_lt}
 use Rattle.std.specs.List.Sorted.{IsPermutation}
 use Rattle.tariffs.specs.Fares.{Fares, mode_at}
 use Rattle.tap_views.specs.Encoding.{fields_of}
-use Rattle.tap_views.specs.Files.{AreGoodTapsOfEach}
+use Rattle.tap_views.specs.Files.{AreValidTapsOfEach}
 use Rattle.tap_views.specs.Layout.{Tap}
 use Rattle.tap_views.specs.declared.encoder.TapFields.{TapFields}
 use Rattle.tap_views.specs.Token.{bytes_of, token_eq}
@@ -22,8 +22,8 @@ fields_of_uploads taps = map fields_of (taps_of_uploads taps)
 pub record HaveSameSetOfTaps (uploads others : List (List ℕ)) : Type 0 where
   pub taps : List (List Tap)
   pub other_taps : List (List Tap)
-  pub of_uploads : AreGoodTapsOfEach uploads taps
-  pub of_others : AreGoodTapsOfEach others other_taps
+  pub of_uploads : AreValidTapsOfEach uploads taps
+  pub of_others : AreValidTapsOfEach others other_taps
   pub there : All (Contains (fields_of_uploads other_taps)) (fields_of_uploads taps)
   pub back : All (Contains (fields_of_uploads taps)) (fields_of_uploads other_taps)
 
@@ -31,8 +31,8 @@ pub record HaveSameSetOfTaps (uploads others : List (List ℕ)) : Type 0 where
 pub record AreSentAgain (uploads more : List (List ℕ)) : Type 0 where
   pub taps : List (List Tap)
   pub more_taps : List (List Tap)
-  pub of_uploads : AreGoodTapsOfEach uploads taps
-  pub of_more : AreGoodTapsOfEach more more_taps
+  pub of_uploads : AreValidTapsOfEach uploads taps
+  pub of_more : AreValidTapsOfEach more more_taps
   pub there : All (Contains (fields_of_uploads taps)) (fields_of_uploads more_taps)
 
 -- whether the tap is of the token, and before the moment
@@ -46,8 +46,8 @@ pub record HaveSameTapsBefore (token : Token) (moment : ℕ) (uploads others : L
     : Type 0 where
   pub taps : List (List Tap)
   pub other_taps : List (List Tap)
-  pub of_uploads : AreGoodTapsOfEach uploads taps
-  pub of_others : AreGoodTapsOfEach others other_taps
+  pub of_uploads : AreValidTapsOfEach uploads taps
+  pub of_others : AreValidTapsOfEach others other_taps
   pub there : All (Contains (fields_of_uploads other_taps))
       (filter (is_before token moment) (fields_of_uploads taps))
   pub back : All (Contains (fields_of_uploads taps))
@@ -71,8 +71,8 @@ with_token bytes tap = record tap { token = bytes }
 pub record HaveTapsAlike (token other : Token) (uploads others : List (List ℕ)) : Type 0 where
   pub taps : List (List Tap)
   pub other_taps : List (List Tap)
-  pub of_uploads : AreGoodTapsOfEach uploads taps
-  pub of_others : AreGoodTapsOfEach others other_taps
+  pub of_uploads : AreValidTapsOfEach uploads taps
+  pub of_others : AreValidTapsOfEach others other_taps
   pub alike : IsPermutation (map (with_token (bytes_of other)) (own_taps token taps))
       (own_taps other other_taps)
 
@@ -85,8 +85,8 @@ is_tap_before moment tap = nat_lt tap.moment moment
 pub record HaveTapsAlikeBefore (moment : ℕ) (uploads others : List (List ℕ)) : Type 0 where
   pub taps : List (List Tap)
   pub other_taps : List (List Tap)
-  pub of_uploads : AreGoodTapsOfEach uploads taps
-  pub of_others : AreGoodTapsOfEach others other_taps
+  pub of_uploads : AreValidTapsOfEach uploads taps
+  pub of_others : AreValidTapsOfEach others other_taps
   pub alike : IsPermutation (filter (is_tap_before moment) (fields_of_uploads taps))
       (filter (is_tap_before moment) (fields_of_uploads other_taps))
 
@@ -100,8 +100,8 @@ pub record HaveOneMoreTap (fares : Fares) (token : Token) (uploads others : List
     : Type 0 where
   pub taps : List (List Tap)
   pub other_taps : List (List Tap)
-  pub of_uploads : AreGoodTapsOfEach uploads taps
-  pub of_others : AreGoodTapsOfEach others other_taps
+  pub of_uploads : AreValidTapsOfEach uploads taps
+  pub of_others : AreValidTapsOfEach others other_taps
   pub added : TapFields
   pub alike : IsPermutation (added ∷ own_taps token taps) (own_taps token other_taps)
   pub apart : All (λ tap. is_known_tap fares tap ≡ true → tap.moment ≢ added.moment)

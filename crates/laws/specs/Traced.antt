@@ -11,7 +11,7 @@ line_of fields class traced = record {
   fields = fields;
   class = class;
   upload = traced.upload;
-  place = traced.place;
+  position = traced.position;
 }
 
 -- Where the columns of a tap are put after the fields of a line, the line that is written is read

@@ -11,7 +11,7 @@ ghost use Rattle.laws.specs.TapSets.{AreSentAgain, HaveOneMoreTap, HaveSameSetOf
 ghost use Rattle.laws.specs.TapSets.{HaveSameTapsBefore, HaveTapsAlike, HaveTapsAlikeBefore};
 
 use fare_service::laws::plain_history;
-use tap_views::laws::one_reading_each;
+use tap_views::laws::unique_parse_each;
 
 /// A settled bill is a function of the set of valid taps: a repeated tap is charged once. Only the
 /// numbers of all, of stale and of unknown taps depend on more.
@@ -22,8 +22,8 @@ pub fn set_of_taps_is_billed(uploads: &[Vec<u8>], others: &[Vec<u8>])
         → IsSettledHistory fares (map (λ u. u.items) others.now) again
         → BillAlike fares history again }
 {
-    one_reading_each(uploads);
-    one_reading_each(others);
+    unique_parse_each(uploads);
+    unique_parse_each(others);
 }
 
 /// Taps that are sent again, in any uploads, change no ride, no transfer and no charge.
@@ -34,8 +34,8 @@ pub fn repeats_are_free(uploads: &[Vec<u8>], more: &[Vec<u8>])
         → IsSettledHistory fares (map (λ u. u.items) uploads.now ++ map (λ u. u.items) more.now)
         again → BillAlike fares history again }
 {
-    one_reading_each(uploads);
-    one_reading_each(more);
+    unique_parse_each(uploads);
+    unique_parse_each(more);
 }
 
 /// A late tap changes no ride and no transfer of its token before it, and none of another token.
@@ -47,8 +47,8 @@ pub fn late_taps_change_nothing_before(uploads: &[Vec<u8>], others: &[Vec<u8>])
         → IsSettledHistory fares (map (λ u. u.items) others.now) again
         → bill_before token moment history ≡ bill_before token moment again }
 {
-    one_reading_each(uploads);
-    one_reading_each(others);
+    unique_parse_each(uploads);
+    unique_parse_each(others);
     plain_history(uploads);
     plain_history(others);
 }
@@ -63,8 +63,8 @@ pub fn later_taps_change_no_line_before(uploads: &[Vec<u8>], others: &[Vec<u8>])
         → IsSettledHistory fares (map (λ u. u.items) others.now) again
         → lines_before moment history ≡ lines_before moment again }
 {
-    one_reading_each(uploads);
-    one_reading_each(others);
+    unique_parse_each(uploads);
+    unique_parse_each(others);
     plain_history(uploads);
     plain_history(others);
 }
@@ -80,8 +80,8 @@ pub fn tokens_are_charged_by_their_taps(uploads: &[Vec<u8>], others: &[Vec<u8>])
         → IsSettledHistory fares (map (λ u. u.items) others.now) again
         → ChargedAlike fares token other history again }
 {
-    one_reading_each(uploads);
-    one_reading_each(others);
+    unique_parse_each(uploads);
+    unique_parse_each(others);
     plain_history(uploads);
     plain_history(others);
 }
@@ -97,7 +97,7 @@ pub fn one_more_tap_makes_no_fewer_rides(uploads: &[Vec<u8>], others: &[Vec<u8>]
         → IsSettledHistory fares (map (λ u. u.items) others.now) again
         → rides_of token history ≤ rides_of token again }
 {
-    one_reading_each(uploads);
-    one_reading_each(others);
+    unique_parse_each(uploads);
+    unique_parse_each(others);
     plain_history(others);
 }

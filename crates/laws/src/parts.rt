@@ -8,10 +8,10 @@ ghost use Rattle.part_texts.specs.LedgerParts.{AreReadable};
 ghost use Rattle.part_texts.specs.Merged.{merge_of};
 ghost use Rattle.report_texts.specs.OverHistory.{IsReportOver};
 ghost use Rattle.settlement.specs.Settled.{IsSettledHistory};
-ghost use Rattle.sorted_bills.specs.Parts.{ArePartsOf, DoRise, PartView};
-ghost use Rattle.sorted_taps.specs.Places.{AreWhole};
+ghost use Rattle.sorted_bills.specs.Parts.{ArePartsOf, AreIncreasing, PartView};
+ghost use Rattle.sorted_taps.specs.Positions.{AreWhole};
 ghost use Rattle.laws.specs.PartTexts.{IsLedgerText, part_report};
-ghost use Rattle.laws.specs.Sizes.{CanBeWritten, HaveBoundedTerms, HavePlaces};
+ghost use Rattle.laws.specs.Sizes.{CanBeWritten, HaveBoundedTerms, HavePositions};
 
 use part_texts::laws::{ledgers_are_merged, reports_are_merged};
 use sorted_bills::laws::joined_parts_are_settled;
@@ -20,7 +20,7 @@ use sorted_bills::laws::joined_parts_are_settled;
 pub fn merged_reports()
     ensures { (fares : Fares) (files : List (List ℕ)) (part : PartView) (parts : List PartView)
         → ArePartsOf fares files (part ∷ parts) → AreWhole (map (λ p. p.spans) (part ∷ parts))
-        → DoRise (map (λ p. p.history) (part ∷ parts)) → HaveBoundedTerms fares
+        → AreIncreasing (map (λ p. p.history) (part ∷ parts)) → HaveBoundedTerms fares
         → CanBeWritten files (part ∷ parts)
         → (text : List ℕ) × (merge_of (map part_report (part ∷ parts)) ≡ Ok text)
         × IsSettledHistory fares files (flat_map (λ p. p.history) (part ∷ parts))
@@ -34,15 +34,15 @@ pub fn merged_reports()
 /// They are merged if each line has the form of a ledger's line.
 pub fn merged_ledgers()
     ensures whole { (fares : Fares) (files : List (List ℕ)) (part : PartView) (parts : List PartView)
-        → HavePlaces files (part ∷ parts) → ArePartsOf fares files (part ∷ parts)
-        → AreWhole (map (λ p. p.spans) (part ∷ parts)) → DoRise (map (λ p. p.history) (part ∷ parts))
+        → HavePositions files (part ∷ parts) → ArePartsOf fares files (part ∷ parts)
+        → AreWhole (map (λ p. p.spans) (part ∷ parts)) → AreIncreasing (map (λ p. p.history) (part ∷ parts))
         → (texts : List (List ℕ)) → AllZip (IsLedgerText fares) (part ∷ parts) texts
         → (text : List ℕ) → merge_of texts ≡ Ok text
         → IsSettledHistory fares files (flat_map (λ p. p.history) (part ∷ parts))
         × IsLedgerOver fares (flat_map (λ p. p.history) (part ∷ parts)) None text }
     ensures merged { (fares : Fares) (files : List (List ℕ)) (part : PartView) (parts : List PartView)
-        → HavePlaces files (part ∷ parts) → ArePartsOf fares files (part ∷ parts)
-        → AreWhole (map (λ p. p.spans) (part ∷ parts)) → DoRise (map (λ p. p.history) (part ∷ parts))
+        → HavePositions files (part ∷ parts) → ArePartsOf fares files (part ∷ parts)
+        → AreWhole (map (λ p. p.spans) (part ∷ parts)) → AreIncreasing (map (λ p. p.history) (part ∷ parts))
         → (texts : List (List ℕ)) → AllZip (IsLedgerText fares) (part ∷ parts) texts
         → AllByRecursion (λ p. AreReadable fares p.history) (part ∷ parts)
         → (text : List ℕ) × (merge_of texts ≡ Ok text) }

@@ -18,7 +18,7 @@ use Rattle.ledger_fields.specs.Rows.{Charge, Key, Row}
 use Rattle.ledger_changes.specs.Rows.{key_cmp}
 use Rattle.ledger_changes.proofs.Keys.{key_cmp_total, same_key}
 use Rattle.ledger_changes.proofs.Listed.{kept}
-use Rattle.ledger_changes.proofs.Sorted.{Rise, rise_all, rise_none, rise_tail}
+use Rattle.ledger_changes.proofs.Sorted.{AreNondecreasing, ascend_all, ascend_none, ascend_tail}
 
 abbrev rows_in : Option Row → List Row
 rows_in None = []
@@ -196,11 +196,11 @@ all_map f [] all = tt
 all_map f (row ∷ rows) all = (f row all.0, all_map f rows all.1)
 
 -- behind the first row, and past the key
-past_first : (key : Key) (row : Row) (rows : List Row) → key_cmp key row.key ≡ Less → Rise (row ∷ rows)
+past_first : (key : Key) (row : Row) (rows : List Row) → key_cmp key row.key ≡ Less → AreNondecreasing (row ∷ rows)
     → AllByRecursion (λ later. Lt key later.key) (row ∷ rows)
 past_first key row rows less up = (
   lt_le key row.key row.key less (le_same row.key),
-  all_map (λ later up. lt_le key row.key later.key less up) rows (rise_all row rows up),
+  all_map (λ later up. lt_le key row.key later.key less up) rows (ascend_all row rows up),
 )
   where
     le_same : (k : Key) → Le k k
@@ -216,39 +216,39 @@ ups : (key : Key) (rows : List Row) → AllByRecursion (λ later. Lt key later.k
     → AllByRecursion (λ later. Le key later.key) rows
 ups key rows all = all_map (λ later past. past.0) rows all
 
-first_old : (old : Row) (olds news : List Row) → Rise (old ∷ olds)
+first_old : (old : Row) (olds news : List Row) → AreNondecreasing (old ∷ olds)
     → AllByRecursion (λ later. Lt old.key later.key) news → IsFirst (Some old) None (only_old old) olds news
 first_old old olds news up past = record {
   old = refl;
   new = refl;
   some = tt;
-  olds_up = rise_all old olds up;
+  olds_up = ascend_all old olds up;
   news_up = ups old.key news past;
   olds_past = λ none. absurd (cc);
   news_past = λ none. past;
 }
 
-first_new : (new : Row) (olds news : List Row) → Rise (new ∷ news)
+first_new : (new : Row) (olds news : List Row) → AreNondecreasing (new ∷ news)
     → AllByRecursion (λ later. Lt new.key later.key) olds → IsFirst None (Some new) (only_new new) olds news
 first_new new olds news up past = record {
   old = refl;
   new = refl;
   some = tt;
   olds_up = ups new.key olds past;
-  news_up = rise_all new news up;
+  news_up = ascend_all new news up;
   olds_past = λ none. past;
   news_past = λ none. absurd (cc);
 }
 
-first_both : (old new : Row) (olds news : List Row) → old.key ≡ new.key → Rise (old ∷ olds)
-    → Rise (new ∷ news) → IsFirst (Some old) (Some new) (both_rows old new) olds news
+first_both : (old new : Row) (olds news : List Row) → old.key ≡ new.key → AreNondecreasing (old ∷ olds)
+    → AreNondecreasing (new ∷ news) → IsFirst (Some old) (Some new) (both_rows old new) olds news
 first_both old new olds news same up also = record {
   old = refl;
   new = ap (λ (key : Key). record { key = key; charge = new.charge } ∷ []) same;
   some = tt;
-  olds_up = rise_all old olds up;
+  olds_up = ascend_all old olds up;
   news_up = subst (λ (key : Key). AllByRecursion (λ later. Le key later.key) news) (sym same)
-      (rise_all new news also);
+      (ascend_all new news also);
   olds_past = λ none. absurd (cc);
   news_past = λ none. absurd (cc);
 }
@@ -261,19 +261,19 @@ equal_same a b e =
     same_key a b (ap is_lt e) (ap is_lt (key_cmp_total.antisymm b a ∙ ap ordering_reverse e))
 
 -- ---- all pairs
-paired_news : (news : List Row) → Rise news → IsPaired [] news (map only_new news)
+paired_news : (news : List Row) → AreNondecreasing news → IsPaired [] news (map only_new news)
 paired_news [] up = record { order = tt; of_old = refl; of_new = refl }
 paired_news (new ∷ news) up =
     paired_more None (Some new) (only_new new) [] news (map only_new news) (first_new new [] news up tt)
-    (paired_news news (rise_tail new news up))
+    (paired_news news (ascend_tail new news up))
 
-paired_with : (old : Row) (olds news : List Row) → Rise (old ∷ olds) → Rise news
-    → ((rest : List Row) → Rise rest → IsPaired olds rest (beside olds rest))
+paired_with : (old : Row) (olds news : List Row) → AreNondecreasing (old ∷ olds) → AreNondecreasing news
+    → ((rest : List Row) → AreNondecreasing rest → IsPaired olds rest (beside olds rest))
     → IsPaired (old ∷ olds) news (pairs_with (λ rest. beside olds rest) old news)
 paired_with old olds [] up also more =
-    paired_more (Some old) None (only_old old) olds [] (beside olds []) (first_old old olds [] up tt) (more [] rise_none)
+    paired_more (Some old) None (only_old old) olds [] (beside olds []) (first_old old olds [] up tt) (more [] ascend_none)
 paired_with old olds (new ∷ news) up also more =
-    by_order (key_cmp old.key new.key) refl (paired_with old olds news up (rise_tail new news also) more)
+    by_order (key_cmp old.key new.key) refl (paired_with old olds news up (ascend_tail new news also) more)
   where
     by_order : (order : Ordering) → key_cmp old.key new.key ≡ order
         → IsPaired (old ∷ olds) news (pairs_with (λ rest. beside olds rest) old news)
@@ -284,20 +284,20 @@ paired_with old olds (new ∷ news) up also more =
         (first_old old olds (new ∷ news) up (past_first old.key new news e also)) (more (new ∷ news) also)
     by_order Equal e rest =
         paired_more (Some old) (Some new) (both_rows old new) olds news (beside olds news)
-        (first_both old new olds news (equal_same old.key new.key e) up also) (more news (rise_tail new news also))
+        (first_both old new olds news (equal_same old.key new.key e) up also) (more news (ascend_tail new news also))
     by_order Greater e rest =
         paired_more None (Some new) (only_new new) (old ∷ olds) news (pairs_with (λ rest. beside olds rest) old news)
         (first_new new (old ∷ olds) news also (past_first new.key old olds (greater_less old.key new.key e) up)) rest
 
-paired : (olds news : List Row) → Rise olds → Rise news → IsPaired olds news (beside olds news)
+paired : (olds news : List Row) → AreNondecreasing olds → AreNondecreasing news → IsPaired olds news (beside olds news)
 paired [] news up also = paired_news news also
 paired (old ∷ olds) news up also =
-    paired_with old olds news up also (λ rest rises. paired olds rest (rise_tail old olds up) rises)
+    paired_with old olds news up also (λ rest increases. paired olds rest (ascend_tail old olds up) increases)
 
-pub are_beside : (olds news : List Row) → Rise olds → Rise news → AreSideBySide olds news (beside olds news)
+pub are_beside : (olds news : List Row) → AreNondecreasing olds → AreNondecreasing news → AreSideBySide olds news (beside olds news)
 are_beside olds news up also = side_by_side olds news (beside olds news) (paired olds news up also)
 
-pub are_corrections : (olds news : List Row) → Rise olds → Rise news
+pub are_corrections : (olds news : List Row) → AreNondecreasing olds → AreNondecreasing news
     → AreCorrections olds news (changes_between olds news)
 are_corrections olds news up also =
     record { pairs = beside olds news; beside = are_beside olds news up also; listed = refl }

@@ -76,9 +76,9 @@ below_up a b x less not = by_order (text_cmp b x) refl
         sym (ap is_lt (text_total.antisymm x b ∙ ap ordering_reverse is)) ∙ not in cc)
 
 -- ---- corrections in order
-abbrev pub Rises : List Pair → Type 0
-Rises [] = ⊤
-Rises (change ∷ changes) = AllByRecursion (NotBelow change.key.token) changes × Rises changes
+abbrev pub Ascends : List Pair → Type 0
+Ascends [] = ⊤
+Ascends (change ∷ changes) = AllByRecursion (NotBelow change.key.token) changes × Ascends changes
 
 key_not_below : (key : Key) (later : Pair) → is_lt (key_cmp later.key key) ≡ false
     → NotBelow key.token later
@@ -109,21 +109,21 @@ order_tail change changes up = λ k d low high.
     subst (λ (n : ℕ). is_lt (key_cmp (get_or (change ∷ changes) n d).key (get_or changes k d).key)
     ≡ false) next (up (suc k) d (omega arith) (omega (arith, high)))
 
-rises : (changes : List Pair) → InOrder changes → Rises changes
-rises [] up = tt
-rises (change ∷ changes) up =
+increases : (changes : List Pair) → InOrder changes → Ascends changes
+increases [] up = tt
+increases (change ∷ changes) up =
     let all : All (λ later. is_lt (key_cmp later.key change.key) ≡ false) changes = λ j d high.
     sorted_far (λ a b. is_lt (key_cmp a.key b.key)) (ranks_by key_cmp_total (λ (p : Pair). p.key))
     (change ∷ changes) up 0 (suc j) d (omega arith) (omega (arith, high)) in (
       all_weaker (key_not_below change.key) changes
           (recursion_from_All (λ later. is_lt (key_cmp later.key change.key) ≡ false) changes all),
-      rises changes (order_tail change changes up),
+      increases changes (order_tail change changes up),
     )
 
-pub corrections_rise : (old new : List Row) (changes : List Pair) → AreCorrections old new changes
-    → Rises changes
-corrections_rise old new changes are =
-    subst Rises (sym are.listed) (rises (filter is_changed are.pairs)
+pub corrections_ascend : (old new : List Row) (changes : List Pair) → AreCorrections old new changes
+    → Ascends changes
+corrections_ascend old new changes are =
+    subst Ascends (sym are.listed) (increases (filter is_changed are.pairs)
     (IsSortedBy-filter (λ a b. is_lt (key_cmp a.key b.key))
     (ranks_by key_cmp_total (λ (p : Pair). p.key)) is_changed are.pairs are.beside.sorted))
 
@@ -247,7 +247,7 @@ has_past t run rest all (s ∷ tokens) above has = (
 pub record IsCut (t : List ℕ) (changes : List Pair) (text : List ℕ) : Type 0 where
   pub more : List (List ℕ)
   pub above : AllByRecursion (λ later. text_cmp t later ≡ Less) more
-  pub rising : IsStrictlySortedBy text_cmp more
+  pub increasing : IsStrictlySortedBy text_cmp more
   pub some : AllByRecursion (Has changes) (t ∷ more)
   pub all : AllByRecursion (Listed (t ∷ more)) changes
   pub shown : text ≡ tokens_lines changes (t ∷ more)
@@ -265,7 +265,7 @@ unfolding IsStrictlySortedBy
 cut_last t run all some = record {
   more = [];
   above = tt;
-  rising = tt;
+  increasing = tt;
   some = (λ none. some (sym (all_of t run all) ∙ none), tt);
   all = listed_run t [] run all;
   shown = ap (λ (some : List Pair). token_line t (sums_of some)) (sym (all_of t run all))
@@ -286,7 +286,7 @@ cut_more t run rest s text all some less above cut =
     record {
       more = tokens;
       above = higher;
-      rising = (cut.above, cut.rising);
+      increasing = (cut.above, cut.increasing);
       some = (λ none. some (sym mine ∙ none), has_past t run rest all tokens higher cut.some);
       all = all_append (Listed (t ∷ tokens)) run rest (listed_run t tokens run all)
           (all_weaker (λ change is. there t change.key.token tokens is) rest cut.all);
@@ -306,7 +306,7 @@ run_longer [] change = not_nil change []
 run_longer (first ∷ run) change = not_nil first (run ++ change ∷ [])
 
 cut : (t : List ℕ) (run rest : List Pair) → AllByRecursion (λ change. t ≡ change.key.token) run
-    → ¬ (run ≡ []) → AllByRecursion (NotBelow t) rest → Rises rest
+    → ¬ (run ≡ []) → AllByRecursion (NotBelow t) rest → Ascends rest
     → IsCut t (run ++ rest) (text_from (sum_with t run) rest)
 cut t run [] all some up order =
     subst (λ (changes : List Pair). IsCut t changes (token_line t (sums_of run)))
@@ -352,13 +352,13 @@ cut t run (change ∷ rest) all some up order =
         (text_from (record { token = s; sums = sums }) rest)) (sym (sums_add [] one)) other))
 
 -- ---- all corrections
-pub tokens_by : (changes : List Pair) → Rises changes
+pub tokens_by : (changes : List Pair) → Ascends changes
     → HasTokens changes (all_lines true changes)
 unfolding IsStrictlySortedBy
 tokens_by [] order = record {
   tokens = [];
   are = record {
-    rising = tt;
+    increasing = tt;
     some = All-from_recursion (Has []) [] tt;
     all = All-from_recursion (Listed []) [] tt;
   };
@@ -373,7 +373,7 @@ tokens_by (change ∷ changes) order =
     record {
       tokens = s ∷ from.more;
       are = record {
-        rising = (from.above, from.rising);
+        increasing = (from.above, from.increasing);
         some = All-from_recursion (Has (change ∷ changes)) (s ∷ from.more) from.some;
         all = All-from_recursion (Listed (s ∷ from.more)) (change ∷ changes) from.all;
       };

@@ -9,11 +9,11 @@ use Rattle.fare_texts.specs.LedgerLines.{head_text}
 use Rattle.line_folds.specs.Folds.{carry, lines_of}
 use Rattle.ledger_fields.specs.Lines.{row_in}
 use Rattle.ledger_fields.specs.Rows.{Row}
-use Rattle.ledger_changes.specs.Ledgers.{cons_row, does_fall, placed, row_after, rows_behind_head, rows_from, rows_of}
+use Rattle.ledger_changes.specs.Ledgers.{cons_row, does_decrease, placed, row_after, rows_after_head, rows_from, rows_of}
 use Rattle.ledger_changes.specs.declared.fault.WrongLine.{WrongLine}
 use Rattle.ledger_changes.specs.declared.fault.WrongLine.TheVariants.{Form, Order}
 use Rattle.ledger_changes.specs.inside.Readings.{rows_with}
-use Rattle.ledger_changes.proofs.Sorted.{Rise, rise_more, rise_none, rise_one}
+use Rattle.ledger_changes.proofs.Sorted.{AreNondecreasing, ascend_more, ascend_none, ascend_one}
 
 -- ---- one line
 abbrev goes_on : ℕ → List (List ℕ) → Result Row WrongLine → Result (List Row) (ℕ × WrongLine)
@@ -51,14 +51,14 @@ rows_form number before text line lines shown short none =
 
 pub rows_order : (number : ℕ) (before : Option Row) (text line : List ℕ) (lines : List (List ℕ)) (row : Row)
     → lines_of text ≡ line ∷ lines → nat_lt 1024 (length line) ≡ false → row_in line ≡ Some row
-    → does_fall before row ≡ true → rows_from number before (lines_of text) ≡ Err (number, Order)
-rows_order number before text line lines row shown short some falls =
+    → does_decrease before row ≡ true → rows_from number before (lines_of text) ≡ Err (number, Order)
+rows_order number before text line lines row shown short some is_decrease =
     next_line number before text line lines (Err Order) shown
-    (short_line before line (Some row) short some ∙ ap (λ (b : Bool). cond b (Err Order) (Ok row)) falls)
+    (short_line before line (Some row) short some ∙ ap (λ (b : Bool). cond b (Err Order) (Ok row)) is_decrease)
 
 pub rows_more : (number : ℕ) (before : Option Row) (text line rest : List ℕ) (row : Row)
     → lines_of text ≡ line ∷ lines_of rest → nat_lt 1024 (length line) ≡ false → row_in line ≡ Some row
-    → does_fall before row ≡ false
+    → does_decrease before row ≡ false
     → rows_from number before (lines_of text) ≡ rows_with (Some row) number rest
 rows_more number before text line rest row shown short some stays =
     next_line number before text line (lines_of rest) (Ok row) shown
@@ -71,7 +71,7 @@ head_none text none = ap rows_of none
 head_by : (text line : List ℕ) (lines : List (List ℕ)) (b : Bool) → lines_of text ≡ line ∷ lines
     → bytes_eq line head_text ≡ b → rows_of text ≡ cond b (rows_from 2 None lines) (Err (1, Form))
 head_by text line lines b shown is =
-    ap rows_behind_head shown ∙ ap (λ (t : Bool). cond t (rows_from 2 None lines) (Err (1, Form))) is
+    ap rows_after_head shown ∙ ap (λ (t : Bool). cond t (rows_from 2 None lines) (Err (1, Form))) is
 
 other_bytes : (a b : List ℕ) (r : Bool) → bytes_eq a b ≡ r → (a ≡ b → ⊥) → r ≡ false
 other_bytes a b false is other = refl
@@ -94,60 +94,60 @@ head_is text line rest shown is =
     head_by text line (lines_of rest) true shown ((bytes_eq-Decides line head_text).1 is)
 
 -- ---- the rows of a ledger are in order
-abbrev RiseFrom : Option Row → List Row → Type 0
-RiseFrom None rows = Rise rows
-RiseFrom (Some row) rows = Rise (row ∷ rows)
+abbrev AreNondecreasingFrom : Option Row → List Row → Type 0
+AreNondecreasingFrom None rows = AreNondecreasing rows
+AreNondecreasingFrom (Some row) rows = AreNondecreasing (row ∷ rows)
 
-rise_from : (before : Option Row) (row : Row) (rows : List Row) → does_fall before row ≡ false → Rise (row ∷ rows)
-    → RiseFrom before (row ∷ rows)
-rise_from None row rows stays up = up
-rise_from (Some before) row rows stays up = rise_more before row rows stays up
+ascend_from : (before : Option Row) (row : Row) (rows : List Row) → does_decrease before row ≡ false → AreNondecreasing (row ∷ rows)
+    → AreNondecreasingFrom before (row ∷ rows)
+ascend_from None row rows stays up = up
+ascend_from (Some before) row rows stays up = ascend_more before row rows stays up
 
-no_rows : (before : Option Row) → RiseFrom before []
-no_rows None = rise_none
-no_rows (Some row) = rise_one row
+no_rows : (before : Option Row) → AreNondecreasingFrom before []
+no_rows None = ascend_none
+no_rows (Some row) = ascend_one row
 
 wrong_is_right : {A E : Type 0} (e : E) (a : A) → Err e ≡ Ok a → ⊥
 wrong_is_right e a is = cc
 
-from_rises : (number : ℕ) (before : Option Row) (lines : List (List ℕ)) (rows : List Row)
-    → rows_from number before lines ≡ Ok rows → RiseFrom before rows
-from_rises number before [] rows is = subst (RiseFrom before) (let t : [] ≡ rows = cc in t) (no_rows before)
-from_rises number before (line ∷ lines) rows is =
+from_ascends : (number : ℕ) (before : Option Row) (lines : List (List ℕ)) (rows : List Row)
+    → rows_from number before lines ≡ Ok rows → AreNondecreasingFrom before rows
+from_ascends number before [] rows is = subst (AreNondecreasingFrom before) (let t : [] ≡ rows = cc in t) (no_rows before)
+from_ascends number before (line ∷ lines) rows is =
     by_long (nat_lt 1024 (length line)) is
-    (λ row more same. from_rises (number + 1) (Some row) lines more same)
+    (λ row more same. from_ascends (number + 1) (Some row) lines more same)
   where
-    Behind : Type 0
-    Behind = (row : Row) (more : List Row) → rows_from (number + 1) (Some row) lines ≡ Ok more → Rise (row ∷ more)
+    After : Type 0
+    After = (row : Row) (more : List Row) → rows_from (number + 1) (Some row) lines ≡ Ok more → AreNondecreasing (row ∷ more)
 
     by_rest : (row : Row) (said : Result (List Row) (ℕ × WrongLine)) → rows_from (number + 1) (Some row) lines ≡ said
-        → does_fall before row ≡ false → cons_row row said ≡ Ok rows → Behind → RiseFrom before rows
-    by_rest row (Err wrong) same stays is behind = absurd (wrong_is_right wrong rows is)
-    by_rest row (Ok more) same stays is behind =
-        subst (RiseFrom before) (let t : row ∷ more ≡ rows = cc in t)
-        (rise_from before row more stays (behind row more same))
+        → does_decrease before row ≡ false → cons_row row said ≡ Ok rows → After → AreNondecreasingFrom before rows
+    by_rest row (Err wrong) same stays is trailing = absurd (wrong_is_right wrong rows is)
+    by_rest row (Ok more) same stays is trailing =
+        subst (AreNondecreasingFrom before) (let t : row ∷ more ≡ rows = cc in t)
+        (ascend_from before row more stays (trailing row more same))
 
-    by_fall : (row : Row) (b : Bool) → does_fall before row ≡ b → goes_on number lines (cond b (Err Order) (Ok row)) ≡ Ok rows
-        → Behind → RiseFrom before rows
-    by_fall row true falls is behind = absurd (wrong_is_right (number, Order) rows is)
-    by_fall row false stays is behind = by_rest row (rows_from (number + 1) (Some row) lines) refl stays is behind
+    by_decrease : (row : Row) (b : Bool) → does_decrease before row ≡ b → goes_on number lines (cond b (Err Order) (Ok row)) ≡ Ok rows
+        → After → AreNondecreasingFrom before rows
+    by_decrease row true is_decrease is trailing = absurd (wrong_is_right (number, Order) rows is)
+    by_decrease row false stays is trailing = by_rest row (rows_from (number + 1) (Some row) lines) refl stays is trailing
 
-    by_row : (row : Option Row) → goes_on number lines (placed before row) ≡ Ok rows → Behind → RiseFrom before rows
-    by_row None is behind = absurd (wrong_is_right (number, Form) rows is)
-    by_row (Some row) is behind = by_fall row (does_fall before row) refl is behind
+    by_row : (row : Option Row) → goes_on number lines (placed before row) ≡ Ok rows → After → AreNondecreasingFrom before rows
+    by_row None is trailing = absurd (wrong_is_right (number, Form) rows is)
+    by_row (Some row) is trailing = by_decrease row (does_decrease before row) refl is trailing
 
     by_long : (b : Bool) → goes_on number lines (cond b (Err Form) (placed before (row_in line))) ≡ Ok rows
-        → Behind → RiseFrom before rows
-    by_long true is behind = absurd (wrong_is_right (number, Form) rows is)
-    by_long false is behind = by_row (row_in line) is behind
+        → After → AreNondecreasingFrom before rows
+    by_long true is trailing = absurd (wrong_is_right (number, Form) rows is)
+    by_long false is trailing = by_row (row_in line) is trailing
 
-pub rows_rise : (text : List ℕ) (rows : List Row) → rows_of text ≡ Ok rows → Rise rows
-rows_rise text rows is = by_lines (lines_of text) is
+pub rows_ascend : (text : List ℕ) (rows : List Row) → rows_of text ≡ Ok rows → AreNondecreasing rows
+rows_ascend text rows is = by_lines (lines_of text) is
   where
-    by_head : (lines : List (List ℕ)) (b : Bool) → cond b (rows_from 2 None lines) (Err (1, Form)) ≡ Ok rows → Rise rows
-    by_head lines true is = from_rises 2 None lines rows is
+    by_head : (lines : List (List ℕ)) (b : Bool) → cond b (rows_from 2 None lines) (Err (1, Form)) ≡ Ok rows → AreNondecreasing rows
+    by_head lines true is = from_ascends 2 None lines rows is
     by_head lines false is = absurd (wrong_is_right (1, Form) rows is)
 
-    by_lines : (lines : List (List ℕ)) → rows_behind_head lines ≡ Ok rows → Rise rows
+    by_lines : (lines : List (List ℕ)) → rows_after_head lines ≡ Ok rows → AreNondecreasing rows
     by_lines [] is = absurd (wrong_is_right (1, Form) rows is)
     by_lines (line ∷ lines) is = by_head lines (bytes_eq line head_text) is

@@ -14,30 +14,30 @@ use Rattle.ledger_changes.proofs.Keys.{key_cmp_total}
 abbrev pub NotBelow : Row → Row → Type 0
 NotBelow row later = is_lt (key_cmp later.key row.key) ≡ false
 
-abbrev pub Rise : List Row → Type 0
-Rise rows = IsSorted (λ a b. key_cmp a.key b.key) rows
+abbrev pub AreNondecreasing : List Row → Type 0
+AreNondecreasing rows = IsSorted (λ a b. key_cmp a.key b.key) rows
 
 abbrev At : List Row → ℕ → Row → Type 0
 At rows k d = is_lt (key_cmp (get_or rows (k + 1) d).key (get_or rows k d).key) ≡ false
 
-pub rise_none : Rise []
-rise_none = λ k d low high. absurd (omega (arith, high))
+pub ascend_none : AreNondecreasing []
+ascend_none = λ k d low high. absurd (omega (arith, high))
 
-pub rise_one : (row : Row) → Rise (row ∷ [])
-rise_one row = λ k d low high. absurd (omega (arith, high))
+pub ascend_one : (row : Row) → AreNondecreasing (row ∷ [])
+ascend_one row = λ k d low high. absurd (omega (arith, high))
 
-pub rise_tail : (row : Row) (rows : List Row) → Rise (row ∷ rows) → Rise rows
-rise_tail row rows up = λ k d low high.
+pub ascend_tail : (row : Row) (rows : List Row) → AreNondecreasing (row ∷ rows) → AreNondecreasing rows
+ascend_tail row rows up = λ k d low high.
     let next : suc k + 1 ≡ suc (k + 1) = omega arith in
     subst (λ (n : ℕ). is_lt (key_cmp (get_or (row ∷ rows) n d).key (get_or rows k d).key) ≡ false)
     next (up (suc k) d (omega arith) (omega (arith, high)))
 
-pub rise_head : (row next : Row) (rows : List Row) → Rise (row ∷ next ∷ rows) → NotBelow row next
-rise_head row next rows up = up 0 row (omega arith) (omega arith)
+pub ascend_head : (row next : Row) (rows : List Row) → AreNondecreasing (row ∷ next ∷ rows) → NotBelow row next
+ascend_head row next rows up = up 0 row (omega arith) (omega arith)
 
-pub rise_more : (row next : Row) (rows : List Row) → NotBelow row next → Rise (next ∷ rows)
-    → Rise (row ∷ next ∷ rows)
-rise_more row next rows first up = each
+pub ascend_more : (row next : Row) (rows : List Row) → NotBelow row next → AreNondecreasing (next ∷ rows)
+    → AreNondecreasing (row ∷ next ∷ rows)
+ascend_more row next rows first up = each
   where
     each : (k : ℕ) (d : Row) → 0 ≤ k → k + 1 < length (row ∷ next ∷ rows)
         → At (row ∷ next ∷ rows) k d
@@ -49,9 +49,9 @@ rise_more row next rows first up = each
         (up k d (omega arith) (omega (arith, high)))
 
 -- all that follow are not below the first
-pub rise_all : (row : Row) (rows : List Row) → Rise (row ∷ rows)
+pub ascend_all : (row : Row) (rows : List Row) → AreNondecreasing (row ∷ rows)
     → AllByRecursion (NotBelow row) rows
-rise_all row rows up =
+ascend_all row rows up =
     let all : All (NotBelow row) rows = λ j d high.
     sorted_far (λ a b. is_lt (key_cmp a.key b.key)) (ranks_by key_cmp_total (λ (r : Row). r.key))
     (row ∷ rows) up 0 (suc j) d (omega arith) (omega (arith, high)) in

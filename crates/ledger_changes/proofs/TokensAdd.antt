@@ -33,9 +33,9 @@ no_share x n (t ∷ tokens) above =
 
 one_share : (x : List ℕ) (n : ℕ) (tokens : List (List ℕ)) → IsStrictlySortedBy text_cmp tokens
     → Contains tokens x → sum_by (share x n) tokens ≡ n
-one_share x n [] rising is = absurd (omega (arith, is.1))
-one_share x n (t ∷ tokens) rising is =
-    by_test (is_same_text t x) refl (one_share x n tokens (sorted_tail text_cmp t tokens rising))
+one_share x n [] increasing is = absurd (omega (arith, is.1))
+one_share x n (t ∷ tokens) increasing is =
+    by_test (is_same_text t x) refl (one_share x n tokens (sorted_tail text_cmp t tokens increasing))
   where
     sum : sum_by (share x n) (t ∷ tokens) ≡ share x n t + sum_by (share x n) tokens
     sum = sum_by-cons (share x n) t tokens
@@ -46,7 +46,7 @@ one_share x n (t ∷ tokens) rising is =
         let first : share x n t ≡ n = ap (λ (b : Bool). cond b n 0) e in
         let rest = no_share x n tokens
         (subst (λ (y : List ℕ). AllByRecursion (λ later. text_cmp y later ≡ Less) tokens)
-        (tied t x e) (sorted_head text_cmp t tokens rising)) in
+        (tied t x e) (sorted_head text_cmp t tokens increasing)) in
         let whole = sum in
         omega (arith, first, rest, whole)
     by_test false e more =
@@ -92,12 +92,12 @@ module _ (f : Pair → ℕ) where
       → (changes : List Pair) → AllByRecursion (Listed tokens) changes
       → sum_by (of_one changes) tokens ≡ sum_by f changes
   unfolding of_one
-  sums_by_token tokens rising [] all = sum_of_none tokens
-  sums_by_token tokens rising (change ∷ changes) all =
+  sums_by_token tokens increasing [] all = sum_of_none tokens
+  sums_by_token tokens increasing (change ∷ changes) all =
       let both = sum_of_both (share change.key.token (f change)) (of_one changes)
       (of_one (change ∷ changes)) (one_more change changes) tokens in
-      let one = one_share change.key.token (f change) tokens rising all.0 in
-      let rest = sums_by_token tokens rising changes all.1 in
+      let one = one_share change.key.token (f change) tokens increasing all.0 in
+      let rest = sums_by_token tokens increasing changes all.1 in
       let sum = sum_by-cons f change changes in
       omega (arith, both, one, rest, sum)
 
@@ -122,8 +122,8 @@ pub tokens_add : (old new : List Row) (changes : List Pair) (tokens : List (List
 unfolding of_one
 tokens_add old new changes tokens are by =
     let all = recursion_from_All (Listed tokens) changes by.all in
-    let after = sums_by_token (λ change. cents_of change.after) tokens by.rising changes all in
-    let before = sums_by_token (λ change. cents_of change.before) tokens by.rising changes all in
+    let after = sums_by_token (λ change. cents_of change.after) tokens by.increasing changes all in
+    let before = sums_by_token (λ change. cents_of change.before) tokens by.increasing changes all in
     let up = adds_up old new changes are (λ key charge. charge.cents) in
     let weight_after = sum_same
     (λ change. weight_of (λ key charge. charge.cents) change.key change.after)

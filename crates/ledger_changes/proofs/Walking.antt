@@ -6,7 +6,7 @@ use Rattle.std.specs.declared.cmp.Ordering.TheVariants.{Less, Equal, Greater}
 use Rattle.std.proofs.lemmas.List.Elements.{filter-append}
 use Rattle.ledger_fields.specs.Rows.{Row}
 use Rattle.ledger_changes.specs.Changes.{Pair, beside, changes_between, is_changed, pairs_by, pairs_with}
-use Rattle.ledger_changes.specs.Given.{Behind, IsGivenAfter, Left, Said, Walked, Wrote}
+use Rattle.ledger_changes.specs.Given.{After, IsGivenAfter, Left, Said, Walked, Wrote}
 use Rattle.ledger_changes.specs.inside.Walks.{GoesOn, IsWhole, StopsAt}
 use Rattle.ledger_changes.specs.inside.Pairs.{next_sides, pairs_of, sides_by}
 use Rattle.line_folds.specs.Folds.{lines_of}
@@ -137,7 +137,7 @@ with_err (Some row) wrong = refl
 changes_more : (b a : Option Row) (old' new' : Said) → ((olds news : List Row) → old' ≡ Ok olds → new' ≡ Ok news
     → beside (rows_in b ++ olds) (rows_in a ++ news) ≡ pairs_of b a ++ beside olds news)
     → changes_of_both (with_row b old') (with_row a new')
-    ≡ Behind (filter is_changed (pairs_of b a)) (changes_of_both old' new')
+    ≡ After (filter is_changed (pairs_of b a)) (changes_of_both old' new')
 changes_more b a (Err wrong) new' each = ap (λ (s : Said). changes_of_both s (with_row a new')) (with_err b wrong)
 changes_more b a (Ok olds) (Err wrong) each =
     ap (λ (s : Said). changes_of_both s (with_row a (Err wrong))) (with_ok b olds)
@@ -148,13 +148,13 @@ changes_more b a (Ok olds) (Ok news) each =
     ∙ ap (λ (pairs : List Pair). Some (filter is_changed pairs)) (each olds news refl refl)
     ∙ ap (λ (changes : List Pair). Some changes) (filter-append is_changed (pairs_of b a) (beside olds news))
 
-behind_none : (rest : Option (List Pair)) → rest ≡ Behind [] rest
-behind_none None = refl
-behind_none (Some pairs) = refl
+after_none : (rest : Option (List Pair)) → rest ≡ After [] rest
+after_none None = refl
+after_none (Some pairs) = refl
 
-behind_more : (done more : List Pair) (rest : Option (List Pair)) → Behind done (Behind more rest) ≡ Behind (done ++ more) rest
-behind_more done more None = refl
-behind_more done more (Some pairs) = ap (λ (l : List Pair). Some l) (sym (append_assoc done more pairs))
+after_more : (done more : List Pair) (rest : Option (List Pair)) → After done (After more rest) ≡ After (done ++ more) rest
+after_more done more None = refl
+after_more done more (Some pairs) = ap (λ (l : List Pair). Some l) (sym (append_assoc done more pairs))
 
 pub walk_first : (by_token : Bool) (o n : Option Said) (old new : Said) → o ≡ Some old → n ≡ Some new
     → Walked by_token (head_of by_token) 0 None o n old new
@@ -165,7 +165,7 @@ walk_first by_token o n old new is_old is_new = record {
   is_new = is_new;
   done = [];
   rest = record {
-    left = behind_none (changes_of_both old new);
+    left = after_none (changes_of_both old new);
     wrong_old = λ wrong is. is;
     wrong_new = λ wrong is. is;
   };
@@ -182,10 +182,10 @@ pub left_more : (o n : Option Row) (old0 new0 old new old' new' : Said) (done : 
     → Left old0 new0 old' new' (done ++ filter is_changed (pairs_of b a))
 left_more o n old0 new0 old new old' new' done b a h k sides is_b is_a row_o row_n is_old is_new left = record {
   left = left.left
-      ∙ ap (λ (s : Said). Behind done (changes_of_both s new)) is_old
-      ∙ ap (λ (s : Said). Behind done (changes_of_both (with_row b old') s)) is_new
-      ∙ ap (Behind done) (changes_more b a old' new' each)
-      ∙ behind_more done (filter is_changed (pairs_of b a)) (changes_of_both old' new');
+      ∙ ap (λ (s : Said). After done (changes_of_both s new)) is_old
+      ∙ ap (λ (s : Said). After done (changes_of_both (with_row b old') s)) is_new
+      ∙ ap (After done) (changes_more b a old' new' each)
+      ∙ after_more done (filter is_changed (pairs_of b a)) (changes_of_both old' new');
   wrong_old = λ wrong is. left.wrong_old wrong (wrong_with b old old' wrong is_old is);
   wrong_new = λ wrong is. left.wrong_new wrong (wrong_with a new new' wrong is_new is);
 }
@@ -259,8 +259,8 @@ all_given : (by_token : Bool) (text full : List ℕ) (removed : ℕ) (last : Opt
     → full ≡ text ++ sums_line last → IsWhole by_token full removed old0 new0
 all_given by_token text full removed last old0 new0 old new_said done left wrote no_old no_new is_full =
     ap (option_map (text_of by_token)) (left.left
-    ∙ ap (λ (s : Said). Behind done (changes_of_both s new_said)) no_old
-    ∙ ap (λ (s : Said). Behind done (changes_of_both (Ok []) s)) no_new
+    ∙ ap (λ (s : Said). After done (changes_of_both s new_said)) no_old
+    ∙ ap (λ (s : Said). After done (changes_of_both (Ok []) s)) no_new
     ∙ ap (λ (l : List Pair). Some l) (append-nil done))
     ∙ ap (λ (t : List ℕ). Some (t, removed_in done)) (sym whole)
     ∙ ap (λ (n : ℕ). Some (full, n)) (sym wrote.counted)
@@ -299,7 +299,7 @@ outlook by_token text removed last o n (Err wrong) new0 w = inr (inl (wrong, ref
 outlook by_token text removed last o n (Ok olds) (Err wrong) w = inr (inr (wrong, refl))
 outlook by_token text removed last o n (Ok olds) (Ok news) w = by (changes_of_both w.old w.new) w.rest.left
   where
-    by : (rest : Option (List Pair)) → Some (changes_between olds news) ≡ Behind w.done rest
+    by : (rest : Option (List Pair)) → Some (changes_between olds news) ≡ After w.done rest
         → Outlook by_token text (Ok olds) (Ok news)
     by None is = absurd (cc)
     by (Some more) is =

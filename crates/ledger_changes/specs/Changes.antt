@@ -62,9 +62,9 @@ abbrev pub both_rows : Row → Row → Pair
 both_rows old new = record { key = old.key; before = Some old.charge; after = Some new.charge }
 
 abbrev pub pairs_by : Ordering → Row → Row → List Pair → List Pair → List Pair → List Pair
-pairs_by Less old new behind_old behind_both behind_new = only_old old ∷ behind_old
-pairs_by Equal old new behind_old behind_both behind_new = both_rows old new ∷ behind_both
-pairs_by Greater old new behind_old behind_both behind_new = only_new new ∷ behind_new
+pairs_by Less old new after_old after_both after_new = only_old old ∷ after_old
+pairs_by Equal old new after_old after_both after_new = both_rows old new ∷ after_both
+pairs_by Greater old new after_old after_both after_new = only_new new ∷ after_new
 
 -- the pairs of a row and these new ones, if `more` gives those of the old rows after it
 abbrev pub pairs_with : (List Row → List Pair) → Row → List Row → List Pair

@@ -18,13 +18,13 @@ abbrev pub Said : Type 0
 Said = Result (List Row) (ℕ × WrongLine)
 
 -- these corrections, and more after them if these are known
-abbrev pub Behind : List Pair → Option (List Pair) → Option (List Pair)
-Behind done rest = option_map (λ pairs. done ++ pairs) rest
+abbrev pub After : List Pair → Option (List Pair) → Option (List Pair)
+After done rest = option_map (λ pairs. done ++ pairs) rest
 
 -- The corrections of two ledgers are these, and those of what is left of both. A line that is wrong
 -- in what is left is the first wrong one of its ledger.
 pub record Left (old0 new0 old new : Said) (done : List Pair) : Type 0 where
-  pub left : changes_of_both old0 new0 ≡ Behind done (changes_of_both old new)
+  pub left : changes_of_both old0 new0 ≡ After done (changes_of_both old new)
   pub wrong_old : (wrong : ℕ × WrongLine) → old ≡ Err wrong → old0 ≡ Err wrong
   pub wrong_new : (wrong : ℕ × WrongLine) → new ≡ Err wrong → new0 ≡ Err wrong
 

@@ -15,13 +15,13 @@ use Rattle.ledger_changes.specs.declared.fault.WrongLine.{WrongLine}
 use Rattle.ledger_changes.specs.declared.fault.WrongLine.TheVariants.{Form, Order}
 
 -- the row belongs before the one before it
-abbrev pub does_fall : Option Row → Row → Bool
-does_fall None row = false
-does_fall (Some before) row = is_lt (key_cmp row.key before.key)
+abbrev pub does_decrease : Option Row → Row → Bool
+does_decrease None row = false
+does_decrease (Some before) row = is_lt (key_cmp row.key before.key)
 
 abbrev pub placed : Option Row → Option Row → Result Row WrongLine
 placed before None = Err Form
-placed before (Some row) = cond (does_fall before row) (Err Order) (Ok row)
+placed before (Some row) = cond (does_decrease before row) (Err Order) (Ok row)
 
 -- the row of a line that follows a row, or why the line is wrong
 abbrev pub row_after : Option Row → List ℕ → Result Row WrongLine
@@ -38,14 +38,14 @@ rows_from number before [] = Ok []
 rows_from number before (line ∷ lines) =
     carry (λ row. cons_row row (rows_from (number + 1) (Some row) lines)) (λ why. (number, why)) (row_after before line)
 
-abbrev pub rows_behind_head : List (List ℕ) → Result (List Row) (ℕ × WrongLine)
-rows_behind_head [] = Err (1, Form)
-rows_behind_head (line ∷ lines) = cond (bytes_eq line head_text) (rows_from 2 None lines) (Err (1, Form))
+abbrev pub rows_after_head : List (List ℕ) → Result (List Row) (ℕ × WrongLine)
+rows_after_head [] = Err (1, Form)
+rows_after_head (line ∷ lines) = cond (bytes_eq line head_text) (rows_from 2 None lines) (Err (1, Form))
 
 -- THE meaning of a settled ledger: the rows of its text, in the order of their keys, after the
 -- header line; or the number of its first wrong line, and why that is wrong
 abbrev pub rows_of : List ℕ → Result (List Row) (ℕ × WrongLine)
-rows_of text = rows_behind_head (lines_of text)
+rows_of text = rows_after_head (lines_of text)
 
 -- a line that is refused is the first wrong one of its ledger, for this reason
 abbrev pub NamesFirstWrong : List ℕ → List ℕ → CorrectionsFault → Type 0

@@ -154,7 +154,7 @@ corrections_of by_token old new =
 -- ---- what the sums of tokens say
 -- these are the tokens that have a correction: each once, increasing
 pub record AreTokensOf (changes : List Pair) (tokens : List (List ℕ)) : Type 0 where
-  pub rising : IsStrictlySortedBy text_cmp tokens
+  pub increasing : IsStrictlySortedBy text_cmp tokens
   pub some : All (λ token. ¬ (of_token token changes ≡ [])) tokens
   pub all : All (λ change. Contains tokens change.key.token) changes
 

@@ -2,7 +2,7 @@
 
 ghost use Rattle.std.specs.Prelude.{◌≡◌, Option, None, IfErr, IfOk, IfSome, if◌then◌else◌};
 ghost use Rattle.line_folds.specs.Folds.{lines_of};
-ghost use Rattle.ledger_changes.specs.Ledgers.{does_fall, rows_from, rows_of};
+ghost use Rattle.ledger_changes.specs.Ledgers.{does_decrease, rows_from, rows_of};
 ghost use Rattle.ledger_changes.specs.inside.Readings.{IsWrongAs, Moves, ReadsRow, rows_at};
 ghost use Rattle.ledger_changes.specs.inside.Views.{row_in, row_of};
 
@@ -29,8 +29,8 @@ pub(crate) struct LedgerRows<R: BufRead + Drop> {
 }
 
 /// Whether the row belongs before the one before it.
-fn does_fall(before: &Option<LedgerRow>, row: &LedgerRow) -> bool
-    ensures { result ≡ does_fall (row_in before.now) (row_of row.now) }
+fn does_decrease(before: &Option<LedgerRow>, row: &LedgerRow) -> bool
+    ensures { result ≡ does_decrease (row_in before.now) (row_of row.now) }
 {
     match before {
         Some(before) => row.key.compare(&before.key).is_lt(),
@@ -43,13 +43,13 @@ fn read_row<R: BufRead>(
     alloc: Global,
     from: &mut R,
     line: &mut Vec<u8>,
-    place: (Bill, u64),
+    position: (Bill, u64),
     before: &Option<LedgerRow>,
 ) -> Result<Option<LedgerRow>, CorrectionsFault>
-    ensures { IfSome (R.remaining from.old) (λ text. ReadsRow place.0 place.1
-        (rows_from place.1 (row_in before.now) (lines_of text)) (R.remaining from.new) result) }
+    ensures { IfSome (R.remaining from.old) (λ text. ReadsRow position.0 position.1
+        (rows_from position.1 (row_in before.now) (lines_of text)) (R.remaining from.new) result) }
 {
-    let (bill, number) = place;
+    let (bill, number) = position;
     match next_line(from, line) {
         Ok(NextLine::Whole) => {}
         Ok(NextLine::Long) => return Err(CorrectionsFault::Line(bill, number, WrongLine::Form)),
@@ -61,7 +61,7 @@ fn read_row<R: BufRead>(
         return Err(CorrectionsFault::Line(bill, number, WrongLine::Form));
     };
     let row = LedgerRow::of_fields(alloc, fields)?;
-    if does_fall(before, &row) {
+    if does_decrease(before, &row) {
         return Err(CorrectionsFault::Line(bill, number, WrongLine::Order));
     }
     Ok(Some(row))
@@ -123,8 +123,8 @@ impl<R: BufRead + Drop> LedgerRows<R> {
         let Some(number) = self.number.checked_add(1) else {
             return Err(CorrectionsFault::Unread(self.bill));
         };
-        let place = (self.bill, number);
-        let next = read_row(alloc, &mut self.from, &mut self.line, place, &self.row)?;
+        let position = (self.bill, number);
+        let next = read_row(alloc, &mut self.from, &mut self.line, position, &self.row)?;
         self.number = number;
         Ok(mem::replace(&mut self.row, next))
     }

@@ -16,10 +16,10 @@ use Rattle.ledger_check.proofs.Times.{one, one_self, permutation_of_times, times
 -- IsBalance, of a balance's two fields
 abbrev pub Balances : BTreeMap TapFields ℕ → Option TapFields → List TapFields → List TapFields
     → Type 0
-Balances left surplus good struck =
+Balances left surplus valid subtracted =
     MatchOption surplus ((tap : TapFields)
-    → copies_among tap good ≡ left_at left tap + copies_among tap struck)
-    (IsFirstSurplus good struck)
+    → copies_among tap valid ≡ left_at left tap + copies_among tap subtracted)
+    (IsFirstSurplus valid subtracted)
 
 -- in the one map one more is left of the tap than in the other
 abbrev pub HasOneMore : BTreeMap TapFields ℕ → BTreeMap TapFields ℕ → TapFields → Type 0
@@ -32,55 +32,55 @@ pub nowhere : (before after : List TapFields) (tap : TapFields) → [] ≡ befor
 nowhere [] after tap is = absurd cc
 nowhere (other ∷ before) after tap is = absurd cc
 
-pub added : (old new : BTreeMap TapFields ℕ) (surplus : Option TapFields) (good : List TapFields)
+pub added : (old new : BTreeMap TapFields ℕ) (surplus : Option TapFields) (valid : List TapFields)
     (tap : TapFields) → HasOneMore new old tap
-    → Balances old surplus good [] → Balances new surplus (good ++ tap ∷ []) []
-added old new None good tap more is = λ t.
-    let push = times_push t good tap in
+    → Balances old surplus valid [] → Balances new surplus (valid ++ tap ∷ []) []
+added old new None valid tap more is = λ t.
+    let push = times_push t valid tap in
     let here = more t in
     let before = is t in
     omega (arith, push, here, before)
-added old new (Some s) good tap more is = absurd (nowhere is.before is.after s is.stands)
+added old new (Some s) valid tap more is = absurd (nowhere is.before is.after s is.holds)
 
-pub none_left : (left : BTreeMap TapFields ℕ) (good struck : List TapFields) (tap : TapFields)
+pub none_left : (left : BTreeMap TapFields ℕ) (valid subtracted : List TapFields) (tap : TapFields)
     → left_at left tap ≡ 0
-    → Balances left None good struck → IsFirstSurplus good (struck ++ tap ∷ []) tap
-none_left left good struck tap none is =
-    let push = times_push tap struck tap in
+    → Balances left None valid subtracted → IsFirstSurplus valid (subtracted ++ tap ∷ []) tap
+none_left left valid subtracted tap none is =
+    let push = times_push tap subtracted tap in
     let self = one_self tap in
     let here = is tap in
     record {
-      before = struck;
+      before = subtracted;
       after = [];
-      stands = refl;
+      holds = refl;
       none_before = λ other. let e = is other in omega (arith, e);
       more = omega (arith, push, self, here, none);
     }
 
 -- the first surplus tap is more often among all of the others
-pub surplus_is_more : (good others : List TapFields) (tap : TapFields)
-    → IsFirstSurplus good others tap → copies_among tap good < copies_among tap others
-surplus_is_more good others tap is =
-    let whole = ap (copies_among tap) is.stands in
+pub surplus_is_more : (valid others : List TapFields) (tap : TapFields)
+    → IsFirstSurplus valid others tap → copies_among tap valid < copies_among tap others
+surplus_is_more valid others tap is =
+    let whole = ap (copies_among tap) is.holds in
     let cut = sum_by-append (one tap) is.before (tap ∷ is.after) in
     let next = sum_by-cons (one tap) tap is.after in
     let push = times_push tap is.before tap in
     let more = is.more in
     omega (arith, whole, cut, next, push, more)
 
-pub all_struck : (left : BTreeMap TapFields ℕ) (good struck : List TapFields)
+pub all_subtracted : (left : BTreeMap TapFields ℕ) (valid subtracted : List TapFields)
     → ((key : TapFields) → left_at left key ≡ 0)
-    → Balances left None good struck → IsPermutation good struck
-all_struck left good struck none is =
-    permutation_of_times good struck (λ t.
+    → Balances left None valid subtracted → IsPermutation valid subtracted
+all_subtracted left valid subtracted none is =
+    permutation_of_times valid subtracted (λ t.
     let here = none t in let before = is t in omega (arith, here, before))
 
 -- the first tap of which some are left is the first missing one
-pub some_left : (left : BTreeMap TapFields ℕ) (good struck : List TapFields) (tap : TapFields)
+pub some_left : (left : BTreeMap TapFields ℕ) (valid subtracted : List TapFields) (tap : TapFields)
     → 0 < left_at left tap
     → ((other : TapFields) → 0 < left_at left other → is_lt (tap_cmp other tap) ≡ false)
-    → Balances left None good struck → IsFirstMissing good struck tap
-some_left left good struck tap some first is =
+    → Balances left None valid subtracted → IsFirstMissing valid subtracted tap
+some_left left valid subtracted tap some first is =
     let reported = is tap in
     record {
       fewer = omega (arith, some, reported);
@@ -89,11 +89,11 @@ some_left left good struck tap some first is =
     }
 
 pub unfound : (left : BTreeMap TapFields ℕ) (surplus : Option TapFields)
-    (good struck : List TapFields)
+    (valid subtracted : List TapFields)
     → is_some surplus ≡ false
-    → Balances left surplus good struck → Balances left None good struck
-unfound left None good struck none is = is
-unfound left (Some s) good struck none is = absurd cc
+    → Balances left surplus valid subtracted → Balances left None valid subtracted
+unfound left None valid subtracted none is = is
+unfound left (Some s) valid subtracted none is = absurd cc
 
 -- a number was put at the key, or raised by one
 pub one_more : (new old : TapFields → Option ℕ) (key : TapFields) (count more : ℕ)

@@ -113,47 +113,47 @@ head_ends line lacks is =
     "token,line,moment,validator,mode,answer,cents,window_start,window_end,ride,reason,points_at")
     line is lacks
 
-pub begun_true : (fares : Fares) (so_far : LinesSoFar) (lines : List (List ℕ)) (begun : List ℕ)
+pub started_true : (fares : Fares) (so_far : LinesSoFar) (lines : List (List ℕ)) (started : List ℕ)
     (more : List (List ℕ)) → HasTaken fares so_far lines
-    → Lacks 10 begun → IsTrueOf fares (lines ++ begun ∷ more) (NoLine (number_after so_far))
-begun_true fares so_far lines begun more taken lacks =
-    no_line_true fares so_far lines begun more taken (head_ends begun lacks)
-    (λ rest read. wrong fares so_far.replay rest begun read
-    (λ entry is. next_ends fares read.entries entry begun is lacks))
+    → Lacks 10 started → IsTrueOf fares (lines ++ started ∷ more) (NoLine (number_after so_far))
+started_true fares so_far lines started more taken lacks =
+    no_line_true fares so_far lines started more taken (head_ends started lacks)
+    (λ rest read. wrong fares so_far.replay rest started read
+    (λ entry is. next_ends fares read.entries entry started is lacks))
 
 -- a piece without a newline
 pub cut_more : (fares : Fares) (checker : Checker) (text piece : List ℕ)
     (fed : HasFed fares checker text) (more : List ℕ)
     → lines_of ((text ++ piece) ++ more)
-    ≡ fed.lines ++ lines_of ((checker.begun.items ++ piece) ++ more)
+    ≡ fed.lines ++ lines_of ((checker.started.items ++ piece) ++ more)
 cut_more fares checker text piece fed more =
     ap lines_of (append_assoc text piece more) ∙ fed.split (piece ++ more)
     ∙ ap (λ (t : List ℕ). fed.lines ++ lines_of t)
-    (sym (append_assoc checker.begun.items piece more))
+    (sym (append_assoc checker.started.items piece more))
 
 abbrev pub kept : (fares : Fares) (checker after : Checker) (text piece : List ℕ)
     → HasFed fares checker text → Lacks 10 piece
-    → after.so_far ≡ checker.so_far → after.begun.items ≡ checker.begun.items ++ piece
-    → length after.begun.items ≤ 255
+    → after.so_far ≡ checker.so_far → after.started.items ≡ checker.started.items ++ piece
+    → length after.started.items ≤ 255
     → HasFed fares after (text ++ piece)
-kept fares checker after text piece fed lacks same begun short = record {
+kept fares checker after text piece fed lacks same started short = record {
   lines = fed.lines;
   taken = subst (λ (r : LinesSoFar). HasTaken fares r fed.lines) (sym same) fed.taken;
   split = λ more. cut_more fares checker text piece fed more
-      ∙ ap (λ (p : List ℕ). fed.lines ++ lines_of (p ++ more)) (sym begun);
-  lacks = subst (Lacks 10) (sym begun) (lacks-append 10 checker.begun.items piece fed.lacks lacks);
+      ∙ ap (λ (p : List ℕ). fed.lines ++ lines_of (p ++ more)) (sym started);
+  lacks = subst (Lacks 10) (sym started) (lacks-append 10 checker.started.items piece fed.lacks lacks);
   short = short;
 }
 
 pub too_long : (fares : Fares) (checker : Checker) (text piece whole : List ℕ)
     → HasFed fares checker text → Lacks 10 piece
-    → whole ≡ checker.begun.items ++ piece → 255 < length whole
+    → whole ≡ checker.started.items ++ piece → 255 < length whole
     → (more : List ℕ) → IsVerdict fares ((text ++ piece) ++ more)
     (NoLine (number_after checker.so_far))
-too_long fares checker text piece whole fed lacks begun long more =
-    let joined = checker.begun.items ++ piece in
-    let size : 255 < length joined = subst (λ (p : List ℕ). 255 < length p) begun long in
-    let opens = lines-open joined more (lacks-append 10 checker.begun.items piece fed.lacks lacks)
+too_long fares checker text piece whole fed lacks started long more =
+    let joined = checker.started.items ++ piece in
+    let size : 255 < length joined = subst (λ (p : List ℕ). 255 < length p) started long in
+    let opens = lines-open joined more (lacks-append 10 checker.started.items piece fed.lacks lacks)
     (omega arith) in
     let line = joined ++ opens.rest in
     subst (λ (ls : List (List ℕ)). IsTrueOf fares ls (NoLine (number_after checker.so_far)))
@@ -165,52 +165,52 @@ too_long fares checker text piece whole fed lacks begun long more =
 -- a piece that ends a line
 line_cut : (fares : Fares) (checker : Checker) (text line : List ℕ)
     (fed : HasFed fares checker text) → IsLine line → (more : List ℕ)
-    → lines_of ((text ++ line) ++ more) ≡ fed.lines ++ (checker.begun.items ++ line) ∷ lines_of more
+    → lines_of ((text ++ line) ++ more) ≡ fed.lines ++ (checker.started.items ++ line) ∷ lines_of more
 line_cut fares checker text line fed is more =
-    let begun = checker.begun.items in
-    let whole : begun ++ line ≡ (begun ++ is.front) ++ 10 ∷ [] =
-    ap (λ (l : List ℕ). begun ++ l) is.shown ∙ sym (append_assoc begun is.front (10 ∷ [])) in
-    let split : (begun ++ line) ++ more ≡ (begun ++ is.front) ++ 10 ∷ more =
-    ap (λ (l : List ℕ). l ++ more) whole ∙ append_assoc (begun ++ is.front) (10 ∷ []) more in
+    let started = checker.started.items in
+    let whole : started ++ line ≡ (started ++ is.front) ++ 10 ∷ [] =
+    ap (λ (l : List ℕ). started ++ l) is.shown ∙ sym (append_assoc started is.front (10 ∷ [])) in
+    let split : (started ++ line) ++ more ≡ (started ++ is.front) ++ 10 ∷ more =
+    ap (λ (l : List ℕ). l ++ more) whole ∙ append_assoc (started ++ is.front) (10 ∷ []) more in
     cut_more fares checker text line fed more
     ∙ ap (λ (t : List ℕ). fed.lines ++ lines_of t) split
     ∙ ap (λ (ls : List (List ℕ)). fed.lines ++ ls)
-    (lines-line (begun ++ is.front) more (lacks-append 10 begun is.front fed.lacks is.lacks))
+    (lines-line (started ++ is.front) more (lacks-append 10 started is.front fed.lacks is.lacks))
     ∙ ap (λ (l : List ℕ). fed.lines ++ l ∷ lines_of more) (sym whole)
 
 pub took_cut : (fares : Fares) (checker after : Checker) (text line whole : List ℕ)
     → (fed : HasFed fares checker text) → IsLine line
-    → whole ≡ checker.begun.items ++ line → after.begun.items ≡ [] → (more : List ℕ)
+    → whole ≡ checker.started.items ++ line → after.started.items ≡ [] → (more : List ℕ)
     → lines_of ((text ++ line) ++ more)
-    ≡ (fed.lines ++ whole ∷ []) ++ lines_of (after.begun.items ++ more)
+    ≡ (fed.lines ++ whole ∷ []) ++ lines_of (after.started.items ++ more)
 took_cut fares checker after text line whole fed is joined empty more =
     line_cut fares checker text line fed is more
     ∙ ap (λ (l : List ℕ). fed.lines ++ l ∷ lines_of more) (sym joined)
     ∙ sym (append_assoc fed.lines (whole ∷ []) (lines_of more))
     ∙ ap (λ (p : List ℕ). (fed.lines ++ whole ∷ []) ++ lines_of (p ++ more)) (sym empty)
 
-pub none_short : (begun : List ℕ) → begun ≡ [] → length begun ≤ 255
-none_short begun empty = subst (λ (p : List ℕ). length p ≤ 255) (sym empty) (omega arith)
+pub none_short : (started : List ℕ) → started ≡ [] → length started ≤ 255
+none_short started empty = subst (λ (p : List ℕ). length p ≤ 255) (sym empty) (omega arith)
 
-pub none_lacks : (begun : List ℕ) → begun ≡ [] → Lacks 10 begun
-none_lacks begun empty = subst (Lacks 10) (sym empty) tt
+pub none_lacks : (started : List ℕ) → started ≡ [] → Lacks 10 started
+none_lacks started empty = subst (Lacks 10) (sym empty) tt
 
 abbrev pub took_whole : (fares : Fares) (checker after : Checker) (text line whole : List ℕ)
     → (fed : HasFed fares checker text) → IsLine line
-    → whole ≡ checker.begun.items ++ line → after.begun.items ≡ []
+    → whole ≡ checker.started.items ++ line → after.started.items ≡ []
     → HasTaken fares after.so_far (fed.lines ++ whole ∷ [])
     → HasFed fares after (text ++ line)
 took_whole fares checker after text line whole fed is joined empty taken = record {
   lines = fed.lines ++ whole ∷ [];
   taken = taken;
   split = took_cut fares checker after text line whole fed is joined empty;
-  lacks = none_lacks after.begun.items empty;
-  short = none_short after.begun.items empty;
+  lacks = none_lacks after.started.items empty;
+  short = none_short after.started.items empty;
 }
 
 pub took_line : (fares : Fares) (checker after : Checker) (text line whole : List ℕ)
     (reported : Option Verdict) → (fed : HasFed fares checker text) → IsLine line
-    → whole ≡ checker.begun.items ++ line → after.begun.items ≡ []
+    → whole ≡ checker.started.items ++ line → after.started.items ≡ []
     → IsTaken fares after.so_far fed.lines whole reported
     → IsFed fares after (text ++ line) reported
 took_line fares checker after text line whole None fed is joined empty taken =
@@ -223,30 +223,30 @@ took_line fares checker after text line whole (Some verdict) fed is joined empty
 
 -- the text ends
 whole_cut : (fares : Fares) (checker : Checker) (text : List ℕ) (fed : HasFed fares checker text)
-    → lines_of text ≡ fed.lines ++ lines_of checker.begun.items
+    → lines_of text ≡ fed.lines ++ lines_of checker.started.items
 whole_cut fares checker text fed =
     ap lines_of (sym (append-nil text)) ∙ fed.split []
-    ∙ ap (λ (p : List ℕ). fed.lines ++ lines_of p) (append-nil checker.begun.items)
+    ∙ ap (λ (p : List ℕ). fed.lines ++ lines_of p) (append-nil checker.started.items)
 
 pub ended_in_line : (fares : Fares) (checker : Checker) (text : List ℕ) → HasFed fares checker text
-    → 0 < length checker.begun.items
+    → 0 < length checker.started.items
     → IsVerdict fares text (NoLine (number_after checker.so_far))
 ended_in_line fares checker text fed some =
-    let begun = checker.begun.items in
+    let started = checker.started.items in
     subst (λ (ls : List (List ℕ)). IsTrueOf fares ls (NoLine (number_after checker.so_far)))
     (sym (whole_cut fares checker text fed
-    ∙ ap (λ (ls : List (List ℕ)). fed.lines ++ ls) (lines-part begun fed.lacks some)))
-    (begun_true fares checker.so_far fed.lines begun [] fed.taken fed.lacks)
+    ∙ ap (λ (ls : List (List ℕ)). fed.lines ++ ls) (lines-part started fed.lacks some)))
+    (started_true fares checker.so_far fed.lines started [] fed.taken fed.lacks)
 
 pub ended_at_line : (fares : Fares) (checker : Checker) (text : List ℕ)
-    (fed : HasFed fares checker text) → checker.begun.items ≡ [] → lines_of text ≡ fed.lines
+    (fed : HasFed fares checker text) → checker.started.items ≡ [] → lines_of text ≡ fed.lines
 unfolding lines_of
 ended_at_line fares checker text fed empty =
     whole_cut fares checker text fed ∙ ap (λ (p : List ℕ). fed.lines ++ lines_of p) empty
     ∙ append-nil fed.lines
 
 pub ended_headless : (fares : Fares) (checker : Checker) (text : List ℕ) → HasFed fares checker text
-    → checker.begun.items ≡ []
+    → checker.started.items ≡ []
     → checker.so_far.has_head ≡ false → IsVerdict fares text (NoLine (number_after checker.so_far))
 ended_headless fares checker text fed empty none =
     let first = no_head fares checker.so_far fed.lines none fed.taken in
@@ -259,11 +259,11 @@ ended_headless fares checker text fed empty none =
     nothing : (others : List (List ℕ)) → [] ≡ head_text ∷ others → ⊥
     nothing others is = cc
 
-pub ended_well : (fares : Fares) (checker : Checker) (text : List ℕ) → HasFed fares checker text
-    → checker.begun.items ≡ []
+pub ended_complete : (fares : Fares) (checker : Checker) (text : List ℕ) → HasFed fares checker text
+    → checker.started.items ≡ []
     → checker.so_far.has_head ≡ true → IsVerdict fares text
     (Legal checker.so_far.replay.lines checker.so_far.replay.order.early)
-ended_well fares checker text fed empty some =
+ended_complete fares checker text fed empty some =
     let head = headed fares checker.so_far fed.lines some fed.taken in
     record {
       others = head.rest;
@@ -282,17 +282,17 @@ pub fed_on : (fares : Fares) (after : Checker) (text consumed piece : List ℕ)
 fed_on fares after text consumed piece reported fed =
     subst (λ (t : List ℕ). IsFed fares after t reported) (append_assoc text consumed piece) fed
 
-pub remark_early : (fares : Fares) (after : Checker) (text consumed line behind : List ℕ)
+pub remark_early : (fares : Fares) (after : Checker) (text consumed line trailing : List ℕ)
     (reported : Option Verdict) → is_some reported ≡ true
     → IsFed fares after ((text ++ consumed) ++ line) reported
-    → IsFed fares after (text ++ (consumed ++ (line ++ behind))) reported
-remark_early fares after text consumed line behind None some fed = absurd (apart (sym some))
-remark_early fares after text consumed line behind (Some verdict) some fed =
-    λ more. subst (λ (t : List ℕ). IsVerdict fares t verdict) (joined more) (fed (behind ++ more))
+    → IsFed fares after (text ++ (consumed ++ (line ++ trailing))) reported
+remark_early fares after text consumed line trailing None some fed = absurd (apart (sym some))
+remark_early fares after text consumed line trailing (Some verdict) some fed =
+    λ more. subst (λ (t : List ℕ). IsVerdict fares t verdict) (joined more) (fed (trailing ++ more))
   where
     joined : (more : List ℕ)
-        → ((text ++ consumed) ++ line) ++ (behind ++ more)
-        ≡ (text ++ (consumed ++ (line ++ behind))) ++ more
+        → ((text ++ consumed) ++ line) ++ (trailing ++ more)
+        ≡ (text ++ (consumed ++ (line ++ trailing))) ++ more
     joined more = simp append_assoc
 
 pub fed_none : (fares : Fares) (after : Checker) (text : List ℕ) (reported : Option Verdict)
@@ -310,7 +310,7 @@ pub ended_unheaded : (fares : Fares) (checker : Checker) (text : List ℕ) → H
     → checker.so_far.has_head ≡ false → IsVerdict fares text (NoLine (number_after checker.so_far))
 ended_unheaded fares checker text fed none =
     ⊎_elim
-    (λ (some : 0 < length checker.begun.items). ended_in_line fares checker text fed some)
-    (λ (empty : length checker.begun.items ≤ 0). ended_headless fares checker text fed
-    (empty_list checker.begun.items empty) none)
-    (cases_lt 0 (length checker.begun.items))
+    (λ (some : 0 < length checker.started.items). ended_in_line fares checker text fed some)
+    (λ (empty : length checker.started.items ≤ 0). ended_headless fares checker text fed
+    (empty_list checker.started.items empty) none)
+    (cases_lt 0 (length checker.started.items))

@@ -37,14 +37,14 @@ last_is (byte ∷ front) back lacks = ap (with_byte byte (front ++ 44 ∷ back))
     (last_is front back lacks)
 
 -- what stands behind the last such byte lacks it
-pub behind_lacks : (byte : ℕ) (text : List ℕ) (at : ℕ)
+pub after_lacks : (byte : ℕ) (text : List ℕ) (at : ℕ)
     → ((k : ℕ) → at < k → k < length text → get_or text k 0 ≢ byte)
     → Lacks byte (drop (suc at) text)
-behind_lacks byte [] at none = tt
-behind_lacks byte (x ∷ text) zero none = lacks-reads byte text
+after_lacks byte [] at none = tt
+after_lacks byte (x ∷ text) zero none = lacks-reads byte text
     (λ k within. none (suc k) (omega arith) (omega arith))
-behind_lacks byte (x ∷ text) (suc at) none =
-    behind_lacks byte text at (λ k above within. none (suc k) (omega arith) (omega arith))
+after_lacks byte (x ∷ text) (suc at) none =
+    after_lacks byte text at (λ k above within. none (suc k) (omega arith) (omega arith))
 
 -- digits are no line feeds
 digits_lack_feed : (text : List ℕ) → AllDigits 10 text → Lacks 10 text
@@ -115,11 +115,11 @@ written_short cut is =
     let digits : length (decimal cut.upload) ≤ 10 =
     length-decimal-le 10 cut.upload (omega arith) (omega (arith, is.upload))
     (omega (arith, is.upload)) in
-    let more : length (decimal cut.place) ≤ 20 =
-    length-decimal-le 20 cut.place (omega arith) (omega (arith, is.place)) is.place in
+    let more : length (decimal cut.position) ≤ 20 =
+    length-decimal-le 20 cut.position (omega arith) (omega (arith, is.position)) is.position in
     omega (
       arith,
-      sized cut.fields cut.class (decimal cut.upload) (decimal cut.place),
+      sized cut.fields cut.class (decimal cut.upload) (decimal cut.position),
       is.fields,
       class_short cut.class is.class,
       digits,
@@ -127,7 +127,7 @@ written_short cut is =
     )
 
 class_back : (cut : TracedLine) → IsTraced cut
-    → class_in cut.upload cut.place (cut.fields ++ 44 ∷ cut.class) ≡ Some cut
+    → class_in cut.upload cut.position (cut.fields ++ 44 ∷ cut.class) ≡ Some cut
 class_back cut is =
     let fit : (nat_lt (length cut.fields) 255 && is_class_name cut.class) ≡ true =
     and_from (nat_lt (length cut.fields) 255) (is_class_name cut.class)
@@ -137,33 +137,33 @@ class_back cut is =
       fields = parts.0;
       class = parts.1;
       upload = cut.upload;
-      place = cut.place;
+      position = cut.position;
     }))) (last_is cut.fields cut.class (class_lacks cut.class is.class))
     ∙ ap (λ (b : Bool). value_if b cut) fit
 
 upload_back : (cut : TracedLine) → IsTraced cut
-    → upload_in cut.place ((cut.fields ++ 44 ∷ cut.class) ++ 44 ∷ decimal cut.upload) ≡ Some cut
+    → upload_in cut.position ((cut.fields ++ 44 ∷ cut.class) ++ 44 ∷ decimal cut.upload) ≡ Some cut
 upload_back cut is =
     let front = cut.fields ++ 44 ∷ cut.class in
     ap (λ (o : Option (List ℕ × List ℕ)). on o (λ parts.
-    on (number_in (2 ^ 32) parts.1) (λ upload. class_in upload cut.place parts.0)))
+    on (number_in (2 ^ 32) parts.1) (λ upload. class_in upload cut.position parts.0)))
     (last_is front (decimal cut.upload) (decimal_lacks cut.upload (omega (arith, is.upload))))
-    ∙ ap (λ (o : Option ℕ). on o (λ upload. class_in upload cut.place front))
+    ∙ ap (λ (o : Option ℕ). on o (λ upload. class_in upload cut.position front))
     (number_complete (2 ^ 32) cut.upload (omega (arith, is.upload)) is.upload)
     ∙ class_back cut is
 
 columns_back : (cut : TracedLine) → IsTraced cut → columns_in (traced_text cut) ≡ Some cut
 columns_back cut is =
     let front = (cut.fields ++ 44 ∷ cut.class) ++ 44 ∷ decimal cut.upload in
-    let end = decimal cut.place ++ 10 ∷ [] in
+    let end = decimal cut.position ++ 10 ∷ [] in
     ap columns_in (cut_once cut.fields cut.class (decimal cut.upload) end)
     ∙ ap (λ (o : Option (List ℕ × List ℕ)). on o (λ parts.
-    on (number_line parts.1) (λ place. upload_in place parts.0)))
-    (last_is front end (lacks-append 44 (decimal cut.place) (10 ∷ [])
-    (decimal_lacks cut.place is.place) (lacks-tested 44 (10 ∷ []) refl)))
-    ∙ ap (λ (o : Option ℕ). on o (λ place. upload_in place front))
-    (line_complete (number_law (2 ^ 64) wide_64) refl cut.place (decimal cut.place)
-    (is.place, refl))
+    on (number_line parts.1) (λ position. upload_in position parts.0)))
+    (last_is front end (lacks-append 44 (decimal cut.position) (10 ∷ [])
+    (decimal_lacks cut.position is.position) (lacks-tested 44 (10 ∷ []) refl)))
+    ∙ ap (λ (o : Option ℕ). on o (λ position. upload_in position front))
+    (line_complete (number_law (2 ^ 64) wide_64) refl cut.position (decimal cut.position)
+    (is.position, refl))
     ∙ upload_back cut is
 
 pub read_back : ColumnsAreReadBack

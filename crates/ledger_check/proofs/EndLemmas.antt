@@ -11,30 +11,30 @@ use Rattle.ledger_check.specs.declared.full_balance.FullBalance.{FullBalance}
 use Rattle.tap_views.specs.declared.encoder.TapFields.{TapFields}
 use Rattle.fare_texts.specs.LedgerLines.{head_text}
 use Rattle.ledger_check.specs.Lines.{Lacks, lines_of}
-use Rattle.ledger_check.specs.Recounts.{IsTaken, TakenLine, lines_from, no_line_text, taps_from}
-use Rattle.ledger_check.specs.Recounts.{taps_with, remark_lines, remark_text, with_first}
-use Rattle.ledger_check.specs.RecountStates.{AreSums, HasRecounted}
-use Rattle.ledger_check.specs.inside.Recounts.{HasEnded}
-use Rattle.ledger_check.specs.declared.recount.Recount.{Recount}
-use Rattle.ledger_check.specs.declared.recount_sums.RecountSums.{RecountSums}
+use Rattle.ledger_check.specs.FullChecks.{IsTaken, TakenLine, lines_from, no_line_text, taps_from}
+use Rattle.ledger_check.specs.FullChecks.{taps_with, remark_lines, remark_text, with_first}
+use Rattle.ledger_check.specs.FullCheckStates.{AreSums, HasFullyChecked}
+use Rattle.ledger_check.specs.inside.FullChecks.{HasEnded}
+use Rattle.ledger_check.specs.declared.full_check.FullCheck.{FullCheck}
+use Rattle.ledger_check.specs.declared.full_check_sums.FullCheckSums.{FullCheckSums}
 use Rattle.ledger_check.specs.declared.walk.LineFinding.{LineFinding}
 use Rattle.ledger_check.specs.declared.walk.CountedTap.{CountedTap}
 use Rattle.ledger_check.specs.declared.walk.Remark.{Remark}
 use Rattle.ledger_check.specs.declared.walk.Remark.TheVariants.{Nothing, NoLine}
 use Rattle.ledger_check.proofs.CheckerLemmas.{head_ends}
 use Rattle.ledger_check.proofs.LineLemmas.{lines-part}
-use Rattle.ledger_check.proofs.RecountLemmas.{cut_line, kept_none, none_kept}
+use Rattle.ledger_check.proofs.FullCheckLemmas.{cut_line, kept_none, none_kept}
 
 no_lines : lines_of [] ≡ []
 unfolding lines_of
 no_lines = refl
 
-lines_at_end : (lines : List (List ℕ)) (text begun : List ℕ)
-    → ((more : List ℕ) → lines_of (text ++ more) ≡ lines ++ lines_of (begun ++ more))
-    → lines_of text ≡ lines ++ lines_of begun
-lines_at_end lines text begun split =
+lines_at_end : (lines : List (List ℕ)) (text started : List ℕ)
+    → ((more : List ℕ) → lines_of (text ++ more) ≡ lines ++ lines_of (started ++ more))
+    → lines_of text ≡ lines ++ lines_of started
+lines_at_end lines text started split =
     ap lines_of (sym (append-nil text)) ∙ split []
-    ∙ ap (λ (b : List ℕ). lines ++ lines_of b) (append-nil begun)
+    ∙ ap (λ (b : List ℕ). lines ++ lines_of b) (append-nil started)
 
 with_first_some : (lines : List (List ℕ)) → 0 < length lines → with_first lines ≡ lines
 with_first_some [] some = absurd (omega (arith, some))
@@ -45,22 +45,22 @@ lines_some [] some = absurd (omega (arith, some))
 lines_some (next ∷ taken) some = omega (arith, length-append (lines_from taken) (next.line ∷ []))
 
 -- the text ends behind a line
-pub ended_whole : (fares : Fares) (recount : Recount) (strikes : Bool) (full : FullBalance)
-    (text written : List ℕ) (good : List TapFields) (reported : List ℕ)
-    → HasRecounted fares recount strikes full text written good → 0 < recount.so_far.sums.lines
-    → recount.begun.items ≡ []
-    → HasEnded fares strikes full text written good recount.so_far.sums reported reported
-ended_whole fares recount strikes full text written good reported is some none =
-    let begun : is.begun ≡ [] = kept_none recount.begun.items is.begun is.kept none in
-    let counted : recount.so_far.sums.lines ≡ length is.taken = is.lines.sums.lines in
+pub ended_whole : (fares : Fares) (full_check : FullCheck) (subtracts : Bool) (full : FullBalance)
+    (text written : List ℕ) (valid : List TapFields) (reported : List ℕ)
+    → HasFullyChecked fares full_check subtracts full text written valid → 0 < full_check.so_far.sums.lines
+    → full_check.started.items ≡ []
+    → HasEnded fares subtracts full text written valid full_check.so_far.sums reported reported
+ended_whole fares full_check subtracts full text written valid reported is some none =
+    let started : is.started ≡ [] = kept_none full_check.started.items is.started is.kept none in
+    let counted : full_check.so_far.sums.lines ≡ length is.taken = is.lines.sums.lines in
     let lines : lines_of text ≡ lines_from is.taken =
-    lines_at_end (lines_from is.taken) text is.begun is.split
-    ∙ ap (λ (b : List ℕ). lines_from is.taken ++ lines_of b) begun
+    lines_at_end (lines_from is.taken) text is.started is.split
+    ∙ ap (λ (b : List ℕ). lines_from is.taken ++ lines_of b) started
     ∙ ap (λ (ls : List (List ℕ)). lines_from is.taken ++ ls) no_lines
     ∙ append-nil (lines_from is.taken) in
     record {
       taken = is.taken;
-      recount = record {
+      full_check = record {
         split = ap with_first lines
             ∙ with_first_some (lines_from is.taken)
             (lines_some is.taken (omega (arith, some, counted)));
@@ -71,7 +71,7 @@ ended_whole fares recount strikes full text written good reported is some none =
       more = [];
       grown = sym (append-nil reported);
       all = append-nil written ∙ is.reported;
-      struck = is.struck;
+      subtracted = is.subtracted;
     }
 
 -- the text's end cuts a line, or the text has none
@@ -90,46 +90,46 @@ cut_taken fares [] line finding lacks none reported = (
 cut_taken fares (before ∷ earlier) line finding lacks none reported =
     rw none (cut_line line lacks, reported)
 
-lines_cut : (taken : List TakenLine) (text begun : List ℕ)
-    → lines_of text ≡ lines_from taken ++ lines_of begun → Lacks 10 begun
-    → ((0 < length taken) × (begun ≡ []) → ⊥)
-    → with_first (lines_of text) ≡ lines_from taken ++ begun ∷ []
+lines_cut : (taken : List TakenLine) (text started : List ℕ)
+    → lines_of text ≡ lines_from taken ++ lines_of started → Lacks 10 started
+    → ((0 < length taken) × (started ≡ []) → ⊥)
+    → with_first (lines_of text) ≡ lines_from taken ++ started ∷ []
 lines_cut [] text [] lines lacks not_whole = ap with_first (lines ∙ no_lines)
 lines_cut (next ∷ taken) text [] lines lacks not_whole = absurd (not_whole (omega arith, refl))
-lines_cut taken text (byte ∷ begun) lines lacks not_whole =
-    let all : lines_of text ≡ lines_from taken ++ (byte ∷ begun) ∷ [] =
+lines_cut taken text (byte ∷ started) lines lacks not_whole =
+    let all : lines_of text ≡ lines_from taken ++ (byte ∷ started) ∷ [] =
     lines ∙ ap (λ (ls : List (List ℕ)). lines_from taken ++ ls)
-    (lines-part (byte ∷ begun) lacks (omega arith)) in
-    ap with_first all ∙ with_first_some (lines_from taken ++ (byte ∷ begun) ∷ [])
-    (omega (arith, length-append (lines_from taken) ((byte ∷ begun) ∷ [])))
+    (lines-part (byte ∷ started) lacks (omega arith)) in
+    ap with_first all ∙ with_first_some (lines_from taken ++ (byte ∷ started) ∷ [])
+    (omega (arith, length-append (lines_from taken) ((byte ∷ started) ∷ [])))
 
-pub ended_cut : (fares : Fares) (recount : Recount) (strikes : Bool) (full : FullBalance)
-    (text written : List ℕ) (good : List TapFields) (finding : LineFinding) (sums : RecountSums)
+pub ended_cut : (fares : Fares) (full_check : FullCheck) (subtracts : Bool) (full : FullBalance)
+    (text written : List ℕ) (valid : List TapFields) (finding : LineFinding) (sums : FullCheckSums)
     (reported reported' : List ℕ)
-    → (is : HasRecounted fares recount strikes full text written good)
-    → ((0 < recount.so_far.sums.lines) × (recount.begun.items ≡ []) → ⊥)
+    → (is : HasFullyChecked fares full_check subtracts full text written valid)
+    → ((0 < full_check.so_far.sums.lines) × (full_check.started.items ≡ []) → ⊥)
     → finding.tap ≡ None → finding.remark ≡ NoLine
     → ((taken : List TakenLine) (next : TakenLine) → next.finding ≡ finding
-    → AreSums recount.so_far.sums taken → AreSums sums (next ∷ taken))
+    → AreSums full_check.so_far.sums taken → AreSums sums (next ∷ taken))
     → reported' ≡ reported ++ no_line_text sums.lines
-    → HasEnded fares strikes full text written good sums reported reported'
-ended_cut fares recount strikes full text written good finding sums reported reported' is not_whole
+    → HasEnded fares subtracts full text written valid sums reported reported'
+ended_cut fares full_check subtracts full text written valid finding sums reported reported' is not_whole
     none
     no_line grows grown =
-    let next : TakenLine = record { line = is.begun; finding = finding; wanted = [] } in
-    let counted : recount.so_far.sums.lines ≡ length is.taken = is.lines.sums.lines in
+    let next : TakenLine = record { line = is.started; finding = finding; wanted = [] } in
+    let counted : full_check.so_far.sums.lines ≡ length is.taken = is.lines.sums.lines in
     let all = grows is.taken next refl is.lines.sums in
     let number : sums.lines ≡ length is.taken + 1 = let n = all.lines in omega (arith, n) in
     record {
       taken = next ∷ is.taken;
-      recount = record {
-        split = lines_cut is.taken text is.begun
-            (lines_at_end (lines_from is.taken) text is.begun is.split) is.lacks
+      full_check = record {
+        split = lines_cut is.taken text is.started
+            (lines_at_end (lines_from is.taken) text is.started is.split) is.lacks
             (λ whole. not_whole (
               subst (λ (n : ℕ). 0 < n) (sym counted) whole.0,
-              none_kept recount.begun.items is.begun is.kept whole.1,
+              none_kept full_check.started.items is.started is.kept whole.1,
             ));
-        are = (is.lines.are, cut_taken fares is.taken is.begun finding is.lacks none no_line);
+        are = (is.lines.are, cut_taken fares is.taken is.started finding is.lacks none no_line);
         few = all.few;
       };
       sums_are = all;
@@ -138,7 +138,7 @@ ended_cut fares recount strikes full text written good finding sums reported rep
       all = ap (λ (w : List ℕ). w ++ no_line_text sums.lines) is.reported
           ∙ ap (λ (t : List ℕ). remark_lines is.taken ++ t)
           (ap no_line_text number ∙ sym (remark_no_line (length is.taken + 1) finding no_line));
-      struck = λ strike. taps_none (is.struck strike);
+      subtracted = λ subtract. taps_none (is.subtracted subtract);
     }
   where
     remark_no_line : (number : ℕ) (finding : LineFinding) → finding.remark ≡ NoLine
@@ -146,8 +146,8 @@ ended_cut fares recount strikes full text written good finding sums reported rep
     remark_no_line number finding is_remark_none =
         ap (λ (t : Remark). remark_text number t []) is_remark_none
 
-    taps_none : IsFullBalance full good (taps_from is.taken)
-        → IsFullBalance full good (taps_with (taps_from is.taken) finding.tap)
-    taps_none struck = subst
-        (λ (t : Option CountedTap). IsFullBalance full good (taps_with (taps_from is.taken) t))
-        (sym none) struck
+    taps_none : IsFullBalance full valid (taps_from is.taken)
+        → IsFullBalance full valid (taps_with (taps_from is.taken) finding.tap)
+    taps_none subtracted = subst
+        (λ (t : Option CountedTap). IsFullBalance full valid (taps_with (taps_from is.taken) t))
+        (sym none) subtracted

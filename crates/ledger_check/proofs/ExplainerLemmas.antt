@@ -7,7 +7,7 @@ use Rattle.tariffs.specs.Fares.{Fares}
 use Rattle.account_rule.specs.Reasons.{reason, replied_by}
 use Rattle.account_rule.specs.Replies.{reply}
 use Rattle.account_rule.specs.TokenRules.{rules_of}
-use Rattle.account_rule.specs.Stands.{Stands}
+use Rattle.account_rule.specs.Represents.{Represents}
 use Rattle.account_rule.specs.declared.reason.Reason.{Reason}
 use Rattle.account_rule.specs.declared.tap.TapIn.{TapIn}
 use Rattle.account_rule.proofs.ReasonLemmas.{reply-follows}
@@ -20,7 +20,7 @@ use Rattle.fare_texts.specs.LedgerLines.{IsLedgerLine, IsLedgerLineAfter, reason
 use Rattle.fare_texts.specs.Explainers.{HasExplained}
 use Rattle.fare_texts.specs.declared.explainer.Explainer.{Explainer}
 use Rattle.ledger_check.specs.Ledger.{token_number}
-use Rattle.ledger_check.specs.Replays.{StandsForOwn}
+use Rattle.ledger_check.specs.Replays.{RepresentsOwn}
 use Rattle.ledger_check.specs.inside.Replays.{GoesOn}
 use Rattle.ledger_check.proofs.TokenOrder.{own-above, own-more}
 
@@ -54,13 +54,13 @@ module _ (fares : Fares) (explainer after : Explainer) (entries : List Entry) (t
       ∙ ap (λ (t : Token). reply (rules_of fares (bytes_of t)) (map (tap_of fares) (own t entries))
       (tap_of fares entry)) (sym steps.token)
 
-  shows : StandsForOwn fares explainer entries
+  shows : RepresentsOwn fares explainer entries
       → IsLedgerLineAfter fares entry.token (own entry.token entries) entry line
-  shows stands =
+  shows holds =
       let is = reason_after fares explainer.token (own explainer.token entries) entry in
       subst (λ (t : Token). IsLedgerLineAfter fares t (own t entries) entry line) (sym steps.token)
       (subst (λ (n : ℕ). IsLedgerLine fares explainer.token n entry is line)
-      (steps.counted ∙ ap (λ n. n + 1) stands.explained.counted)
+      (steps.counted ∙ ap (λ n. n + 1) holds.explained.counted)
       (subst (λ (t : Token). IsLedgerLine fares t after.number entry is line) steps.same_token
       (subst (λ (w : Reason). IsLedgerLine fares after.token after.number entry w line) why_is
       steps.shown)))
@@ -69,43 +69,43 @@ module _ (fares : Fares) (explainer after : Explainer) (entries : List Entry) (t
   reported_more =
       let done = own explainer.token entries in
       record {
-        stands = subst
-            (λ (ts : List TapIn). Stands (rules_of fares (bytes_of after.token)) after.account ts)
+        holds = subst
+            (λ (ts : List TapIn). Represents (rules_of fares (bytes_of after.token)) after.account ts)
             (map-append (tap_of fares) done (tap ∷ [])
             ∙ ap (λ (t : TapIn). map (tap_of fares) done ++ t ∷ []) steps.is_tap
-            ∙ sym (map-append (tap_of fares) done (entry ∷ []))) steps.explained.stands;
+            ∙ sym (map-append (tap_of fares) done (entry ∷ []))) steps.explained.holds;
         counted = steps.explained.counted ∙ length-append done (tap ∷ [])
             ∙ sym (length-append done (entry ∷ []));
       }
 
-  stands_more : StandsForOwn fares explainer entries
-      → StandsForOwn fares after (entries ++ entry ∷ [])
-  stands_more stands =
+  holds_more : RepresentsOwn fares explainer entries
+      → RepresentsOwn fares after (entries ++ entry ∷ [])
+  holds_more holds =
       let back = sym steps.same_token in
       let all = entries ++ entry ∷ [] in
       record {
-        fits = subst Fits back stands.fits;
+        fits = subst Fits back holds.fits;
         explained = subst (λ (t : Token). HasExplained fares after (own t all)) back
             (subst (λ (es : List Entry). HasExplained fares after es)
             (sym (own-more explainer.token entries entry steps.token)) reported_more);
         up_to = subst
             (λ (t : Token). All (λ (e : Entry). token_number e.token ≤ token_number t) all) back
             (All-push (λ (e : Entry). token_number e.token ≤ token_number explainer.token) entries
-            entry stands.up_to
+            entry holds.up_to
             (le_of_eq (ap (λ (t : Token). token_number t) steps.token)));
       }
 
   -- the next tap of a explainer's token
-  pub goes_on : StandsForOwn fares explainer entries
+  pub goes_on : RepresentsOwn fares explainer entries
       → GoesOn fares explainer entries entry.validator entry.moment line after
-  goes_on stands = record {
+  goes_on holds = record {
     entry = entry;
     token = steps.token;
     of_validator = refl;
     of_moment = refl;
     replied = replies;
-    shown = shows stands;
-    stands = stands_more stands;
+    shown = shows holds;
+    holds = holds_more holds;
     some = omega (arith, steps.counted);
   }
 
@@ -113,7 +113,7 @@ module _ (fares : Fares) (explainer after : Explainer) (entries : List Entry) (t
 pub begins : (fares : Fares) (explainer : Explainer) (entries : List Entry) (limit : ℕ)
     → Fits explainer.token → HasExplained fares explainer []
     → All (λ entry. token_number entry.token ≤ limit) entries → limit < token_number explainer.token
-    → StandsForOwn fares explainer entries
+    → RepresentsOwn fares explainer entries
 begins fares explainer entries limit fits explained up_to above = record {
   fits = fits;
   explained = subst (λ (es : List Entry). HasExplained fares explainer es)
@@ -125,8 +125,8 @@ begins fares explainer entries limit fits explained up_to above = record {
 pub begins_first : (fares : Fares) (explainer : Explainer) (entries : List Entry)
     → Fits explainer.token
     → HasExplained fares explainer []
-    → entries ≡ [] → StandsForOwn fares explainer entries
+    → entries ≡ [] → RepresentsOwn fares explainer entries
 unfolding own
 begins_first fares explainer entries fits explained empty =
-    subst (λ (es : List Entry). StandsForOwn fares explainer es) (sym empty)
+    subst (λ (es : List Entry). RepresentsOwn fares explainer es) (sym empty)
     (record { fits = fits; explained = explained; up_to = λ k d within. absurd (omega arith) })

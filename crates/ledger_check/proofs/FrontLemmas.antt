@@ -14,7 +14,7 @@ use Rattle.tap_views.specs.Token.{Fits, bytes_of}
 use Rattle.tap_views.specs.declared.token.Token.{Token}
 use Rattle.tap_views.proofs.TokenLemmas.{bytes_of-injective}
 use Rattle.tap_views.proofs.TokenBytes.{token_bytes, token_length}
-use Rattle.ledger_check.specs.Recounts.{EndsField, IsLineOfTap}
+use Rattle.ledger_check.specs.FullChecks.{EndsField, IsLineOfTap}
 use Rattle.ledger_check.specs.inside.Fronts.{HasFront}
 use Rattle.ledger_check.proofs.FieldLemmas.{date_bytes, date_shown, decimal_lacks, moment_lacks}
 use Rattle.ledger_check.proofs.FieldLemmas.{moment_parts, token_lacks}

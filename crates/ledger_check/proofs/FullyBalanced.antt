@@ -14,11 +14,11 @@ use Rattle.ledger_check.proofs.SameTaps.{same_exact}
 use Rattle.ledger_check.proofs.Times.{times_push}
 
 -- nothing was struck out yet
-pub begun : (left : BTreeMap TapFields ℕ) (surplus : Option TapFields) (full : FullBalance)
-    (good : List TapFields) → full.missing ≡ left
+pub started : (left : BTreeMap TapFields ℕ) (surplus : Option TapFields) (full : FullBalance)
+    (valid : List TapFields) → full.missing ≡ left
     → ((key : TapFields) → left_at full.surplus key ≡ 0)
-    → Balances left surplus good [] → IsFullBalance full good []
-begun left None full good same none is = record {
+    → Balances left surplus valid [] → IsFullBalance full valid []
+started left None full valid same none is = record {
   sums = λ tap.
       let here = is tap in
       let zero = none tap in
@@ -27,16 +27,16 @@ begun left None full good same none is = record {
       omega (arith, here, zero, kept);
   one_side = λ tap. inr (none tap);
 }
-begun left (Some s) full good same none is =
-    absurd (nowhere is.before is.after s is.stands)
+started left (Some s) full valid same none is =
+    absurd (nowhere is.before is.after s is.holds)
 
 -- one that was left was struck out
-pub struck_missing : (old new : FullBalance) (good struck : List TapFields) (tap : TapFields)
+pub subtracted_missing : (old new : FullBalance) (valid subtracted : List TapFields) (tap : TapFields)
     → new.surplus ≡ old.surplus → HasOneMore old.missing new.missing tap
-    → IsFullBalance old good struck → IsFullBalance new good (struck ++ tap ∷ [])
-struck_missing old new good struck tap kept more is = record {
+    → IsFullBalance old valid subtracted → IsFullBalance new valid (subtracted ++ tap ∷ [])
+subtracted_missing old new valid subtracted tap kept more is = record {
   sums = λ t.
-      let push = times_push t struck tap in
+      let push = times_push t subtracted tap in
       let here = more t in
       let before = is.sums t in
       let same : left_at new.surplus t ≡ left_at old.surplus t =
@@ -51,13 +51,13 @@ struck_missing old new good struck tap kept more is = record {
 }
 
 -- one that was not left was struck out
-pub struck_surplus : (old new : FullBalance) (good struck : List TapFields) (tap : TapFields)
+pub subtracted_surplus : (old new : FullBalance) (valid subtracted : List TapFields) (tap : TapFields)
     → new.missing ≡ old.missing → left_at old.missing tap ≡ 0
     → HasOneMore new.surplus old.surplus tap
-    → IsFullBalance old good struck → IsFullBalance new good (struck ++ tap ∷ [])
-struck_surplus old new good struck tap kept none more is = record {
+    → IsFullBalance old valid subtracted → IsFullBalance new valid (subtracted ++ tap ∷ [])
+subtracted_surplus old new valid subtracted tap kept none more is = record {
   sums = λ t.
-      let push = times_push t struck tap in
+      let push = times_push t subtracted tap in
       let here = more t in
       let before = is.sums t in
       let same : left_at new.missing t ≡ left_at old.missing t =
@@ -83,11 +83,11 @@ struck_surplus old new good struck tap kept none more is = record {
         (is.one_side t)
 
 -- what is left is what the others lack
-pub lacking_missing : (full : FullBalance) (good struck taps : List TapFields)
+pub lacking_missing : (full : FullBalance) (valid subtracted taps : List TapFields)
     → ((tap : TapFields) → copies_among tap taps ≡ left_at full.missing tap)
     → IsSorted tap_cmp taps
-    → IsFullBalance full good struck → AreLacking good struck taps
-lacking_missing full good struck taps copies sorted is = record {
+    → IsFullBalance full valid subtracted → AreLacking valid subtracted taps
+lacking_missing full valid subtracted taps copies sorted is = record {
   copies = λ tap.
       let here = copies tap in
       let sums = is.sums tap in
@@ -98,11 +98,11 @@ lacking_missing full good struck taps copies sorted is = record {
 }
 
 -- what was struck out beyond is what the good taps lack
-pub lacking_surplus : (full : FullBalance) (good struck taps : List TapFields)
+pub lacking_surplus : (full : FullBalance) (valid subtracted taps : List TapFields)
     → ((tap : TapFields) → copies_among tap taps ≡ left_at full.surplus tap)
     → IsSorted tap_cmp taps
-    → IsFullBalance full good struck → AreLacking struck good taps
-lacking_surplus full good struck taps copies sorted is = record {
+    → IsFullBalance full valid subtracted → AreLacking subtracted valid taps
+lacking_surplus full valid subtracted taps copies sorted is = record {
   copies = λ tap.
       let here = copies tap in
       let sums = is.sums tap in

@@ -11,16 +11,16 @@ mod FullyBalanced
 pub mod LineLemmas
 pub mod MomentLemmas
 pub mod Orders
-pub mod PlaceLemmas
-pub mod RecountLaw
-pub mod RecountLemmas
+pub mod PositionLemmas
+pub mod FullCheckLaw
+pub mod FullCheckLemmas
 pub mod ReplayLemmas
 pub mod RunLemmas
 pub mod SameLines
 pub mod SameTaken
 mod SameTaps
 mod Spread
-pub mod StruckLemmas
+pub mod SubtractedLemmas
 pub mod ExplainerLemmas
 mod Times
 pub mod TokenOrder

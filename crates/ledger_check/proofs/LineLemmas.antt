@@ -3,7 +3,7 @@ use Rattle.std.proofs.Common.{◌≡◌, ◌≢◌, ℕ, ◌+◌, ◌<◌, Bool,
 use Rattle.std.proofs.Common.{◌∷◌, ◌++◌, length, get_or, take, drop, refl, ap, ◌∙◌, subst, arith}
 use Rattle.std.proofs.Common.{zero, suc, ◌-◌, take_all, length-drop, add-one}
 use Rattle.std.proofs.lemmas.Bool.{and_parts, eqb-false, ne_eqb, not-true}
-use Rattle.ledger_check.specs.Lines.{IsLine, Lacks, begun_with, lines_of}
+use Rattle.ledger_check.specs.Lines.{IsLine, Lacks, started_with, lines_of}
 
 -- a test of a text that is written out
 abbrev pub has_none : ℕ → List ℕ → Bool
@@ -73,57 +73,57 @@ cut_at byte (x ∷ text) (suc at) within is =
 
 -- a byte before the lines of a text that does not end a line
 begin : (byte : ℕ) (text : List ℕ) → byte ≢ 10
-    → lines_of (byte ∷ text) ≡ begun_with byte (lines_of text)
+    → lines_of (byte ∷ text) ≡ started_with byte (lines_of text)
 unfolding lines_of
 begin byte text other =
-    ap (λ (test : Bool). cond test ((byte ∷ []) ∷ lines_of text) (begun_with byte (lines_of text)))
+    ap (λ (test : Bool). cond test ((byte ∷ []) ∷ lines_of text) (started_with byte (lines_of text)))
     (ne_eqb byte 10 other)
 
 -- the first line of a text
 pub lines-line : (front rest : List ℕ) → Lacks 10 front
     → lines_of (front ++ 10 ∷ rest) ≡ (front ++ 10 ∷ []) ∷ lines_of rest
-unfolding lines_of begun_with
+unfolding lines_of started_with
 lines-line [] rest lacks = refl
 lines-line (byte ∷ front) rest lacks =
     begin byte (front ++ 10 ∷ rest) lacks.0
-    ∙ ap (λ (ls : List (List ℕ)). begun_with byte ls) (lines-line front rest lacks.1)
+    ∙ ap (λ (ls : List (List ℕ)). started_with byte ls) (lines-line front rest lacks.1)
 
 -- a text without a newline is one line
-pub lines-part : (begun : List ℕ) → Lacks 10 begun → 0 < length begun → lines_of begun ≡ begun ∷ []
-unfolding lines_of begun_with
+pub lines-part : (started : List ℕ) → Lacks 10 started → 0 < length started → lines_of started ≡ started ∷ []
+unfolding lines_of started_with
 lines-part [] lacks some = absurd (omega arith)
 lines-part (byte ∷ []) lacks some = begin byte [] lacks.0
-lines-part (byte ∷ next ∷ begun) lacks some =
-    begin byte (next ∷ begun) lacks.0
-    ∙ ap (λ (ls : List (List ℕ)). begun_with byte ls)
-    (lines-part (next ∷ begun) lacks.1 (omega arith))
+lines-part (byte ∷ next ∷ started) lacks some =
+    begin byte (next ∷ started) lacks.0
+    ∙ ap (λ (ls : List (List ℕ)). started_with byte ls)
+    (lines-part (next ∷ started) lacks.1 (omega arith))
 
 -- what a text begins with, its first line begins with
-pub record Opens (begun : List ℕ) (lines : List (List ℕ)) : Type 0 where
+pub record Opens (started : List ℕ) (lines : List (List ℕ)) : Type 0 where
   pub rest : List ℕ
   pub after : List (List ℕ)
-  pub is : lines ≡ (begun ++ rest) ∷ after
+  pub is : lines ≡ (started ++ rest) ∷ after
 
-begun-open : (byte : ℕ) (lines : List (List ℕ)) → Opens (byte ∷ []) (begun_with byte lines)
-unfolding begun_with
-begun-open byte [] = record { rest = []; after = []; is = refl }
-begun-open byte (line ∷ lines) = record { rest = line; after = lines; is = refl }
+started-open : (byte : ℕ) (lines : List (List ℕ)) → Opens (byte ∷ []) (started_with byte lines)
+unfolding started_with
+started-open byte [] = record { rest = []; after = []; is = refl }
+started-open byte (line ∷ lines) = record { rest = line; after = lines; is = refl }
 
 -- a line that has begun, before more text, is the first line
-pub lines-open : (begun more : List ℕ) → Lacks 10 begun → 0 < length begun
-    → Opens begun (lines_of (begun ++ more))
-unfolding begun_with
+pub lines-open : (started more : List ℕ) → Lacks 10 started → 0 < length started
+    → Opens started (lines_of (started ++ more))
+unfolding started_with
 lines-open [] more lacks some = absurd (omega arith)
 lines-open (byte ∷ []) more lacks some =
-    let opens = begun-open byte (lines_of more) in
+    let opens = started-open byte (lines_of more) in
     record { rest = opens.rest; after = opens.after; is = begin byte more lacks.0 ∙ opens.is }
-lines-open (byte ∷ next ∷ begun) more lacks some =
-    let opens = lines-open (next ∷ begun) more lacks.1 (omega arith) in
+lines-open (byte ∷ next ∷ started) more lacks some =
+    let opens = lines-open (next ∷ started) more lacks.1 (omega arith) in
     record {
       rest = opens.rest;
       after = opens.after;
-      is = begin byte ((next ∷ begun) ++ more) lacks.0
-          ∙ ap (λ (ls : List (List ℕ)). begun_with byte ls) opens.is;
+      is = begin byte ((next ∷ started) ++ more) lacks.0
+          ∙ ap (λ (ls : List (List ℕ)). started_with byte ls) opens.is;
     }
 
 -- what stands before a place at which and before which no such byte is

@@ -13,7 +13,7 @@ use Rattle.fare_texts.specs.LedgerLines.{IsLedgerLine}
 use Rattle.fare_texts.specs.declared.explainer.Explainer.{Explainer}
 use Rattle.ledger_check.specs.Ledger.{AreNext, IsNext, IsPostable, token_number}
 use Rattle.ledger_check.specs.Orders.{IsOrderOf, tap_of_entry}
-use Rattle.ledger_check.specs.Replays.{HasRead, HasExplainer, IsWanted, IsWrongAfter, StandsForOwn}
+use Rattle.ledger_check.specs.Replays.{HasRead, HasExplainer, IsWanted, IsWrongAfter, RepresentsOwn}
 use Rattle.ledger_check.specs.inside.Replays.{GoesOn}
 use Rattle.ledger_check.specs.inside.Taps.{IsEntryOfTap, NamesTap, tap_fields}
 use Rattle.ledger_check.specs.declared.replay.Replay.{Replay}
@@ -104,7 +104,7 @@ wrong_less fares replay lines line tap read reports less =
     let of = tap_of_next fares read.entries entry line tap reports is in
     less read.entries read.explainer
     (subst (λ (t : Token). All (λ (e : Entry). token_number e.token ≤ token_number t) read.entries)
-    of.token is.no_fall))
+    of.token is.nondecreasing))
 
 -- the entry that the tap makes, and its line
 pub same_next : (fares : Fares) (explainer after : Explainer) (earlier : List Entry)
@@ -137,20 +137,20 @@ CanPost tap = (tap.validator < 2 ^ 32) × (tap.moment < 4_102_444_800_000)
 pub next_of : (fares : Fares) (explainer after : Explainer) (earlier : List Entry) (wanted : List ℕ)
     (tap : Tap)
     → (goes : GoesOn fares explainer earlier tap.validator tap.moment wanted after)
-    → StandsForOwn fares explainer earlier → CanPost tap
+    → RepresentsOwn fares explainer earlier → CanPost tap
     → length wanted ≤ 255 → length earlier < 2 ^ 62 → IsNext fares earlier goes.entry wanted
-next_of fares explainer after earlier wanted tap goes stands can short few =
+next_of fares explainer after earlier wanted tap goes holds can short few =
     let validator : goes.entry.validator ≡ tap.validator = goes.of_validator in
     let moment : goes.entry.moment ≡ tap.moment = goes.of_moment in
     record {
       postable = record {
-        token = subst Fits (sym goes.token) stands.fits;
+        token = subst Fits (sym goes.token) holds.fits;
         validator = subst (λ (n : ℕ). n < 2 ^ 32) (sym validator) can.0;
         moment = subst (λ (n : ℕ). n < 4_102_444_800_000) (sym moment) can.1;
       };
-      no_fall = subst
+      nondecreasing = subst
           (λ (t : Token). All (λ (e : Entry). token_number e.token ≤ token_number t) earlier)
-          (sym goes.token) stands.up_to;
+          (sym goes.token) holds.up_to;
       replied = goes.replied;
       shown = goes.shown;
       short = short;
@@ -162,20 +162,20 @@ pub read_more : (fares : Fares) (replay next : Replay) (lines : List (List ℕ))
     (line wanted : List ℕ) (explainer after : Explainer) (tap : Tap)
     → (read : HasRead fares replay lines)
     → GoesOn fares explainer read.entries tap.validator tap.moment wanted after
-    → StandsForOwn fares explainer read.entries → CanPost tap
+    → RepresentsOwn fares explainer read.entries → CanPost tap
     → explainer.token ≡ tap.token → NamesTap fares line tap → wanted ≡ line → length line ≤ 255
     → replay.lines < 4_611_686_018_427_387_904 → next.lines ≡ replay.lines + 1
     → next.explainer ≡ Some after
     → ((taps : List TapFields) → IsOrderOf taps replay.order
     → IsOrderOf (taps ++ tap_fields tap ∷ []) next.order)
     → HasRead fares next (lines ++ line ∷ [])
-read_more fares replay next lines line wanted explainer after tap read goes stands can token reports
+read_more fares replay next lines line wanted explainer after tap read goes holds can token reports
     same
     short room counted is_explainer orders =
     let few : length read.entries < 2 ^ 62 = omega (arith, read.counted) in
     let is : IsNext fares read.entries goes.entry line =
     subst (λ (l : List ℕ). IsNext fares read.entries goes.entry l) same
-    (next_of fares explainer after read.entries wanted tap goes stands can
+    (next_of fares explainer after read.entries wanted tap goes holds can
     (subst (λ (l : List ℕ). length l ≤ 255) (sym same) short) few) in
     let more = length-append read.entries (goes.entry ∷ []) in
     record {
@@ -190,7 +190,7 @@ read_more fares replay next lines line wanted explainer after tap read goes stan
       few = omega (arith, more);
       explainer = subst
           (λ (t : Option Explainer). HasExplainer fares t (read.entries ++ goes.entry ∷ []))
-          (sym is_explainer) (goes.stands, goes.some);
+          (sym is_explainer) (goes.holds, goes.some);
       order = subst (λ (ts : List TapFields). IsOrderOf ts next.order)
           (ap (λ (t : TapFields). map tap_of_entry read.entries ++ t ∷ [])
           (sym (tap_same tap goes.entry (record {
@@ -206,13 +206,13 @@ pub wanted_next : (fares : Fares) (replay : Replay) (lines : List (List ℕ)) (w
     (explainer after : Explainer) (tap : Tap)
     → (read : HasRead fares replay lines)
     → GoesOn fares explainer read.entries tap.validator tap.moment wanted after
-    → StandsForOwn fares explainer read.entries → CanPost tap → length wanted ≤ 255
+    → RepresentsOwn fares explainer read.entries → CanPost tap → length wanted ≤ 255
     → replay.lines < 4_611_686_018_427_387_904
     → IsWanted fares lines wanted
-wanted_next fares replay lines wanted explainer after tap read goes stands can short room =
+wanted_next fares replay lines wanted explainer after tap read goes holds can short room =
     let few : length read.entries < 2 ^ 62 = omega (arith, read.counted) in (
       read.entries,
       goes.entry,
       read.are,
-      next_of fares explainer after read.entries wanted tap goes stands can short few,
+      next_of fares explainer after read.entries wanted tap goes holds can short few,
     )

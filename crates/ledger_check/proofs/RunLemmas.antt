@@ -16,7 +16,7 @@ use Rattle.tap_views.specs.Token.{Fits}
 use Rattle.tap_views.specs.declared.token.Token.{Token}
 use Rattle.fare_texts.specs.Explainers.{next_entry}
 use Rattle.ledger_check.specs.Ledger.{token_number}
-use Rattle.ledger_check.specs.Recounts.{falls_after}
+use Rattle.ledger_check.specs.FullChecks.{decreases_after}
 use Rattle.ledger_check.proofs.TokenOrder.{own-above, own-more}
 
 -- a token's entries are the token's
@@ -50,11 +50,11 @@ pub record LastRun (run entries : List Entry) : Type 0 where
 abbrev pub State : List Entry → List Entry → Type 0
 State run entries = ((run ≡ []) × (entries ≡ [])) ⊎ LastRun run entries
 
-pub falls_is : (run : List Entry) (last token : Token) → All (λ entry. entry.token ≡ last) run
+pub decreases_is : (run : List Entry) (last token : Token) → All (λ entry. entry.token ≡ last) run
     → 0 < length run
-    → falls_after run token ≡ nat_lt (token_number token) (token_number last)
-falls_is [] last token all some = absurd (omega (arith, some))
-falls_is (e ∷ run) last token all some =
+    → decreases_after run token ≡ nat_lt (token_number token) (token_number last)
+decreases_is [] last token all some = absurd (omega (arith, some))
+decreases_is (e ∷ run) last token all some =
     ap (λ (t : Token). nat_lt (token_number token) (token_number t)) (all 0 e (omega arith))
 
 number_exact : (a b : Token) → Fits a → Fits b → token_number a ≡ token_number b → a ≡ b
@@ -73,14 +73,14 @@ pub record Unfallen (run entries : List Entry) (token : Token) : Type 0 where
   pub up_to : All (λ entry. token_number entry.token ≤ token_number token) entries
 
 pub unfallen : (run entries : List Entry) (token : Token) → State run entries → Fits token
-    → falls_after run token ≡ false → Unfallen run entries token
+    → decreases_after run token ≡ false → Unfallen run entries token
 unfallen run entries token (inl (no_run, none)) fits up = record {
   same = ap (own token) (no_run ∙ sym none);
   up_to = λ k d within. absurd (omega (arith, within, ap (λ (es : List Entry). length es) none));
 }
 unfallen run entries token (inr last) fits up =
     let not_less : nat_lt (token_number token) (token_number last.last) ≡ false =
-    sym (falls_is run last.last token last.all last.some) ∙ up in
+    sym (decreases_is run last.last token last.all last.some) ∙ up in
     ⊎_elim
     (λ (less : token_number last.last < token_number token). record {
       same = own-above token run (token_number last.last) (up_run run last.last last.all) less
@@ -106,13 +106,13 @@ own_still token entries other all =
     All-filter (is_of token) (λ (e : Entry). token_number e.token ≤ token_number other) entries all
 
 -- if no entry's token is greater, the token does not fall
-pub no_fall : (run entries : List Entry) (token : Token) → State run entries
+pub nondecreasing : (run entries : List Entry) (token : Token) → State run entries
     → All (λ entry. token_number entry.token ≤ token_number token) entries
-    → falls_after run token ≡ false
-no_fall run entries token (inl (no_run, none)) up_to =
-    ap (λ (es : List Entry). falls_after es token) no_run
-no_fall run entries token (inr last) up_to =
-    falls_is run last.last token last.all last.some
+    → decreases_after run token ≡ false
+nondecreasing run entries token (inl (no_run, none)) up_to =
+    ap (λ (es : List Entry). decreases_after es token) no_run
+nondecreasing run entries token (inr last) up_to =
+    decreases_is run last.last token last.all last.some
     ∙ by_test (nat_lt (token_number token) (token_number last.last)) refl
   where
     own_up_to : All (λ entry. token_number entry.token ≤ token_number token) (own last.last entries)
@@ -137,7 +137,7 @@ no_fall run entries token (inr last) up_to =
 
 -- one entry more, whose token does not fall
 pub state_push : (run entries : List Entry) (entry : Entry) → State run entries → Fits entry.token
-    → falls_after run entry.token ≡ false
+    → decreases_after run entry.token ≡ false
     → State (own entry.token run ++ entry ∷ []) (entries ++ entry ∷ [])
 state_push run entries entry state fits up =
     let token = entry.token in

@@ -12,14 +12,14 @@ use Rattle.tap_views.specs.declared.encoder.TapFields.{TapFields}
 use Rattle.tap_views.specs.declared.token.Token.{Token}
 use Rattle.fare_texts.specs.Explainers.{next_entry}
 use Rattle.fare_texts.specs.LedgerLines.{IsLedgerLineAfter, head_text, reason_after}
-use Rattle.ledger_check.specs.FirstLines.{RecountsGoOn}
+use Rattle.ledger_check.specs.FirstLines.{FullChecksGoOn}
 use Rattle.ledger_check.specs.Lines.{lines_of}
 use Rattle.ledger_check.specs.Orders.{tap_of_entry}
-use Rattle.ledger_check.specs.Recounts.{AreTaken, IsCounted, IsJudged, IsTaken, TakenLine}
-use Rattle.ledger_check.specs.Recounts.{end_text, falls_after, lines_from, one_wrong, remark_for}
-use Rattle.ledger_check.specs.Recounts.{remark_lines}
-use Rattle.ledger_check.specs.Recounts.{remark_text, run_of, run_with, taps_from, taps_with}
-use Rattle.ledger_check.specs.Recounts.{with_first, wrong_count}
+use Rattle.ledger_check.specs.FullChecks.{AreTaken, IsCounted, IsJudged, IsTaken, TakenLine}
+use Rattle.ledger_check.specs.FullChecks.{end_text, decreases_after, lines_from, one_wrong, remark_for}
+use Rattle.ledger_check.specs.FullChecks.{remark_lines}
+use Rattle.ledger_check.specs.FullChecks.{remark_text, run_of, run_with, taps_from, taps_with}
+use Rattle.ledger_check.specs.FullChecks.{with_first, wrong_count}
 use Rattle.ledger_check.specs.declared.walk.CountedTap.{CountedTap}
 use Rattle.ledger_check.specs.declared.walk.Remark.{Remark}
 use Rattle.ledger_check.specs.declared.walk.Remark.TheVariants.{Nothing, NoLine}
@@ -59,8 +59,8 @@ counted_same fares run line a b remark remark' wanted wanted' is also =
     record {
       entry = entry;
       remarks = is.is_remark
-          ∙ ap (λ (e : Entry). remark_for (falls_after run e.token) (bytes_eq line wanted)) entry
-          ∙ ap (λ (w : List ℕ). remark_for (falls_after run b.entry.token) (bytes_eq line w)) wants
+          ∙ ap (λ (e : Entry). remark_for (decreases_after run e.token) (bytes_eq line wanted)) entry
+          ∙ ap (λ (w : List ℕ). remark_for (decreases_after run b.entry.token) (bytes_eq line w)) wants
           ∙ sym also.is_remark;
       wants = wants;
     }
@@ -279,11 +279,11 @@ lines_go_on fares (line ∷ lines) rest first taken are is also split =
       front.whole ∙ ap (λ (t : List ℕ). t ++ front.more) (sym same.remarks),
     )
 
-pub go_on : RecountsGoOn
-go_on fares text first taken begins recount =
+pub go_on : FullChecksGoOn
+go_on fares text first taken begins full_check =
     let (more, is) = lines_go_on fares (lines_of text) begins.rest first taken begins.are
     begins.split
-    recount.are recount.split in (
+    full_check.are full_check.split in (
       more ++ end_text taken,
       ap (λ (t : List ℕ). t ++ end_text taken) is
           ∙ append_assoc (remark_lines first) more (end_text taken),

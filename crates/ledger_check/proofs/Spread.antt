@@ -124,13 +124,13 @@ pushed taps (suc n) key sorted up_to =
     subst (λ (ts : List TapFields). IsSortedBy comes_before ts)
     (append_assoc taps (tap ∷ []) (replicate n tap)) next
 
-spread_behind : (taps : List TapFields) (entries : List (TapFields × ℕ))
+spread_after : (taps : List TapFields) (entries : List (TapFields × ℕ))
     → IsSortedBy comes_before taps → IsStrictlySortedBy tap_cmp (keys_of entries)
     → All (λ key. UpTo key taps) (keys_of entries)
     → IsSortedBy comes_before (taps ++ spread entries)
-spread_behind taps [] sorted keys up_to =
+spread_after taps [] sorted keys up_to =
     subst (λ (ts : List TapFields). IsSortedBy comes_before ts) (sym (append-nil taps)) sorted
-spread_behind taps (entry ∷ rest) sorted keys up_to =
+spread_after taps (entry ∷ rest) sorted keys up_to =
     let tap = entry.0 in
     let front = pushed taps entry.1 entry.0 sorted
     (All-head (λ key. UpTo key taps) entry.0 (keys_of rest) up_to) in
@@ -140,7 +140,7 @@ spread_behind taps (entry ∷ rest) sorted keys up_to =
     (All-replicate (λ t. is_lt (tap_cmp (get_or (keys_of rest) k d) t) ≡ false) entry.1 tap
     (above_not_less entry.0 (get_or (keys_of rest) k d)
     (All-after_first tap_cmp entry.0 (keys_of rest) keys k d within))) in
-    let next = spread_behind (taps ++ times entry) rest front
+    let next = spread_after (taps ++ times entry) rest front
     (sorted_tail tap_cmp entry.0 (keys_of rest) keys) above in
     subst (λ (ts : List TapFields). IsSortedBy comes_before ts)
     (append_assoc taps (times entry) (spread rest)
@@ -149,5 +149,5 @@ spread_behind taps (entry ∷ rest) sorted keys up_to =
 pub sorted-spread : (entries : List (TapFields × ℕ)) → IsStrictlySortedBy tap_cmp (keys_of entries)
     → IsSorted tap_cmp (spread entries)
 sorted-spread entries keys =
-    spread_behind [] entries (λ k d low within. absurd (omega (arith, within))) keys
+    spread_after [] entries (λ k d low within. absurd (omega (arith, within))) keys
     (λ k d within j e none. absurd (omega (arith, none)))

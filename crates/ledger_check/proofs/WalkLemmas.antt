@@ -15,9 +15,9 @@ use Rattle.tap_views.specs.declared.token.Token.{Token}
 use Rattle.fare_texts.specs.Explainers.{HasExplained}
 use Rattle.fare_texts.specs.declared.explainer.Explainer.{Explainer}
 use Rattle.ledger_check.specs.Ledger.{token_number}
-use Rattle.ledger_check.specs.Recounts.{falls_after}
-use Rattle.ledger_check.specs.RecountStates.{HasRunExplainer, StandsForRun}
-use Rattle.ledger_check.proofs.RunLemmas.{falls_is, own-of}
+use Rattle.ledger_check.specs.FullChecks.{decreases_after}
+use Rattle.ledger_check.specs.FullCheckStates.{HasRunExplainer, RepresentsRun}
+use Rattle.ledger_check.proofs.RunLemmas.{decreases_is, own-of}
 
 pub run_none : (token : Token) (run : List Entry) → run ≡ [] → own token run ≡ []
 unfolding own
@@ -42,45 +42,45 @@ apart_of a b other = by_test (token_eq a b) refl
 
 -- the token is another one
 pub run_less : (fares : Fares) (explainer : Explainer) (run : List Entry) (token : Token)
-    → StandsForRun fares explainer run → token_number explainer.token < token_number token
-    → (own token run ≡ []) × (falls_after run token ≡ false)
-run_less fares explainer run token stands less = (
-  own-apart token explainer.token run stands.of_token
+    → RepresentsRun fares explainer run → token_number explainer.token < token_number token
+    → (own token run ≡ []) × (decreases_after run token ≡ false)
+run_less fares explainer run token holds less = (
+  own-apart token explainer.token run holds.of_token
       (apart_of explainer.token token (λ is. omega (arith, is, less))),
-  falls_is run explainer.token token stands.of_token stands.some
+  decreases_is run explainer.token token holds.of_token holds.some
       ∙ (let e : nat_lt (token_number token) (token_number explainer.token) ≡ false =
       grind (arith, nat_tests) in e),
 )
 
 pub run_greater : (fares : Fares) (explainer : Explainer) (run : List Entry) (token : Token)
-    → StandsForRun fares explainer run → token_number token < token_number explainer.token
-    → (own token run ≡ []) × (falls_after run token ≡ true)
-run_greater fares explainer run token stands less = (
-  own-apart token explainer.token run stands.of_token
+    → RepresentsRun fares explainer run → token_number token < token_number explainer.token
+    → (own token run ≡ []) × (decreases_after run token ≡ true)
+run_greater fares explainer run token holds less = (
+  own-apart token explainer.token run holds.of_token
       (apart_of explainer.token token (λ is. omega (arith, is, less))),
-  falls_is run explainer.token token stands.of_token stands.some
+  decreases_is run explainer.token token holds.of_token holds.some
       ∙ lt-ltb (token_number token) (token_number explainer.token) less,
 )
 
 pub run_equal : (fares : Fares) (explainer : Explainer) (run : List Entry) (token : Token)
-    → StandsForRun fares explainer run → explainer.token ≡ token
-    → (own token run ≡ run) × (falls_after run token ≡ false)
-run_equal fares explainer run token stands same =
+    → RepresentsRun fares explainer run → explainer.token ≡ token
+    → (own token run ≡ run) × (decreases_after run token ≡ false)
+run_equal fares explainer run token holds same =
     let number : token_number explainer.token ≡ token_number token =
     ap (λ (t : Token). token_number t) same in (
       own_all token run
-          (subst (λ (t : Token). All (λ (e : Entry). e.token ≡ t) run) same stands.of_token),
-      falls_is run explainer.token token stands.of_token stands.some
+          (subst (λ (t : Token). All (λ (e : Entry). e.token ≡ t) run) same holds.of_token),
+      decreases_is run explainer.token token holds.of_token holds.some
           ∙ (let e : nat_lt (token_number token) (token_number explainer.token) ≡ false =
           grind (arith, nat_tests) in e),
     )
 
 -- the explainer that has taken one entry more stands for the run with it
-pub stands_more : (fares : Fares) (explainer : Explainer) (run : List Entry) (token : Token)
+pub holds_more : (fares : Fares) (explainer : Explainer) (run : List Entry) (token : Token)
     (entry : Entry) → Fits token → explainer.token ≡ token → entry.token ≡ token
     → HasExplained fares explainer (own token run ++ entry ∷ [])
     → HasRunExplainer fares (Some explainer) (own token run ++ entry ∷ [])
-stands_more fares explainer run token entry fits same of explained =
+holds_more fares explainer run token entry fits same of explained =
     let size = length-append (own token run) (entry ∷ []) in
     record {
       fits = subst Fits (sym same) fits;

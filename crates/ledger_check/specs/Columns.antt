@@ -54,7 +54,7 @@ pub record TracedLine : Type 0 where
   pub fields : List ℕ
   pub class : List ℕ
   pub upload : ℕ
-  pub place : ℕ
+  pub position : ℕ
 
 -- what a line was cut into
 abbrev pub cut_of : CutLine → TracedLine
@@ -62,7 +62,7 @@ cut_of cut = record {
   fields = cut.fields.now;
   class = cut.class.now;
   upload = cut.upload;
-  place = cut.place;
+  position = cut.position;
 }
 
 -- what follows from a value, if there is one
@@ -73,18 +73,18 @@ on (Some value) next = next value
 -- the class that ends a text, and the fields before its comma, if the class can be one of a ledger
 -- and the fields those of a line
 abbrev pub class_in : ℕ → ℕ → List ℕ → Option TracedLine
-class_in upload place text = on (last_field text) (λ parts.
+class_in upload position text = on (last_field text) (λ parts.
     value_if (nat_lt (length parts.0) 255 && is_class_name parts.1) (record {
       fields = parts.0;
       class = parts.1;
       upload = upload;
-      place = place;
+      position = position;
     }))
 
 -- the upload's number that ends a text, and the class and the fields before it
 abbrev pub upload_in : ℕ → List ℕ → Option TracedLine
-upload_in place text = on (last_field text) (λ parts.
-    on (number_in (2 ^ 32) parts.1) (λ upload. class_in upload place parts.0))
+upload_in position text = on (last_field text) (λ parts.
+    on (number_in (2 ^ 32) parts.1) (λ upload. class_in upload position parts.0))
 
 -- the number with a line feed after it
 abbrev pub number_line : List ℕ → Option ℕ
@@ -93,7 +93,7 @@ number_line text = said_by (number_at (2 ^ 64)) text
 -- the place that ends a line, and what is before it
 abbrev pub columns_in : List ℕ → Option TracedLine
 columns_in line =
-    on (last_field line) (λ parts. on (number_line parts.1) (λ place. upload_in place parts.0))
+    on (last_field line) (λ parts. on (number_line parts.1) (λ position. upload_in position parts.0))
 
 -- The line's fields and its columns, if it has the form of a traced ledger's line. Then it has at
 -- most 352 bytes.
@@ -123,12 +123,12 @@ pub record IsTraced (cut : TracedLine) : Type 0 where
   pub fields : length cut.fields < 255
   pub class : is_class_name cut.class ≡ true
   pub upload : cut.upload < 2 ^ 32
-  pub place : cut.place < 2 ^ 64
+  pub position : cut.position < 2 ^ 64
 
 -- the fields, and the columns after them: `..,adult,0,1`
 abbrev pub traced_text : TracedLine → List ℕ
 traced_text cut = cut.fields ++ (codes "," ++ (cut.class ++ (codes "," ++ (decimal cut.upload
-    ++ (codes "," ++ (decimal cut.place ++ codes "\n"))))))
+    ++ (codes "," ++ (decimal cut.position ++ codes "\n"))))))
 
 -- what is written so is read back: the same fields and class, the same place of the same upload
 abbrev pub ColumnsAreReadBack : Type 0

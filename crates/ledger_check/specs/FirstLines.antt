@@ -2,8 +2,8 @@
 use Rattle.std.specs.Prelude.{◌≡◌, ℕ, List, ◌++◌}
 use Rattle.tariffs.specs.Fares.{Fares}
 use Rattle.ledger_check.specs.Lines.{lines_of}
-use Rattle.ledger_check.specs.Recounts.{AreTaken, IsRecount, TakenLine, lines_from, recount_text}
-use Rattle.ledger_check.specs.Recounts.{remark_lines}
+use Rattle.ledger_check.specs.FullChecks.{AreTaken, IsFullCheck, TakenLine, lines_from, full_check_text}
+use Rattle.ledger_check.specs.FullChecks.{remark_lines}
 
 -- these are the first lines of the text, taken one after another
 pub record AreFirstTaken (fares : Fares) (text : List ℕ) (taken : List TakenLine) : Type 0 where
@@ -12,7 +12,7 @@ pub record AreFirstTaken (fares : Fares) (text : List ℕ) (taken : List TakenLi
   pub split : lines_of text ≡ lines_from taken ++ rest
 
 -- the remarks on the first lines of a text are a prefix of the text of each of its full checks
-abbrev pub RecountsGoOn : Type 0
-RecountsGoOn = (fares : Fares) (text : List ℕ) (first taken : List TakenLine)
-    → AreFirstTaken fares text first → IsRecount fares text taken
-    → (more : List ℕ) × (recount_text taken ≡ remark_lines first ++ more)
+abbrev pub FullChecksGoOn : Type 0
+FullChecksGoOn = (fares : Fares) (text : List ℕ) (first taken : List TakenLine)
+    → AreFirstTaken fares text first → IsFullCheck fares text taken
+    → (more : List ℕ) × (full_check_text taken ≡ remark_lines first ++ more)

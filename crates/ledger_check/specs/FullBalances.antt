@@ -8,16 +8,16 @@ use Rattle.ledger_check.specs.declared.full_balance.FullBalance.{FullBalance}
 
 -- The taps that are more often among the valid taps than among the others, each as often as it is
 -- there more often, by token, moment and validator.
-pub record AreLacking (good others taps : List TapFields) : Type 0 where
+pub record AreLacking (valid others taps : List TapFields) : Type 0 where
   pub copies : (tap : TapFields)
-      → copies_among tap taps ≡ copies_among tap good - copies_among tap others
+      → copies_among tap taps ≡ copies_among tap valid - copies_among tap others
   pub sorted : IsSorted tap_cmp taps
 
 -- of each valid tap some were subtracted and this number is left, or this number more was
 -- subtracted than the uploads have
-pub record IsFullBalance (full : FullBalance) (good struck : List TapFields) : Type 0 where
+pub record IsFullBalance (full : FullBalance) (valid subtracted : List TapFields) : Type 0 where
   pub sums : (tap : TapFields)
-      → copies_among tap good + left_at full.surplus tap
-      ≡ left_at full.missing tap + copies_among tap struck
+      → copies_among tap valid + left_at full.surplus tap
+      ≡ left_at full.missing tap + copies_among tap subtracted
   pub one_side : (tap : TapFields)
       → (left_at full.missing tap ≡ 0) ⊎ (left_at full.surplus tap ≡ 0)

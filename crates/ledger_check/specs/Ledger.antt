@@ -29,7 +29,7 @@ pub record IsNext (fares : Fares) (earlier : List Entry) (entry : Entry) (line :
     : Type 0 where
   pub postable : IsPostable entry
   -- tokens do not fall
-  pub no_fall : All (λ before. token_number before.token ≤ token_number entry.token) earlier
+  pub nondecreasing : All (λ before. token_number before.token ≤ token_number entry.token) earlier
   -- its reply is the account rule's for its token's earlier taps
   pub replied : IsReplied fares earlier entry
   pub shown : IsNextLine fares (own entry.token earlier) entry line

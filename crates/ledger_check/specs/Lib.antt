@@ -5,11 +5,11 @@ pub mod FullBalances
 pub mod Ledger
 pub mod Lines
 pub mod Orders
-pub mod Places
-pub mod RecountStates
-pub mod Recounts
+pub mod Positions
+pub mod FullCheckStates
+pub mod FullChecks
 pub mod Replays
-pub mod Struck
+pub mod Subtracted
 pub mod Taps
 pub mod Verdicts
 pub mod inside

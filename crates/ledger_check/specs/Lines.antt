@@ -13,12 +13,12 @@ pub record IsLine (text : List ℕ) : Type 0 where
   pub shown : text ≡ front ++ 10 ∷ []
 
 -- the lines, if the byte is before the first of them
-unfoldable pub begun_with : ℕ → List (List ℕ) → List (List ℕ)
-begun_with byte [] = (byte ∷ []) ∷ []
-begun_with byte (line ∷ lines) = (byte ∷ line) ∷ lines
+unfoldable pub started_with : ℕ → List (List ℕ) → List (List ℕ)
+started_with byte [] = (byte ∷ []) ∷ []
+started_with byte (line ∷ lines) = (byte ∷ line) ∷ lines
 
 -- the lines of a text: each but the last ends with the newline, which is nowhere else in it
 unfoldable pub lines_of : List ℕ → List (List ℕ)
 lines_of [] = []
 lines_of (byte ∷ text) =
-    if byte == 10 then (byte ∷ []) ∷ lines_of text else begun_with byte (lines_of text)
+    if byte == 10 then (byte ∷ []) ∷ lines_of text else started_with byte (lines_of text)

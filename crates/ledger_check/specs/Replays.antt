@@ -12,7 +12,7 @@ use Rattle.ledger_check.specs.Orders.{IsOrderOf, tap_of_entry}
 use Rattle.ledger_check.specs.declared.replay.Replay.{Replay}
 
 -- the explainer represents its token's entries among these, which are of no greater token
-pub record StandsForOwn (fares : Fares) (explainer : Explainer)
+pub record RepresentsOwn (fares : Fares) (explainer : Explainer)
     (entries : List Entry) : Type 0 where
   pub fits : Fits explainer.token
   pub explained : HasExplained fares explainer (own explainer.token entries)
@@ -21,7 +21,7 @@ pub record StandsForOwn (fares : Fares) (explainer : Explainer)
 -- the last explainer, if there were entries, represents them and has taken some
 abbrev pub HasExplainer : Fares → Option Explainer → List Entry → Type 0
 HasExplainer fares None entries = entries ≡ []
-HasExplainer fares (Some explainer) entries = StandsForOwn fares explainer entries
+HasExplainer fares (Some explainer) entries = RepresentsOwn fares explainer entries
     × (0 < explainer.number)
 
 -- these are the lines that were read: of the entries, and of no others

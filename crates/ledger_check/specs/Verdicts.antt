@@ -88,9 +88,9 @@ pub record HasFed (fares : Fares) (checker : Checker) (text : List ℕ) : Type 0
   pub lines : List (List ℕ)
   pub taken : HasTaken fares checker.so_far lines
   pub split : (more : List ℕ)
-      → lines_of (text ++ more) ≡ lines ++ lines_of (checker.begun.items ++ more)
-  pub lacks : Lacks 10 checker.begun.items
-  pub short : length checker.begun.items ≤ 255
+      → lines_of (text ++ more) ≡ lines ++ lines_of (checker.started.items ++ more)
+  pub lacks : Lacks 10 checker.started.items
+  pub short : length checker.started.items ≤ 255
 
 -- the text was read and no wrong line found, or the verdict is true of the text, whatever follows
 abbrev pub IsFed : Fares → Checker → List ℕ → Option Verdict → Type 0

@@ -1,7 +1,7 @@
 -- What only private functions cite. Who reads the contracts of public calls need not read it.
 pub mod Fronts
-pub mod Places
-pub mod Recounts
+pub mod Positions
+pub mod FullChecks
 pub mod Replays
 pub mod Taps
 pub mod Verdicts

@@ -7,11 +7,11 @@ ghost use Rattle.std.specs.Ordering.{is_eq, is_lt};
 ghost use Rattle.tap_views.specs.Encoding.{fields_of};
 ghost use Rattle.tap_views.specs.declared.encoder.TapFields.{TapFields};
 ghost use Rattle.tap_views.specs.TapOrder.{tap_cmp};
-ghost use Rattle.ledger_check.specs.Balances.{AreGoodFields, IsBalance, IsDifference, left_at};
+ghost use Rattle.ledger_check.specs.Balances.{AreValidFields, IsBalance, IsDifference, left_at};
 
 use std::alloc::{AllocError, Global};
 use std::collections::BTreeMap;
-use tap_views::{Batch, TapFields, good_batches};
+use tap_views::{Batch, TapFields, valid_batches};
 
 /// A tap that one side has more often: the first that is surplus, else the first that is missing.
 #[derive(Clone, Copy, Debug, PartialEq, Eq)]
@@ -90,15 +90,15 @@ impl Balance {
     }
 
     fn add(&mut self, tap: &TapFields) -> Result<(), AllocError>
-        ensures { OnOk result ((good : List TapFields) → IsBalance self.old good []
-            → IsBalance self.new (good ++ tap.now ∷ []) []) }
+        ensures { OnOk result ((valid : List TapFields) → IsBalance self.old valid []
+            → IsBalance self.new (valid ++ tap.now ∷ []) []) }
     {
         put_one(&mut self.left, *tap)
     }
 
     fn add_batch(&mut self, batch: &Batch<'_>) -> Result<(), AllocError>
-        ensures { OnOk result ((good : List TapFields) → IsBalance self.old good []
-            → IsBalance self.new (good ++ map fields_of batch.now) []) }
+        ensures { OnOk result ((valid : List TapFields) → IsBalance self.old valid []
+            → IsBalance self.new (valid ++ map fields_of batch.now) []) }
     {
         for tap in batch.taps() {
             self.add(&TapFields::of(&tap))?;
@@ -108,20 +108,20 @@ impl Balance {
 
     /// Adds the valid taps of an upload. After an allocation failure the balance is of no use.
     pub fn add_upload(&mut self, upload: &[u8]) -> Result<(), AllocError>
-        ensures { OnOk result ((taps : List TapFields) × AreGoodFields upload.now taps
-            × ((good : List TapFields) → IsBalance self.old good []
-            → IsBalance self.new (good ++ taps) [])) }
+        ensures { OnOk result ((taps : List TapFields) × AreValidFields upload.now taps
+            × ((valid : List TapFields) → IsBalance self.old valid []
+            → IsBalance self.new (valid ++ taps) [])) }
     {
-        for batch in good_batches(upload) {
+        for batch in valid_batches(upload) {
             self.add_batch(&batch)?;
         }
         Ok(())
     }
 
     /// Subtracts a tap of the other side.
-    pub fn strike(&mut self, tap: &TapFields)
-        ensures { (good struck : List TapFields) → IsBalance self.old good struck
-            → IsBalance self.new good (struck ++ tap.now ∷ []) }
+    pub fn subtract(&mut self, tap: &TapFields)
+        ensures { (valid subtracted : List TapFields) → IsBalance self.old valid subtracted
+            → IsBalance self.new valid (subtracted ++ tap.now ∷ []) }
     {
         if self.surplus.is_some() {
             return;
@@ -134,8 +134,8 @@ impl Balance {
     /// A tap that one side has more often: the first subtracted one that the uploads lack, else the
     /// first that is left, by token, moment and validator. `None` if both sides have the same taps.
     pub fn difference(&self) -> Option<Difference>
-        ensures { (good struck : List TapFields) → IsBalance self.now good struck
-            → IsDifference good struck result }
+        ensures { (valid subtracted : List TapFields) → IsBalance self.now valid subtracted
+            → IsDifference valid subtracted result }
     {
         if let Some(tap) = self.surplus {
             return Some(Difference::Surplus(tap));

@@ -10,15 +10,15 @@ ghost use Rattle.tap_views.specs.declared.encoder.TapFields.{TapFields};
 /// A reported difference is real: the taps of both sides are not the same in any order.
 pub fn differences_are_real()
     ensures same { (tap other : TapFields) → (is_same tap other ≡ true) ↔ (tap ≡ other) }
-    ensures apart { (good others : List TapFields) (difference : Difference)
-        → IsDifference good others (Some difference) → ¬ (IsPermutation good others) }
+    ensures apart { (valid others : List TapFields) (difference : Difference)
+        → IsDifference valid others (Some difference) → ¬ (IsPermutation valid others) }
 {}
 
 /// Neither side lacks a tap exactly if the taps of both sides are the same in some order.
 pub fn even_sides_lack_nothing()
-    ensures none { (good others missing surplus : List TapFields) → AreLacking good others missing
-        → AreLacking others good surplus → IsPermutation good others
+    ensures none { (valid others missing surplus : List TapFields) → AreLacking valid others missing
+        → AreLacking others valid surplus → IsPermutation valid others
         → (missing ≡ []) × (surplus ≡ []) }
-    ensures even { (good others : List TapFields) → AreLacking good others []
-        → AreLacking others good [] → IsPermutation good others }
+    ensures even { (valid others : List TapFields) → AreLacking valid others []
+        → AreLacking others valid [] → IsPermutation valid others }
 {}

@@ -10,7 +10,7 @@ ghost use Rattle.tap_views.specs.declared.encoder.TapFields.{TapFields};
 ghost use Rattle.ledger_check.specs.Ledger.{IsLedgerOf};
 ghost use Rattle.ledger_check.specs.Lines.{IsLine, Lacks};
 ghost use Rattle.ledger_check.specs.Orders.{tap_of_entry};
-ghost use Rattle.ledger_check.specs.Struck.{AreStruck, HasStruck, IfUndecided};
+ghost use Rattle.ledger_check.specs.Subtracted.{AreSubtracted, HasSubtracted, IfUndecided};
 ghost use Rattle.ledger_check.specs.Verdicts.{HasFed, HasTaken, IsFed, IsVerdict, is_legal};
 ghost use Rattle.ledger_check.specs.inside.Verdicts.{IsTaken, number_after};
 ghost use Rattle.ledger_check.specs.declared.checker.Verdict.TheVariants.{NoLine};
@@ -68,10 +68,10 @@ impl LinesSoFar {
         ensures taken { IfOk result (λ reported. (lines : List (List ℕ))
             → HasTaken table.now self.old lines
             → IsTaken table.now self.new lines line.now reported) }
-        ensures struck { IfOk result (λ reported. (lines : List (List ℕ)) (good : List TapFields)
-            → HasTaken table.now self.old lines → AreStruck table.now lines balance.old good
+        ensures subtracted { IfOk result (λ reported. (lines : List (List ℕ)) (valid : List TapFields)
+            → HasTaken table.now self.old lines → AreSubtracted table.now lines balance.old valid
             → IfUndecided reported
-            (AreStruck table.now (lines ++ line.now ∷ []) balance.new good)) }
+            (AreSubtracted table.now (lines ++ line.now ∷ []) balance.new valid)) }
     {
         if !self.has_head {
             if !same_bytes(line, head_line().as_bytes()) {
@@ -83,7 +83,7 @@ impl LinesSoFar {
         let number = self.replay.lines + 2;
         match self.replay.next(table, clock, line, &mut self.wanted)? {
             Step::Legal(tap) => {
-                balance.strike(&tap.fields());
+                balance.subtract(&tap.fields());
                 Ok(None)
             }
             Step::Wants => Ok(Some(Verdict::Wants(number, self.wanted.clone()?))),
@@ -97,15 +97,15 @@ impl LinesSoFar {
 pub struct Checker {
     so_far: LinesSoFar,
     /// The prefix of the line that has not ended.
-    begun: Vec<u8>,
+    started: Vec<u8>,
 }
 
 impl Checker {
     /// Nothing was read.
     pub fn new(alloc: Global) -> Checker
         ensures fed { (fares : Fares) → HasFed fares result [] }
-        ensures struck { (fares : Fares) (balance : Balance) (good : List TapFields)
-            → IsBalance balance good [] → HasStruck fares result balance [] good }
+        ensures subtracted { (fares : Fares) (balance : Balance) (valid : List TapFields)
+            → IsBalance balance valid [] → HasSubtracted fares result balance [] valid }
     {
         Checker {
             so_far: LinesSoFar {
@@ -113,7 +113,7 @@ impl Checker {
                 replay: Replay::new(),
                 wanted: String::new(alloc),
             },
-            begun: Vec::new(alloc),
+            started: Vec::new(alloc),
         }
     }
 
@@ -133,14 +133,14 @@ impl Checker {
         // For every text that was read so far.
         ensures fed { IfOk result (λ reported. (text : List ℕ) → HasFed table.now self.old text
             → IsFed table.now self.new (text ++ piece.now) reported) }
-        ensures struck { IfOk result (λ reported. (text : List ℕ) (good : List TapFields)
-            → HasStruck table.now self.old balance.old text good
+        ensures subtracted { IfOk result (λ reported. (text : List ℕ) (valid : List TapFields)
+            → HasSubtracted table.now self.old balance.old text valid
             → IfUndecided reported
-            (HasStruck table.now self.new balance.new (text ++ piece.now) good)) }
+            (HasSubtracted table.now self.new balance.new (text ++ piece.now) valid)) }
     {
         let mut rest = piece;
         while !rest.is_empty() {
-            let Some((line, behind)) = split_line(rest) else {
+            let Some((line, trailing)) = split_line(rest) else {
                 let reported = self.keep(rest)?;
                 return Ok(reported);
             };
@@ -148,7 +148,7 @@ impl Checker {
             if reported.is_some() {
                 return Ok(reported);
             }
-            rest = behind;
+            rest = trailing;
         }
         Ok(None)
     }
@@ -165,20 +165,20 @@ impl Checker {
         requires line { IsLine line.now }
         ensures fed { IfOk result (λ reported. (text : List ℕ) → HasFed table.now self.old text
             → IsFed table.now self.new (text ++ line.now) reported) }
-        ensures struck { IfOk result (λ reported. (text : List ℕ) (good : List TapFields)
-            → HasStruck table.now self.old balance.old text good
+        ensures subtracted { IfOk result (λ reported. (text : List ℕ) (valid : List TapFields)
+            → HasSubtracted table.now self.old balance.old text valid
             → IfUndecided reported
-            (HasStruck table.now self.new balance.new (text ++ line.now) good)) }
+            (HasSubtracted table.now self.new balance.new (text ++ line.now) valid)) }
     {
-        if self.begun.is_empty() {
+        if self.started.is_empty() {
             let reported = self.so_far.take(table, clock, line, balance)?;
             return Ok(reported);
         }
-        self.begun.extend_from_slice(line)?;
+        self.started.extend_from_slice(line)?;
         let reported = self
             .so_far
-            .take(table, clock, self.begun.as_slice(), balance)?;
-        self.begun.clear();
+            .take(table, clock, self.started.as_slice(), balance)?;
+        self.started.clear();
         Ok(reported)
     }
 
@@ -187,13 +187,13 @@ impl Checker {
         requires rest { Lacks 10 rest.now }
         ensures fed { IfOk result (λ reported. (fares : Fares) (text : List ℕ)
             → HasFed fares self.old text → IsFed fares self.new (text ++ rest.now) reported) }
-        ensures struck { IfOk result
+        ensures subtracted { IfOk result
             (λ reported. (fares : Fares) (text : List ℕ) (balance : Balance)
-            (good : List TapFields) → HasStruck fares self.old balance text good
-            → IfUndecided reported (HasStruck fares self.new balance (text ++ rest.now) good)) }
+            (valid : List TapFields) → HasSubtracted fares self.old balance text valid
+            → IfUndecided reported (HasSubtracted fares self.new balance (text ++ rest.now) valid)) }
     {
-        self.begun.extend_from_slice(rest)?;
-        if self.begun.len() > MAX_LINE_BYTES {
+        self.started.extend_from_slice(rest)?;
+        if self.started.len() > MAX_LINE_BYTES {
             return Ok(Some(self.so_far.no_line()));
         }
         Ok(None)
@@ -206,12 +206,12 @@ impl Checker {
             → IsVerdict fares text result }
 
         // What is left is the balance of the taps of the ledger, if the text is one.
-        ensures struck { (fares : Fares) (text : List ℕ) (balance : Balance)
-            (good : List TapFields) → HasStruck fares self.now balance text good
+        ensures subtracted { (fares : Fares) (text : List ℕ) (balance : Balance)
+            (valid : List TapFields) → HasSubtracted fares self.now balance text valid
             → IsTrue (is_legal result) → (entries : List Entry) → IsLedgerOf fares entries text
-            → IsBalance balance good (map tap_of_entry entries) }
+            → IsBalance balance valid (map tap_of_entry entries) }
     {
-        if !self.so_far.has_head || !self.begun.is_empty() {
+        if !self.so_far.has_head || !self.started.is_empty() {
             return self.so_far.no_line();
         }
         Verdict::Legal(self.so_far.replay.lines, self.so_far.replay.order.early)

@@ -69,11 +69,11 @@ fn are_name_bytes(bytes: &[u8]) -> bool
     ensures { result ≡ list_all is_name_byte bytes.now }
 {
     let mut rest = bytes;
-    while let Some((first, behind)) = rest.split_first() {
+    while let Some((first, trailing)) = rest.split_first() {
         if !is_name_byte(*first) {
             return false;
         }
-        rest = behind;
+        rest = trailing;
     }
     true
 }
@@ -113,11 +113,11 @@ pub struct CutLine<'a> {
     /// The number of the tap's upload, from 0.
     pub upload: u32,
     /// The tap's place in that upload, from 1.
-    pub place: u64,
+    pub position: u64,
 }
 
-fn class_in(text: &[u8], upload: u32, place: u64) -> Option<CutLine<'_>>
-    ensures cut { option_map cut_of result ≡ class_in upload place text.now }
+fn class_in(text: &[u8], upload: u32, position: u64) -> Option<CutLine<'_>>
+    ensures cut { option_map cut_of result ≡ class_in upload position text.now }
     ensures short { IfSome result (λ cut. length cut.fields.now < 255) }
 {
     let (fields, class) = last_field(text)?;
@@ -126,20 +126,20 @@ fn class_in(text: &[u8], upload: u32, place: u64) -> Option<CutLine<'_>>
             fields,
             class,
             upload,
-            place,
+            position,
         })
     } else {
         None
     }
 }
 
-fn upload_in(text: &[u8], place: u64) -> Option<CutLine<'_>>
-    ensures cut { option_map cut_of result ≡ upload_in place text.now }
+fn upload_in(text: &[u8], position: u64) -> Option<CutLine<'_>>
+    ensures cut { option_map cut_of result ≡ upload_in position text.now }
     ensures short { IfSome result (λ cut. length cut.fields.now < 255) }
 {
     let (front, digits) = last_field(text)?;
     let upload = small_number(digits)?;
-    class_in(front, upload, place)
+    class_in(front, upload, position)
 }
 
 fn columns_in(line: &[u8]) -> Option<CutLine<'_>>
@@ -147,8 +147,8 @@ fn columns_in(line: &[u8]) -> Option<CutLine<'_>>
     ensures short { IfSome result (λ cut. length cut.fields.now < 255) }
 {
     let (text, end) = last_field(line)?;
-    let place = number_line(end)?;
-    upload_in(text, place)
+    let position = number_line(end)?;
+    upload_in(text, position)
 }
 
 /// The fields and columns of a line, with its line feed. `None` without a traced line's form.

@@ -9,7 +9,7 @@ ghost use Rattle.fare_texts.specs.Moments.{IsMomentText};
 ghost use Rattle.tap_views.specs.Token.{Fits, bytes_of};
 ghost use Rattle.tap_views.specs.declared.token.Token.{Token as AToken};
 ghost use Rattle.ledger_check.specs.Lines.{Lacks};
-ghost use Rattle.ledger_check.specs.Recounts.{EndsField, IsCentsField, IsLineOfTap};
+ghost use Rattle.ledger_check.specs.FullChecks.{EndsField, IsCentsField, IsLineOfTap};
 ghost use Rattle.ledger_check.specs.Taps.{IsTapOfLine};
 ghost use Rattle.ledger_check.specs.inside.Fronts.{HasFront, IsFrontOf};
 
@@ -45,7 +45,7 @@ fn open_field(text: &[u8]) -> Option<(&[u8], &[u8])>
     ensures none { IfNone result ((front rest : List ℕ) → Lacks 44 front → EndsField rest
         → ¬ (text.now ≡ front ++ rest)) }
 {
-    if let Some((front, _behind)) = split_at_byte(text, b',') {
+    if let Some((front, _trailing)) = split_at_byte(text, b',') {
         return Some((front, &text[front.len()..]));
     }
     match before_feed(text) {
@@ -59,10 +59,10 @@ fn front_of(line: &[u8]) -> Option<Front<'_>>
     ensures none { IfNone result ((token number moment validator rest : List ℕ)
         → ¬ (HasFront line.now token number moment validator rest)) }
 {
-    let (token, behind) = field(line)?;
-    let (_number, behind) = field(behind)?;
-    let (moment, behind) = field(behind)?;
-    let (validator, rest) = open_field(behind)?;
+    let (token, trailing) = field(line)?;
+    let (_number, trailing) = field(trailing)?;
+    let (moment, trailing) = field(trailing)?;
+    let (validator, rest) = open_field(trailing)?;
     Some(Front {
         token,
         moment,
@@ -169,9 +169,9 @@ pub(crate) fn exact_cents(rest: &[u8]) -> Option<u32>
         (λ cents. IsCentsField rest.now cents) }
 {
     let fields = after_word(rest, b",")?;
-    let (_mode, behind) = field(fields)?;
-    let (_answer, behind) = field(behind)?;
-    let (digits, _behind) = field(behind)?;
+    let (_mode, trailing) = field(fields)?;
+    let (_answer, trailing) = field(trailing)?;
+    let (digits, _trailing) = field(trailing)?;
     let cents = exact_number(digits)?;
     Some(cents)
 }

@@ -46,8 +46,8 @@ pub struct FullBalance {
 impl FullBalance {
     /// Goes on from the uploads' valid taps, from which nothing was subtracted.
     pub fn of(alloc: Global, balance: Balance) -> FullBalance
-        ensures { (good : List TapFields) → IsBalance balance good []
-            → IsFullBalance result good [] }
+        ensures { (valid : List TapFields) → IsBalance balance valid []
+            → IsFullBalance result valid [] }
     {
         let Balance { left, surplus: _ } = balance;
         FullBalance {
@@ -57,9 +57,9 @@ impl FullBalance {
     }
 
     /// Subtracts a tap of the other side. After an allocation failure the balance is of no use.
-    pub fn strike(&mut self, tap: &TapFields) -> Result<(), AllocError>
-        ensures { OnOk result ((good struck : List TapFields) → IsFullBalance self.old good struck
-            → IsFullBalance self.new good (struck ++ tap.now ∷ [])) }
+    pub fn subtract(&mut self, tap: &TapFields) -> Result<(), AllocError>
+        ensures { OnOk result ((valid subtracted : List TapFields) → IsFullBalance self.old valid subtracted
+            → IsFullBalance self.new valid (subtracted ++ tap.now ∷ [])) }
     {
         if count_at(&self.missing, *tap) == 0 {
             return put_one(&mut self.surplus, *tap);
@@ -70,8 +70,8 @@ impl FullBalance {
 
     /// The taps that the uploads have more often.
     pub fn missing(&self, alloc: Global) -> Result<Vec<TapFields>, AllocError>
-        ensures { IfOk result (λ taps. (good struck : List TapFields)
-            → IsFullBalance self.now good struck → AreLacking good struck taps.items) }
+        ensures { IfOk result (λ taps. (valid subtracted : List TapFields)
+            → IsFullBalance self.now valid subtracted → AreLacking valid subtracted taps.items) }
     {
         let taps = taps_left(alloc, &self.missing)?;
         Ok(taps)
@@ -79,8 +79,8 @@ impl FullBalance {
 
     /// The taps that the other side has more often.
     pub fn surplus(&self, alloc: Global) -> Result<Vec<TapFields>, AllocError>
-        ensures { IfOk result (λ taps. (good struck : List TapFields)
-            → IsFullBalance self.now good struck → AreLacking struck good taps.items) }
+        ensures { IfOk result (λ taps. (valid subtracted : List TapFields)
+            → IsFullBalance self.now valid subtracted → AreLacking subtracted valid taps.items) }
     {
         let taps = taps_left(alloc, &self.surplus)?;
         Ok(taps)

@@ -1,9 +1,9 @@
 //! What follows from a verdict, from a full check, and from the columns of a line.
 
 ghost use Rattle.ledger_check.specs.Columns.{ColumnsAreReadBack};
-ghost use Rattle.ledger_check.specs.FirstLines.{RecountsGoOn};
+ghost use Rattle.ledger_check.specs.FirstLines.{FullChecksGoOn};
 ghost use Rattle.ledger_check.specs.Orders.{OrdersDecide};
-ghost use Rattle.ledger_check.specs.Recounts.{RecountsDecide};
+ghost use Rattle.ledger_check.specs.FullChecks.{FullChecksDecide};
 ghost use Rattle.ledger_check.specs.Verdicts.{VerdictsDecide};
 
 /// A true verdict is `legal` exactly if the text is, whole, a ledger of legal histories.
@@ -17,13 +17,13 @@ pub fn orders_decide()
 {}
 
 /// A full check has no remark exactly if the text is, whole, a ledger of legal histories.
-pub fn recounts_decide()
-    ensures { RecountsDecide }
+pub fn full_checks_decide()
+    ensures { FullChecksDecide }
 {}
 
 /// What is reported of a text's first lines is a prefix of each full check's report of the text.
-pub fn recounts_go_on()
-    ensures { RecountsGoOn }
+pub fn full_checks_go_on()
+    ensures { FullChecksGoOn }
 {}
 
 /// The columns of a line are read back as they were written: fields, class, upload and place.

@@ -1,11 +1,11 @@
 //! The line that says that a ledger is legal.
 
 ghost use Rattle.std.specs.Prelude.{◌≡◌, ◌++◌, OnOk, string_bytes};
-ghost use Rattle.ledger_check.specs.Recounts.{legal_text, order_text};
+ghost use Rattle.ledger_check.specs.FullChecks.{legal_text, order_text};
 
 use std::alloc::AllocError;
 
-#[tactic(auto, unfolding(crate::specs::Recounts::order_text))]
+#[tactic(auto, unfolding(crate::specs::FullChecks::order_text))]
 fn write_order(text: &mut String, early: Option<u64>) -> Result<(), AllocError>
     ensures { OnOk result (string_bytes text.new ≡ string_bytes text.old ++ order_text early) }
 {
@@ -19,7 +19,7 @@ fn write_order(text: &mut String, early: Option<u64>) -> Result<(), AllocError>
 }
 
 /// Appends `legal 6 lines, settled`, or the first line that is earlier than the line before it.
-#[tactic(auto, unfolding(crate::specs::Recounts::legal_text))]
+#[tactic(auto, unfolding(crate::specs::FullChecks::legal_text))]
 pub fn write_legal(text: &mut String, entries: u64, early: Option<u64>) -> Result<(), AllocError>
     ensures { OnOk result
         (string_bytes text.new ≡ string_bytes text.old ++ legal_text entries early) }

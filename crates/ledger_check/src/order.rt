@@ -34,10 +34,10 @@ fn comes_before(tap: &TapFields, last: &Option<TapFields>) -> bool
     }
 }
 
-fn number_if(is_asked: bool, number: u64) -> Option<u64>
-    ensures { result ≡ (if is_asked then Some number else None) }
+fn number_if(is_requested: bool, number: u64) -> Option<u64>
+    ensures { result ≡ (if is_requested then Some number else None) }
 {
-    if is_asked { Some(number) } else { None }
+    if is_requested { Some(number) } else { None }
 }
 
 impl TapOrder {

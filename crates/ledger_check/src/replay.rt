@@ -7,7 +7,7 @@ ghost use Rattle.tariffs.specs.Fares.{Fares};
 ghost use Rattle.tap_views.specs.Token.{Fits};
 ghost use Rattle.histories.specs.declared.entry.Entry.{Entry};
 ghost use Rattle.ledger_check.specs.Ledger.{token_number};
-ghost use Rattle.ledger_check.specs.Replays.{HasRead, HasExplainer, StandsForOwn};
+ghost use Rattle.ledger_check.specs.Replays.{HasRead, HasExplainer, RepresentsOwn};
 ghost use Rattle.ledger_check.specs.inside.Replays.{IsStep};
 
 use crate::bytes::same_bytes;
@@ -59,9 +59,9 @@ impl Replay {
     fn explainer_of(&self, token: Token) -> Option<Explainer>
         requires { Fits token }
         ensures token { IfSome result (λ explainer. explainer.token ≡ token) }
-        ensures stands { IfSome result (λ explainer. (fares : Fares) (entries : List Entry)
+        ensures holds { IfSome result (λ explainer. (fares : Fares) (entries : List Entry)
             → HasExplainer fares self.now.explainer entries
-            → StandsForOwn fares explainer entries) }
+            → RepresentsOwn fares explainer entries) }
         ensures less { IfNone result ((fares : Fares) (entries : List Entry)
             → HasExplainer fares self.now.explainer entries
             → All (λ entry. token_number entry.token ≤ token_number token) entries → ⊥) }

@@ -8,11 +8,11 @@ ghost use Rattle.histories.specs.declared.entry.Entry.{Entry as AnEntry};
 ghost use Rattle.tap_views.specs.Token.{Fits};
 ghost use Rattle.fare_texts.specs.Explainers.{HasExplained};
 ghost use Rattle.ledger_check.specs.Orders.{tap_of_entry};
-ghost use Rattle.ledger_check.specs.Recounts.{falls_after, remark_for, remark_text, no_line_text};
-ghost use Rattle.ledger_check.specs.Recounts.{wants_text};
-ghost use Rattle.ledger_check.specs.RecountStates.{HasRunExplainer};
+ghost use Rattle.ledger_check.specs.FullChecks.{decreases_after, remark_for, remark_text, no_line_text};
+ghost use Rattle.ledger_check.specs.FullChecks.{wants_text};
+ghost use Rattle.ledger_check.specs.FullCheckStates.{HasRunExplainer};
 ghost use Rattle.ledger_check.specs.Lines.{IsLine};
-ghost use Rattle.ledger_check.specs.inside.Recounts.{HasJudged, TookTap};
+ghost use Rattle.ledger_check.specs.inside.FullChecks.{HasJudged, TookTap};
 
 use crate::bytes::same_bytes;
 use crate::exact::{exact_cents, exact_tap};
@@ -63,10 +63,10 @@ pub(crate) struct LineFinding {
     pub(crate) remark: Remark,
 }
 
-fn remark_for(falls: bool, same: bool) -> Remark
-    ensures { result ≡ remark_for falls same }
+fn remark_for(is_decrease: bool, same: bool) -> Remark
+    ensures { result ≡ remark_for is_decrease same }
 {
-    if falls {
+    if is_decrease {
         Remark::NoLine
     } else if same {
         Remark::Nothing
@@ -75,14 +75,14 @@ fn remark_for(falls: bool, same: bool) -> Remark
     }
 }
 
-#[tactic(auto, unfolding(crate::specs::Recounts::no_line_text))]
+#[tactic(auto, unfolding(crate::specs::FullChecks::no_line_text))]
 fn write_no_line(text: &mut String, number: u64) -> Result<(), AllocError>
     ensures { OnOk result (string_bytes text.new ≡ string_bytes text.old ++ no_line_text number) }
 {
     write!(text, "line {number} is no ledger line\n")
 }
 
-#[tactic(auto, unfolding(crate::specs::Recounts::wants_text))]
+#[tactic(auto, unfolding(crate::specs::FullChecks::wants_text))]
 fn write_wants(text: &mut String, number: u64, wanted: &str) -> Result<(), AllocError>
     ensures { OnOk result (string_bytes text.new
         ≡ string_bytes text.old ++ wants_text number wanted.now) }
@@ -111,8 +111,8 @@ fn explainer_after(last: &Option<Explainer>, token: Token) -> (Explainer, bool)
     ensures token { result.0.token ≡ token }
     ensures explained { (fares : Fares) (run : List AnEntry) → HasRunExplainer fares last.now run
         → HasExplained fares result.0 (own token run) }
-    ensures falls { (fares : Fares) (run : List AnEntry) → HasRunExplainer fares last.now run
-        → result.1 ≡ falls_after run token }
+    ensures is_decrease { (fares : Fares) (run : List AnEntry) → HasRunExplainer fares last.now run
+        → result.1 ≡ decreases_after run token }
 {
     let Some(explainer) = *last else {
         return (Explainer::of(token), false);
@@ -161,7 +161,7 @@ impl Walk {
             → HasRunExplainer table.now self.old.explainer run
             → TookTap table.now run tap self.new took.0 took.1) }
     {
-        let (mut explainer, falls) = explainer_after(&self.explainer, tap.token);
+        let (mut explainer, is_decrease) = explainer_after(&self.explainer, tap.token);
         let (entry, reason) = explainer.post_next(table, clock, tap.validator, tap.moment);
         self.wanted.clear();
         write_line(
@@ -173,7 +173,7 @@ impl Walk {
             &reason,
         )?;
         self.explainer = Some(explainer);
-        Ok((entry, falls))
+        Ok((entry, is_decrease))
     }
 
     pub(crate) fn judge(
@@ -198,12 +198,12 @@ impl Walk {
                 remark: Remark::NoLine,
             });
         };
-        let (entry, falls) = self.take_tap(table, clock, tap)?;
+        let (entry, is_decrease) = self.take_tap(table, clock, tap)?;
         let cents = exact_cents(rest).unwrap_or(0);
         let is_same = same_bytes(line, self.wanted.as_bytes());
         Ok(LineFinding {
             tap: Some(CountedTap { entry, cents }),
-            remark: remark_for(falls, is_same),
+            remark: remark_for(is_decrease, is_same),
         })
     }
 }

@@ -2,7 +2,7 @@
 
 ghost use Rattle.std.specs.Prelude.{◌≡◌, ◌+◌, ◌<◌, ◌^◌, List, OnOk, string_bytes};
 ghost use Rattle.histories.specs.declared.entry.Entry.{Entry};
-ghost use Rattle.ledger_check.specs.Replays.{StandsForOwn};
+ghost use Rattle.ledger_check.specs.Replays.{RepresentsOwn};
 ghost use Rattle.ledger_check.specs.inside.Replays.{GoesOn};
 
 use account_rule::Answer;
@@ -21,10 +21,10 @@ pub(crate) fn write_wanted(
 ) -> Result<(), NoMemory>
     requires clock { clock.now ≡ table.now.zone }
     requires number { explainer.old.number + 1 < 2 ^ 64 }
-    requires stands { (entries : List Entry) × StandsForOwn table.now explainer.old entries }
+    requires holds { (entries : List Entry) × RepresentsOwn table.now explainer.old entries }
 
     // For all entries that the explainer represents.
-    ensures { OnOk result ((entries : List Entry) → StandsForOwn table.now explainer.old entries
+    ensures { OnOk result ((entries : List Entry) → RepresentsOwn table.now explainer.old entries
         → GoesOn table.now explainer.old entries validator moment
         (string_bytes wanted.new) explainer.new) }
 {

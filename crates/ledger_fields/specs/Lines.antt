@@ -1,7 +1,7 @@
 -- The line of a ledger: twelve fields with a comma between each two, and a line feed.
 use Rattle.std.specs.Prelude.{◌^◌, ℕ, List, Option, codes, option_map}
 use Rattle.line_forms.specs.Columns.{column_where}
-use Rattle.line_forms.specs.Forms.{Reader, behind_read, said_by, then_read}
+use Rattle.line_forms.specs.Forms.{Reader, after_read, said_by, then_read}
 use Rattle.line_forms.specs.Numbers.{number_at}
 use Rattle.ledger_fields.specs.Fields.{fits}
 use Rattle.ledger_fields.specs.Rows.{Row}
@@ -11,11 +11,11 @@ use Rattle.ledger_fields.specs.declared.form.RowFields.{RowFields}
 
 -- a comma, and a field
 abbrev pub next_field : Field → Reader (List ℕ)
-next_field field = behind_read (codes ",") (column_where (fits field))
+next_field field = after_read (codes ",") (column_where (fits field))
 
 -- a comma, and a number below a bound
 abbrev pub next_number : ℕ → Reader ℕ
-next_number bound = behind_read (codes ",") (number_at bound)
+next_number bound = after_read (codes ",") (number_at bound)
 
 -- `,full,`
 abbrev pub ReasonFields : Type 0

@@ -79,7 +79,7 @@ impl<'a> FormOf<'a> for Field {
 
     ghost use Rattle.std.specs.Prelude.{List, ℕ};
     ghost use Rattle.line_forms.specs.ColumnLaws.{column_law};
-    ghost use Rattle.line_forms.specs.Columns.{BeginsBehindColumn, IsColumn, column_where};
+    ghost use Rattle.line_forms.specs.Columns.{BeginsAfterColumn, IsColumn, column_where};
     ghost use Rattle.ledger_fields.specs.Fields.{fits};
 
     ghost Said = { List ℕ };
@@ -90,7 +90,7 @@ impl<'a> FormOf<'a> for Field {
 
     ghost says = { λ field. IsColumn (fits field) };
 
-    ghost ends = { λ field. BeginsBehindColumn };
+    ghost ends = { λ field. BeginsAfterColumn };
 
     ghost valid = { λ field. Unit {0} };
 

@@ -4,7 +4,7 @@ ghost use Rattle.std.specs.Prelude.{◌≡◌, None, Some, MatchOption};
 ghost use Rattle.ledger_fields.specs.Lines.{row_in, row_of_fields};
 
 use crate::field::Field;
-use line_forms::forms::{Behind, Then, line_of};
+use line_forms::forms::{After, Then, line_of};
 use line_forms::number::{Number32, Number64};
 
 /// The fields of a ledger's line that say what it charges.
@@ -27,26 +27,26 @@ pub fn row_fields(line: &[u8]) -> Option<RowFields<'_>>
     ensures { MatchOption result (row_in line.now ≡ None)
         (λ fields. row_in line.now ≡ Some (row_of_fields fields)) }
 {
-    let reason = Then(Behind(b",", Field::Word), Behind(b",", Field::PastMoment));
+    let reason = Then(After(b",", Field::Word), After(b",", Field::PastMoment));
     let window = Then(
-        Behind(b",", Field::PastMoment),
+        After(b",", Field::PastMoment),
         Then(
-            Behind(b",", Field::LaterMoment),
-            Then(Behind(b",", Field::Ride), reason),
+            After(b",", Field::LaterMoment),
+            Then(After(b",", Field::Ride), reason),
         ),
     );
     let charge = Then(
-        Behind(b",", Field::Word),
+        After(b",", Field::Word),
         Then(
-            Behind(b",", Field::Word),
-            Then(Behind(b",", Number32), window),
+            After(b",", Field::Word),
+            Then(After(b",", Number32), window),
         ),
     );
     let tap = Then(
-        Behind(b",", Field::Moment),
-        Then(Behind(b",", Number32), charge),
+        After(b",", Field::Moment),
+        Then(After(b",", Number32), charge),
     );
-    let form = Then(Field::Token, Then(Behind(b",", Number64), tap));
+    let form = Then(Field::Token, Then(After(b",", Number64), tap));
     let (token, (_number, (moment, (validator, (_mode, (answer, (cents, rest))))))) = line_of(
         &form, line,
     )?;

@@ -87,8 +87,8 @@ fn differences_from_a_list(rt: HostRuntime) -> Result<(), Fail> {
 fn by_token(alloc: Global, book: &ShardBook) -> Result<Vec<(Token, [u128; 7])>, Fail> {
     let mut list = Vec::new(alloc);
     let sums = token_sums_of_books(alloc, std::slice::from_ref(book))?;
-    for place in 0..sums.len() {
-        let sum = sums.get(place);
+    for position in 0..sums.len() {
+        let sum = sums.get(position);
         list.push((sum.token, shown(&sum.totals)))?;
     }
     Ok(list)

@@ -61,9 +61,9 @@ impl ReferenceAccount {
         if rides.is_empty() {
             return Ok(None);
         }
-        let (start, place) = last_window(&rides);
+        let (start, position) = last_window(&rides);
         let (mut paid, mut cents) = (0u32, 0u32);
-        for ride in 0..=place {
+        for ride in 0..=position {
             paid = paid.saturating_add(u32::from(charge(ride) > 0));
             cents = cents.saturating_add(charge(ride));
         }
@@ -119,8 +119,8 @@ fn last_window(rides: &[u64]) -> (u64, u32) {
     let mut window: Option<(u64, u32)> = None;
     for ride in rides {
         window = match window {
-            Some((start, place)) if *ride < start.saturating_add(WEEK) => {
-                Some((start, place.saturating_add(1)))
+            Some((start, position)) if *ride < start.saturating_add(WEEK) => {
+                Some((start, position.saturating_add(1)))
             }
             _ => Some((*ride, 0)),
         };
@@ -129,9 +129,11 @@ fn last_window(rides: &[u64]) -> (u64, u32) {
 }
 
 /// What the ride at an index of its window costs, in cents: 300 each, 12 of them, 3,500 together.
-fn charge(place: u32) -> u32 {
-    if place < 12 {
-        3_500u32.saturating_sub(place.saturating_mul(300)).min(300)
+fn charge(position: u32) -> u32 {
+    if position < 12 {
+        3_500u32
+            .saturating_sub(position.saturating_mul(300))
+            .min(300)
     } else {
         0
     }

@@ -7,8 +7,8 @@ use crate::runs::{
     REPORT, SAMPLE, end_of, opened, report_text, run, two_taps, two_uploads, uploads_of,
 };
 use fare_service::{
-    Gatekeeper, GatherFault, OpenFault, OpenGatekeeper, Outcome, RunFault, Service, Share, Unlent,
-    UploadEnd,
+    Gatekeeper, GatherFault, OpenFault, OpenGatekeeper, Outcome, RunFault, Service, Share,
+    Unavailable, UploadEnd,
 };
 use fare_table::{FareTable, ReadFareTable};
 use shard_book::Totals;
@@ -73,7 +73,7 @@ const TURNS: u64 = 1_000_000_000;
 struct Both {
     started: AtomicBool,
     ended: AtomicBool,
-    gave_up: AtomicBool,
+    has_aborted: AtomicBool,
 }
 
 impl Both {
@@ -81,7 +81,7 @@ impl Both {
         Both {
             started: AtomicBool::new(false),
             ended: AtomicBool::new(false),
-            gave_up: AtomicBool::new(false),
+            has_aborted: AtomicBool::new(false),
         }
     }
 
@@ -91,14 +91,14 @@ impl Both {
                 return;
             }
         }
-        self.gave_up.store(true, Ordering::SeqCst);
+        self.has_aborted.store(true, Ordering::SeqCst);
     }
 }
 
 impl Gatekeeper for Both {
-    type Begun = u32;
+    type Started = u32;
 
-    ghost begins = { λ begun. begun };
+    ghost begins = { λ started. started };
 
     fn before(&self, upload: u32) -> u32 {
         if upload == 0 {
@@ -137,7 +137,7 @@ fn two_workers_post_at_once(rt: HostRuntime) -> Result<(), Fail> {
     let uploads = two_uploads(alloc)?;
     let keeper = Both::new();
     let outcome = run(&rt, alloc, uploads.as_slice(), 8, 2, &keeper)?;
-    assert!(rt; !keeper.gave_up.load(Ordering::SeqCst));
+    assert!(rt; !keeper.has_aborted.load(Ordering::SeqCst));
     were_both_posted(&rt, &outcome);
     is_reported(&rt, alloc, &outcome, REPORT)
 }
@@ -154,11 +154,11 @@ fn both_worked<'a, R: Threads + Wait + RandomSource + Sync>(
     let keeper = Both::new();
     let (one, two) = thread::join(
         rt,
-        || -> Result<Share, Unlent>
+        || -> Result<Share, Unavailable>
             requires { IsShareOf service first }
             ensures { IfOk result (IsShareOf service.entry) }
         { service.work(rt, alloc, first, &keeper) },
-        || -> Result<Share, Unlent>
+        || -> Result<Share, Unavailable>
             requires { IsShareOf service second }
             ensures { IfOk result (IsShareOf service.entry) }
         { service.work(rt, alloc, second, &keeper) },

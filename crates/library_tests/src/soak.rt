@@ -79,10 +79,10 @@ fn some_upload(alloc: Global, numbers: &mut Numbers) -> Result<Vec<u8>, Fail> {
 fn is_explained<R: Abort>(rt: &R, alloc: Global, statement: &Statement) -> Result<(), Fail> {
     let mut account = ReferenceAccount::new(alloc);
     let mut cents = 0u128;
-    for place in 0..statement.lines.len() {
-        let line = statement.lines.get(place);
+    for position in 0..statement.lines.len() {
+        let line = statement.lines.get(position);
         let reply = account.step(line.validator, line.moment)?;
-        assert_eq!(rt; line.reply(), reply, "line {place}");
+        assert_eq!(rt; line.reply(), reply, "line {position}");
         cents = cents.saturating_add(u128::from(reply.cents));
     }
     let totals = statement.totals;

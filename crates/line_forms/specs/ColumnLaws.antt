@@ -3,7 +3,7 @@ use Rattle.std.proofs.Common.{◌≡◌, ◌+◌, ◌≤◌, ℕ, suc, Bool, tru
 use Rattle.std.proofs.Common.{refl, sym, ap, subst, ◌∙◌, arith}
 use Rattle.std.proofs.lemmas.Bool.{false≢true, and_from, and_parts}
 use Rattle.std.proofs.lemmas.List.{take-append-drop}
-use Rattle.line_forms.specs.Columns.{BeginsBehindColumn, IsColumn, column_in, column_where, ends_column, is_column}
+use Rattle.line_forms.specs.Columns.{BeginsAfterColumn, IsColumn, column_in, column_where, ends_column, is_column}
 use Rattle.line_forms.specs.FormLaws.{some_one, with_rest_some}
 use Rattle.line_forms.specs.Forms.{IsForm, value_if}
 use Rattle.line_forms.specs.Numbers.{with_rest}
@@ -12,13 +12,13 @@ plain_byte : (byte : ℕ) → not (ends_column byte) ≡ true → ends_column by
 plain_byte byte plain ends = false≢true (sym (ap not ends) ∙ plain)
 
 -- a column is determined by the text
-column_unique : (a b x y : List ℕ) → is_column a ≡ true → is_column b ≡ true → BeginsBehindColumn x
-    → BeginsBehindColumn y → a ++ x ≡ b ++ y → (a ≡ b) × (x ≡ y)
+column_unique : (a b x y : List ℕ) → is_column a ≡ true → is_column b ≡ true → BeginsAfterColumn x
+    → BeginsAfterColumn y → a ++ x ≡ b ++ y → (a ≡ b) × (x ≡ y)
 column_unique [] [] x y is also ends ends_too e = (refl, e)
 column_unique [] (d ∷ b) x y is also ends ends_too e =
-    absurd (plain_byte d (and_parts (not (ends_column d)) (is_column b) also).0 (subst BeginsBehindColumn e ends))
+    absurd (plain_byte d (and_parts (not (ends_column d)) (is_column b) also).0 (subst BeginsAfterColumn e ends))
 column_unique (c ∷ a) [] x y is also ends ends_too e =
-    absurd (plain_byte c (and_parts (not (ends_column c)) (is_column a) is).0 (subst BeginsBehindColumn (sym e) ends_too))
+    absurd (plain_byte c (and_parts (not (ends_column c)) (is_column a) is).0 (subst BeginsAfterColumn (sym e) ends_too))
 column_unique (c ∷ a) (d ∷ b) x y is also ends ends_too e =
     let first : c ≡ d = cc in
     let more : a ++ x ≡ b ++ y = cc in
@@ -27,7 +27,7 @@ column_unique (c ∷ a) (d ∷ b) x y is also ends ends_too e =
     (let t : c ∷ a ≡ d ∷ b = cc in t, rest)
 
 abbrev IsColumnUpTo : List ℕ → ℕ → Type 0
-IsColumnUpTo text n = (is_column (take n text) ≡ true) × BeginsBehindColumn (drop n text) × (n ≤ length text)
+IsColumnUpTo text n = (is_column (take n text) ≡ true) × BeginsAfterColumn (drop n text) × (n ≤ length text)
 
 counts_on : (c : ℕ) (text : List ℕ) (b : Bool) → ends_column c ≡ b
     → column_in (c ∷ text) ≡ cond (not b) (1 + column_in text) 0
@@ -53,7 +53,7 @@ value_if_some : (b : Bool) (a column : List ℕ) → value_if b a ≡ Some colum
 value_if_some true a column e = (refl, some_one e)
 value_if_some false a column e = absurd (cc)
 
-pub column_law : (test : List ℕ → Bool) → IsForm (IsColumn test) BeginsBehindColumn (column_where test)
+pub column_law : (test : List ℕ → Bool) → IsForm (IsColumn test) BeginsAfterColumn (column_where test)
 column_law test = record {
   sound = λ whole column rest e.
       let size = column_in whole in

@@ -14,9 +14,9 @@ is_column [] = true
 is_column (byte ∷ text) = not (ends_column byte) && is_column text
 
 -- the text is empty, or a column ends at its first byte
-abbrev pub BeginsBehindColumn : List ℕ → Type 0
-BeginsBehindColumn [] = Unit {0}
-BeginsBehindColumn (byte ∷ text) = ends_column byte ≡ true
+abbrev pub BeginsAfterColumn : List ℕ → Type 0
+BeginsAfterColumn [] = Unit {0}
+BeginsAfterColumn (byte ∷ text) = ends_column byte ≡ true
 
 -- how many bytes the column at the front of the text has
 abbrev pub column_in : List ℕ → ℕ

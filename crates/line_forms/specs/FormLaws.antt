@@ -11,7 +11,7 @@ use Rattle.std.proofs.lemmas.Fmt.{decimal_is_IsNumeral_wide}
 use Rattle.std.proofs.lemmas.List.{take-append-drop}
 use Rattle.std.proofs.lemmas.Slice.Eq.{bytes_eq-Decides}
 use Rattle.std.proofs.lemmas.Str.Parse.{IsNumeralModel, numerals_by_value, tells_all_ascii_digits}
-use Rattle.line_forms.specs.Forms.{IsBehind, IsFirst, IsForm, IsThen, Reader, after, after_if, behind_read, ended, go_on, is_end, read_if, said_by, then_read, value_if, with_second}
+use Rattle.line_forms.specs.Forms.{IsAfter, IsFirst, IsForm, IsThen, Reader, after, after_if, after_read, ended, go_on, is_end, read_if, said_by, then_read, value_if, with_second}
 use Rattle.line_forms.specs.Numbers.{BeginsWithNoDigit, IsNumber, digits_in, number_at, number_if, number_in, with_rest}
 use Rattle.line_forms.specs.inside.Narrow.{below}
 
@@ -182,11 +182,11 @@ front_number n rest small ends =
     digits_unique (take (digits_in text) text) (decimal n) (drop (digits_in text) text) rest front.0
     (decimal_digits n small) front.1 ends (take-append-drop (digits_in text) text)
 
-pub with_rest_some : {A : Type 0} (r : Option A) (behind : List ℕ) (a : A) (rest : List ℕ)
-    → with_rest r behind ≡ Some (a, rest) → (r ≡ Some a) × (behind ≡ rest)
-with_rest_some None behind a rest e = absurd (cc)
-with_rest_some {A} (Some b) behind a rest e =
-    let both : Some (b, behind) ≡ Some (a, rest) = e in
+pub with_rest_some : {A : Type 0} (r : Option A) (trailing : List ℕ) (a : A) (rest : List ℕ)
+    → with_rest r trailing ≡ Some (a, rest) → (r ≡ Some a) × (trailing ≡ rest)
+with_rest_some None trailing a rest e = absurd (cc)
+with_rest_some {A} (Some b) trailing a rest e =
+    let both : Some (b, trailing) ≡ Some (a, rest) = e in
     (ap (option_map (λ (p : A × List ℕ). p.0)) both, some_one (ap (option_map (λ (p : A × List ℕ). p.1)) both))
 
 -- ---- the forms
@@ -213,9 +213,9 @@ read_if_some : {A : Type 0} (reads : Reader A) (r : Option (List ℕ)) (a : A) (
 read_if_some reads None a rest e = absurd (cc)
 read_if_some reads (Some text) a rest e = (text, refl, e)
 
-pub behind_law : {A : Type 0} {says : A → List ℕ → Type 0} {ends : List ℕ → Type 0} {reads : Reader A}
-    (word : List ℕ) → IsForm says ends reads → IsForm (IsBehind word says) ends (behind_read word reads)
-behind_law {reads = reads} word form = record {
+pub after_law : {A : Type 0} {says : A → List ℕ → Type 0} {ends : List ℕ → Type 0} {reads : Reader A}
+    (word : List ℕ) → IsForm says ends reads → IsForm (IsAfter word says) ends (after_read word reads)
+after_law {reads = reads} word form = record {
   sound = λ whole value rest e.
       let (text, one, two) = read_if_some reads (after word whole) value rest e in
       let (shown, is, same) = form.sound text value rest two in (
@@ -225,8 +225,8 @@ behind_law {reads = reads} word form = record {
       );
   complete = λ value text rest is ends.
       let (shown, says, same) = is in
-      ap (λ (t : List ℕ). behind_read word reads (t ++ rest)) same
-      ∙ ap (behind_read word reads) (append_assoc word shown rest)
+      ap (λ (t : List ℕ). after_read word reads (t ++ rest)) same
+      ∙ ap (after_read word reads) (append_assoc word shown rest)
       ∙ ap (read_if reads) (after_complete word (shown ++ rest))
       ∙ form.complete value shown rest says ends;
 }

@@ -34,8 +34,8 @@ abbrev pub read_if : {A : Type 0} → Reader A → Option (List ℕ) → Option 
 read_if reads None = None
 read_if reads (Some text) = reads text
 
-abbrev pub behind_read : {A : Type 0} → List ℕ → Reader A → Reader A
-behind_read word reads text = read_if reads (after word text)
+abbrev pub after_read : {A : Type 0} → List ℕ → Reader A → Reader A
+after_read word reads text = read_if reads (after word text)
 
 -- The texts that say values are read, and no others, where what follows them is what may follow.
 pub record IsForm {A : Type 0} (says : A → List ℕ → Type 0) (ends : List ℕ → Type 0)
@@ -46,8 +46,8 @@ pub record IsForm {A : Type 0} (says : A → List ℕ → Type 0) (ends : List �
       → reads (text ++ rest) ≡ Some (value, rest)
 
 -- the text says the value after the word
-abbrev pub IsBehind : {A : Type 0} → List ℕ → (A → List ℕ → Type 0) → A → List ℕ → Type 0
-IsBehind word says value text = (rest : List ℕ) × says value rest × (text ≡ word ++ rest)
+abbrev pub IsAfter : {A : Type 0} → List ℕ → (A → List ℕ → Type 0) → A → List ℕ → Type 0
+IsAfter word says value text = (rest : List ℕ) × says value rest × (text ≡ word ++ rest)
 
 -- the text says the one value, and then the other
 abbrev pub IsThen : {A B : Type 0} → (A → List ℕ → Type 0) → (B → List ℕ → Type 0) → A × B → List ℕ → Type 0

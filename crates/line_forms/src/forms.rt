@@ -1,9 +1,9 @@
 //! Forms that are made of others, and whole lines.
 
 ghost use Rattle.std.specs.Prelude.{◌≡◌, ◌++◌, ℕ, List, [], MatchOption};
-ghost use Rattle.line_forms.specs.Forms.{IsBehind, IsFirst, IsThen, after, behind_read};
+ghost use Rattle.line_forms.specs.Forms.{IsAfter, IsFirst, IsThen, after, after_read};
 ghost use Rattle.line_forms.specs.Forms.{is_end, said_by, then_read};
-ghost use Rattle.line_forms.specs.FormLaws.{behind_law, then_law};
+ghost use Rattle.line_forms.specs.FormLaws.{after_law, then_law};
 
 use crate::form::FormOf;
 
@@ -24,18 +24,18 @@ pub fn after_word<'a>(text: &'a [u8], word: &[u8]) -> Option<&'a [u8]>
 
 /// A form after a word. It says what the form says.
 #[derive(Drop)]
-pub struct Behind<'w, F>(pub &'w [u8], pub F);
+pub struct After<'w, F>(pub &'w [u8], pub F);
 
-impl<'a, 'w, F: FormOf<'a> + Drop> FormOf<'a> for Behind<'w, F> {
+impl<'a, 'w, F: FormOf<'a> + Drop> FormOf<'a> for After<'w, F> {
     type Value = F::Value;
 
     ghost Said = { F.Said };
 
     ghost said = { F.said };
 
-    ghost reads = { λ form. behind_read form.0.now (F.reads form.1) };
+    ghost reads = { λ form. after_read form.0.now (F.reads form.1) };
 
-    ghost says = { λ form. IsBehind form.0.now (F.says form.1) };
+    ghost says = { λ form. IsAfter form.0.now (F.says form.1) };
 
     ghost ends = { λ form. F.ends form.1 };
 
@@ -46,7 +46,7 @@ impl<'a, 'w, F: FormOf<'a> + Drop> FormOf<'a> for Behind<'w, F> {
         self.1.read(rest)
     }
 
-    ghost law = { λ form valid. behind_law form.0.now (F.law form.1 valid) };
+    ghost law = { λ form valid. after_law form.0.now (F.law form.1 valid) };
 }
 
 /// One form after another.

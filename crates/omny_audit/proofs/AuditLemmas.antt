@@ -12,12 +12,12 @@ use Rattle.omny_audit.specs.Findings.{IsRightLedger}
 use Rattle.omny_audit.specs.Reports.{AuditsDecide, HasOwnReport, IsReportLine, are_whole}
 use Rattle.omny_audit.specs.Reports.{ledger_in}
 use Rattle.tap_views.specs.declared.upload_end.UploadEnd.{UploadEnd}
-use Rattle.omny_audit.specs.Traced.{AreColumnsReported, HasRightColumns, HasRightPlaces}
-use Rattle.omny_audit.specs.Traced.{IsFaultBehind}
-use Rattle.omny_audit.specs.Traced.{IsPlaceFault, ReadLine, Wanted, have_place, wrong_class}
-use Rattle.omny_audit.specs.Traced.{wrong_place}
-use Rattle.omny_audit.specs.declared.traced.PlaceFault.{PlaceFault}
-use Rattle.omny_audit.specs.declared.traced.PlaceFault.TheVariants.{NoLine, OtherTap, Repeated}
+use Rattle.omny_audit.specs.Traced.{AreColumnsReported, HasRightColumns, HasRightPositions}
+use Rattle.omny_audit.specs.Traced.{IsFaultAfter}
+use Rattle.omny_audit.specs.Traced.{IsPositionFault, ReadLine, Wanted, have_position, wrong_class}
+use Rattle.omny_audit.specs.Traced.{wrong_position}
+use Rattle.omny_audit.specs.declared.traced.PositionFault.{PositionFault}
+use Rattle.omny_audit.specs.declared.traced.PositionFault.TheVariants.{NoLine, OtherTap, Repeated}
 use Rattle.omny_audit.specs.declared.traced.WrongClass.{WrongClass}
 use Rattle.report_check.specs.Reports.{ReportVerdictsDecide}
 
@@ -26,13 +26,13 @@ false_true h = cc
 
 -- of all lines, or up to the first wrong one
 sound_is : FindingsDecide → FullFindingsDecide → (all live : Bool) (fares : Fares)
-    (ledger : List ℕ) (good : Option (List TapFields)) (found : List ℕ) (sound : Bool)
-    → IsFindingOf all live fares ledger good found sound
-    → (sound ≡ true) ↔ IsRightLedger live fares ledger good
-sound_is some full true live fares ledger good found sound is =
-    full live fares ledger good found sound is
-sound_is some full false live fares ledger good found sound is =
-    some live fares ledger good found sound is
+    (ledger : List ℕ) (valid : Option (List TapFields)) (found : List ℕ) (sound : Bool)
+    → IsFindingOf all live fares ledger valid found sound
+    → (sound ≡ true) ↔ IsRightLedger live fares ledger valid
+sound_is some full true live fares ledger valid found sound is =
+    full live fares ledger valid found sound is
+sound_is some full false live fares ledger valid found sound is =
+    some live fares ledger valid found sound is
 
 -- a report that is right is that of the ledger's entries
 own_of : ReportVerdictsDecide → (ends : Option (List UploadEnd)) (fares : Fares) (ledger : List ℕ) (report : Option (List ℕ))
@@ -61,32 +61,32 @@ none_of : {A : Type 0} (wrong : Option A) → not (is_some wrong) ≡ true → w
 none_of None holds = refl
 none_of (Some wrong) holds = absurd (false_true holds)
 
-places_right : (uploads : Option (List (List TapFields))) (read : List ReadLine)
-    → IsPlaceFault uploads read None → HasRightPlaces uploads read
-places_right None read is = tt
-places_right (Some uploads) read is = by_wrong (wrong_place uploads read) refl is
+positions_right : (uploads : Option (List (List TapFields))) (read : List ReadLine)
+    → IsPositionFault uploads read None → HasRightPositions uploads read
+positions_right None read is = tt
+positions_right (Some uploads) read is = by_wrong (wrong_position uploads read) refl is
   where
-    by_wrong : (wrong : Option PlaceFault) → wrong_place uploads read ≡ wrong
-        → IsFaultBehind uploads (have_place read) wrong None
-        → HasRightPlaces (Some uploads) read
+    by_wrong : (wrong : Option PositionFault) → wrong_position uploads read ≡ wrong
+        → IsFaultAfter uploads (have_position read) wrong None
+        → HasRightPositions (Some uploads) read
     by_wrong None none is = (none, is)
     by_wrong (Some wrong) some is =
-        let bad : ◌≡◌ {A = Option PlaceFault} None (Some wrong) = is in absurd (cc)
+        let bad : ◌≡◌ {A = Option PositionFault} None (Some wrong) = is in absurd (cc)
 
-right_places : (uploads : Option (List (List TapFields))) (read : List ReadLine)
-    (fault : Option PlaceFault) → IsPlaceFault uploads read fault → HasRightPlaces uploads read
+right_positions : (uploads : Option (List (List TapFields))) (read : List ReadLine)
+    (fault : Option PositionFault) → IsPositionFault uploads read fault → HasRightPositions uploads read
     → fault ≡ None
-right_places None read fault is has = is
-right_places (Some uploads) read fault is has =
-    by_fault fault (subst (λ (w : Option PlaceFault). IsFaultBehind uploads (have_place read) w
+right_positions None read fault is has = is
+right_positions (Some uploads) read fault is has =
+    by_fault fault (subst (λ (w : Option PositionFault). IsFaultAfter uploads (have_position read) w
     fault) has.0 is)
   where
-    by_fault : (fault : Option PlaceFault) → IsFaultBehind uploads (have_place read) None fault
+    by_fault : (fault : Option PositionFault) → IsFaultAfter uploads (have_position read) None fault
         → fault ≡ None
     by_fault None is = refl
-    by_fault (Some (OtherTap line upload place)) is = absurd is
-    by_fault (Some (Repeated line upload place)) is = absurd is
-    by_fault (Some (NoLine upload place)) is = absurd (has.1 upload place is.is)
+    by_fault (Some (OtherTap line upload position)) is = absurd is
+    by_fault (Some (Repeated line upload position)) is = absurd is
+    by_fault (Some (NoLine upload position)) is = absurd (has.1 upload position is.is)
 
 columns_right : (wanted : Option Wanted) (looked : Bool) (file : List ℕ)
     (read : List ReadLine) (reported : List ℕ) (right : Bool)
@@ -100,7 +100,7 @@ columns_right (Some wanted) true file read reported right is holds =
     (sym is.4 ∙ holds) in (
       is.0,
       none_of (wrong_class wanted.classes read) parts.0,
-      places_right wanted.uploads read (subst (IsPlaceFault wanted.uploads read)
+      positions_right wanted.uploads read (subst (IsPositionFault wanted.uploads read)
           (none_of is.1 parts.1) is.2),
     )
 
@@ -112,7 +112,7 @@ right_columns None looked file read reported right look is has = is.1
 right_columns (Some wanted) false file read reported right look is has = absurd (false_true look)
 right_columns (Some wanted) true file read reported right look is has =
     is.4 ∙ ap (λ (w : Option WrongClass). not (is_some w) && not (is_some is.1)) has.1
-    ∙ ap (λ (f : Option PlaceFault). not (is_some f)) (right_places wanted.uploads read is.1 is.2
+    ∙ ap (λ (f : Option PositionFault). not (is_some f)) (right_positions wanted.uploads read is.1 is.2
     has.2)
 
 looked_at : (all legal : Bool) → legal ≡ true → (all || legal) ≡ true
@@ -120,9 +120,9 @@ looked_at true legal is = refl
 looked_at false legal is = is
 
 pub decides : FindingsDecide → FullFindingsDecide → ReportVerdictsDecide → AuditsDecide
-decides some full verdicts given file read text well audit =
+decides some full verdicts given file read text success audit =
     let ledger = ledger_in given file in
-    let sound = sound_is some full given.all given.live given.fares ledger given.good audit.found
+    let sound = sound_is some full given.all given.live given.fares ledger given.valid audit.found
     audit.sound audit.finding in
     let looked = given.all || audit.legal in
     let last = audit.last in (

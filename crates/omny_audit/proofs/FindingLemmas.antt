@@ -16,62 +16,62 @@ use Rattle.ledger_check.specs.Balances.{IsDifference}
 use Rattle.ledger_check.specs.declared.balance.Difference.{Difference}
 use Rattle.tap_views.specs.declared.encoder.TapFields.{TapFields}
 use Rattle.ledger_check.proofs.VerdictLemmas.{tail_same}
-use Rattle.omny_audit.specs.Findings.{agrees, HasGoodTaps, IsDifferenceOf, IsFinding}
+use Rattle.omny_audit.specs.Findings.{agrees, HasValidTaps, IsDifferenceOf, IsFinding}
 use Rattle.omny_audit.specs.Findings.{IsDifferenceLine, IsRightLedger}
 use Rattle.omny_audit.specs.Text.{IsDifferenceText}
 
-pub not_legal : (fares : Fares) (text : List ℕ) (good : Option (List TapFields)) (legal : Bool)
-    → legal ≡ false → IsDifferenceLine fares text good legal [] false
-not_legal fares text good false is = (refl, refl)
-not_legal fares text good true is = absurd cc
+pub not_legal : (fares : Fares) (text : List ℕ) (valid : Option (List TapFields)) (legal : Bool)
+    → legal ≡ false → IsDifferenceLine fares text valid legal [] false
+not_legal fares text valid false is = (refl, refl)
+not_legal fares text valid true is = absurd cc
 
-pub alone : (fares : Fares) (text : List ℕ) (good : List TapFields) (has legal : Bool) → has ≡ false
+pub alone : (fares : Fares) (text : List ℕ) (valid : List TapFields) (has legal : Bool) → has ≡ false
     → legal ≡ true
-    → IsDifferenceLine fares text (if has then Some good else None) legal [] true
-alone fares text good false true none is = (refl, refl)
-alone fares text good true legal none is = absurd cc
-alone fares text good false false none is = absurd cc
+    → IsDifferenceLine fares text (if has then Some valid else None) legal [] true
+alone fares text valid false true none is = (refl, refl)
+alone fares text valid true legal none is = absurd cc
+alone fares text valid false false none is = absurd cc
 
-pub beside : (fares : Fares) (text : List ℕ) (good : List TapFields) (has legal : Bool)
-    (difference : Option Difference) (rest : List ℕ) (well : Bool)
-    → has ≡ true → legal ≡ true → IsDifferenceText difference rest → well ≡ agrees difference
-    → IsDifferenceOf fares text good difference
-    → IsDifferenceLine fares text (if has then Some good else None) legal rest well
-beside fares text good true true difference rest well some is shown even of =
+pub beside : (fares : Fares) (text : List ℕ) (valid : List TapFields) (has legal : Bool)
+    (difference : Option Difference) (rest : List ℕ) (success : Bool)
+    → has ≡ true → legal ≡ true → IsDifferenceText difference rest → success ≡ agrees difference
+    → IsDifferenceOf fares text valid difference
+    → IsDifferenceLine fares text (if has then Some valid else None) legal rest success
+beside fares text valid true true difference rest success some is shown even of =
     (difference, shown, even, of)
-beside fares text good false legal difference rest well some is shown even of = absurd cc
-beside fares text good true false difference rest well some is shown even of = absurd cc
+beside fares text valid false legal difference rest success some is shown even of = absurd cc
+beside fares text valid true false difference rest success some is shown even of = absurd cc
 
 false_true : false ≡ true → ⊥
 false_true h = cc
 
 -- taps that differ are not the same in another order
 abbrev Differ : Type 0
-Differ = (good others : List TapFields) (difference : Difference)
-    → IsDifference good others (Some difference) → IsPermutation good others → ⊥
+Differ = (valid others : List TapFields) (difference : Difference)
+    → IsDifference valid others (Some difference) → IsPermutation valid others → ⊥
 
 -- the text is a ledger, and has the taps of the uploads
 abbrev IsEvenLedger : Fares → List ℕ → Option (List TapFields) → Type 0
-IsEvenLedger fares text good =
-    (entries : List Entry) × IsLedgerOf fares entries text × HasGoodTaps good entries
+IsEvenLedger fares text valid =
+    (entries : List Entry) × IsLedgerOf fares entries text × HasValidTaps valid entries
 
 even_decides : Differ
-    → (fares : Fares) (text : List ℕ) (good : Option (List TapFields)) (legal : Bool)
-    (rest : List ℕ) (well : Bool)
-    → ((legal ≡ true) ↔ IsLedger fares text) → IsDifferenceLine fares text good legal rest well
-    → (well ≡ true) ↔ IsEvenLedger fares text good
-even_decides differ fares text good false rest well decide second = (
+    → (fares : Fares) (text : List ℕ) (valid : Option (List TapFields)) (legal : Bool)
+    (rest : List ℕ) (success : Bool)
+    → ((legal ≡ true) ↔ IsLedger fares text) → IsDifferenceLine fares text valid legal rest success
+    → (success ≡ true) ↔ IsEvenLedger fares text valid
+even_decides differ fares text valid false rest success decide second = (
   λ is. absurd (false_true (sym second.1 ∙ is)),
   λ right. absurd (false_true (decide.1 (right.0, right.1))),
 )
-even_decides differ fares text None true rest well decide second =
+even_decides differ fares text None true rest success decide second =
     (λ is. let ledger = decide.0 refl in (ledger.0, ledger.1, tt), λ right. second.1)
-even_decides differ fares text (Some good) true rest well decide (None, shown, even, of) =
+even_decides differ fares text (Some valid) true rest success decide (None, shown, even, of) =
     (λ is. let ledger = decide.0 refl in (ledger.0, ledger.1, of ledger.0 ledger.1), λ right. even)
-even_decides differ fares text (Some good) true rest well decide (Some difference, shown, even, of) = (
+even_decides differ fares text (Some valid) true rest success decide (Some difference, shown, even, of) = (
   λ is. absurd (false_true (sym even ∙ is)),
   λ right. absurd
-      (differ good (map tap_of_entry right.0) difference (of right.0 right.1) right.2),
+      (differ valid (map tap_of_entry right.0) difference (of right.0 right.1) right.2),
 )
 
 -- which line a true verdict reports as earlier than the one before it
@@ -85,13 +85,13 @@ early_is fares text (Wants number wanted) entries is legal of = absurd (false_tr
 early_is fares text (NoLine number) entries is legal of = absurd (false_true legal)
 
 pub decides : Differ → VerdictsDecide
-    → (live : Bool) (fares : Fares) (text : List ℕ) (good : Option (List TapFields))
-    (reported : List ℕ) (well : Bool) → IsFinding live fares text good reported well
-    → (well ≡ true) ↔ IsRightLedger live fares text good
-decides differ verdicts live fares text good reported well finding =
+    → (live : Bool) (fares : Fares) (text : List ℕ) (valid : Option (List TapFields))
+    (reported : List ℕ) (success : Bool) → IsFinding live fares text valid reported success
+    → (success ≡ true) ↔ IsRightLedger live fares text valid
+decides differ verdicts live fares text valid reported success finding =
     let verdict = finding.verdict in
     let decide = verdicts fares text verdict finding.is_verdict in
-    let even = even_decides differ fares text good (is_legal verdict) finding.rest finding.even decide
+    let even = even_decides differ fares text valid (is_legal verdict) finding.rest finding.even decide
     finding.second in
     let order : (entries : List Entry) → IsLedgerOf fares entries text
     → (live || not (is_some (early_in verdict)))

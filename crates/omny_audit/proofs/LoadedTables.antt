@@ -7,13 +7,13 @@ use Rattle.program_manners.proofs.NextTables.{words_at}
 use Rattle.program_manners.proofs.TablesRefused.{among}
 
 -- the file of a later word is one of those of all tables
-pub file_at : (first : List ℕ) (words : List (Bor (List ℕ))) (place : ℕ) (other : Bor (List ℕ))
-    → place < length words
-    → IsOneOf (file_named (get_or words place other).now)
+pub file_at : (first : List ℕ) (words : List (Bor (List ℕ))) (position : ℕ) (other : Bor (List ℕ))
+    → position < length words
+    → IsOneOf (file_named (get_or words position other).now)
     (first ∷ map file_named (map (λ w. w.now) words))
-file_at first words place other within = inr
-    (subst (λ (ws : List (List ℕ)). IsOneOf (file_named (get_or words place other).now)
+file_at first words position other within = inr
+    (subst (λ (ws : List (List ℕ)). IsOneOf (file_named (get_or words position other).now)
     (map file_named ws))
-    (sym (words_at words place other within))
-    (among (map (λ w. w.now) (take place words)) (map (λ w. w.now) (drop (place + 1) words))
-    (get_or words place other).now))
+    (sym (words_at words position other within))
+    (among (map (λ w. w.now) (take position words)) (map (λ w. w.now) (drop (position + 1) words))
+    (get_or words position other).now))

@@ -10,14 +10,14 @@ use Rattle.tariffs.specs.Fares.{Fares}
 use Rattle.std.proofs.lemmas.Bool.Decides.{nat_tests}
 use Rattle.std.proofs.lemmas.List.{map-append, take-append-le}
 use Rattle.clap.specs.Words.{Text}
-use Rattle.ledger_check.specs.Balances.{AreGoodFields}
+use Rattle.ledger_check.specs.Balances.{AreValidFields}
 use Rattle.tap_views.specs.UploadEnds.{ArePlainEnds, IsPlainEnd}
 use Rattle.tap_views.specs.declared.upload_end.UploadEnd.{UploadEnd}
 use Rattle.tap_views.specs.declared.encoder.TapFields.{TapFields}
-use Rattle.omny_audit.specs.Program.{AreGoodFieldsOfAll, AreGoodFieldsOfEach, AreWanted}
+use Rattle.omny_audit.specs.Program.{AreValidFieldsOfAll, AreValidFieldsOfEach, AreWanted}
 use Rattle.omny_audit.specs.Program.{IsTracedAs, LoadsNamedFiles, compared}
-use Rattle.ledger_check.specs.Places.{HasUploads}
-use Rattle.ledger_check.specs.declared.places.Places.{Places}
+use Rattle.ledger_check.specs.Positions.{HasUploads}
+use Rattle.ledger_check.specs.declared.positions.Positions.{Positions}
 use Rattle.omny_audit.specs.Reports.{Given}
 use Rattle.omny_audit.specs.Traced.{Wanted}
 use Rattle.omny_audit.specs.inside.Traced.{HaveNamed}
@@ -45,12 +45,12 @@ loads_push names name loaded loaded' loaded'' files bytes all one = record {
 }
 
 -- and the taps of one more
-pub posted_push : (uploads : List (List ℕ)) (good : List TapFields) (upload : List ℕ)
-    (taps : List TapFields) → AreGoodFieldsOfAll uploads good
-    → AreGoodFields upload taps → AreGoodFieldsOfAll (uploads ++ upload ∷ []) (good ++ taps)
-posted_push [] good upload taps all one =
+pub posted_push : (uploads : List (List ℕ)) (valid : List TapFields) (upload : List ℕ)
+    (taps : List TapFields) → AreValidFieldsOfAll uploads valid
+    → AreValidFields upload taps → AreValidFieldsOfAll (uploads ++ upload ∷ []) (valid ++ taps)
+posted_push [] valid upload taps all one =
     (taps, [], one, refl, ap (λ (xs : List TapFields). xs ++ taps) all ∙ sym (append-nil taps))
-posted_push (first ∷ uploads) good upload taps all one = (
+posted_push (first ∷ uploads) valid upload taps all one = (
   all.0,
   all.1 ++ taps,
   all.2,
@@ -69,8 +69,8 @@ opened (Some before) after name (Some known) text opens all =
 
 -- the taps of each upload, one more
 pub each_push : (uploads : List (List ℕ)) (lists : List (List TapFields)) (upload : List ℕ)
-    (taps : List TapFields) → AreGoodFieldsOfEach uploads lists → AreGoodFields upload taps
-    → AreGoodFieldsOfEach (uploads ++ upload ∷ []) (lists ++ taps ∷ [])
+    (taps : List TapFields) → AreValidFieldsOfEach uploads lists → AreValidFields upload taps
+    → AreValidFieldsOfEach (uploads ++ upload ∷ []) (lists ++ taps ∷ [])
 each_push [] [] upload taps all one = (one, refl)
 each_push [] (list ∷ lists) upload taps all one =
     let bad : list ∷ lists ≡ [] = all in absurd (cc)
@@ -82,13 +82,13 @@ not_zero : (n : ℕ) → nat_eq (suc n) 0 ≡ false
 not_zero n = grind (arith, nat_tests)
 
 -- taps are compared if uploads are named
-pub compared_is : {A : Type 0} (names : List (Bor Text)) (good : A) (has : Bool)
+pub compared_is : {A : Type 0} (names : List (Bor Text)) (valid : A) (has : Bool)
     → has ≡ not (nat_eq (length names) 0)
-    → (if has then Some good else None) ≡ compared (map (λ n. n.now) names) good
-compared_is [] good has is = rw is refl
-compared_is (name ∷ names) good has is =
+    → (if has then Some valid else None) ≡ compared (map (λ n. n.now) names) valid
+compared_is [] valid has is = rw is refl
+compared_is (name ∷ names) valid has is =
     let some : nat_eq (length (name ∷ names)) 0 ≡ false = not_zero (length names) in
-    ap (λ (b : Bool). if b then Some good else None) (is ∙ ap not some)
+    ap (λ (b : Bool). if b then Some valid else None) (is ∙ ap not some)
 
 -- the same names, lent twice
 pub loads_same : (names same : List (Bor Text)) (loaded loaded' : Option (List Loaded))
@@ -137,16 +137,16 @@ pub record ReadsLedger (before after : Option (List Loaded)) (name : Option Text
   pub are_wanted : AreWanted fares texts traced uploads wanted
 
 pub reads_ledger : (before opened_to after : Option (List Loaded)) (name : Option Text)
-    (left left' : Option (List ℕ)) (head begun : List ℕ) (fares : Fares)
+    (left left' : Option (List ℕ)) (head started : List ℕ) (fares : Fares)
     (texts : List (List ℕ)) (file : List ℕ)
     (kept uploads : Option (List (List TapFields))) (wanted : Option Wanted)
     → OpensOne before opened_to name left → after ≡ opened_to
     → Consumes left left' head → IsAtEnd left' ⊎ (length traced_head ≤ length head)
-    → begun ≡ head → kept ≡ uploads
-    → IsAllOf (prepend_known begun left') file
-    → AreWanted fares texts (has_traced_head begun) kept wanted
+    → started ≡ head → kept ≡ uploads
+    → IsAllOf (prepend_known started left') file
+    → AreWanted fares texts (has_traced_head started) kept wanted
     → ReadsLedger before after name fares texts uploads wanted file
-reads_ledger before opened_to after name left left' head begun fares texts file kept uploads wanted
+reads_ledger before opened_to after name left left' head started fares texts file kept uploads wanted
     opens same_loads reads enough same_head same_uploads all named =
     let rest = subst (λ (h : List ℕ). IsAllOf (prepend_known h left') file) same_head all in
     record {
@@ -171,10 +171,10 @@ ends_push (f ∷ files) [] file end are is = absurd are
 ends_push (f ∷ files) (e ∷ ends) file end are is = (are.0, ends_push files ends file end are.1 is)
 
 -- a name that is lent, or what stands for it
-pub lent_name : (name : Option (Bor Text)) (usual : Bor Text)
+pub provided_name : (name : Option (Bor Text)) (usual : Bor Text)
     → (unwrap_or name usual).now ≡ unwrap_or (option_map (λ n. n.now) name) usual.now
-lent_name None usual = refl
-lent_name (Some n) usual = refl
+provided_name None usual = refl
+provided_name (Some n) usual = refl
 
 -- what is kept, seen otherwise
 pub kept_as : {A B : Type 0} (f : A → B) (kept : Bool) (x : A)
@@ -183,16 +183,16 @@ kept_as f true x = refl
 kept_as f false x = refl
 
 -- no place was named
-pub named_none : (kept : Bool) (places : Places) (lists : List (List TapFields))
-    → HasUploads places lists → HaveNamed (if kept then Some places else None) []
-named_none true places lists has = has.none
-named_none false places lists has = tt
+pub named_none : (kept : Bool) (positions : Positions) (lists : List (List TapFields))
+    → HasUploads positions lists → HaveNamed (if kept then Some positions else None) []
+named_none true positions lists has = has.none
+named_none false positions lists has = tt
 
-pub given_is : (given : Given) (all : Bool) (good : Option (List TapFields))
-    (ends : Option (List UploadEnd)) → given.all ≡ all → given.good ≡ good → given.ends ≡ ends
-    → given ≡ record given { all = all; good = good; ends = ends }
-given_is given all good ends same_all same_good same_ends =
+pub given_is : (given : Given) (all : Bool) (valid : Option (List TapFields))
+    (ends : Option (List UploadEnd)) → given.all ≡ all → given.valid ≡ valid → given.ends ≡ ends
+    → given ≡ record given { all = all; valid = valid; ends = ends }
+given_is given all valid ends same_all same_valid same_ends =
     ap (λ (a : Bool). record given { all = a }) same_all
-    ∙ ap (λ (g : Option (List TapFields)). record given { all = all; good = g }) same_good
-    ∙ ap (λ (e : Option (List UploadEnd)). record given { all = all; good = good; ends = e })
+    ∙ ap (λ (g : Option (List TapFields)). record given { all = all; valid = g }) same_valid
+    ∙ ap (λ (e : Option (List UploadEnd)). record given { all = all; valid = valid; ends = e })
     same_ends

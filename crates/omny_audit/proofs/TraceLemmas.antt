@@ -17,19 +17,19 @@ use Rattle.ledger_check.specs.Columns.{untraced_line, untraced_lines}
 use Rattle.ledger_check.specs.Lines.{IsLine, Lacks, lines_of}
 use Rattle.ledger_check.proofs.ColumnLemmas.{cut_long, untraced-append}
 use Rattle.ledger_check.proofs.LineLemmas.{lacks-append, lines-part}
-use Rattle.ledger_check.proofs.RecountLemmas.{split_line_at, split_part}
-use Rattle.ledger_check.specs.Places.{uploads_of}
-use Rattle.ledger_check.specs.declared.places.Places.{Places}
+use Rattle.ledger_check.proofs.FullCheckLemmas.{split_line_at, split_part}
+use Rattle.ledger_check.specs.Positions.{uploads_of}
+use Rattle.ledger_check.specs.declared.positions.Positions.{Positions}
 use Rattle.omny_audit.specs.Traced.{AreColumnsReported, AreLinesOf}
-use Rattle.omny_audit.specs.Traced.{IsPlaceFault}
-use Rattle.omny_audit.specs.Traced.{ReadLine, class_text, place_text}
+use Rattle.omny_audit.specs.Traced.{IsPositionFault}
+use Rattle.omny_audit.specs.Traced.{ReadLine, class_text, position_text}
 use Rattle.omny_audit.specs.Traced.{NamesTapWithColumns, TapWithColumns, Wanted, class_fault}
-use Rattle.omny_audit.specs.Traced.{have_place, lines_read, traced_by, wrong_class}
-use Rattle.omny_audit.specs.Traced.{wrong_place}
-use Rattle.omny_audit.specs.inside.Traced.{HasColumns, HasLines, HasPlaces, HasReadAll, HasReadAs}
+use Rattle.omny_audit.specs.Traced.{have_position, lines_read, traced_by, wrong_class}
+use Rattle.omny_audit.specs.Traced.{wrong_position}
+use Rattle.omny_audit.specs.inside.Traced.{HasColumns, HasLines, HasPositions, HasReadAll, HasReadAs}
 use Rattle.omny_audit.specs.inside.Traced.{HasTraced, IsKeptOf, uploads_in, wanted_by}
-use Rattle.omny_audit.specs.inside.Traced.{wanted_of, wrong_place_in}
-use Rattle.omny_audit.specs.declared.traced.PlaceFault.{PlaceFault}
+use Rattle.omny_audit.specs.inside.Traced.{wanted_of, wrong_position_in}
+use Rattle.omny_audit.specs.declared.traced.PositionFault.{PositionFault}
 use Rattle.omny_audit.specs.declared.traced.LinesRead.{LinesRead}
 use Rattle.omny_audit.specs.declared.traced.TracedPieces.{TracedPieces}
 use Rattle.omny_audit.specs.declared.traced.WrongClass.{WrongClass}
@@ -73,51 +73,51 @@ or_none None = refl
 or_none (Some wrong) = refl
 
 -- places, if a line names no tap, or no uploads are named
-or_no_fault : (fault : Option PlaceFault) → option_or fault None ≡ fault
+or_no_fault : (fault : Option PositionFault) → option_or fault None ≡ fault
 or_no_fault None = refl
 or_no_fault (Some fault) = refl
 
-pub none_wrong : (uploads : Option (List (List TapFields))) → None ≡ wrong_place_in uploads []
+pub none_wrong : (uploads : Option (List (List TapFields))) → None ≡ wrong_position_in uploads []
 none_wrong None = refl
 none_wrong (Some uploads) = refl
 
-pub no_tap_placed : (places : Option Places) (wrong : Option PlaceFault) (line : List ℕ)
-    (read : List ReadLine) → HasPlaces places wrong read
-    → HasPlaces places wrong (record { line = line; traced = None } ∷ read)
+pub no_tap_placed : (positions : Option Positions) (wrong : Option PositionFault) (line : List ℕ)
+    (read : List ReadLine) → HasPositions positions wrong read
+    → HasPositions positions wrong (record { line = line; traced = None } ∷ read)
 no_tap_placed None wrong line read has =
     record { wrong_is = has.wrong_is; named = λ none. tt }
-no_tap_placed (Some places) wrong line read has = record {
-  wrong_is = has.wrong_is ∙ sym (or_no_fault (wrong_place (uploads_of places) read));
-  named = λ none upload place.
-      has.named none upload place ∙ sym (or-false (have_place read upload place));
+no_tap_placed (Some positions) wrong line read has = record {
+  wrong_is = has.wrong_is ∙ sym (or_no_fault (wrong_position (uploads_of positions) read));
+  named = λ none upload position.
+      has.named none upload position ∙ sym (or-false (have_position read upload position));
 }
 
 -- what the columns are held against stays the same
-pub wanted_same : (a b : LinesRead) → a.names ≡ b.names → uploads_in a.places ≡ uploads_in b.places
+pub wanted_same : (a b : LinesRead) → a.names ≡ b.names → uploads_in a.positions ≡ uploads_in b.positions
     → wanted_of a ≡ wanted_of b
 wanted_same a b names uploads =
-    ap (λ (n : ClassNames). wanted_with (class_by n) (uploads_in a.places)) names
+    ap (λ (n : ClassNames). wanted_with (class_by n) (uploads_in a.positions)) names
     ∙ ap (wanted_with (class_by b.names)) uploads
   where
     wanted_with : (ℕ → List ℕ → List ℕ) → Option (List (List TapFields)) → Wanted
     wanted_with classes uploads = record { classes = classes; uploads = uploads }
 
 -- places that are the same
-pub placed_same : (places after : Option Places) (wrong wrong' : Option PlaceFault)
-    (read : List ReadLine) → after ≡ places → wrong' ≡ wrong → HasPlaces places wrong read
-    → HasPlaces after wrong' read
-placed_same places after wrong wrong' read same same' has =
-    subst (λ (p : Option Places). HasPlaces p wrong' read) (sym same)
-    (subst (λ (w : Option PlaceFault). HasPlaces places w read) (sym same') has)
+pub placed_same : (positions after : Option Positions) (wrong wrong' : Option PositionFault)
+    (read : List ReadLine) → after ≡ positions → wrong' ≡ wrong → HasPositions positions wrong read
+    → HasPositions after wrong' read
+placed_same positions after wrong wrong' read same same' has =
+    subst (λ (p : Option Positions). HasPositions p wrong' read) (sym same)
+    (subst (λ (w : Option PositionFault). HasPositions positions w read) (sym same') has)
 
 -- one line more
 pub took_other : (so_far after : LinesRead) (kept whole : List ℕ) (read : List ReadLine)
     → HasLines so_far read
     → IsKeptOf kept whole → cut_line kept ≡ None → after.lines ≡ so_far.lines + 1
     → after.wrong_class ≡ so_far.wrong_class
-    → after.names ≡ so_far.names → HasPlaces after.places after.wrong_place read
+    → after.names ≡ so_far.names → HasPositions after.positions after.wrong_position read
     → HasLines after (record { line = whole; traced = None } ∷ read)
-took_other so_far after kept whole read has same none count class names places = record {
+took_other so_far after kept whole read has same none count class names positions = record {
   are = (
     has.are,
     subst (λ (c : Option TracedLine). NamesTapWithColumns c None)
@@ -128,7 +128,7 @@ took_other so_far after kept whole read has same none count class names places =
     class = class ∙ has.columns.class
         ∙ ap (λ (n : ClassNames). wrong_class (class_by n) read) (sym names)
         ∙ sym (or_none (wrong_class (class_by after.names) read));
-    places = no_tap_placed after.places after.wrong_place whole read places;
+    positions = no_tap_placed after.positions after.wrong_position whole read positions;
   };
 }
 
@@ -139,9 +139,9 @@ pub took_cut : (so_far after : LinesRead) (kept whole : List ℕ) (cut : TracedL
     → after.wrong_class ≡ option_or so_far.wrong_class
     (class_fault (class_by so_far.names) (so_far.lines + 1) traced)
     → after.names ≡ so_far.names → NamesTapWithColumns (Some cut) traced
-    → HasPlaces after.places after.wrong_place (record { line = whole; traced = traced } ∷ read)
+    → HasPositions after.positions after.wrong_position (record { line = whole; traced = traced } ∷ read)
     → HasLines after (record { line = whole; traced = traced } ∷ read)
-took_cut so_far after kept whole cut traced read has same is count class names reports places =
+took_cut so_far after kept whole cut traced read has same is count class names reports positions =
     record {
       are = (
         has.are,
@@ -157,7 +157,7 @@ took_cut so_far after kept whole cut traced read has same is count class names r
             (class_fault (class_by so_far.names) (n + 1) traced)) has.count
             ∙ ap (λ (n : ClassNames). option_or (wrong_class (class_by n) read)
             (class_fault (class_by n) (length read + 1) traced)) (sym names);
-        places = places;
+        positions = positions;
       };
     }
 
@@ -196,7 +196,7 @@ traced_on middle after file front piece reported text text' text'' before next =
 pub traced_part : (trace after : TracedPieces) (file piece reported text : List ℕ)
     (read : List ReadLine)
     → (is : HasTraced trace file reported read) → Lacks 10 piece → after.so_far ≡ trace.so_far
-    → IsKeptOf after.begun.items (is.begun ++ piece)
+    → IsKeptOf after.started.items (is.started ++ piece)
     → Traced after (file ++ piece) reported text text
 traced_part trace after file piece reported text read is lacks same kept = (
   [],
@@ -204,10 +204,10 @@ traced_part trace after file piece reported text read is lacks same kept = (
   sym (append-nil text),
   record {
     lines = subst (λ (s : LinesRead). HasLines s read) (sym same) is.lines;
-    begun = is.begun ++ piece;
+    started = is.started ++ piece;
     kept = kept;
-    lacks = lacks-append 10 is.begun piece is.lacks lacks;
-    split = split_part (lines_read read) file is.begun piece is.split;
+    lacks = lacks-append 10 is.started piece is.lacks lacks;
+    split = split_part (lines_read read) file is.started piece is.split;
     reported = append-nil reported ∙ is.reported;
   },
 )
@@ -215,32 +215,32 @@ traced_part trace after file piece reported text read is lacks same kept = (
 -- one line more was read, and what is read in its place
 pub took_line : (trace after : TracedPieces) (file line reported text text' : List ℕ)
     (read : List ReadLine)
-    → (is : HasTraced trace file reported read) → IsLine line → after.begun.items ≡ []
-    → ((next : ReadLine) × (next.line ≡ is.begun ++ line) × HasLines after.so_far (next ∷ read))
-    → text' ≡ text ++ untraced_line (is.begun ++ line)
+    → (is : HasTraced trace file reported read) → IsLine line → after.started.items ≡ []
+    → ((next : ReadLine) × (next.line ≡ is.started ++ line) × HasLines after.so_far (next ∷ read))
+    → text' ≡ text ++ untraced_line (is.started ++ line)
     → Traced after (file ++ line) reported text text'
 took_line trace after file line reported text text' read is ends none (next, same, has) written = (
-  untraced_line (is.begun ++ line),
+  untraced_line (is.started ++ line),
   next ∷ read,
   written,
   record {
     lines = has;
-    begun = [];
+    started = [];
     kept = inl none;
     lacks = tt;
-    split = λ more. split_line_at (lines_read read) file is.begun line is.split is.lacks ends more
+    split = λ more. split_line_at (lines_read read) file is.started line is.split is.lacks ends more
         ∙ ap (λ (l : List ℕ). (lines_read read ++ l ∷ []) ++ lines_of more) (sym same);
-    reported = ap (λ (t : List ℕ). t ++ untraced_line (is.begun ++ line)) is.reported
+    reported = ap (λ (t : List ℕ). t ++ untraced_line (is.started ++ line)) is.reported
         ∙ ap (λ (t : List ℕ). untraced_lines (lines_read read) ++ t)
-        (sym (append-nil (untraced_line (is.begun ++ line))))
-        ∙ sym (untraced-append (lines_read read) ((is.begun ++ line) ∷ []))
+        (sym (append-nil (untraced_line (is.started ++ line))))
+        ∙ sym (untraced-append (lines_read read) ((is.started ++ line) ∷ []))
         ∙ ap (λ (l : List ℕ). untraced_lines (lines_read read ++ l ∷ [])) (sym same);
   },
 )
 
-pub kept_none : (kept begun : List ℕ) → IsKeptOf kept begun → kept ≡ [] → begun ≡ []
-kept_none kept begun (inl same) none = sym same ∙ none
-kept_none kept begun (inr (left, right)) none = absurd
+pub kept_none : (kept started : List ℕ) → IsKeptOf kept started → kept ≡ [] → started ≡ []
+kept_none kept started (inl same) none = sym same ∙ none
+kept_none kept started (inr (left, right)) none = absurd
     (omega (arith, left, ap (λ (l : List ℕ). length l) none))
 
 -- all that there was, read
@@ -252,13 +252,13 @@ Ended trace file reported text text' =
 
 pub ended_whole : (trace : TracedPieces) (file reported text : List ℕ) (read : List ReadLine)
     → HasTraced trace file reported read
-    → trace.begun.items ≡ [] → Ended trace file reported text text
+    → trace.started.items ≡ [] → Ended trace file reported text text
 unfolding lines_of
 ended_whole trace file reported text read is none =
-    let begun : is.begun ≡ [] = kept_none trace.begun.items is.begun is.kept none in
+    let started : is.started ≡ [] = kept_none trace.started.items is.started is.kept none in
     let all : lines_of file ≡ lines_read read =
     ap lines_of (sym (append-nil file)) ∙ is.split []
-    ∙ ap (λ (b : List ℕ). lines_read read ++ lines_of (b ++ [])) begun ∙ nothing in (
+    ∙ ap (λ (b : List ℕ). lines_read read ++ lines_of (b ++ [])) started ∙ nothing in (
       [],
       read,
       sym (append-nil text),
@@ -273,22 +273,22 @@ ended_whole trace file reported text read is none =
 -- the line that its end cuts was read too
 pub ended_cut : (trace after : TracedPieces) (file reported text text' : List ℕ)
     (read : List ReadLine)
-    → (is : HasTraced trace file reported read) → 0 < length trace.begun.items
-    → ((next : ReadLine) × (next.line ≡ is.begun) × HasLines after.so_far (next ∷ read))
-    → text' ≡ text ++ untraced_line is.begun → Ended after file reported text text'
+    → (is : HasTraced trace file reported read) → 0 < length trace.started.items
+    → ((next : ReadLine) × (next.line ≡ is.started) × HasLines after.so_far (next ∷ read))
+    → text' ≡ text ++ untraced_line is.started → Ended after file reported text text'
 ended_cut trace after file reported text text' read is some (next, same, has) written =
-    let all : lines_of file ≡ lines_read read ++ is.begun ∷ [] =
+    let all : lines_of file ≡ lines_read read ++ is.started ∷ [] =
     ap lines_of (sym (append-nil file)) ∙ is.split []
-    ∙ ap (λ (b : List ℕ). lines_read read ++ lines_of b) (append-nil is.begun)
+    ∙ ap (λ (b : List ℕ). lines_read read ++ lines_of b) (append-nil is.started)
     ∙ ap (λ (ls : List (List ℕ)). lines_read read ++ ls)
-    (lines-part is.begun is.lacks (some_begun trace.begun.items is.begun is.kept some)) in (
-      untraced_line is.begun,
+    (lines-part is.started is.lacks (some_started trace.started.items is.started is.kept some)) in (
+      untraced_line is.started,
       next ∷ read,
       written,
-      ap (λ (t : List ℕ). t ++ untraced_line is.begun) is.reported
+      ap (λ (t : List ℕ). t ++ untraced_line is.started) is.reported
           ∙ ap (λ (t : List ℕ). untraced_lines (lines_read read) ++ t)
-          (sym (append-nil (untraced_line is.begun)))
-          ∙ sym (untraced-append (lines_read read) (is.begun ∷ [])) ∙ ap untraced_lines (sym all),
+          (sym (append-nil (untraced_line is.started)))
+          ∙ sym (untraced-append (lines_read read) (is.started ∷ [])) ∙ ap untraced_lines (sym all),
       record {
         split = ap (λ (l : List ℕ). lines_read read ++ l ∷ []) same
             ∙ sym all;
@@ -297,9 +297,9 @@ ended_cut trace after file reported text text' read is some (next, same, has) wr
       has.columns,
     )
   where
-    some_begun : (kept begun : List ℕ) → IsKeptOf kept begun → 0 < length kept → 0 < length begun
-    some_begun kept begun (inl same) some = subst (λ (l : List ℕ). 0 < length l) same some
-    some_begun kept begun (inr (left, right)) some = omega (arith, right)
+    some_started : (kept started : List ℕ) → IsKeptOf kept started → 0 < length kept → 0 < length started
+    some_started kept started (inl same) some = subst (λ (l : List ℕ). 0 < length l) same some
+    some_started kept started (inr (left, right)) some = omega (arith, right)
 
 -- what is read of a file that goes on
 pub reads_more : (trace : Option TracedPieces) (file reported : List ℕ)
@@ -308,10 +308,10 @@ pub reads_more : (trace : Option TracedPieces) (file reported : List ℕ)
     → (rest : List ℕ) × (read_as (is_some (wanted_by trace)) (file ++ more) ≡ reported ++ rest)
 reads_more None file reported is more = (more, ap (λ (t : List ℕ). t ++ more) (sym is))
 reads_more (Some trace) file reported (read, is) more = (
-  untraced_lines (lines_of (is.begun ++ more)),
+  untraced_lines (lines_of (is.started ++ more)),
   ap untraced_lines (is.split more)
-      ∙ untraced-append (lines_read read) (lines_of (is.begun ++ more))
-      ∙ ap (λ (t : List ℕ). t ++ untraced_lines (lines_of (is.begun ++ more))) (sym is.reported),
+      ∙ untraced-append (lines_read read) (lines_of (is.started ++ more))
+      ∙ ap (λ (t : List ℕ). t ++ untraced_lines (lines_of (is.started ++ more))) (sym is.reported),
 )
 
 -- the fault of a line, by its class
@@ -341,26 +341,26 @@ fault_some classes line cut tap other =
     by_test false same = ap (λ (b : Bool). if b then None else Some (fault_at line tap)) same
 
 -- this is reported of the columns, for some lines of the file
-abbrev ReportedOf : TracedPieces → Option PlaceFault → List ℕ → Bool → Option TracedPieces → Bool
+abbrev ReportedOf : TracedPieces → Option PositionFault → List ℕ → Bool → Option TracedPieces → Bool
     → Type 0
 ReportedOf trace fault file right o looked =
     (read : List ReadLine) × AreColumnsReported (wanted_by o) looked file read
     (class_text (class_by trace.so_far.names) trace.so_far.wrong_class
-    ++ place_text (uploads_in trace.so_far.places) fault) right
+    ++ position_text (uploads_in trace.so_far.positions) fault) right
 
 -- what is reported of the columns, and whether they are right
 pub columns_reported : (trace : TracedPieces) (looked : Bool) (o : Option TracedPieces)
     (file : List ℕ)
-    (fault : Option PlaceFault) (right classes places : Bool) → o ≡ Some trace → looked ≡ true
-    → classes ≡ not (is_some trace.so_far.wrong_class) → places ≡ not (is_some fault)
-    → right ≡ (classes && places)
-    → ((read : List ReadLine) → HasPlaces trace.so_far.places trace.so_far.wrong_place read
-    → IsPlaceFault (uploads_in trace.so_far.places) read fault)
+    (fault : Option PositionFault) (right classes positions : Bool) → o ≡ Some trace → looked ≡ true
+    → classes ≡ not (is_some trace.so_far.wrong_class) → positions ≡ not (is_some fault)
+    → right ≡ (classes && positions)
+    → ((read : List ReadLine) → HasPositions trace.so_far.positions trace.so_far.wrong_position read
+    → IsPositionFault (uploads_in trace.so_far.positions) read fault)
     → (looked ≡ true → HasReadAll o file)
     → (read : List ReadLine) × AreColumnsReported (wanted_by o) looked file read
     (class_text (class_by trace.so_far.names) trace.so_far.wrong_class
-    ++ place_text (uploads_in trace.so_far.places) fault) right
-columns_reported trace looked o file fault right classes places is look of_classes of_places both
+    ++ position_text (uploads_in trace.so_far.positions) fault) right
+columns_reported trace looked o file fault right classes positions is look of_classes of_positions both
     found
     all = subst (λ (o : Option TracedPieces). ReportedOf trace fault file right o looked)
     (sym is)
@@ -370,12 +370,12 @@ columns_reported trace looked o file fault right classes places is look of_class
       (
         known.1,
         fault,
-        found known.0 known.2.places,
+        found known.0 known.2.positions,
         ap (λ (w : Option WrongClass). class_text (class_by trace.so_far.names) w
-            ++ place_text (uploads_in trace.so_far.places) fault) known.2.class,
-        both ∙ ap (λ (b : Bool). b && places) (of_classes
+            ++ position_text (uploads_in trace.so_far.positions) fault) known.2.class,
+        both ∙ ap (λ (b : Bool). b && positions) (of_classes
             ∙ ap (λ (w : Option WrongClass). not (is_some w)) known.2.class)
             ∙ ap (λ (b : Bool). not (is_some (wrong_class (class_by trace.so_far.names) known.0))
-            && b) of_places,
+            && b) of_positions,
       ),
     )))

@@ -20,7 +20,7 @@ use Rattle.program_manners.specs.declared.output.WriteEnd.{WriteEnd}
 use Rattle.program_manners.specs.declared.table_loads.TablesFault.{TablesFault}
 use Rattle.program_manners.specs.declared.table_loads.TablesFault.TheVariants as tables
 use Rattle.omny_audit.specs.Fault.{audit_fault_text, cause_of, is_quiet, remembered}
-use Rattle.omny_audit.specs.Options.{AsksForAuditText, AuditAsked, files_of}
+use Rattle.omny_audit.specs.Options.{AsksForAuditText, AuditRequest, files_of}
 use Rattle.omny_audit.specs.Program.{Audits, IsTextOf}
 use Rattle.omny_audit.specs.declared.fault.Fault.{Fault}
 
@@ -57,12 +57,12 @@ pub record LoadsGivenLedger (loaded' : Option (List Loaded)) (name : List ℕ) :
 
 -- What the file of this name has is wrong: it is a table's that was refused, or one of tables that
 -- name a class that no ledger can have, or an upload that is a ledger.
-abbrev pub IsWrongFile : AuditAsked → Option (List Loaded) → Option (List Loaded) → List ℕ
+abbrev pub IsWrongFile : AuditRequest → Option (List Loaded) → Option (List Loaded) → List ℕ
     → Option ℕ → Type 0
-IsWrongFile asked loaded loaded' name at =
-    ((fault : TablesFault) × (wrong_table asked.table fault ≡ Some name)
-    × IsTablesFault asked.table loaded loaded' None fault)
-    ⊎ (LoadsUnplainClass asked.table loaded ⊎ LoadsGivenLedger loaded' name)
+IsWrongFile request loaded loaded' name at =
+    ((fault : TablesFault) × (wrong_table request.table fault ≡ Some name)
+    × IsTablesFault request.table loaded loaded' None fault)
+    ⊎ (LoadsUnplainClass request.table loaded ⊎ LoadsGivenLedger loaded' name)
 
 -- What a run did: what its source had loaded before and after, what it refused last, how the last
 -- write that failed ended, and what the output had before and after.
@@ -75,11 +75,11 @@ pub record Run : Type 0 where
   pub out' : Option (List ℕ)
 
 -- THE outcome of a run that fails
-abbrev pub FailsAudit : AuditAsked → Run → Fault → Type 0
-FailsAudit asked run fault =
-    Fails (files_of asked) (IsWrongFile asked run.loaded run.loaded')
-    (IsTextOf asked run.loaded run.loaded') (remembered run.refused run.ended) run.out run.out'
-    (cause_of asked fault)
+abbrev pub FailsAudit : AuditRequest → Run → Fault → Type 0
+FailsAudit request run fault =
+    Fails (files_of request) (IsWrongFile request run.loaded run.loaded')
+    (IsTextOf request run.loaded run.loaded') (remembered run.refused run.ended) run.out run.out'
+    (cause_of request fault)
 
 -- The fault's line was reported, unless a write of it failed. If who reads the text has closed it,
 -- nothing is reported.
@@ -96,25 +96,25 @@ pub record Said : Type 0 where
   pub flushed : Bool
 
 -- a finding was written and flushed, and nothing else said
-abbrev pub HasFinished : AuditAsked → Run → Said → Bool → Type 0
-HasFinished asked run said well = Audits asked run.loaded run.loaded' run.out run.out' well
+abbrev pub HasFinished : AuditRequest → Run → Said → Bool → Type 0
+HasFinished request run said success = Audits request run.loaded run.loaded' run.out run.out' success
     × (said.flushed ≡ true) × (said.said' ≡ said.said)
 
 -- How a run ends with this status: with 0 all is well. With 1 it is not, or the run failed.
-abbrev pub EndsRun : AuditAsked → Run → Said → ℕ → Type 0
-EndsRun asked run said zero = HasFinished asked run said true
-EndsRun asked run said (suc zero) = HasFinished asked run said false
-    ⊎ ((fault : Fault) × FailsAudit asked run fault
+abbrev pub EndsRun : AuditRequest → Run → Said → ℕ → Type 0
+EndsRun request run said zero = HasFinished request run said true
+EndsRun request run said (suc zero) = HasFinished request run said false
+    ⊎ ((fault : Fault) × FailsAudit request run fault
     × IsFaultReported fault said.said said.said' said.failed)
-EndsRun asked run said _ = ⊥
+EndsRun request run said _ = ⊥
 
 -- Words that are no command line: with 0 they ask for help or the version, with 2 nothing was
 -- written, and with 1 help or the version was not written, or memory was refused.
-abbrev pub EndsAnswer : List Text → AuditAsked → Run → Said → ℕ → Type 0
-EndsAnswer words asked run said zero = AsksForAuditText words × (said.said' ≡ said.said)
-EndsAnswer words asked run said (suc zero) = (fault : Fault)
-    × IsCause (files_of asked) (λ name at. ⊥) (remembered run.refused run.ended)
-    (cause_of asked fault)
+abbrev pub EndsAnswer : List Text → AuditRequest → Run → Said → ℕ → Type 0
+EndsAnswer words request run said zero = AsksForAuditText words × (said.said' ≡ said.said)
+EndsAnswer words request run said (suc zero) = (fault : Fault)
+    × IsCause (files_of request) (λ name at. ⊥) (remembered run.refused run.ended)
+    (cause_of request fault)
     × IsFaultReported fault said.said said.said' said.failed
-EndsAnswer words asked run said (suc (suc zero)) = Keeps run.out run.out'
-EndsAnswer words asked run said _ = ⊥
+EndsAnswer words request run said (suc (suc zero)) = Keeps run.out run.out'
+EndsAnswer words request run said _ = ⊥

@@ -11,7 +11,7 @@ use Rattle.world.specs.declared.faults.LoadFault.{LoadFault}
 use Rattle.world.specs.declared.faults.LoadFault.TheVariants as load
 use Rattle.world.specs.declared.faults.WriteFault.{WriteFault}
 use Rattle.world.specs.declared.faults.WriteFault.TheVariants as write
-use Rattle.omny_audit.specs.Options.{AuditAsked, ledger_name}
+use Rattle.omny_audit.specs.Options.{AuditRequest, ledger_name}
 use Rattle.omny_audit.specs.declared.fault.Fault.{Fault}
 use Rattle.omny_audit.specs.declared.fault.Fault.TheVariants.{ClassName, File, Follow, Ledger}
 use Rattle.omny_audit.specs.declared.fault.Fault.TheVariants.{GivenLedger, Table}
@@ -34,18 +34,18 @@ audit_fault_text Closed = codes "fault: cannot write"
 audit_fault_text NoMemory = codes "fault: out of memory"
 
 -- the cause of a fault, of a run that was asked for this
-abbrev pub cause_of : AuditAsked → Fault → Cause
-cause_of asked (File file) = unread file.name.now file.fault
-cause_of asked Ledger = unread (ledger_name asked) load.Unread
-cause_of asked (Table fault) = wrong asked.table.first None
-cause_of asked (NamedTable line) = wrong line.name.now None
-cause_of asked (Follow line) = wrong (file_named line.word.now) None
-cause_of asked (GivenLedger name) = wrong name.now None
-cause_of asked (NamedClass line) = wrong line.0.now None
-cause_of asked ClassName = wrong asked.table.first None
-cause_of asked Write = unwritten write.Refused
-cause_of asked Closed = unwritten write.Closed
-cause_of asked NoMemory = no_memory
+abbrev pub cause_of : AuditRequest → Fault → Cause
+cause_of request (File file) = unread file.name.now file.fault
+cause_of request Ledger = unread (ledger_name request) load.Unread
+cause_of request (Table fault) = wrong request.table.first None
+cause_of request (NamedTable line) = wrong line.name.now None
+cause_of request (Follow line) = wrong (file_named line.word.now) None
+cause_of request (GivenLedger name) = wrong name.now None
+cause_of request (NamedClass line) = wrong line.0.now None
+cause_of request ClassName = wrong request.table.first None
+cause_of request Write = unwritten write.Refused
+cause_of request Closed = unwritten write.Closed
+cause_of request NoMemory = no_memory
 
 -- whether who reads the text has closed it, so that nothing is reported
 abbrev pub is_quiet : Fault → Bool

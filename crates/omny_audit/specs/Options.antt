@@ -64,7 +64,7 @@ abbrev pub tables_or_none : List Text → TableNames
 tables_or_none words = unwrap_or (tables_in words) no_tables
 
 -- what a command line asks for
-pub record AuditAsked : Type 0 where
+pub record AuditRequest : Type 0 where
   pub table : TableNames
   pub all : Bool
   pub live : Bool
@@ -75,8 +75,8 @@ pub record AuditAsked : Type 0 where
 -- the words' tables, without which no command line is; whether all wrong lines are asked for, and
 -- whether a ledger that is not settled is well; their uploads, in order; the file of the report, if one is named; and that of the ledger, if one is
 -- named
-abbrev pub audit_asked_by : List Text → AuditAsked
-audit_asked_by words = record {
+abbrev pub audit_request_by : List Text → AuditRequest
+audit_request_by words = record {
   table = tables_or_none (unwrap_or (all_of (codes "table") (matches_of audit_program words)) []);
   all = is_given (codes "all") (matches_of audit_program words);
   live = is_given (codes "live") (matches_of audit_program words);
@@ -86,8 +86,8 @@ audit_asked_by words = record {
 }
 
 -- what the ledger is called: standard input, if no file of it is named
-abbrev pub ledger_name : AuditAsked → Text
-ledger_name asked = unwrap_or asked.ledger (codes "standard input")
+abbrev pub ledger_name : AuditRequest → Text
+ledger_name request = unwrap_or request.ledger (codes "standard input")
 
 -- the file that is named, if any
 abbrev pub named_file : Option Text → List Text
@@ -95,7 +95,7 @@ named_file None = []
 named_file (Some name) = name ∷ []
 
 -- the files that are asked for: the tables, the uploads in order, the report and the ledger
-abbrev pub files_of : AuditAsked → List Text
-files_of asked =
-    table_files asked.table ++ ((asked.uploads ++ named_file asked.report)
-    ++ ledger_name asked ∷ [])
+abbrev pub files_of : AuditRequest → List Text
+files_of request =
+    table_files request.table ++ ((request.uploads ++ named_file request.report)
+    ++ ledger_name request ∷ [])

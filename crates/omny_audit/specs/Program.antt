@@ -4,7 +4,7 @@ use Rattle.std.specs.Prelude.{Option, None, Some}
 use Rattle.std.specs.Io.KnownBytes.{Appends}
 use Rattle.clap.specs.Words.{Text}
 use Rattle.tariffs.specs.Fares.{Fares}
-use Rattle.ledger_check.specs.Balances.{AreGoodFields}
+use Rattle.ledger_check.specs.Balances.{AreValidFields}
 use Rattle.ledger_check.specs.Columns.{has_traced_head}
 use Rattle.class_names.specs.Classes.{AreTrees, class_of_token, tree_at}
 use Rattle.toml.specs.Data.{Members}
@@ -12,7 +12,7 @@ use Rattle.tap_views.specs.UploadEnds.{ArePlainEnds}
 use Rattle.tap_views.specs.declared.encoder.TapFields.{TapFields}
 use Rattle.tap_views.specs.declared.upload_end.UploadEnd.{UploadEnd}
 use Rattle.omny_audit.specs.Reports.{Given, IsAudit, IsAuditText, IsRightAudit}
-use Rattle.omny_audit.specs.Options.{AuditAsked}
+use Rattle.omny_audit.specs.Options.{AuditRequest}
 use Rattle.omny_audit.specs.Traced.{ReadLine, Wanted}
 use Rattle.program_manners.specs.Loads.{Loaded, LoadsAll, LoadsOne}
 use Rattle.program_manners.specs.TableLoads.{LoadsTables}
@@ -26,23 +26,23 @@ pub record LoadsNamedFiles (names : List Text) (loaded loaded' : Option (List Lo
   pub is_loaded : LoadsAll loaded loaded' loads
 
 -- the fields of the valid taps of the uploads, one upload after another
-abbrev pub AreGoodFieldsOfAll : List (List ℕ) → List TapFields → Type 0
-AreGoodFieldsOfAll [] taps = taps ≡ []
-AreGoodFieldsOfAll (upload ∷ uploads) taps =
-    (first : List TapFields) × (rest : List TapFields) × AreGoodFields upload first
-    × AreGoodFieldsOfAll uploads rest × (taps ≡ first ++ rest)
+abbrev pub AreValidFieldsOfAll : List (List ℕ) → List TapFields → Type 0
+AreValidFieldsOfAll [] taps = taps ≡ []
+AreValidFieldsOfAll (upload ∷ uploads) taps =
+    (first : List TapFields) × (rest : List TapFields) × AreValidFields upload first
+    × AreValidFieldsOfAll uploads rest × (taps ≡ first ++ rest)
 
 -- the fields of the valid taps of each upload
-abbrev pub AreGoodFieldsOfEach : List (List ℕ) → List (List TapFields) → Type 0
-AreGoodFieldsOfEach [] lists = lists ≡ []
-AreGoodFieldsOfEach (upload ∷ uploads) [] = ⊥
-AreGoodFieldsOfEach (upload ∷ uploads) (taps ∷ lists) =
-    AreGoodFields upload taps × AreGoodFieldsOfEach uploads lists
+abbrev pub AreValidFieldsOfEach : List (List ℕ) → List (List TapFields) → Type 0
+AreValidFieldsOfEach [] lists = lists ≡ []
+AreValidFieldsOfEach (upload ∷ uploads) [] = ⊥
+AreValidFieldsOfEach (upload ∷ uploads) (taps ∷ lists) =
+    AreValidFields upload taps × AreValidFieldsOfEach uploads lists
 
 -- what a ledger is compared with, if uploads are named
 abbrev pub compared : {A : Type 0} → List Text → A → Option A
-compared [] good = None
-compared (name ∷ names) good = Some good
+compared [] valid = None
+compared (name ∷ names) valid = Some valid
 
 -- a file was loaded, if it is named
 abbrev pub LoadsReport : Option Text → Option (List Loaded) → Option (List Loaded)
@@ -70,66 +70,66 @@ AreWanted fares texts true uploads (Some wanted) =
 
 -- The tables were loaded, then the uploads, then the report, if it is named, and then all of the
 -- ledger.
-pub record HasLoaded (asked : AuditAsked) (loaded loaded' : Option (List Loaded)) : Type 0 where
+pub record HasLoaded (request : AuditRequest) (loaded loaded' : Option (List Loaded)) : Type 0 where
   pub after_table : Option (List Loaded)
   pub after_uploads : Option (List Loaded)
   pub after_report : Option (List Loaded)
   pub fares : Fares
   pub texts : List (List ℕ)
-  pub loads_tables : LoadsTables asked.table loaded after_table texts fares
+  pub loads_tables : LoadsTables request.table loaded after_table texts fares
   pub uploads : List (List ℕ)
-  pub loads_uploads : LoadsNamedFiles asked.uploads after_table after_uploads uploads
-  pub good : List TapFields
-  pub are_good : AreGoodFieldsOfAll uploads good
+  pub loads_uploads : LoadsNamedFiles request.uploads after_table after_uploads uploads
+  pub valid : List TapFields
+  pub are_valid : AreValidFieldsOfAll uploads valid
   pub lists : List (List TapFields)
-  pub are_lists : AreGoodFieldsOfEach uploads lists
+  pub are_lists : AreValidFieldsOfEach uploads lists
   pub report : Option (List ℕ)
-  pub loads_report : LoadsReport asked.report after_uploads after_report report
+  pub loads_report : LoadsReport request.report after_uploads after_report report
   pub ends : List UploadEnd
   pub are_ends : ArePlainEnds uploads ends
   pub ledger : List ℕ
-  pub loads_ledger : LoadsOne after_report loaded' asked.ledger ledger
+  pub loads_ledger : LoadsOne after_report loaded' request.ledger ledger
   -- a traced ledger's columns are compared with the classes that the tables' texts name, and
   -- with the places of the uploads' taps, if uploads are named
   pub traced : Bool
   pub is_traced : IsTracedAs after_report ledger traced
   pub wanted : Option Wanted
-  pub are_wanted : AreWanted fares texts traced (compared asked.uploads lists) wanted
+  pub are_wanted : AreWanted fares texts traced (compared request.uploads lists) wanted
 
 -- what the ledger is audited by, of these files
-abbrev pub given_of : (asked : AuditAsked) {loaded loaded' : Option (List Loaded)}
-    → HasLoaded asked loaded loaded' → Given
-given_of asked files = record {
-  all = asked.all;
-  live = asked.live;
+abbrev pub given_of : (request : AuditRequest) {loaded loaded' : Option (List Loaded)}
+    → HasLoaded request loaded loaded' → Given
+given_of request files = record {
+  all = request.all;
+  live = request.live;
   fares = files.fares;
   wanted = files.wanted;
-  good = compared asked.uploads files.good;
-  ends = compared asked.uploads files.ends;
+  valid = compared request.uploads files.valid;
+  ends = compared request.uploads files.ends;
   report = files.report;
 }
 
 -- The files were loaded, and the text is what is found of the ledger beside the valid taps of the
 -- uploads, if uploads are named, and of the report. It says that all is well, or not.
-pub record HasFound (asked : AuditAsked) (loaded loaded' : Option (List Loaded)) (text : List ℕ)
-    (well : Bool) : Type 0 where
-  pub files : HasLoaded asked loaded loaded'
+pub record HasFound (request : AuditRequest) (loaded loaded' : Option (List Loaded)) (text : List ℕ)
+    (success : Bool) : Type 0 where
+  pub files : HasLoaded request loaded loaded'
   pub read : List ReadLine
-  pub audit : IsAudit (given_of asked files) files.ledger read text well
+  pub audit : IsAudit (given_of request files) files.ledger read text success
   -- well exactly if the text is, whole, a ledger of legal histories, settled unless a live one is
   -- asked for, with the taps of the uploads, of which none has a layout fault, and the columns of a
   -- traced one are right, and the report is its own
-  pub right : (well ≡ true) ↔ IsRightAudit (given_of asked files) files.ledger read
+  pub right : (success ≡ true) ↔ IsRightAudit (given_of request files) files.ledger read
 
 -- what was appended to the writer is the text of what was found
-pub record Audits (asked : AuditAsked) (loaded loaded' : Option (List Loaded))
-    (out out' : Option (List ℕ)) (well : Bool) : Type 0 where
+pub record Audits (request : AuditRequest) (loaded loaded' : Option (List Loaded))
+    (out out' : Option (List ℕ)) (success : Bool) : Type 0 where
   pub text : List ℕ
-  pub found : HasFound asked loaded loaded' text well
+  pub found : HasFound request loaded loaded' text success
   pub written : Appends out out' text
 
 -- the files were loaded, and the text is one that an audit of them may leave
-pub record IsTextOf (asked : AuditAsked) (loaded loaded' : Option (List Loaded)) (text : List ℕ)
+pub record IsTextOf (request : AuditRequest) (loaded loaded' : Option (List Loaded)) (text : List ℕ)
     : Type 0 where
-  pub files : HasLoaded asked loaded loaded'
-  pub right : IsAuditText (given_of asked files) files.ledger text
+  pub files : HasLoaded request loaded loaded'
+  pub right : IsAuditText (given_of request files) files.ledger text

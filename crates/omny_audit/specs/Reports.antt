@@ -5,9 +5,9 @@ use Rattle.std.specs.Fmt.{decimal}
 use Rattle.tariffs.specs.Fares.{Fares}
 use Rattle.ledger_check.specs.Columns.{read_as}
 use Rattle.ledger_check.specs.FirstLines.{AreFirstTaken}
-use Rattle.ledger_check.specs.Recounts.{TakenLine, remark_lines}
+use Rattle.ledger_check.specs.FullChecks.{TakenLine, remark_lines}
 use Rattle.ledger_check.specs.Ledger.{IsLedger, IsLedgerOf}
-use Rattle.omny_audit.specs.Findings.{HasGoodTaps, HasOrder, IsFindingOf}
+use Rattle.omny_audit.specs.Findings.{HasValidTaps, HasOrder, IsFindingOf}
 use Rattle.omny_audit.specs.Traced.{AreColumnsReported, HasRightColumns, ReadLine, Wanted}
 use Rattle.report_check.specs.Reports.{IsReportBeside, IsReportVerdictBeside, is_of_ledger}
 use Rattle.report_texts.specs.Report.{upload_line}
@@ -28,7 +28,7 @@ pub record Given : Type 0 where
   pub live : Bool
   pub fares : Fares
   pub wanted : Option Wanted
-  pub good : Option (List TapFields)
+  pub valid : Option (List TapFields)
   pub ends : Option (List UploadEnd)
   pub report : Option (List ℕ)
 
@@ -95,12 +95,12 @@ IsReportLine ends fares ledger (Some report) true rest fits =
 -- what is found of the report, if there is one, and after it the lines of uploads that have a
 -- layout fault
 pub record AreLastLines (ends : Option (List UploadEnd)) (fares : Fares) (ledger : List ℕ)
-    (report : Option (List ℕ)) (legal : Bool) (rest : List ℕ) (well : Bool) : Type 0 where
+    (report : Option (List ℕ)) (legal : Bool) (rest : List ℕ) (success : Bool) : Type 0 where
   pub line : List ℕ
   pub fits : Bool
   pub report_line : IsReportLine ends fares ledger report legal line fits
   pub shown : rest ≡ line ++ damage_text ends
-  pub both : well ≡ (fits && are_whole ends)
+  pub both : success ≡ (fits && are_whole ends)
 
 -- What is found of a ledger's file, of which these lines were read, if it is traced: what is found
 -- of the ledger that is read of it, beside the valid taps of the uploads, if there are uploads;
@@ -108,10 +108,10 @@ pub record AreLastLines (ends : Option (List UploadEnd)) (fares : Fares) (ledger
 -- lines; and after it what is found of the report, if there is one, and of the uploads. All is well
 -- if all of this is.
 pub record IsAudit (given : Given) (file : List ℕ) (read : List ReadLine) (text : List ℕ)
-    (well : Bool) : Type 0 where
+    (success : Bool) : Type 0 where
   pub found : List ℕ
   pub sound : Bool
-  pub finding : IsFindingOf given.all given.live given.fares (ledger_in given file) given.good found
+  pub finding : IsFindingOf given.all given.live given.fares (ledger_in given file) given.valid found
       sound
   pub legal : Bool
   pub is_legal : (legal ≡ true) ↔ IsLedger given.fares (ledger_in given file)
@@ -123,14 +123,14 @@ pub record IsAudit (given : Given) (file : List ℕ) (read : List ReadLine) (tex
   pub last : AreLastLines given.ends given.fares (ledger_in given file) given.report
       (legal && right) rest fits
   pub shown : text ≡ found ++ (columns ++ rest)
-  pub both : well ≡ (sound && (right && fits))
+  pub both : success ≡ (sound && (right && fits))
 
 -- What an audit that fails may leave: a prefix of what is found of the file, or of the remarks on
 -- its first lines, which are a prefix of it if all wrong lines are asked for
--- (`ledger_check::laws::recounts_go_on`).
+-- (`ledger_check::laws::full_checks_go_on`).
 abbrev pub IsAuditText : Given → List ℕ → List ℕ → Type 0
 IsAuditText given file text =
-    ((read : List ReadLine) × (well : Bool) × IsAudit given file read text well)
+    ((read : List ReadLine) × (success : Bool) × IsAudit given file read text success)
     ⊎ ((given.all ≡ true) × (first : List TakenLine)
     × AreFirstTaken given.fares (ledger_in given file) first × (text ≡ remark_lines first))
 
@@ -146,12 +146,12 @@ HasOwnReport ends (Some report) entries = IsReportBeside ends entries report
 abbrev pub IsRightAudit : Given → List ℕ → List ReadLine → Type 0
 IsRightAudit given file read =
     (entries : List Entry) × IsLedgerOf given.fares entries (ledger_in given file)
-    × HasGoodTaps given.good entries × HasOrder given.live entries
+    × HasValidTaps given.valid entries × HasOrder given.live entries
     × HasRightColumns given.wanted file read
     × HasOwnReport given.ends given.report entries × (are_whole given.ends ≡ true)
 
 -- all is well exactly if all is right
 abbrev pub AuditsDecide : Type 0
 AuditsDecide =
-    (given : Given) (file : List ℕ) (read : List ReadLine) (text : List ℕ) (well : Bool)
-    → IsAudit given file read text well → (well ≡ true) ↔ IsRightAudit given file read
+    (given : Given) (file : List ℕ) (read : List ReadLine) (text : List ℕ) (success : Bool)
+    → IsAudit given file read text success → (success ≡ true) ↔ IsRightAudit given file read

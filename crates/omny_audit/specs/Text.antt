@@ -7,7 +7,7 @@ use Rattle.fare_texts.specs.Moments.{IsMomentText}
 use Rattle.ledger_check.specs.declared.balance.Difference.{Difference}
 use Rattle.ledger_check.specs.declared.balance.Difference.TheVariants.{Missing, Surplus}
 use Rattle.tap_views.specs.declared.encoder.TapFields.{TapFields}
-use Rattle.ledger_check.specs.Recounts.{legal_text}
+use Rattle.ledger_check.specs.FullChecks.{legal_text}
 use Rattle.ledger_check.specs.declared.checker.Verdict.{Verdict}
 use Rattle.ledger_check.specs.declared.checker.Verdict.TheVariants.{Legal, Wants, NoLine}
 

@@ -8,12 +8,12 @@ use Rattle.std.specs.Str.{bytes_eq}
 use Rattle.tap_views.specs.declared.encoder.TapFields.{TapFields}
 use Rattle.ledger_check.specs.Columns.{TracedLine, cut_line}
 use Rattle.ledger_check.specs.Lines.{lines_of}
-use Rattle.ledger_check.specs.Places.{IsFirstUnnamed, IsUnnamed, is_place, place_finding, tap_at}
+use Rattle.ledger_check.specs.Positions.{IsFirstUnnamed, IsUnnamed, is_position, position_finding, tap_at}
 use Rattle.ledger_check.specs.Taps.{IsTapOfLine}
-use Rattle.ledger_check.specs.declared.places.PlaceFinding.{PlaceFinding}
-use Rattle.ledger_check.specs.declared.places.PlaceFinding.TheVariants.{Right, Another, Again}
-use Rattle.omny_audit.specs.declared.traced.PlaceFault.{PlaceFault}
-use Rattle.omny_audit.specs.declared.traced.PlaceFault.TheVariants.{NoLine, OtherTap, Repeated}
+use Rattle.ledger_check.specs.declared.positions.PositionFinding.{PositionFinding}
+use Rattle.ledger_check.specs.declared.positions.PositionFinding.TheVariants.{Right, Another, Again}
+use Rattle.omny_audit.specs.declared.traced.PositionFault.{PositionFault}
+use Rattle.omny_audit.specs.declared.traced.PositionFault.TheVariants.{NoLine, OtherTap, Repeated}
 use Rattle.omny_audit.specs.declared.traced.WrongClass.{WrongClass}
 
 -- the tap of a line, and its columns
@@ -21,7 +21,7 @@ pub record TapWithColumns : Type 0 where
   pub tap : TapFields
   pub class : List ℕ
   pub upload : ℕ
-  pub place : ℕ
+  pub position : ℕ
 
 -- a tap with the columns of its line
 abbrev pub traced_by : TracedLine → TapFields → TapWithColumns
@@ -29,7 +29,7 @@ traced_by cut tap = record {
   tap = tap;
   class = cut.class;
   upload = cut.upload;
-  place = cut.place;
+  position = cut.position;
 }
 
 -- a line that has not the form of a traced one names no tap, and a line that has it names the one
@@ -76,77 +76,77 @@ class_text classes (Some fault) =
     ++ (classes fault.moment fault.token ++ codes "\n")))
 
 -- whether the line has this upload and place
-abbrev pub has_place : ℕ → ℕ → Option TapWithColumns → Bool
-has_place upload place None = false
-has_place upload place (Some traced) = is_place upload place traced.upload traced.place
+abbrev pub has_position : ℕ → ℕ → Option TapWithColumns → Bool
+has_position upload position None = false
+has_position upload position (Some traced) = is_position upload position traced.upload traced.position
 
 -- whether one of the lines has this upload and place
-abbrev pub have_place : List ReadLine → ℕ → ℕ → Bool
-have_place [] upload place = false
-have_place (read ∷ earlier) upload place =
-    have_place earlier upload place || has_place upload place read.traced
+abbrev pub have_position : List ReadLine → ℕ → ℕ → Bool
+have_position [] upload position = false
+have_position (read ∷ earlier) upload position =
+    have_position earlier upload position || has_position upload position read.traced
 
 -- the fault of a line by what is found of its tap at its place
-abbrev pub fault_by : ℕ → ℕ → ℕ → PlaceFinding → Option PlaceFault
-fault_by line upload place Right = None
-fault_by line upload place Another = Some (OtherTap line upload place)
-fault_by line upload place Again = Some (Repeated line upload place)
+abbrev pub fault_by : ℕ → ℕ → ℕ → PositionFinding → Option PositionFault
+fault_by line upload position Right = None
+fault_by line upload position Another = Some (OtherTap line upload position)
+fault_by line upload position Again = Some (Repeated line upload position)
 
 -- the fault of a line after earlier ones: another tap is at its place, or an earlier line has
 -- its place
-abbrev pub place_fault : List (List TapFields) → List ReadLine → ℕ → Option TapWithColumns
-    → Option PlaceFault
-place_fault uploads earlier line None = None
-place_fault uploads earlier line (Some traced) =
-    fault_by line traced.upload traced.place
-    (place_finding (tap_at uploads traced.upload traced.place)
-    (have_place earlier traced.upload traced.place) traced.tap)
+abbrev pub position_fault : List (List TapFields) → List ReadLine → ℕ → Option TapWithColumns
+    → Option PositionFault
+position_fault uploads earlier line None = None
+position_fault uploads earlier line (Some traced) =
+    fault_by line traced.upload traced.position
+    (position_finding (tap_at uploads traced.upload traced.position)
+    (have_position earlier traced.upload traced.position) traced.tap)
 
 -- the first line that has such a fault
-abbrev pub wrong_place : List (List TapFields) → List ReadLine → Option PlaceFault
-wrong_place uploads [] = None
-wrong_place uploads (read ∷ earlier) = option_or (wrong_place uploads earlier)
-    (place_fault uploads earlier (length earlier + 1) read.traced)
+abbrev pub wrong_position : List (List TapFields) → List ReadLine → Option PositionFault
+wrong_position uploads [] = None
+wrong_position uploads (read ∷ earlier) = option_or (wrong_position uploads earlier)
+    (position_fault uploads earlier (length earlier + 1) read.traced)
 
 -- the place is the first that was not named
-abbrev pub IsFirstLeft : List (List TapFields) → (ℕ → ℕ → Bool) → PlaceFault → Type 0
-IsFirstLeft uploads named (NoLine upload place) = IsFirstUnnamed uploads named upload place
+abbrev pub IsFirstLeft : List (List TapFields) → (ℕ → ℕ → Bool) → PositionFault → Type 0
+IsFirstLeft uploads named (NoLine upload position) = IsFirstUnnamed uploads named upload position
 IsFirstLeft uploads named _ = ⊥
 
 -- after lines of which one is wrong this is the fault; else it is the first place that was not
 -- named, if there is one
-abbrev pub IsFaultBehind : List (List TapFields) → (ℕ → ℕ → Bool) → Option PlaceFault
-    → Option PlaceFault → Type 0
-IsFaultBehind uploads named (Some wrong) fault = fault ≡ Some wrong
-IsFaultBehind uploads named None None =
-    (upload place : ℕ) → ¬ (IsUnnamed uploads named upload place)
-IsFaultBehind uploads named None (Some fault) = IsFirstLeft uploads named fault
+abbrev pub IsFaultAfter : List (List TapFields) → (ℕ → ℕ → Bool) → Option PositionFault
+    → Option PositionFault → Type 0
+IsFaultAfter uploads named (Some wrong) fault = fault ≡ Some wrong
+IsFaultAfter uploads named None None =
+    (upload position : ℕ) → ¬ (IsUnnamed uploads named upload position)
+IsFaultAfter uploads named None (Some fault) = IsFirstLeft uploads named fault
 
 -- what is wrong first with the places of the lines, if there are uploads
-abbrev pub IsPlaceFault : Option (List (List TapFields)) → List ReadLine → Option PlaceFault
+abbrev pub IsPositionFault : Option (List (List TapFields)) → List ReadLine → Option PositionFault
     → Type 0
-IsPlaceFault None read fault = fault ≡ None
-IsPlaceFault (Some uploads) read fault =
-    IsFaultBehind uploads (have_place read) (wrong_place uploads read) fault
+IsPositionFault None read fault = fault ≡ None
+IsPositionFault (Some uploads) read fault =
+    IsFaultAfter uploads (have_position read) (wrong_position uploads read) fault
 
 -- `all places of the uploads`, `line 3 has another tap than upload 0 has at place 2`, `line 4 has
 -- upload 0 place 2 again` or `no line has upload 0 place 3`
-unfoldable pub place_fault_text : Option PlaceFault → List ℕ
-place_fault_text None = codes "all places of the uploads\n"
-place_fault_text (Some (OtherTap line upload place)) =
+unfoldable pub position_fault_text : Option PositionFault → List ℕ
+position_fault_text None = codes "all places of the uploads\n"
+position_fault_text (Some (OtherTap line upload position)) =
     codes "line " ++ (decimal line ++ (codes " has another tap than upload " ++ (decimal upload
-    ++ (codes " has at place " ++ (decimal place ++ codes "\n")))))
-place_fault_text (Some (Repeated line upload place)) =
+    ++ (codes " has at place " ++ (decimal position ++ codes "\n")))))
+position_fault_text (Some (Repeated line upload position)) =
     codes "line " ++ (decimal line ++ (codes " has upload " ++ (decimal upload
-    ++ (codes " place " ++ (decimal place ++ codes " again\n")))))
-place_fault_text (Some (NoLine upload place)) =
-    codes "no line has upload " ++ (decimal upload ++ (codes " place " ++ (decimal place
+    ++ (codes " place " ++ (decimal position ++ codes " again\n")))))
+position_fault_text (Some (NoLine upload position)) =
+    codes "no line has upload " ++ (decimal upload ++ (codes " place " ++ (decimal position
     ++ codes "\n")))
 
 -- what is reported of the places, if there are uploads
-abbrev pub place_text : Option (List (List TapFields)) → Option PlaceFault → List ℕ
-place_text None fault = []
-place_text (Some uploads) fault = place_fault_text fault
+abbrev pub position_text : Option (List (List TapFields)) → Option PositionFault → List ℕ
+position_text None fault = []
+position_text (Some uploads) fault = position_fault_text fault
 
 -- what the columns of a traced ledger are compared with: the class of each token at a moment, and
 -- the valid taps of each upload, if there are uploads
@@ -166,20 +166,20 @@ abbrev pub AreColumnsReported : Option Wanted → Bool → List ℕ → List Rea
 AreColumnsReported None looked file read reported right = (reported ≡ []) × (right ≡ true)
 AreColumnsReported (Some wanted) false file read reported right = (reported ≡ []) × (right ≡ false)
 AreColumnsReported (Some wanted) true file read reported right =
-    AreLinesOf file read × (fault : Option PlaceFault) × IsPlaceFault wanted.uploads read fault
+    AreLinesOf file read × (fault : Option PositionFault) × IsPositionFault wanted.uploads read fault
     × (reported ≡ class_text wanted.classes (wrong_class wanted.classes read)
-    ++ place_text wanted.uploads fault)
+    ++ position_text wanted.uploads fault)
     × (right ≡ (not (is_some (wrong_class wanted.classes read)) && not (is_some fault)))
 
 -- Each line that has a tap has it where it is in the uploads, if there are uploads: no two
 -- lines have one place, and each place of a tap is that of a line.
-abbrev pub HasRightPlaces : Option (List (List TapFields)) → List ReadLine → Type 0
-HasRightPlaces None read = Unit {0}
-HasRightPlaces (Some uploads) read = (wrong_place uploads read ≡ None)
-    × ((upload place : ℕ) → ¬ (IsUnnamed uploads (have_place read) upload place))
+abbrev pub HasRightPositions : Option (List (List TapFields)) → List ReadLine → Type 0
+HasRightPositions None read = Unit {0}
+HasRightPositions (Some uploads) read = (wrong_position uploads read ≡ None)
+    × ((upload position : ℕ) → ¬ (IsUnnamed uploads (have_position read) upload position))
 
 -- the columns of the lines are right, if the ledger is traced
 abbrev pub HasRightColumns : Option Wanted → List ℕ → List ReadLine → Type 0
 HasRightColumns None file read = Unit {0}
 HasRightColumns (Some wanted) file read = AreLinesOf file read
-    × (wrong_class wanted.classes read ≡ None) × HasRightPlaces wanted.uploads read
+    × (wrong_class wanted.classes read ≡ None) × HasRightPositions wanted.uploads read

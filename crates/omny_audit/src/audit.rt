@@ -30,7 +30,7 @@ pub(crate) struct Audit<'a> {
     /// Whether a ledger that is not settled is right.
     pub(crate) live: bool,
     /// Whether uploads are named, so that the taps of the ledger are subtracted.
-    pub(crate) strikes: bool,
+    pub(crate) subtracts: bool,
     /// How the uploads end, if uploads are named.
     pub(crate) ends: Option<&'a [UploadEnd]>,
     pub(crate) check: Check,
@@ -44,30 +44,30 @@ pub(crate) struct Audit<'a> {
 impl Audit<'_> {
     /// Adds what was read of the last piece to the sums, and appends what is reported of it.
     fn take(&mut self, alloc: Global, reported: &mut String) -> Result<(), NoMemory>
-        requires { (good : List TapFields) × (text written : List ℕ)
-            × HasTaken self.old good text written }
+        requires { (valid : List TapFields) × (text written : List ℕ)
+            × HasTaken self.old valid text written }
         ensures trace { self.new.trace ≡ self.old.trace }
-        ensures taken { OnOk result ((good : List TapFields) (text written : List ℕ)
-            → HasTaken self.old good text written → (more : List ℕ)
+        ensures taken { OnOk result ((valid : List TapFields) (text written : List ℕ)
+            → HasTaken self.old valid text written → (more : List ℕ)
             × (string_bytes reported.new ≡ string_bytes reported.old ++ more)
-            × (given_in self.new good ≡ given_in self.old good)
-            × HasTaken self.new good (text ++ self.old.text.items) (written ++ more)) }
+            × (given_in self.new valid ≡ given_in self.old valid)
+            × HasTaken self.new valid (text ++ self.old.text.items) (written ++ more)) }
     {
         let text = self.text.as_slice();
         self.check
-            .feed(self.table, self.clock, text, self.strikes, reported)?;
+            .feed(self.table, self.clock, text, self.subtracts, reported)?;
         add_piece(alloc, self.table, text, &mut self.report)?;
         Ok(())
     }
 
     fn read(&mut self, alloc: Global, piece: &[u8], reported: &mut String) -> Result<(), NoMemory>
-        requires { (good : List TapFields) × (file written : List ℕ)
-            × HasAudited self.old good file written }
-        ensures { OnOk result ((good : List TapFields) (file written : List ℕ)
-            → HasAudited self.old good file written → (more : List ℕ)
+        requires { (valid : List TapFields) × (file written : List ℕ)
+            × HasAudited self.old valid file written }
+        ensures { OnOk result ((valid : List TapFields) (file written : List ℕ)
+            → HasAudited self.old valid file written → (more : List ℕ)
             × (string_bytes reported.new ≡ string_bytes reported.old ++ more)
-            × (given_in self.new good ≡ given_in self.old good)
-            × HasAudited self.new good (file ++ piece.now) (written ++ more)) }
+            × (given_in self.new valid ≡ given_in self.old valid)
+            × HasAudited self.new valid (file ++ piece.now) (written ++ more)) }
     {
         read_piece(&mut self.trace, piece, &mut self.text)?;
         self.take(alloc, reported)?;
@@ -75,13 +75,13 @@ impl Audit<'_> {
     }
 
     fn read_end(&mut self, alloc: Global, reported: &mut String) -> Result<(), NoMemory>
-        requires { (good : List TapFields) × (file written : List ℕ)
-            × HasAudited self.old good file written }
-        ensures { OnOk result ((good : List TapFields) (file written : List ℕ)
-            → HasAudited self.old good file written → (more : List ℕ)
+        requires { (valid : List TapFields) × (file written : List ℕ)
+            × HasAudited self.old valid file written }
+        ensures { OnOk result ((valid : List TapFields) (file written : List ℕ)
+            → HasAudited self.old valid file written → (more : List ℕ)
             × (string_bytes reported.new ≡ string_bytes reported.old ++ more)
-            × (given_in self.new good ≡ given_in self.old good)
-            × HasEnded self.new good file (written ++ more)) }
+            × (given_in self.new valid ≡ given_in self.old valid)
+            × HasEnded self.new valid file (written ++ more)) }
     {
         read_end(&mut self.trace, &mut self.text)?;
         self.take(alloc, reported)?;
@@ -90,33 +90,33 @@ impl Audit<'_> {
 
     /// Returns whether all is right.
     fn end(&mut self, alloc: Global, mut reported: String) -> Result<(Vec<u8>, bool), NoMemory>
-        requires { (good : List TapFields) × (file written : List ℕ)
-            × HasEnded self.old good file written }
-        ensures { IfOk result (λ ended. (good : List TapFields) (file before : List ℕ)
-            → HasEnded self.old good file (before ++ string_bytes reported) → (read : List ReadLine)
-            × IsAudit (given_in self.old good) file read (before ++ ended.0.items) ended.1) }
+        requires { (valid : List TapFields) × (file written : List ℕ)
+            × HasEnded self.old valid file written }
+        ensures { IfOk result (λ ended. (valid : List TapFields) (file before : List ℕ)
+            → HasEnded self.old valid file (before ++ string_bytes reported) → (read : List ReadLine)
+            × IsAudit (given_in self.old valid) file read (before ++ ended.0.items) ended.1) }
     {
         let found = self
             .check
-            .finish(alloc, self.strikes, self.live, &mut reported)?;
+            .finish(alloc, self.subtracts, self.live, &mut reported)?;
         let mut text = reported.into_bytes();
         let is_looked_at = is_either(self.check.is_all(), found.is_legal);
         let is_right = write_columns(alloc, &mut text, is_looked_at, &self.trace)?;
         let is_whole = are_both(found.is_legal, is_right);
         let report = self.report.take();
         let fits = write_last_lines(alloc, &mut text, is_whole, report, self.ends)?;
-        let is_behind = are_both(is_right, fits);
-        Ok((text, are_both(found.is_sound, is_behind)))
+        let is_after = are_both(is_right, fits);
+        Ok((text, are_both(found.is_sound, is_after)))
     }
 
     /// A piece without bytes is the file's end. At the end of the finding, returns whether all is
     /// right: after the first wrong line nothing is read.
     fn next(&mut self, alloc: Global, piece: &[u8]) -> Result<(Vec<u8>, Option<bool>), NoMemory>
-        requires { (good : List TapFields) × (file written : List ℕ)
-            × HasAudited self.old good file written }
-        ensures { IfOk result (λ next. (good : List TapFields) (file written : List ℕ)
-            → HasAudited self.old good file written
-            → IsNext self.old self.new good file piece.now (written ++ next.0.items) next.1) }
+        requires { (valid : List TapFields) × (file written : List ℕ)
+            × HasAudited self.old valid file written }
+        ensures { IfOk result (λ next. (valid : List TapFields) (file written : List ℕ)
+            → HasAudited self.old valid file written
+            → IsNext self.old self.new valid file piece.now (written ++ next.0.items) next.1) }
     {
         let mut reported = String::new(alloc);
         if piece.is_empty() {
@@ -142,12 +142,12 @@ pub(crate) fn audit_over<'a, S: Source, W: Write>(
     audit: &mut Audit<'_>,
     out: &mut Output<W>,
 ) -> Result<bool, Fault<'a>>
-    requires { (good : List TapFields) × HasAudited audit.old good [] [] }
+    requires { (valid : List TapFields) × HasAudited audit.old valid [] [] }
     ensures loaded { S.loaded source.new ≡ S.loaded source.old }
     ensures ends { (file : List ℕ)
         × IsAllOf (prepend_known ledger.old.head.now (S.Ledger.remaining ledger.old.rest)) file
-        × ((good : List TapFields) → HasAudited audit.old good [] []
-        → EndsAs (given_in audit.old good) file (S.refused source.new)
+        × ((valid : List TapFields) → HasAudited audit.old valid [] []
+        → EndsAs (given_in audit.old valid) file (S.refused source.new)
         (option_map (λ n. n.now) ledger.old.name) out.new.end (W.contents out.old.writer)
         (W.contents out.new.writer) result) }
 {
@@ -162,8 +162,8 @@ pub(crate) fn audit_over<'a, S: Source, W: Write>(
         if let Err(end) = out.put(next.0.as_slice()) {
             return Err(Fault::of_end(end));
         }
-        if let Some(is_well) = next.1 {
-            return Ok(is_well);
+        if let Some(succeeded) = next.1 {
+            return Ok(succeeded);
         }
     }
     // no run makes so many reads

@@ -9,7 +9,7 @@ ghost use Rattle.ledger_check.specs.Balances.{IsBalance};
 ghost use Rattle.ledger_check.specs.FullBalances.{IsFullBalance};
 ghost use Rattle.ledger_check.specs.Ledger.{IsLedger, IsLedgerOf};
 ghost use Rattle.ledger_check.specs.Orders.{tap_of_entry};
-ghost use Rattle.ledger_check.specs.RecountStates.{HasRecounted};
+ghost use Rattle.ledger_check.specs.FullCheckStates.{HasFullyChecked};
 ghost use Rattle.ledger_check.specs.Verdicts.{IsVerdict, early_in, is_legal};
 ghost use Rattle.tap_views.specs.declared.encoder.TapFields.{TapFields as ATap};
 ghost use Rattle.omny_audit.specs.Findings.{IsDifferencesEnd, IsFinding, IsFindingOf, IsFullFinding};
@@ -18,8 +18,8 @@ ghost use Rattle.omny_audit.specs.inside.Checks.{HasChecked, is_all, is_decided}
 
 use crate::text::{are_none, write_difference, write_differences, write_verdict};
 use fare_table::{Clock, FareTable};
-use ledger_check::laws::{recounts_decide, verdicts_decide};
-use ledger_check::{Balance, Checker, Difference, FullBalance, Recount, Verdict};
+use ledger_check::laws::{full_checks_decide, verdicts_decide};
+use ledger_check::{Balance, Checker, Difference, FullBalance, FullCheck, Verdict};
 use std::alloc::{AllocError, Global};
 use tap_views::NoMemory;
 
@@ -37,18 +37,18 @@ pub(crate) struct Found {
 pub(crate) enum Check {
     /// Up to the first wrong line, of which it has the verdict.
     First(Checker, Balance, Option<Verdict>),
-    All(Recount, FullBalance),
+    All(FullCheck, FullBalance),
 }
 
 impl Check {
     /// The taps of the ledger are to be subtracted from the balance.
     pub(crate) fn new(alloc: Global, all: bool, balance: Balance) -> Check
         ensures all { is_all result ≡ all }
-        ensures checked { (fares : Fares) (strikes : Bool) (good : List ATap)
-            → IsBalance balance good [] → HasChecked fares strikes good result [] [] }
+        ensures checked { (fares : Fares) (subtracts : Bool) (valid : List ATap)
+            → IsBalance balance valid [] → HasChecked fares subtracts valid result [] [] }
     {
         if all {
-            Check::All(Recount::new(alloc), FullBalance::of(alloc, balance))
+            Check::All(FullCheck::new(alloc), FullBalance::of(alloc, balance))
         } else {
             Check::First(Checker::new(alloc), balance, None)
         }
@@ -79,17 +79,17 @@ impl Check {
         table: &FareTable,
         clock: &Clock,
         piece: &[u8],
-        strikes: bool,
+        subtracts: bool,
         reported: &mut String,
     ) -> Result<(), NoMemory>
         requires clock { clock.now ≡ table.now.zone }
-        requires fed { (good : List ATap) × (text written : List ℕ)
-            × HasChecked table.now strikes good self.old text written }
+        requires fed { (valid : List ATap) × (text written : List ℕ)
+            × HasChecked table.now subtracts valid self.old text written }
         ensures all { is_all self.new ≡ is_all self.old }
-        ensures fed { OnOk result ((good : List ATap) (text written : List ℕ)
-            → HasChecked table.now strikes good self.old text written → (more : List ℕ)
+        ensures fed { OnOk result ((valid : List ATap) (text written : List ℕ)
+            → HasChecked table.now subtracts valid self.old text written → (more : List ℕ)
             × (string_bytes reported.new ≡ string_bytes reported.old ++ more)
-            × HasChecked table.now strikes good self.new (text ++ piece.now) (written ++ more)) }
+            × HasChecked table.now subtracts valid self.new (text ++ piece.now) (written ++ more)) }
     {
         match self {
             Check::First(checker, balance, verdict) => {
@@ -98,8 +98,8 @@ impl Check {
                 }
                 Ok(())
             }
-            Check::All(recount, full) => {
-                recount.feed(table, clock, piece, strikes, full, reported)?;
+            Check::All(full_check, full) => {
+                full_check.feed(table, clock, piece, subtracts, full, reported)?;
                 Ok(())
             }
         }
@@ -109,16 +109,16 @@ impl Check {
     pub(crate) fn finish(
         &self,
         alloc: Global,
-        strikes: bool,
+        subtracts: bool,
         live: bool,
         reported: &mut String,
     ) -> Result<Found, NoMemory>
-        requires fed { (fares : Fares) × (good : List ATap) × (text written : List ℕ)
-            × HasChecked fares strikes good self.now text written }
-        ensures found { IfOk result (λ found. (fares : Fares) (good : List ATap)
-            (text written : List ℕ) → HasChecked fares strikes good self.now text written
+        requires fed { (fares : Fares) × (valid : List ATap) × (text written : List ℕ)
+            × HasChecked fares subtracts valid self.now text written }
+        ensures found { IfOk result (λ found. (fares : Fares) (valid : List ATap)
+            (text written : List ℕ) → HasChecked fares subtracts valid self.now text written
             → (more : List ℕ) × (string_bytes reported.new ≡ string_bytes reported.old ++ more)
-            × IsFindingOf (is_all self.now) live fares text (if strikes then Some good else None)
+            × IsFindingOf (is_all self.now) live fares text (if subtracts then Some valid else None)
             (written ++ more) found.is_sound
             × ((found.is_legal ≡ true) ↔ IsLedger fares text)) }
         ensures decided { IfOk result
@@ -126,11 +126,11 @@ impl Check {
     {
         match self {
             Check::First(checker, balance, verdict) => {
-                let found = first_found(checker, balance, verdict, strikes, live, reported)?;
+                let found = first_found(checker, balance, verdict, subtracts, live, reported)?;
                 Ok(found)
             }
-            Check::All(recount, full) => {
-                let found = full_finding(alloc, recount, full, strikes, live, reported)?;
+            Check::All(full_check, full) => {
+                let found = full_finding(alloc, full_check, full, subtracts, live, reported)?;
                 Ok(found)
             }
         }
@@ -173,16 +173,16 @@ fn is_even(difference: &Option<Difference>) -> bool
 fn finding(
     verdict: &Verdict,
     balance: &Balance,
-    strikes: bool,
+    subtracts: bool,
     live: bool,
     reported: &mut String,
 ) -> Result<Found, AllocError>
-    ensures found { IfOk result (λ found. (fares : Fares) (text : List ℕ) (good : List ATap)
+    ensures found { IfOk result (λ found. (fares : Fares) (text : List ℕ) (valid : List ATap)
         → IsVerdict fares text verdict.now
         → (IsTrue (is_legal verdict.now) → (entries : List Entry) → IsLedgerOf fares entries text
-        → IsBalance balance.now good (map tap_of_entry entries))
+        → IsBalance balance.now valid (map tap_of_entry entries))
         → (more : List ℕ) × (string_bytes reported.new ≡ string_bytes reported.old ++ more)
-        × IsFinding live fares text (if strikes then Some good else None) more found.is_sound) }
+        × IsFinding live fares text (if subtracts then Some valid else None) more found.is_sound) }
     ensures legal { IfOk result (λ found. found.is_legal ≡ is_legal verdict.now) }
 {
     write_verdict(reported, verdict)?;
@@ -193,7 +193,7 @@ fn finding(
         });
     }
     let in_order = is_either(live, !has_early(verdict));
-    if !strikes {
+    if !subtracts {
         return Ok(Found {
             is_sound: in_order,
             is_legal: true,
@@ -211,35 +211,35 @@ fn first_found(
     checker: &Checker,
     balance: &Balance,
     verdict: &Option<Verdict>,
-    strikes: bool,
+    subtracts: bool,
     live: bool,
     reported: &mut String,
 ) -> Result<Found, AllocError>
-    requires { (fares : Fares) × (good : List ATap) × (text written : List ℕ)
-        × HasChecked fares strikes good (Check.First checker.now balance.now verdict.now) text
+    requires { (fares : Fares) × (valid : List ATap) × (text written : List ℕ)
+        × HasChecked fares subtracts valid (Check.First checker.now balance.now verdict.now) text
         written }
-    ensures found { IfOk result (λ found. (fares : Fares) (good : List ATap)
+    ensures found { IfOk result (λ found. (fares : Fares) (valid : List ATap)
         (text written : List ℕ)
-        → HasChecked fares strikes good (Check.First checker.now balance.now verdict.now) text
+        → HasChecked fares subtracts valid (Check.First checker.now balance.now verdict.now) text
         written → (more : List ℕ)
         × (string_bytes reported.new ≡ string_bytes reported.old ++ more)
-        × IsFinding live fares text (if strikes then Some good else None) (written ++ more)
+        × IsFinding live fares text (if subtracts then Some valid else None) (written ++ more)
         found.is_sound × ((found.is_legal ≡ true) ↔ IsLedger fares text)) }
     ensures decided { IfOk result (λ found. is_some verdict.now ≡ true
-        → ((fares : Fares) × (good : List ATap) × (text written : List ℕ)
-        × HasChecked fares strikes good (Check.First checker.now balance.now verdict.now) text
+        → ((fares : Fares) × (valid : List ATap) × (text written : List ℕ)
+        × HasChecked fares subtracts valid (Check.First checker.now balance.now verdict.now) text
         written) → found.is_legal ≡ false) }
 {
     // proof: the verdict is `legal` exactly if the text is a ledger
     verdicts_decide();
     match verdict {
         Some(verdict) => {
-            let found = finding(verdict, balance, strikes, live, reported)?;
+            let found = finding(verdict, balance, subtracts, live, reported)?;
             Ok(found)
         }
         None => {
             let verdict = checker.finish();
-            let found = finding(&verdict, balance, strikes, live, reported)?;
+            let found = finding(&verdict, balance, subtracts, live, reported)?;
             Ok(found)
         }
     }
@@ -249,16 +249,16 @@ fn first_found(
 fn write_lacking(
     alloc: Global,
     full: &FullBalance,
-    strikes: bool,
+    subtracts: bool,
     reported: &mut String,
 ) -> Result<bool, AllocError>
     ensures { IfOk result (λ even. (rest : List ℕ)
         × (string_bytes reported.new ≡ string_bytes reported.old ++ rest)
-        × ((good taps : List ATap) (legal : Bool)
-        → (strikes ≡ true → IsFullBalance full.now good taps)
-        → IsDifferencesEnd (if strikes then Some good else None) taps legal rest (legal && even))) }
+        × ((valid taps : List ATap) (legal : Bool)
+        → (subtracts ≡ true → IsFullBalance full.now valid taps)
+        → IsDifferencesEnd (if subtracts then Some valid else None) taps legal rest (legal && even))) }
 {
-    if !strikes {
+    if !subtracts {
         return Ok(true);
     }
     let missing = full.missing(alloc)?;
@@ -271,26 +271,26 @@ fn write_lacking(
 
 fn full_finding(
     alloc: Global,
-    recount: &Recount,
+    full_check: &FullCheck,
     full: &FullBalance,
-    strikes: bool,
+    subtracts: bool,
     live: bool,
     reported: &mut String,
 ) -> Result<Found, AllocError>
-    ensures { IfOk result (λ found. (fares : Fares) (good : List ATap) (text written : List ℕ)
-        → HasRecounted fares recount.now strikes full.now text written good → (more : List ℕ)
+    ensures { IfOk result (λ found. (fares : Fares) (valid : List ATap) (text written : List ℕ)
+        → HasFullyChecked fares full_check.now subtracts full.now text written valid → (more : List ℕ)
         × (string_bytes reported.new ≡ string_bytes reported.old ++ more)
-        × IsFullFinding live fares text (if strikes then Some good else None) (written ++ more)
+        × IsFullFinding live fares text (if subtracts then Some valid else None) (written ++ more)
         found.is_sound × ((found.is_legal ≡ true) ↔ IsLedger fares text)) }
 {
     // proof: no line is wrong exactly if the text is a ledger
-    recounts_decide();
-    let recounted = recount.finish(reported)?;
-    let is_even = write_lacking(alloc, full, strikes, reported)?;
-    let in_order = is_either(live, recounted.is_settled);
-    let is_right = are_both(recounted.is_legal, is_even);
+    full_checks_decide();
+    let fully_checked = full_check.finish(reported)?;
+    let is_even = write_lacking(alloc, full, subtracts, reported)?;
+    let in_order = is_either(live, fully_checked.is_settled);
+    let is_right = are_both(fully_checked.is_legal, is_even);
     Ok(Found {
         is_sound: are_both(is_right, in_order),
-        is_legal: recounted.is_legal,
+        is_legal: fully_checked.is_legal,
     })
 }

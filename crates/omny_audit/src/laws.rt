@@ -16,7 +16,7 @@ pub fn findings_decide()
 pub fn full_findings_decide()
     ensures { FullFindingsDecide }
 {
-    ledger_check::laws::recounts_decide();
+    ledger_check::laws::full_checks_decide();
     ledger_check::balance_laws::even_sides_lack_nothing();
 }
 

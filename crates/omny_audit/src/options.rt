@@ -3,11 +3,11 @@ ghost use Rattle.std.specs.Prelude.{◌≡◌, IfOk, Some, false, map, option_an
 ghost use Rattle.std.specs.Prelude.{string_bytes, true};
 ghost use Rattle.clap.specs.Words.{FailsBy, app_of, fault_of, found_of, matches_of};
 ghost use Rattle.clap.specs.Words.{rows_of, rule_of};
-ghost use Rattle.omny_audit.specs.Options.{ParsesForAudit, audit_asked_by, not_dash, audit_program};
-ghost use Rattle.omny_audit.specs.inside.Options.{audit_asked_of};
+ghost use Rattle.omny_audit.specs.Options.{ParsesForAudit, audit_request_by, not_dash, audit_program};
+ghost use Rattle.omny_audit.specs.inside.Options.{audit_request_of};
 ghost use Rattle.omny_audit.specs.Options.{required_table_option, tables_or_none};
 ghost use Rattle.program_manners.specs.TableViews.{names_of};
-ghost use Rattle.program_manners.specs.ListWords.{list_asked, view_of};
+ghost use Rattle.program_manners.specs.ListWords.{list_request, view_of};
 
 use clap::{Arg, ArgAction, ArgMatches, Command, Error};
 use program_manners::{
@@ -179,9 +179,9 @@ fn tables_of<'a>(alloc: Global, words: &[&'a str]) -> Result<TableWords<'a>, All
 impl<'a> Options<'a> {
     /// What the words request; else clap's error, which may be a call for help.
     pub(crate) fn read(alloc: Global, words: &'a [String]) -> Result<Options<'a>, Error>
-        ensures asked { IfOk result
-            (λ options. audit_asked_of options
-            ≡ audit_asked_by (map string_bytes words.entry.now)) }
+        ensures request { IfOk result
+            (λ options. audit_request_of options
+            ≡ audit_request_by (map string_bytes words.entry.now)) }
         ensures kinds { FailsBy (fault_of audit_program (map string_bytes words.entry.now)) result }
     {
         let matches = matched(alloc, words)?;
@@ -223,7 +223,7 @@ fn unless_both_input<'a>(
 /// An error is `NullAlone` or `InputTwice`.
 fn list_in<'a>(matches: &ArgMatches<'a>) -> Result<Option<ListWords<'a>>, ListFault>
     ensures { IfOk result (λ list. option_map view_of list
-        ≡ list_asked (rows_of (found_of matches.now))) }
+        ≡ list_request (rows_of (found_of matches.now))) }
 {
     let named = match ListWords::of(matches) {
         Ok(named) => named,
@@ -244,7 +244,7 @@ pub(crate) fn list_words<'a>(
 ) -> Result<Option<ListWords<'a>>, ListFault>
     ensures { ParsesForAudit (map string_bytes words.entry.now)
         → IfOk result (λ list. option_map view_of list
-        ≡ list_asked (matches_of audit_program (map string_bytes words.entry.now))) }
+        ≡ list_request (matches_of audit_program (map string_bytes words.entry.now))) }
 {
     match matched(alloc, words) {
         Ok(matches) => list_in(&matches),

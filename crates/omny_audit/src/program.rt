@@ -9,9 +9,9 @@ ghost use Rattle.ledger_check.specs.Columns.{has_traced_head};
 ghost use Rattle.tap_views.specs.declared.encoder.TapFields.{TapFields};
 ghost use Rattle.omny_audit.specs.Ends.{EndsAnswer, EndsRun, IsFaultReported};
 ghost use Rattle.omny_audit.specs.inside.Ends.{EndsAudit};
-ghost use Rattle.omny_audit.specs.Options.{ParsesForAudit, audit_asked_by, named_file};
-ghost use Rattle.omny_audit.specs.Options.{AuditAsked};
-ghost use Rattle.omny_audit.specs.inside.Options.{audit_asked_of};
+ghost use Rattle.omny_audit.specs.Options.{ParsesForAudit, audit_request_by, named_file};
+ghost use Rattle.omny_audit.specs.Options.{AuditRequest};
+ghost use Rattle.omny_audit.specs.inside.Options.{audit_request_of};
 ghost use Rattle.omny_audit.specs.inside.Reports.{HasSummedFor, text_of};
 ghost use Rattle.omny_audit.specs.Program.{AreWanted, LoadsNamedFiles, LoadsReport};
 ghost use Rattle.omny_audit.specs.inside.Fault.{IsAnswerFault, IsClassFault, IsFileFault};
@@ -38,7 +38,7 @@ use clap::Error;
 use clap::error::ErrorKind;
 use class_names::{ClassFault, ClassNames, WrongNames};
 use histories::HashSeed;
-use ledger_check::{Balance, Places, has_ledger_head, has_traced_head};
+use ledger_check::{Balance, Positions, has_ledger_head, has_traced_head};
 use program_manners::{
     Complaints, FileFault, NamedClassLine, Output, TableWord, TableWords, Tables, load_tables,
     show_answer,
@@ -82,18 +82,18 @@ fn load_upload<'a, S: Source>(source: &mut S, name: &'a str) -> Result<Vec<u8>, 
 #[derive(Drop)]
 struct Uploads {
     balance: Balance,
-    places: Places,
+    positions: Positions,
     ends: Vec<UploadEnd>,
 }
 
 fn add_upload(alloc: Global, uploads: &mut Uploads, upload: &[u8]) -> Result<(), NoMemory>
-    ensures { OnOk result ((files : List (List ℕ)) (good : List TapFields)
-        (lists : List (List TapFields)) → AreUploads files good lists uploads.old
+    ensures { OnOk result ((files : List (List ℕ)) (valid : List TapFields)
+        (lists : List (List TapFields)) → AreUploads files valid lists uploads.old
         → (more : List TapFields) × (list : List TapFields)
-        × AreUploads (files ++ upload.now ∷ []) (good ++ more) (lists ++ list ∷ []) uploads.new) }
+        × AreUploads (files ++ upload.now ∷ []) (valid ++ more) (lists ++ list ∷ []) uploads.new) }
 {
     uploads.balance.add_upload(upload)?;
-    uploads.places.add_upload(alloc, upload)?;
+    uploads.positions.add_upload(alloc, upload)?;
     let facts = facts_of(upload);
     uploads
         .ends
@@ -107,15 +107,15 @@ fn load_uploads<'a, S: Source>(
     names: &[&'a str],
     source: &mut S,
 ) -> Result<Uploads, Fault<'a>>
-    ensures ok { IfOk result (λ uploads. (files : List (List ℕ)) × (good : List TapFields)
+    ensures ok { IfOk result (λ uploads. (files : List (List ℕ)) × (valid : List TapFields)
         × (lists : List (List TapFields)) × LoadsNamedFiles (map (λ n. n.now) names.now)
-        (S.loaded source.old) (S.loaded source.new) files × AreUploads files good lists uploads) }
+        (S.loaded source.old) (S.loaded source.new) files × AreUploads files valid lists uploads) }
     ensures fault { IfErr result (IsLoadFault (map (λ n. n.now) names.now)
         (S.loaded source.new) (S.refused source.new)) }
 {
     let mut uploads = Uploads {
         balance: Balance::new(alloc),
-        places: Places::new(alloc),
+        positions: Positions::new(alloc),
         ends: Vec::new(alloc),
     };
     for name in names {
@@ -164,14 +164,14 @@ fn load_report<'a, R: RandomSource, S: Source>(
 
 /// The texts were read as fare tables before, so each is TOML and names a default class.
 fn of_names<'a>(words: &TableWords<'a>, wrong: WrongNames) -> Fault<'a>
-    requires { wrong.place ≤ length (names_of words.now).later }
+    requires { wrong.position ≤ length (names_of words.now).later }
     ensures { IsNamedClass (names_of words.now) wrong.fault result }
 {
     match wrong.fault {
         ClassFault::Name if words.later.as_slice().is_empty() => Fault::ClassName,
-        ClassFault::Name if wrong.place == 0 => Fault::NamedClass(NamedClassLine(words.first)),
+        ClassFault::Name if wrong.position == 0 => Fault::NamedClass(NamedClassLine(words.first)),
         ClassFault::Name => {
-            let word = words.later[wrong.place - 1];
+            let word = words.later[wrong.position - 1];
             Fault::NamedClass(NamedClassLine(TableWord::of(word).name))
         }
         ClassFault::Text | ClassFault::NoMemory => Fault::NoMemory,
@@ -184,15 +184,15 @@ fn trace_of<'a>(
     head: &[u8],
     words: &TableWords<'a>,
     tables: &Tables,
-    places: Option<Places>,
+    positions: Option<Positions>,
 ) -> Result<Option<TracedPieces>, Fault<'a>>
-    requires places { HaveNamed places [] }
+    requires positions { HaveNamed positions [] }
     requires loaded { (loaded_before after : Option (List Loaded))
         × LoadsTables (names_of words.now) loaded_before after
         (map (λ t. t.items) tables.now.texts.items) tables.now.fares }
     ensures wanted { IfOk result (λ trace. AreWanted tables.now.fares
         (map (λ t. t.items) tables.now.texts.items) (has_traced_head head.now)
-        (uploads_in places) (wanted_by trace)) }
+        (uploads_in positions) (wanted_by trace)) }
     ensures read { IfOk result (λ trace. HasReadAs trace [] []) }
     ensures fault { IfErr result (IsClassFault (names_of words.now)
         (map (λ t. t.items) tables.now.texts.items)) }
@@ -201,7 +201,7 @@ fn trace_of<'a>(
         return Ok(None);
     }
     match ClassNames::of_texts(alloc, &tables.fares, &tables.texts) {
-        Ok(names) => Ok(Some(TracedPieces::new(alloc, names, places))),
+        Ok(names) => Ok(Some(TracedPieces::new(alloc, names, positions))),
         Err(wrong) => Err(of_names(words, wrong)),
     }
 }
@@ -215,8 +215,8 @@ fn audit<'a, R: RandomSource, S: Source, W: Write>(
     source: &mut S,
     out: &mut Output<W>,
 ) -> Result<bool, Fault<'a>>
-    requires { wrong_word (audit_asked_of options.now).table ≡ None }
-    ensures { EndsAudit (audit_asked_of options.now) (record {
+    requires { wrong_word (audit_request_of options.now).table ≡ None }
+    ensures { EndsAudit (audit_request_of options.now) (record {
       loaded = S.loaded source.old;
       loaded' = S.loaded source.new;
       refused = S.refused source.new;
@@ -249,15 +249,15 @@ fn audit<'a, R: RandomSource, S: Source, W: Write>(
         Ok(head) => head,
         Err(fault) => return Err(fault),
     };
-    let begun = head.as_slice();
+    let started = head.as_slice();
     let has_uploads = !names.is_empty();
     let Uploads {
         balance,
-        places,
+        positions,
         ends,
     } = uploads;
-    let kept = kept_if(has_uploads, places);
-    let trace = match trace_of(alloc, begun, &options.table, &tables, kept) {
+    let kept = kept_if(has_uploads, positions);
+    let trace = match trace_of(alloc, started, &options.table, &tables, kept) {
         Ok(trace) => trace,
         Err(fault) => return Err(fault),
     };
@@ -265,7 +265,7 @@ fn audit<'a, R: RandomSource, S: Source, W: Write>(
         table: &tables.fares,
         clock: &clock,
         live: options.live,
-        strikes: has_uploads,
+        subtracts: has_uploads,
         ends: kept_if(has_uploads, ends.as_slice()),
         check: Check::new(alloc, options.all, balance),
         trace,
@@ -274,7 +274,7 @@ fn audit<'a, R: RandomSource, S: Source, W: Write>(
     };
     let mut whole = WholeLedger {
         name: options.ledger,
-        head: begun,
+        head: started,
         rest: ledger,
     };
     // proof: all is well exactly if the ledger is right, and the report its own
@@ -305,7 +305,7 @@ fn show<W: Write, E: Write>(
     ensures memory { kind_of error.now ≡ ErrorKind.OutOfMemory → (result ≡ 1)
         × IsFaultReported Fault.NoMemory (E.contents err.old.writer) (E.contents err.new.writer)
         err.new.failed × Keeps (W.contents out.old.writer) (W.contents out.new.writer) }
-    ensures mistake { result ≡ 2 → (¬ IsRequest (kind_of error.now))
+    ensures usage_error { result ≡ 2 → (¬ IsRequest (kind_of error.now))
         × Keeps (W.contents out.old.writer) (W.contents out.new.writer) }
     ensures fault { result ≡ 1 → (fault : Fault) × IsAnswerFault out.new.end fault
         × IsFaultReported fault (E.contents err.old.writer) (E.contents err.new.writer)
@@ -324,16 +324,16 @@ fn end_run<W: Write, E: Write>(
     out: &mut Output<W>,
     err: &mut Complaints<E>,
 ) -> u8
-    ensures ends { (asked : AuditAsked) (loaded loaded' : Option (List Loaded))
+    ensures ends { (request : AuditRequest) (loaded loaded' : Option (List Loaded))
         (refused : Option (Option (List ℕ) × LoadFault)) (before : Option (List ℕ))
-        → EndsAudit asked (record {
+        → EndsAudit request (record {
           loaded = loaded;
           loaded' = loaded';
           refused = refused;
           ended = out.old.end;
           out = before;
           out' = W.contents out.old.writer;
-        }) ended.entry → EndsRun asked (record {
+        }) ended.entry → EndsRun request (record {
           loaded = loaded;
           loaded' = loaded';
           refused = refused;
@@ -348,12 +348,12 @@ fn end_run<W: Write, E: Write>(
         }) result }
     ensures status { result ≤ 1 }
 {
-    let is_well = match ended {
-        Ok(is_well) => is_well,
+    let succeeded = match ended {
+        Ok(succeeded) => succeeded,
         Err(fault) => return report_fault(err, &fault),
     };
     match out.finish() {
-        Ok(()) if is_well => 0,
+        Ok(()) if succeeded => 0,
         Ok(()) => 1,
         Err(unflushed) => report_fault(err, &Fault::of_end(unflushed)),
     }
@@ -372,8 +372,8 @@ pub fn main_over<R: RandomSource, S: Source, W: Write, E: Write>(
 ) -> u8
     // A command line ends with a finding that was written and flushed, or fails.
     ensures ends { ParsesForAudit (map string_bytes words.now)
-        → wrong_word (audit_asked_by (map string_bytes words.now)).table ≡ None
-        → EndsRun (audit_asked_by (map string_bytes words.now)) (record {
+        → wrong_word (audit_request_by (map string_bytes words.now)).table ≡ None
+        → EndsRun (audit_request_by (map string_bytes words.now)) (record {
           loaded = S.loaded source.old;
           loaded' = S.loaded source.new;
           refused = S.refused source.new;
@@ -389,7 +389,7 @@ pub fn main_over<R: RandomSource, S: Source, W: Write, E: Write>(
 
     // Words that are not a command line succeed only if they request help or the version.
     ensures answers { (¬ ParsesForAudit (map string_bytes words.now))
-        → EndsAnswer (map string_bytes words.now) (audit_asked_by (map string_bytes words.now))
+        → EndsAnswer (map string_bytes words.now) (audit_request_by (map string_bytes words.now))
         (record {
           loaded = S.loaded source.old;
           loaded' = S.loaded source.new;
@@ -406,12 +406,12 @@ pub fn main_over<R: RandomSource, S: Source, W: Write, E: Write>(
 
     // Nor does one in which a fare table has a wrong date, or lacks one.
     ensures dated { ParsesForAudit (map string_bytes words.now)
-        → is_some (wrong_word (audit_asked_by (map string_bytes words.now)).table) ≡ true
+        → is_some (wrong_word (audit_request_by (map string_bytes words.now)).table) ≡ true
         → result ≢ 0 }
 
     // Only such words have status 2, which loads nothing and writes nothing to `out`.
-    ensures mistaken { result ≡ 2 → ((¬ ParsesForAudit (map string_bytes words.now))
-        ⊎ (is_some (wrong_word (audit_asked_by (map string_bytes words.now)).table) ≡ true))
+    ensures misused { result ≡ 2 → ((¬ ParsesForAudit (map string_bytes words.now))
+        ⊎ (is_some (wrong_word (audit_request_by (map string_bytes words.now)).table) ≡ true))
         × (S.loaded source.new ≡ S.loaded source.old)
         × Keeps (W.contents out.old.writer) (W.contents out.new.writer) }
     ensures status { result ≤ 2 }

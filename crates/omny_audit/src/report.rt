@@ -249,11 +249,11 @@ pub(crate) fn write_last_lines(
 ) -> Result<bool, NoMemory>
     requires { is_legal ≡ true → (fares : Fares) × (ledger : List ℕ)
         × HasSummedFor fares report ledger × IsLedger fares ledger }
-    ensures { IfOk result (λ well. (rest : List ℕ) × (text.new.items ≡ text.old.items ++ rest)
+    ensures { IfOk result (λ success. (rest : List ℕ) × (text.new.items ≡ text.old.items ++ rest)
         × ((fares : Fares) (ledger : List ℕ)
         → (is_legal ≡ true → HasSummedFor fares report ledger)
         → AreLastLines (option_map (λ e. e.now) ends.entry) fares ledger
-        (text_of report) is_legal rest well)) }
+        (text_of report) is_legal rest success)) }
 {
     let fits = write_report_line(alloc, text, is_legal, report, ends)?;
     let is_whole = write_damage(alloc, text, ends)?;

@@ -10,24 +10,25 @@ ghost use Rattle.ledger_check.specs.Columns.{TracedLine, cut_of, read_as, untrac
 ghost use Rattle.ledger_check.specs.Columns.{untraced_line};
 ghost use Rattle.ledger_check.specs.Columns.{untraced_lines};
 ghost use Rattle.ledger_check.specs.Lines.{IsLine, lines_of};
-ghost use Rattle.ledger_check.specs.Places.{HasUploads, is_named, uploads_of};
+ghost use Rattle.ledger_check.specs.Positions.{HasUploads, is_named, uploads_of};
 ghost use Rattle.ledger_check.specs.Taps.{IsTapOfLine};
-ghost use Rattle.omny_audit.specs.Traced.{AreColumnsReported, AreLinesOf, IsFaultBehind};
-ghost use Rattle.omny_audit.specs.Traced.{IsPlaceFault};
+ghost use Rattle.omny_audit.specs.Traced.{AreColumnsReported, AreLinesOf, IsFaultAfter};
+ghost use Rattle.omny_audit.specs.Traced.{IsPositionFault};
 ghost use Rattle.omny_audit.specs.Traced.{ReadLine, Wanted, class_fault, class_text, fault_by};
-ghost use Rattle.omny_audit.specs.Traced.{place_fault_text, place_text, traced_by};
-ghost use Rattle.omny_audit.specs.declared.traced.PlaceFault.{PlaceFault as AFault};
-ghost use Rattle.omny_audit.specs.declared.traced.PlaceFault.TheVariants.{NoLine, OtherTap};
-ghost use Rattle.omny_audit.specs.declared.traced.PlaceFault.TheVariants.{Repeated};
-ghost use Rattle.omny_audit.specs.inside.Traced.{HasColumns, HasLines, HasPlaces, HasReadAll};
+ghost use Rattle.omny_audit.specs.Traced.{position_fault_text, position_text, traced_by};
+ghost use Rattle.omny_audit.specs.declared.traced.PositionFault.{PositionFault as AFault};
+ghost use Rattle.omny_audit.specs.declared.traced.PositionFault.TheVariants.{NoLine, OtherTap};
+ghost use Rattle.omny_audit.specs.declared.traced.PositionFault.TheVariants.{Repeated};
+ghost use Rattle.omny_audit.specs.inside.Traced.{HasColumns, HasLines, HasPositions, HasReadAll};
 ghost use Rattle.omny_audit.specs.inside.Traced.{HasReadAs, HasTraced, HaveNamed, IsKeptOf};
-ghost use Rattle.omny_audit.specs.inside.Traced.{uploads_in, wanted_by, wanted_of, wrong_place_in};
+ghost use Rattle.omny_audit.specs.inside.Traced.{uploads_in, wanted_by, wanted_of, wrong_position_in};
 
 use crate::check::are_both;
 use class_names::ClassNames;
 use fare_texts::head_line;
 use ledger_check::{
-    CutLine, PlaceFinding, Places, cut_line, same_bytes, split_line, tap_of_line, traced_head_line,
+    CutLine, PositionFinding, Positions, cut_line, same_bytes, split_line, tap_of_line,
+    traced_head_line,
 };
 use std::alloc::{AllocError, Global};
 use tap_views::TapFields;
@@ -46,13 +47,24 @@ pub(crate) struct WrongClass {
 
 /// What is wrong with the places of the lines: an upload, from 0, and the index there, from 1.
 #[derive(Clone, Copy)]
-pub(crate) enum PlaceFault {
+pub(crate) enum PositionFault {
     /// The line of this number has another tap than is at its place.
-    OtherTap { line: u64, upload: u32, place: u64 },
+    OtherTap {
+        line: u64,
+        upload: u32,
+        position: u64,
+    },
     /// The line of this number has the place of an earlier line.
-    Repeated { line: u64, upload: u32, place: u64 },
+    Repeated {
+        line: u64,
+        upload: u32,
+        position: u64,
+    },
     /// No line has this place, which is that of a tap.
-    NoLine { upload: u64, place: u64 },
+    NoLine {
+        upload: u64,
+        position: u64,
+    },
 }
 
 /// In place of a line that does not have the form of a traced one.
@@ -110,36 +122,41 @@ fn class_fault(
     })
 }
 
-fn fault_by(line: u64, upload: u32, place: u64, finding: PlaceFinding) -> Option<PlaceFault>
-    ensures { result ≡ fault_by line upload place finding }
+fn fault_by(
+    line: u64,
+    upload: u32,
+    position: u64,
+    finding: PositionFinding,
+) -> Option<PositionFault>
+    ensures { result ≡ fault_by line upload position finding }
 {
     match finding {
-        PlaceFinding::Right => None,
-        PlaceFinding::Another => Some(PlaceFault::OtherTap {
+        PositionFinding::Right => None,
+        PositionFinding::Another => Some(PositionFault::OtherTap {
             line,
             upload,
-            place,
+            position,
         }),
-        PlaceFinding::Again => Some(PlaceFault::Repeated {
+        PositionFinding::Again => Some(PositionFault::Repeated {
             line,
             upload,
-            place,
+            position,
         }),
     }
 }
 
 /// If there are uploads. Gives its fault, if it has one.
-fn name_place(
-    places: &mut Option<Places>,
+fn name_position(
+    positions: &mut Option<Positions>,
     number: u64,
     cut: &CutLine<'_>,
     tap: &Option<TapFields>,
-) -> Option<PlaceFault>
-    ensures uploads { uploads_in places.new ≡ uploads_in places.old }
+) -> Option<PositionFault>
+    ensures uploads { uploads_in positions.new ≡ uploads_in positions.old }
 
     // After lines of which none is wrong.
-    ensures place { (read : List ReadLine) (line : List ℕ) → HasPlaces places.old None read
-        → number ≡ length read + 1 → HasPlaces places.new result (record {
+    ensures position { (read : List ReadLine) (line : List ℕ) → HasPositions positions.old None read
+        → number ≡ length read + 1 → HasPositions positions.new result (record {
           line = line;
           traced = option_map (traced_by (cut_of cut.now)) tap.now;
         } ∷ read) }
@@ -147,22 +164,22 @@ fn name_place(
     let Some(tap) = tap else {
         return None;
     };
-    let Some(places) = places else {
+    let Some(positions) = positions else {
         return None;
     };
-    let finding = places.name(cut.upload, cut.place, tap);
-    fault_by(number, cut.upload, cut.place, finding)
+    let finding = positions.name(cut.upload, cut.position, tap);
+    fault_by(number, cut.upload, cut.position, finding)
 }
 
 /// The fault of the lines, or else the first place that no line has.
-fn first_fault(places: &Places, wrong: &Option<PlaceFault>) -> Option<PlaceFault>
-    ensures { IsFaultBehind (uploads_of places.now) (is_named places.now) wrong.now result }
+fn first_fault(positions: &Positions, wrong: &Option<PositionFault>) -> Option<PositionFault>
+    ensures { IsFaultAfter (uploads_of positions.now) (is_named positions.now) wrong.now result }
 {
     if let Some(wrong) = wrong {
         return Some(*wrong);
     }
-    match places.first_unnamed() {
-        Some((upload, place)) => Some(PlaceFault::NoLine { upload, place }),
+    match positions.first_unnamed() {
+        Some((upload, position)) => Some(PositionFault::NoLine { upload, position }),
         None => None,
     }
 }
@@ -172,7 +189,7 @@ fn first_fault(places: &Places, wrong: &Option<PlaceFault>) -> Option<PlaceFault
 pub(crate) struct LinesRead {
     names: ClassNames,
     /// The valid taps of the uploads, if there are uploads.
-    places: Option<Places>,
+    positions: Option<Positions>,
     /// The last of them, without its columns.
     line: Vec<u8>,
     again: String,
@@ -180,7 +197,7 @@ pub(crate) struct LinesRead {
     /// The first of them that has another class than that of its token.
     wrong_class: Option<WrongClass>,
     /// What is wrong with the place of the first line that has a wrong one.
-    wrong_place: Option<PlaceFault>,
+    wrong_position: Option<PositionFault>,
 }
 
 impl LinesRead {
@@ -189,8 +206,8 @@ impl LinesRead {
             (class_fault (class_by self.old.names) number
             (option_map (traced_by (cut_of cut.now)) tap.now)) }
         ensures names { self.new.names ≡ self.old.names }
-        ensures places { self.new.places ≡ self.old.places }
-        ensures place { self.new.wrong_place ≡ self.old.wrong_place }
+        ensures positions { self.new.positions ≡ self.old.positions }
+        ensures position { self.new.wrong_position ≡ self.old.wrong_position }
         ensures lines { self.new.lines ≡ self.old.lines }
     {
         let fault = class_fault(&self.names, number, cut, tap);
@@ -198,23 +215,23 @@ impl LinesRead {
     }
 
     /// If no earlier line has a wrong place.
-    fn look_at_place(&mut self, number: u64, cut: &CutLine<'_>, tap: &Option<TapFields>)
-        ensures places { (read : List ReadLine) (line : List ℕ)
-            → HasPlaces self.old.places self.old.wrong_place read → number ≡ length read + 1
-            → HasPlaces self.new.places self.new.wrong_place (record {
+    fn look_at_position(&mut self, number: u64, cut: &CutLine<'_>, tap: &Option<TapFields>)
+        ensures positions { (read : List ReadLine) (line : List ℕ)
+            → HasPositions self.old.positions self.old.wrong_position read → number ≡ length read + 1
+            → HasPositions self.new.positions self.new.wrong_position (record {
               line = line;
               traced = option_map (traced_by (cut_of cut.now)) tap.now;
             } ∷ read) }
-        ensures uploads { uploads_in self.new.places ≡ uploads_in self.old.places }
+        ensures uploads { uploads_in self.new.positions ≡ uploads_in self.old.positions }
         ensures class { self.new.wrong_class ≡ self.old.wrong_class }
         ensures names { self.new.names ≡ self.old.names }
         ensures lines { self.new.lines ≡ self.old.lines }
     {
-        if self.wrong_place.is_some() {
+        if self.wrong_position.is_some() {
             return;
         }
-        let fault = name_place(&mut self.places, number, cut, tap);
-        self.wrong_place = fault;
+        let fault = name_position(&mut self.positions, number, cut, tap);
+        self.wrong_position = fault;
     }
 
     /// Reads the next line, of which enough was kept to show its form. 2^64 lines are an allocation
@@ -237,7 +254,7 @@ impl LinesRead {
         };
         let tap = put_fields(text, cut.fields, &mut self.line, &mut self.again)?;
         self.look_at_class(number, &cut, &tap);
-        self.look_at_place(number, &cut, &tap);
+        self.look_at_position(number, &cut, &tap);
         self.lines = number;
         Ok(())
     }
@@ -265,28 +282,32 @@ pub(crate) struct TracedPieces {
     /// The whole lines.
     so_far: LinesRead,
     /// The prefix of the line whose end has not come yet.
-    begun: Vec<u8>,
+    started: Vec<u8>,
 }
 
 impl TracedPieces {
     /// No place was named yet. The places, if there are uploads, are theirs.
-    pub(crate) fn new(alloc: Global, names: ClassNames, places: Option<Places>) -> TracedPieces
-        requires { HaveNamed places [] }
+    pub(crate) fn new(
+        alloc: Global,
+        names: ClassNames,
+        positions: Option<Positions>,
+    ) -> TracedPieces
+        requires { HaveNamed positions [] }
         ensures read { HasTraced result [] [] [] }
         ensures wanted { wanted_of result.so_far
-            ≡ record { classes = class_by names; uploads = uploads_in places } }
+            ≡ record { classes = class_by names; uploads = uploads_in positions } }
     {
         TracedPieces {
             so_far: LinesRead {
                 names,
-                places,
+                positions,
                 line: Vec::new(alloc),
                 again: String::new(alloc),
                 lines: 0,
                 wrong_class: None,
-                wrong_place: None,
+                wrong_position: None,
             },
-            begun: Vec::new(alloc),
+            started: Vec::new(alloc),
         }
     }
 
@@ -301,12 +322,12 @@ impl TracedPieces {
     {
         let mut rest = piece;
         while !rest.is_empty() {
-            let Some((line, behind)) = split_line(rest) else {
-                keep(&mut self.begun, rest)?;
+            let Some((line, trailing)) = split_line(rest) else {
+                keep(&mut self.started, rest)?;
                 return Ok(());
             };
             self.end_line(line, text)?;
-            rest = behind;
+            rest = trailing;
         }
         Ok(())
     }
@@ -319,13 +340,13 @@ impl TracedPieces {
             × (text.new.items ≡ text.old.items ++ more)
             × HasTraced self.new (file ++ line.now) (reported ++ more) read') }
     {
-        if self.begun.is_empty() {
+        if self.started.is_empty() {
             self.so_far.take(line, text)?;
             return Ok(());
         }
-        keep(&mut self.begun, line)?;
-        self.so_far.take(self.begun.as_slice(), text)?;
-        self.begun.clear();
+        keep(&mut self.started, line)?;
+        self.so_far.take(self.started.as_slice(), text)?;
+        self.started.clear();
         Ok(())
     }
 
@@ -338,10 +359,10 @@ impl TracedPieces {
             × (reported ++ more ≡ untraced_lines (lines_of file)) × AreLinesOf file read'
             × HasColumns self.new.so_far read') }
     {
-        if self.begun.is_empty() {
+        if self.started.is_empty() {
             return Ok(());
         }
-        self.so_far.take(self.begun.as_slice(), text)?;
+        self.so_far.take(self.started.as_slice(), text)?;
         Ok(())
     }
 
@@ -357,20 +378,20 @@ impl TracedPieces {
     }
 
     /// If there are uploads. Returns whether all places are right.
-    fn write_places(&self, alloc: Global, text: &mut Vec<u8>) -> Result<bool, AllocError>
+    fn write_positions(&self, alloc: Global, text: &mut Vec<u8>) -> Result<bool, AllocError>
         ensures { IfOk result (λ right. (fault : Option AFault)
             × (text.new.items
-            ≡ text.old.items ++ place_text (uploads_in self.now.so_far.places) fault)
+            ≡ text.old.items ++ position_text (uploads_in self.now.so_far.positions) fault)
             × (right ≡ not (is_some fault))
             × ((read : List ReadLine)
-            → HasPlaces self.now.so_far.places self.now.so_far.wrong_place read
-            → IsPlaceFault (uploads_in self.now.so_far.places) read fault)) }
+            → HasPositions self.now.so_far.positions self.now.so_far.wrong_position read
+            → IsPositionFault (uploads_in self.now.so_far.positions) read fault)) }
     {
-        let Some(places) = &self.so_far.places else {
+        let Some(positions) = &self.so_far.positions else {
             return Ok(true);
         };
-        let fault = first_fault(places, &self.so_far.wrong_place);
-        let reported = place_line(alloc, &fault)?;
+        let fault = first_fault(positions, &self.so_far.wrong_position);
+        let reported = position_line(alloc, &fault)?;
         text.extend_from_slice(reported.as_bytes())?;
         Ok(fault.is_none())
     }
@@ -395,51 +416,56 @@ fn class_line(
     }
 }
 
-#[tactic(auto, unfolding(crate::specs::Traced::place_fault_text))]
-fn other_tap_line(alloc: Global, line: u64, upload: u32, place: u64) -> Result<String, AllocError>
+#[tactic(auto, unfolding(crate::specs::Traced::position_fault_text))]
+fn other_tap_line(
+    alloc: Global,
+    line: u64,
+    upload: u32,
+    position: u64,
+) -> Result<String, AllocError>
     ensures { IfOk result (λ reported. string_bytes reported
-        ≡ place_fault_text (Some (OtherTap line upload place))) }
+        ≡ position_fault_text (Some (OtherTap line upload position))) }
 {
-    format!(in alloc; "line {line} has another tap than upload {upload} has at place {place}\n")
+    format!(in alloc; "line {line} has another tap than upload {upload} has at place {position}\n")
 }
 
-#[tactic(auto, unfolding(crate::specs::Traced::place_fault_text))]
-fn repeated_line(alloc: Global, line: u64, upload: u32, place: u64) -> Result<String, AllocError>
+#[tactic(auto, unfolding(crate::specs::Traced::position_fault_text))]
+fn repeated_line(alloc: Global, line: u64, upload: u32, position: u64) -> Result<String, AllocError>
     ensures { IfOk result (λ reported. string_bytes reported
-        ≡ place_fault_text (Some (Repeated line upload place))) }
+        ≡ position_fault_text (Some (Repeated line upload position))) }
 {
-    format!(in alloc; "line {line} has upload {upload} place {place} again\n")
+    format!(in alloc; "line {line} has upload {upload} place {position} again\n")
 }
 
-#[tactic(auto, unfolding(crate::specs::Traced::place_fault_text))]
-fn no_line_line(alloc: Global, upload: u64, place: u64) -> Result<String, AllocError>
+#[tactic(auto, unfolding(crate::specs::Traced::position_fault_text))]
+fn no_line_line(alloc: Global, upload: u64, position: u64) -> Result<String, AllocError>
     ensures { IfOk result (λ reported. string_bytes reported
-        ≡ place_fault_text (Some (NoLine upload place))) }
+        ≡ position_fault_text (Some (NoLine upload position))) }
 {
-    format!(in alloc; "no line has upload {upload} place {place}\n")
+    format!(in alloc; "no line has upload {upload} place {position}\n")
 }
 
-#[tactic(auto, unfolding(crate::specs::Traced::place_fault_text))]
-fn place_line(alloc: Global, fault: &Option<PlaceFault>) -> Result<String, AllocError>
-    ensures { IfOk result (λ reported. string_bytes reported ≡ place_fault_text fault.now) }
+#[tactic(auto, unfolding(crate::specs::Traced::position_fault_text))]
+fn position_line(alloc: Global, fault: &Option<PositionFault>) -> Result<String, AllocError>
+    ensures { IfOk result (λ reported. string_bytes reported ≡ position_fault_text fault.now) }
 {
     match *fault {
         None => format!(in alloc; "all places of the uploads\n"),
         Some(
-            PlaceFault::OtherTap {
+            PositionFault::OtherTap {
                 line,
                 upload,
-                place,
+                position,
             },
-        ) => other_tap_line(alloc, line, upload, place),
+        ) => other_tap_line(alloc, line, upload, position),
         Some(
-            PlaceFault::Repeated {
+            PositionFault::Repeated {
                 line,
                 upload,
-                place,
+                position,
             },
-        ) => repeated_line(alloc, line, upload, place),
-        Some(PlaceFault::NoLine { upload, place }) => no_line_line(alloc, upload, place),
+        ) => repeated_line(alloc, line, upload, position),
+        Some(PositionFault::NoLine { upload, position }) => no_line_line(alloc, upload, position),
     }
 }
 
@@ -507,6 +533,6 @@ pub(crate) fn write_columns(
         return Ok(false);
     }
     let are_classes = trace.write_classes(alloc, text)?;
-    let are_places = trace.write_places(alloc, text)?;
-    Ok(are_both(are_classes, are_places))
+    let are_positions = trace.write_positions(alloc, text)?;
+    Ok(are_both(are_classes, are_positions))
 }

@@ -2,7 +2,7 @@
 use Rattle.std.proofs.Common.{◌≡◌, ℕ, Bool, true, false, List, [], Option, None, Some, refl, subst}
 use Rattle.std.proofs.Common.{sym}
 use Rattle.std.specs.Prelude.{MatchBool}
-use Rattle.fare_program.specs.Options.{Asked}
+use Rattle.fare_program.specs.Options.{Request}
 use Rattle.fare_program.specs.Program.{Does}
 use Rattle.fare_program.specs.SystemFiles.{ChargesFiles}
 use Rattle.fare_program.proofs.SystemFiles.{charges_files}
@@ -25,11 +25,11 @@ if_not : (A B : Type 0) (b : Bool) → b ≡ false → MatchBool b A B → B
 if_not A B b e which = subst (λ (x : Bool). MatchBool x A B) e which
 
 -- what is done for words that ask for a bill of named files
-pub charges_named : (asked : Asked) (after : List Load) (out' : Option (List ℕ))
-    → ChargesNamed asked → Does asked (λ _. None) file (Some []) (Some after) (Some []) out' true
-    → ChargesFiles asked [] after (Some []) out'
-charges_named asked after out' names does =
-    charges_files asked file [] after (Some []) out' (λ name. refl) names.some
-    (if_not _ _ asked.sorted names.sorts_none
+pub charges_named : (request : Request) (after : List Load) (out' : Option (List ℕ))
+    → ChargesNamed request → Does request (λ _. None) file (Some []) (Some after) (Some []) out' true
+    → ChargesFiles request [] after (Some []) out'
+charges_named request after out' names does =
+    charges_files request file [] after (Some []) out' (λ name. refl) names.some
+    (if_not _ _ request.sorted names.sorts_none
     (if_not _ _ _ names.lists_none
-    (if_not _ _ asked.traced names.traces_none does)))
+    (if_not _ _ request.traced names.traces_none does)))

@@ -3,7 +3,7 @@ ghost use Rattle.std.specs.Prelude.{◌≡◌, [], None, Some, map, string_bytes
 ghost use Rattle.world.specs.Origins.{file};
 ghost use Rattle.world.specs.Run.{no_calls};
 ghost use Rattle.program_manners.specs.Refusals.{IsShown, refusal_of};
-ghost use Rattle.fare_program.specs.Options.{Parses, asked_by};
+ghost use Rattle.fare_program.specs.Options.{Parses, request_by};
 ghost use Rattle.fare_program.specs.Runs.{IsRun};
 ghost use Rattle.fare_program.specs.SystemFiles.{ChargesFiles};
 ghost use Rattle.omny_cli.specs.Charges.{ChargesNamed};
@@ -37,8 +37,8 @@ pub fn run_system<R: Threads + Wait + Clock + RandomSource + Sync + AllocGlobal>
     requires unsaid { err.old.writer.to.trace ≡ no_calls }
     // With status 0 the output has the text of exactly the bytes that the named files gave.
     ensures charged { Parses (map string_bytes words.now) → result ≡ 0
-        → ChargesNamed (asked_by (map string_bytes words.now))
-        → ChargesFiles (asked_by (map string_bytes words.now)) []
+        → ChargesNamed (request_by (map string_bytes words.now))
+        → ChargesFiles (request_by (map string_bytes words.now)) []
         source.new.from.loads.trace.run.loads (Some []) (Some out.new.writer.to.trace.run.written) }
     // Each promise of a run, with what the system calls tell.
     ensures run { IsRun (map string_bytes words.now) (λ _. None) file (Some [])

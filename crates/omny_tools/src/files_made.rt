@@ -26,13 +26,13 @@ pub(crate) struct FilesMade<'r> {
 
 /// A file that is being made.
 #[derive(Drop)]
-pub(crate) struct BegunFile {
-    begun: String,
+pub(crate) struct StartedFile {
+    started: String,
     file: BufWriter<fs::File>,
     replaces: bool,
 }
 
-impl Write for BegunFile {
+impl Write for StartedFile {
     fn write(&mut self, bytes: &[u8]) -> io::Result<usize> {
         self.file.write(bytes)
     }
@@ -42,7 +42,7 @@ impl Write for BegunFile {
     }
 }
 
-enum Unbegun {
+enum Unstarted {
     Refused,
     NoMemory,
 }
@@ -66,41 +66,41 @@ impl<'r> FilesMade<'r> {
         name: &str,
         collected: usize,
         replaces: bool,
-    ) -> Result<BegunFile, Unbegun> {
+    ) -> Result<StartedFile, Unstarted> {
         for _ in 0..NAMES_TRIED {
             let Ok(random) = RandomState::new(self.rt) else {
-                return Err(Unbegun::Refused);
+                return Err(Unstarted::Refused);
             };
             let digits = random.build_hasher().finish();
-            let Ok(begun) = format!(in alloc; "{name}.{digits:016x}") else {
-                return Err(Unbegun::NoMemory);
+            let Ok(started) = format!(in alloc; "{name}.{digits:016x}") else {
+                return Err(Unstarted::NoMemory);
             };
-            match fs::File::create_new(self.rt, begun.as_str()) {
-                Ok(file) => return self.collect(alloc, begun, file, collected, replaces),
+            match fs::File::create_new(self.rt, started.as_str()) {
+                Ok(file) => return self.collect(alloc, started, file, collected, replaces),
                 Err(error) if error.kind() == ErrorKind::AlreadyExists => {}
-                Err(_) => return Err(Unbegun::Refused),
+                Err(_) => return Err(Unstarted::Refused),
             }
         }
-        Err(Unbegun::Refused)
+        Err(Unstarted::Refused)
     }
 
     fn collect(
         &self,
         alloc: Global,
-        begun: String,
+        started: String,
         file: fs::File,
         collected: usize,
         replaces: bool,
-    ) -> Result<BegunFile, Unbegun> {
+    ) -> Result<StartedFile, Unstarted> {
         match BufWriter::with_capacity(alloc, collected, file) {
-            Ok(file) => Ok(BegunFile {
-                begun,
+            Ok(file) => Ok(StartedFile {
+                started,
                 file,
                 replaces,
             }),
             Err(_) => {
-                let _ = fs::remove_file(self.rt, begun.as_str());
-                Err(Unbegun::NoMemory)
+                let _ = fs::remove_file(self.rt, started.as_str());
+                Err(Unstarted::NoMemory)
             }
         }
     }
@@ -108,13 +108,13 @@ impl<'r> FilesMade<'r> {
 
 /// Gives the begun file a name that no file has. Where the system has no links it takes the place
 /// of an empty file of that name.
-fn name_new(rt: &HostRuntime, begun: &str, name: &str) -> io::Result<()> {
-    match fs::hard_link(rt, begun, name) {
-        Ok(()) => fs::remove_file(rt, begun),
+fn name_new(rt: &HostRuntime, started: &str, name: &str) -> io::Result<()> {
+    match fs::hard_link(rt, started, name) {
+        Ok(()) => fs::remove_file(rt, started),
         Err(error) if error.kind() == ErrorKind::AlreadyExists => Err(error),
         Err(_) => {
             let _reserved = fs::File::create_new(rt, name)?;
-            fs::rename(rt, begun, name)
+            fs::rename(rt, started, name)
         }
     }
 }
@@ -126,78 +126,78 @@ fn sync_folder(rt: &HostRuntime, folder: &str) {
     }
 }
 
-fn finish_begun(rt: &HostRuntime, name: &str, file: &mut BegunFile) -> io::Result<()> {
+fn finish_started(rt: &HostRuntime, name: &str, file: &mut StartedFile) -> io::Result<()> {
     file.file.flush()?;
     file.file.get_ref().sync_all()?;
     if file.replaces {
-        fs::rename(rt, file.begun.as_str(), name)?;
+        fs::rename(rt, file.started.as_str(), name)?;
     } else {
-        name_new(rt, file.begun.as_str(), name)?;
+        name_new(rt, file.started.as_str(), name)?;
     }
     sync_folder(rt, folder_of(name));
     Ok(())
 }
 
-fn remove_begun(rt: &HostRuntime, file: BegunFile) {
-    let _ = fs::remove_file(rt, file.begun.as_str());
+fn remove_started(rt: &HostRuntime, file: StartedFile) {
+    let _ = fs::remove_file(rt, file.started.as_str());
 }
 
 impl Sink for FilesMade<'_> {
     ghost use Rattle.std.specs.Prelude.{◌≡◌, ⊤, ℕ, IfErr, OnOk, List, None, Option};
-    ghost use Rattle.tool_tasks.specs.Sink.{IsNotMade, Made, MakesOne, StopsFile};
+    ghost use Rattle.tool_tasks.specs.Sink.{IsNotMade, Made, MakesOne, FailsFile};
     ghost use Rattle.tool_tasks.specs.declared.sink.MakeFault.TheVariants.{Unmade};
 
-    type File = BegunFile;
+    type File = StartedFile;
 
-    fn begin(&mut self, alloc: Global, name: &str) -> Result<Output<BegunFile>, MakeFault> {
+    fn begin(&mut self, alloc: Global, name: &str) -> Result<Output<StartedFile>, MakeFault> {
         if !self.can_have(name) {
             return Err(MakeFault::Unmade);
         }
         match self.begin_beside(alloc, name, WRITE_BYTES, true) {
             Ok(file) => Ok(Output::new(file)),
-            Err(Unbegun::Refused) => Err(MakeFault::Unmade),
-            Err(Unbegun::NoMemory) => Err(MakeFault::NoMemory),
+            Err(Unstarted::Refused) => Err(MakeFault::Unmade),
+            Err(Unstarted::NoMemory) => Err(MakeFault::NoMemory),
         }
     }
 
-    fn begin_new(&mut self, alloc: Global, name: &str) -> Result<Output<BegunFile>, NewFault> {
+    fn begin_new(&mut self, alloc: Global, name: &str) -> Result<Output<StartedFile>, NewFault> {
         if fs::symlink_metadata(self.rt, name).is_ok() {
             return Err(NewFault::Exists);
         }
         match self.begin_beside(alloc, name, NEW_WRITE_BYTES, false) {
             Ok(file) => Ok(Output::new(file)),
-            Err(Unbegun::Refused) => Err(NewFault::Unmade),
-            Err(Unbegun::NoMemory) => Err(NewFault::NoMemory),
+            Err(Unstarted::Refused) => Err(NewFault::Unmade),
+            Err(Unstarted::NoMemory) => Err(NewFault::NoMemory),
         }
     }
 
     // nothing is known of the files: it keeps no list of them
-    fn finish(&mut self, name: &str, file: Output<BegunFile>) -> Result<(), MakeFault>
+    fn finish(&mut self, name: &str, file: Output<StartedFile>) -> Result<(), MakeFault>
         ensures made { OnOk result (MakesOne None None name.now None) }
         ensures kept { IfErr result (λ _. (λ (kept : Option (List Made)). kept ≡ kept) None) }
         ensures failed { IfErr result (λ fault. fault ≡ Unmade → IsNotMade None name.now) }
     {
         let mut file = file.into_writer();
-        match finish_begun(self.rt, name, &mut file) {
+        match finish_started(self.rt, name, &mut file) {
             Ok(()) => Ok(()),
             Err(_) => {
-                remove_begun(self.rt, file);
+                remove_started(self.rt, file);
                 Err(MakeFault::Unmade)
             }
         }
     }
 
-    fn remove(&mut self, file: Output<BegunFile>)
+    fn remove(&mut self, file: Output<StartedFile>)
         ensures made { (λ (kept : Option (List Made)). kept ≡ kept) None }
         ensures failed { (λ (name : Option (List ℕ)). name ≡ name) None }
     {
-        remove_begun(self.rt, file.into_writer());
+        remove_started(self.rt, file.into_writer());
     }
 
-    fn fail(&mut self, name: &str, file: Output<BegunFile>)
+    fn fail(&mut self, name: &str, file: Output<StartedFile>)
         ensures made { (λ (kept : Option (List Made)). kept ≡ kept) None }
-        ensures failed { StopsFile name.now file.end None None }
+        ensures failed { FailsFile name.now file.end None None }
     {
-        remove_begun(self.rt, file.into_writer());
+        remove_started(self.rt, file.into_writer());
     }
 }

@@ -117,8 +117,8 @@ impl<W: Write, E: Write> World for Framed<'_, W, E> {
         self.system.report_line(line)
     }
 
-    fn stage(&mut self, name: &str, begun: &str, bytes: &[u8]) -> Result<Staged, MakeFault> {
-        self.system.stage(name, begun, bytes)
+    fn stage(&mut self, name: &str, started: &str, bytes: &[u8]) -> Result<Staged, MakeFault> {
+        self.system.stage(name, started, bytes)
     }
 
     fn publish(&mut self, file: Staged) -> Result<(), MakeFault> {

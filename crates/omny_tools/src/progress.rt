@@ -14,7 +14,7 @@ pub(crate) struct Progress<'r> {
     rt: &'r HostRuntime,
     line: TerminalLine<io::Stderr>,
     /// When the run began; none if nothing is shown.
-    begun: Option<Instant>,
+    started: Option<Instant>,
     /// After how many milliseconds of the run the next line is due.
     due_ms: u128,
 }
@@ -22,7 +22,7 @@ pub(crate) struct Progress<'r> {
 impl<'r> Progress<'r> {
     pub(crate) fn new(rt: &'r HostRuntime) -> Progress<'r> {
         let err = rt.stderr();
-        let begun = if err.is_terminal() {
+        let started = if err.is_terminal() {
             Instant::now(rt).ok()
         } else {
             None
@@ -30,7 +30,7 @@ impl<'r> Progress<'r> {
         Progress {
             rt,
             line: TerminalLine::new(err),
-            begun,
+            started,
             due_ms: u128::from(QUIET_MS),
         }
     }
@@ -39,7 +39,7 @@ impl<'r> Progress<'r> {
         Progress {
             rt,
             line: TerminalLine::new(rt.stderr()),
-            begun: None,
+            started: None,
             due_ms: u128::from(QUIET_MS),
         }
     }
@@ -48,14 +48,14 @@ impl<'r> Progress<'r> {
     pub(crate) fn beside_text(rt: &'r HostRuntime) -> Progress<'r> {
         let mut progress = Progress::new(rt);
         if rt.stdout().is_terminal() {
-            progress.begun = None;
+            progress.started = None;
         }
         progress
     }
 
     /// For how many milliseconds the run goes on; none if nothing is shown.
     fn passed_ms(&self) -> Option<u128> {
-        match self.begun.as_ref()?.elapsed(self.rt) {
+        match self.started.as_ref()?.elapsed(self.rt) {
             Ok(passed) => Some(passed.as_millis()),
             Err(_) => None,
         }

@@ -6,7 +6,7 @@ use std::io::{ErrorKind, Read};
 use tool_program::Name;
 
 #[derive(Clone, Copy, Debug, PartialEq, Eq)]
-enum Place {
+enum Position {
     Begin,
     /// In a field without quotes, or after its closing quote.
     Plain,
@@ -24,7 +24,7 @@ pub(crate) struct Quotes<'r, R: Read + Drop> {
     word: String,
     /// What is between two fields; none if nothing is looked at.
     separator: Option<u8>,
-    place: Place,
+    position: Position,
     /// The number of the line that is read, from 1.
     line: u64,
     /// That of the last quote that opened a field.
@@ -43,7 +43,7 @@ impl<'r, R: Read + Drop> Quotes<'r, R> {
             from,
             word,
             separator,
-            place: Place::Begin,
+            position: Position::Begin,
             line: 1,
             opened: 1,
         }
@@ -51,20 +51,20 @@ impl<'r, R: Read + Drop> Quotes<'r, R> {
 
     fn pass(&mut self, byte: u8, separator: u8) {
         let is_end = byte == separator || byte == b'\n' || byte == b'\r';
-        self.place = match self.place {
-            Place::Begin if byte == b'"' => {
+        self.position = match self.position {
+            Position::Begin if byte == b'"' => {
                 self.opened = self.line;
-                Place::Quoted
+                Position::Quoted
             }
             // a byte order mark is before the first field
-            Place::Begin if self.line == 1 && (byte == 0xef || byte == 0xbb || byte == 0xbf) => {
-                Place::Begin
+            Position::Begin if self.line == 1 && (byte == 0xef || byte == 0xbb || byte == 0xbf) => {
+                Position::Begin
             }
-            Place::Quoted if byte == b'"' => Place::Quote,
-            Place::Quote if byte == b'"' => Place::Quoted,
-            Place::Quoted => Place::Quoted,
-            _ if is_end => Place::Begin,
-            _ => Place::Plain,
+            Position::Quoted if byte == b'"' => Position::Quote,
+            Position::Quote if byte == b'"' => Position::Quoted,
+            Position::Quoted => Position::Quoted,
+            _ if is_end => Position::Begin,
+            _ => Position::Plain,
         };
         if byte == b'\n' {
             self.line = self.line.saturating_add(1);
@@ -78,7 +78,7 @@ impl<'r, R: Read + Drop> Read for Quotes<'r, R> {
         let Some(separator) = self.separator else {
             return Ok(count);
         };
-        if count == 0 && !buf.is_empty() && self.place == Place::Quoted {
+        if count == 0 && !buf.is_empty() && self.position == Position::Quoted {
             let (name, line) = (Name(&self.word), self.opened);
             let mut err = Complaints::new(self.rt.stderr());
             err.report_line(format_args!("fault: {name} line {line}: a quote is not closed"));

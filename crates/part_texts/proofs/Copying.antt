@@ -13,7 +13,7 @@ use Rattle.line_folds.specs.declared.lines.Stop.{Stop}
 use Rattle.line_folds.specs.declared.lines.Stop.TheVariants.{Line as StopLine, Unread as StopUnread}
 use Rattle.line_folds.specs.declared.lines.Stop.TheVariants.{Unwritten, NoMemory as StopMemory}
 use Rattle.line_folds.specs.declared.lines.Stop.TheVariants.{TooLong as StopLong}
-use Rattle.line_folds.proofs.Runs.{prefix_behind, prefix_more, prefix_none}
+use Rattle.line_folds.proofs.Runs.{prefix_after, prefix_more, prefix_none}
 use Rattle.report_texts.specs.declared.wrong.Wrong.{Wrong}
 use Rattle.report_texts.specs.declared.wrong.Wrong.TheVariants.{Form}
 use Rattle.report_texts.specs.Texts.{AreLeft}
@@ -105,7 +105,7 @@ begins_at opening last = record {
   so_far = no_sums;
 }
 
-module _ {R : Type 0} (remaining : R → Option (List ℕ)) (place : ℕ) (last : Option Token)
+module _ {R : Type 0} (remaining : R → Option (List ℕ)) (position : ℕ) (last : Option Token)
     (opening : Open R) (start end : SectionView) (left before after : Option (List ℕ))
     (begins : start ≡ begins_at opening last) where
   -- what is said of the part, by the run from where the program begins
@@ -116,11 +116,11 @@ module _ {R : Type 0} (remaining : R → Option (List ℕ)) (place : ℕ) (last 
     number = opening.number;
     lines = lines_of rest;
   } ≡ view
-      → section_of place last view
-      ≡ section_ended place (run never (bounded Form section_step) opening.number start (lines_of rest))
+      → section_of position last view
+      ≡ section_ended position (run never (bounded Form section_step) opening.number start (lines_of rest))
   said_by_run view rest is =
-      ap (section_of place last) (sym is)
-      ∙ ap (λ s. section_ended place
+      ap (section_of position last) (sym is)
+      ∙ ap (λ s. section_ended position
       (run never (bounded Form section_step) opening.number s (lines_of rest))) (sym begins)
 
   pub section_ok : (number : ℕ) (view : OpenView) → open_view remaining opening ≡ Some view
@@ -129,18 +129,18 @@ module _ {R : Type 0} (remaining : R → Option (List ℕ)) (place : ℕ) (last 
       → IfSome (remaining opening.from) (λ text. HasWritten {W = Wrong} before after
       (written never (bounded Form section_step) line_itself start (lines_of text)) (Ok number))
       → section_end end ≡ None
-      → Copied (λ (s : SectionView). s.last) (section_of place last view)
+      → Copied (λ (s : SectionView). s.last) (section_of position last view)
       (flat_map (λ line. line) view.lines) before after (Ok end.last)
   section_ok number view is stops wrote ends =
       let (rest, here, same) = view_of remaining opening view is in
-      let (behind, lefts, ran) = if_known _ (remaining opening.from) rest here stops in
+      let (trailing, lefts, ran) = if_known _ (remaining opening.from) rest here stops in
       let all = if_known _ (remaining opening.from) rest here wrote in (
         end,
-        said_by_run view rest same ∙ ap (section_ended place) ran
-            ∙ ap (end_or (place, (number, Form)) end) ends,
+        said_by_run view rest same ∙ ap (section_ended position) ran
+            ∙ ap (end_or (position, (number, Form)) end) ends,
         refl,
         subst (Appends before after)
-            (all_written opening.number start (lines_of rest) (number, end, lines_of behind) ran
+            (all_written opening.number start (lines_of rest) (number, end, lines_of trailing) ran
             ∙ ap (λ (v : OpenView). flat_map (λ line. line) v.lines) same) all,
       )
 
@@ -149,13 +149,13 @@ module _ {R : Type 0} (remaining : R → Option (List ℕ)) (place : ℕ) (last 
       → IfSome (remaining opening.from) (λ text. StopsAs
       (run never (bounded Form section_step) opening.number start (lines_of text)) end left (Ok number))
       → section_end end ≡ Some why
-      → Copied {T = Option Token} (λ (s : SectionView). s.last) (section_of place last view)
-      (flat_map (λ line. line) view.lines) before after (Err (Line place number why))
+      → Copied {T = Option Token} (λ (s : SectionView). s.last) (section_of position last view)
+      (flat_map (λ line. line) view.lines) before after (Err (Line position number why))
   section_wrong number why view is stops ends =
       let (rest, here, same) = view_of remaining opening view is in
-      let (behind, lefts, ran) = if_known _ (remaining opening.from) rest here stops in
-      let said = said_by_run view rest same ∙ ap (section_ended place) ran
-      ∙ ap (end_or (place, (number, Form)) end) ends in
+      let (trailing, lefts, ran) = if_known _ (remaining opening.from) rest here stops in
+      let said = said_by_run view rest same ∙ ap (section_ended position) ran
+      ∙ ap (end_or (position, (number, Form)) end) ends in
       (said, λ s is_ok. absurd (let e = sym said ∙ is_ok in cc))
 
   -- a prefix of all lines is written, if the lines are those of a part
@@ -168,7 +168,7 @@ module _ {R : Type 0} (remaining : R → Option (List ℕ)) (place : ℕ) (last 
   } ≡ view
       → AppendsPrefix before after
       (written never (bounded Form section_step) line_itself start (lines_of rest))
-      → (s : SectionView) → section_of place last view ≡ Ok s
+      → (s : SectionView) → section_of position last view ≡ Ok s
       → AppendsPrefix before after (flat_map (λ line. line) view.lines)
   prefix_of stop view rest same some s ok =
       through (run never (bounded Form section_step) opening.number start (lines_of rest)) refl
@@ -176,7 +176,7 @@ module _ {R : Type 0} (remaining : R → Option (List ℕ)) (place : ℕ) (last 
     where
       through : (ran : Result (ℕ × SectionView × List (List ℕ)) (ℕ × Wrong))
           → run never (bounded Form section_step) opening.number start (lines_of rest) ≡ ran
-          → section_ended place ran ≡ Ok s
+          → section_ended position ran ≡ Ok s
           → AppendsPrefix before after (flat_map (λ line. line) view.lines)
       through (Ok read) is done =
           subst (AppendsPrefix before after)
@@ -189,12 +189,12 @@ module _ {R : Type 0} (remaining : R → Option (List ℕ)) (place : ℕ) (last 
       (run never (bounded Form section_step) opening.number start (lines_of text)) end left (Err stop))
       → IfSome (remaining opening.from) (λ text. HasWritten before after
       (written never (bounded Form section_step) line_itself start (lines_of text)) (Err stop))
-      → Copied {T = Option Token} (λ (s : SectionView). s.last) (section_of place last view)
-      (flat_map (λ line. line) view.lines) before after (Err (fault_by place stop))
+      → Copied {T = Option Token} (λ (s : SectionView). s.last) (section_of position last view)
+      (flat_map (λ line. line) view.lines) before after (Err (fault_by position stop))
   section_fault (StopLine number why) view is stops wrote =
       let (rest, here, same) = view_of remaining opening view is in
       let said = said_by_run view rest same
-      ∙ ap (section_ended place) (if_known _ (remaining opening.from) rest here stops) in
+      ∙ ap (section_ended position) (if_known _ (remaining opening.from) rest here stops) in
       (said, λ s is_ok. absurd (let e = sym said ∙ is_ok in cc))
   section_fault StopUnread view is stops wrote =
       let (rest, here, same) = view_of remaining opening view is in
@@ -225,10 +225,10 @@ open_none remaining (view ∷ views) are = absurd (cc)
 -- the parts that are left give what all of them give, and the lines of those before are written
 abbrev pub CopiesAt : {R : Type 0} → (R → Option (List ℕ)) → List (Open R) → ℕ → Option Token
     → List (Open R) → Option (List ℕ) → Option (List ℕ) → Type 0
-CopiesAt remaining all place last left before after =
+CopiesAt remaining all position last left before after =
     (views : List OpenView) → AreOpen remaining all views
     → (rest : List OpenView) × AreOpen remaining left rest
-    × (sections_of 0 None views ≡ sections_of place last rest)
+    × (sections_of 0 None views ≡ sections_of position last rest)
     × (front : List ℕ) × (lines_left views ≡ front ++ lines_left rest)
     × Appends before after front
 
@@ -243,25 +243,25 @@ copies_none remaining all left before is = λ views are. (
   Appends-nil before,
 )
 
-pub copies_more : {R : Type 0} (remaining : R → Option (List ℕ)) (all : List (Open R)) (place : ℕ)
+pub copies_more : {R : Type 0} (remaining : R → Option (List ℕ)) (all : List (Open R)) (position : ℕ)
     (last next : Option Token) (left more : List (Open R)) (opening : Open R)
     (before now after : Option (List ℕ)) → left ≡ opening ∷ more
-    → CopiesAt remaining all place last left before now
+    → CopiesAt remaining all position last left before now
     → ((view : OpenView) → open_view remaining opening ≡ Some view
-    → Copied (λ (s : SectionView). s.last) (section_of place last view)
+    → Copied (λ (s : SectionView). s.last) (section_of position last view)
     (flat_map (λ line. line) view.lines) now after (Ok next))
-    → CopiesAt remaining all (place + 1) next more before after
-copies_more remaining all place last next left more opening before now after split at_all copied =
+    → CopiesAt remaining all (position + 1) next more before after
+copies_more remaining all position last next left more opening before now after split at_all copied =
     λ views are.
     let (rest, lefts, same, front, lines, wrote) = at_all views are in
-    let (view, others, shown, here, behind) = open_more remaining opening more rest
+    let (view, others, shown, here, trailing) = open_more remaining opening more rest
     (sym (ap (map (open_view remaining)) split) ∙ lefts) in
     let (s, said, last_is, added) = copied view here in (
       others,
-      behind,
-      same ∙ ap (sections_of place last) shown
-          ∙ ap (λ r. and_then r (λ (s : SectionView). sections_of (place + 1) s.last others)) said
-          ∙ ap (λ l. sections_of (place + 1) l others) last_is,
+      trailing,
+      same ∙ ap (sections_of position last) shown
+          ∙ ap (λ r. and_then r (λ (s : SectionView). sections_of (position + 1) s.last others)) said
+          ∙ ap (λ l. sections_of (position + 1) l others) last_is,
       front ++ flat_map (λ line. line) view.lines,
       lines ∙ ap (λ (vs : List OpenView). front ++ lines_left vs) shown
           ∙ sym (append_assoc front (flat_map (λ line. line) view.lines) (lines_left others)),
@@ -273,46 +273,46 @@ ok_through : {S T : Type 0} (said : Result S WrongLine) (next : S → Result T W
 ok_through (Ok s) next t is = (s, refl)
 ok_through (Err wrong) next t is = absurd (cc)
 
-pub copies_fault : {R : Type 0} (remaining : R → Option (List ℕ)) (all : List (Open R)) (place : ℕ)
+pub copies_fault : {R : Type 0} (remaining : R → Option (List ℕ)) (all : List (Open R)) (position : ℕ)
     (last : Option Token) (left more : List (Open R)) (opening : Open R)
     (before now after : Option (List ℕ)) (fault : MergeFault) → left ≡ opening ∷ more
-    → CopiesAt remaining all place last left before now
+    → CopiesAt remaining all position last left before now
     → ((view : OpenView) → open_view remaining opening ≡ Some view
-    → Copied {T = Option Token} (λ (s : SectionView). s.last) (section_of place last view)
+    → Copied {T = Option Token} (λ (s : SectionView). s.last) (section_of position last view)
     (flat_map (λ line. line) view.lines) now after (Err fault))
     → (views : List OpenView) → AreOpen remaining all views
     → Copied {T = Unit {0}} (λ (s : Option Token). tt) (sections_of 0 None views) (lines_left views)
     before after (Err fault)
-copies_fault remaining all place last left more opening before now after fault split at_all copied views
+copies_fault remaining all position last left more opening before now after fault split at_all copied views
     are =
     let (rest, lefts, same, front, lines, wrote) = at_all views are in
-    let (view, others, shown, here, behind) = open_more remaining opening more rest
+    let (view, others, shown, here, trailing) = open_more remaining opening more rest
     (sym (ap (map (open_view remaining)) split) ∙ lefts) in
     let (is, some) = copied view here in
-    let next = λ (s : SectionView). sections_of (place + 1) s.last others in
-    let whole : sections_of 0 None views ≡ and_then (section_of place last view) next =
-    same ∙ ap (sections_of place last) shown in (
+    let next = λ (s : SectionView). sections_of (position + 1) s.last others in
+    let whole : sections_of 0 None views ≡ and_then (section_of position last view) next =
+    same ∙ ap (sections_of position last) shown in (
       fault_same (sections_of 0 None views) _ fault whole (fault_goes _ next fault is),
       λ end ok.
-          let (s, said) = ok_through (section_of place last view) next end (sym whole ∙ ok) in
+          let (s, said) = ok_through (section_of position last view) next end (sym whole ∙ ok) in
           subst (AppendsPrefix before after) (sym (lines ∙ ap (λ (vs : List OpenView). front ++ lines_left vs) shown))
-          (prefix_behind before now after front (lines_left (view ∷ others)) wrote
+          (prefix_after before now after front (lines_left (view ∷ others)) wrote
           (prefix_more now after (flat_map (λ line. line) view.lines) (lines_left others)
           (some s said))),
     )
 
-pub copies_all : {R : Type 0} (remaining : R → Option (List ℕ)) (all : List (Open R)) (place : ℕ)
+pub copies_all : {R : Type 0} (remaining : R → Option (List ℕ)) (all : List (Open R)) (position : ℕ)
     (last : Option Token) (left : List (Open R)) (before after : Option (List ℕ)) → left ≡ []
-    → CopiesAt remaining all place last left before after
+    → CopiesAt remaining all position last left before after
     → (views : List OpenView) → AreOpen remaining all views
     → Copied {T = Unit {0}} (λ (s : Option Token). tt) (sections_of 0 None views) (lines_left views)
     before after (Ok tt)
-copies_all remaining all place last left before after none at_all views are =
+copies_all remaining all position last left before after none at_all views are =
     let (rest, lefts, same, front, lines, wrote) = at_all views are in
     let no_rest : rest ≡ [] =
     open_none remaining rest (sym (ap (map (open_view remaining)) none) ∙ lefts) in (
       last,
-      same ∙ ap (sections_of place last) no_rest,
+      same ∙ ap (sections_of position last) no_rest,
       refl,
       subst (Appends before after) (sym (lines ∙ ap (λ (vs : List OpenView). front ++ lines_left vs) no_rest
           ∙ append-nil front)) wrote,
@@ -358,7 +358,7 @@ whole_fault s views before now after fault wrote (is, some) = (
   λ text ok.
       let ((end, said), shown) = merged_text s views text ok in
       subst (AppendsPrefix before after) (sym shown)
-      (prefix_behind before now after (whole_front s) (lines_left views) wrote (some end said)),
+      (prefix_after before now after (whole_front s) (lines_left views) wrote (some end said)),
 )
 
 pub whole_unwritten : (s : FrontsView) (views : List OpenView) (before after : Option (List ℕ))

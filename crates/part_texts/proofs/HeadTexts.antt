@@ -4,9 +4,9 @@ use Rattle.std.proofs.Common.{sym, ap, append_assoc, append-nil, add-zero, arith
 use Rattle.std.specs.Prelude.{codes, None}
 use Rattle.std.specs.Fmt.{decimal}
 use Rattle.std.proofs.lemmas.List.{take_more}
-use Rattle.part_texts.specs.Heads.{place_text, span_line, span_lines, to_text}
-use Rattle.sorted_taps.specs.declared.places.Place.{Place}
-use Rattle.sorted_taps.specs.declared.places.FileSpan.{FileSpan}
+use Rattle.part_texts.specs.Heads.{position_text, span_line, span_lines, to_text}
+use Rattle.sorted_taps.specs.declared.positions.Position.{Position}
+use Rattle.sorted_taps.specs.declared.positions.FileSpan.{FileSpan}
 
 -- one file more
 pub span_lines-push : (file : ℕ) (spans : List FileSpan) (span : FileSpan)
@@ -23,11 +23,11 @@ span_lines-push file (first ∷ spans) span =
     (span_line (file + length (first ∷ spans)) span))
 
 -- what was written of the files before one, and the line of that one
-abbrev no_place : Place
-no_place = record { offset = 0; skip = 0 }
+abbrev no_position : Position
+no_position = record { offset = 0; skip = 0 }
 
 abbrev no_span : FileSpan
-no_span = record { from = no_place; to = None }
+no_span = record { from = no_position; to = None }
 
 spans_more : (start : List ℕ) (spans : List FileSpan) (d : FileSpan) (i : ℕ)
     → i < length spans
@@ -44,13 +44,13 @@ spans_more start spans d i within =
 -- the pieces of a line
 pub in_line : (start a b c d done : List ℕ) (file : ℕ) (span : FileSpan)
     → a ≡ start ++ (codes "file " ++ (decimal file ++ codes " from "))
-    → b ≡ a ++ place_text span.from → c ≡ b ++ codes " to " → d ≡ c ++ to_text span.to
+    → b ≡ a ++ position_text span.from → c ≡ b ++ codes " to " → d ≡ c ++ to_text span.to
     → done ≡ d ++ codes "\n" → done ≡ start ++ span_line file span
 unfolding span_line
 in_line start a b c d done file span p1 p2 p3 p4 p5 =
     p5 ∙ ap (λ t. t ++ codes "\n") (p4 ∙ ap (λ t. t ++ to_text span.to)
-    (p3 ∙ ap (λ t. t ++ codes " to ") (p2 ∙ ap (λ t. t ++ place_text span.from) p1)))
-    ∙ joined start (codes "file ") (decimal file) (codes " from ") (place_text span.from)
+    (p3 ∙ ap (λ t. t ++ codes " to ") (p2 ∙ ap (λ t. t ++ position_text span.from) p1)))
+    ∙ joined start (codes "file ") (decimal file) (codes " from ") (position_text span.from)
     (codes " to ") (to_text span.to) (codes "\n")
   where
     joined : (s f n w p t e l : List ℕ) → ((((s ++ (f ++ (n ++ w))) ++ p) ++ t) ++ e) ++ l

@@ -18,25 +18,25 @@ use Rattle.tap_views.specs.TokenOrder.{AreBelow}
 use Rattle.tap_views.specs.declared.token.Token.{Token}
 use Rattle.tap_views.specs.declared.upload_end.UploadEnd.TheVariants.{Posted}
 use Rattle.tap_views.proofs.TokenLemmas.{token_cmp-total, token_cmp-ties}
-use Rattle.histories.specs.Rising.{rising}
+use Rattle.histories.specs.Increasing.{increasing}
 use Rattle.histories.specs.Sums.{Sums, add_all, add_sums, sums, sums_of_replies}
 use Rattle.histories.specs.Entry.{own}
 use Rattle.histories.specs.SumsByKey.{entries_of_validator, sums_by_token, sums_by_validator, token_of, tokens, validator_of, validators}
 use Rattle.histories.specs.declared.entry.Entry.{Entry}
-use Rattle.histories.proofs.RisingLemmas.{rising-is}
+use Rattle.histories.proofs.IncreasingLemmas.{increasing-is}
 use Rattle.histories.proofs.SumsByToken.{by_token_joined}
 use Rattle.histories.proofs.SumsLemmas.{add_assoc, add_none, none_add, sums-append, sums-taps}
 use Rattle.report_texts.specs.Report.{report}
 use Rattle.part_texts.specs.Fronts.{is_above, may_end, no_sums, starts, sums_within, taps_before}
-use Rattle.part_texts.specs.HistoryParts.{AreRight, DoRise, Fits, HistoryPart, added, histories_of, numbers_of, report_of, whole_history}
+use Rattle.part_texts.specs.HistoryParts.{AreRight, AreIncreasing, Fits, HistoryPart, added, histories_of, numbers_of, report_of, whole_history}
 use Rattle.part_texts.specs.Merged.{merge_of}
-use Rattle.sorted_taps.specs.Places.{AreWhole, DoJoin, first_place}
+use Rattle.sorted_taps.specs.Positions.{AreWhole, DoJoin, first_position}
 use Rattle.part_texts.specs.Sections.{is_token_above}
 use Rattle.part_texts.specs.Shown.{PartReport, part_text, sum_up}
-use Rattle.part_texts.specs.inside.Shown.{are_joined, is_none_behind}
-use Rattle.part_texts.specs.inside.Shown.{IsNextPart, IsRight, SoFar, adds_to, are_next_parts, are_posted_to, do_rise, do_tokens_rise, last_of, nothing_so_far, tokens_of}
-use Rattle.sorted_taps.specs.declared.places.Place.{Place}
-use Rattle.sorted_taps.specs.declared.places.FileSpan.{FileSpan}
+use Rattle.part_texts.specs.inside.Shown.{are_joined, is_none_after}
+use Rattle.part_texts.specs.inside.Shown.{IsNextPart, IsRight, SoFar, adds_to, are_next_parts, are_posted_to, are_increasing, are_tokens_increasing, last_of, nothing_so_far, tokens_of}
+use Rattle.sorted_taps.specs.declared.positions.Position.{Position}
+use Rattle.sorted_taps.specs.declared.positions.FileSpan.{FileSpan}
 use Rattle.part_texts.proofs.KeySums.{all_added, tokens_add, validators_add}
 use Rattle.part_texts.proofs.ShownReports.{reports_merge}
 use Rattle.part_texts.proofs.Tables.{validators_added, within}
@@ -59,13 +59,13 @@ all_add s all (one ∷ more) is few =
     (next, within s one.1 next refl (omega (arith, taps, few)), all_add next all more rest few)
 
 -- ---- keys that rise
-rise_above : (f : ℕ → Sums) (last : Option ℕ) (keys : List ℕ)
+increase_above : (f : ℕ → Sums) (last : Option ℕ) (keys : List ℕ)
     → AllByRecursion (λ k. is_above last k ≡ true) keys → IsStrictlySortedBy nat_cmp keys
-    → do_rise last (map (λ k. (k, f k)) keys)
+    → are_increasing last (map (λ k. (k, f k)) keys)
 unfolding IsStrictlySortedBy
-rise_above f last [] above rises = tt
-rise_above f last (k ∷ keys) above rises =
-    (above.0, rise_above f (Some k) keys (all_above k keys rises.0) rises.1)
+increase_above f last [] above increases = tt
+increase_above f last (k ∷ keys) above increases =
+    (above.0, increase_above f (Some k) keys (all_above k keys increases.0) increases.1)
   where
     all_above : (k : ℕ) (keys : List ℕ) → AllByRecursion (λ z. nat_cmp k z ≡ Less) keys
         → AllByRecursion (λ z. nat_lt k z ≡ true) keys
@@ -77,12 +77,12 @@ none_above : (keys : List ℕ) → AllByRecursion (λ k. is_above None k ≡ tru
 none_above [] = tt
 none_above (k ∷ keys) = (refl, none_above keys)
 
-pub validators_rise : (history : List Entry) → do_rise None (sums_by_validator history)
+pub validators_increase : (history : List Entry) → are_increasing None (sums_by_validator history)
 unfolding sums_by_validator validators
-validators_rise history =
-    rise_above _ None (rising nat_cmp (map validator_of history))
-    (none_above (rising nat_cmp (map validator_of history)))
-    (rising-is nat_cmp_total (λ a b tied. grind (arith, nat_tests, tied)) (map validator_of history)).rises
+validators_increase history =
+    increase_above _ None (increasing nat_cmp (map validator_of history))
+    (none_above (increasing nat_cmp (map validator_of history)))
+    (increasing-is nat_cmp_total (λ a b tied. grind (arith, nat_tests, tied)) (map validator_of history)).increases
 
 -- the last token is below these
 abbrev pub LastIsBelow : Option Token → List Token → Type 0
@@ -90,23 +90,23 @@ LastIsBelow None tokens = Unit {0}
 LastIsBelow (Some last) tokens = AllByRecursion (λ t. token_cmp last t ≡ Less) tokens
 
 tokens_above : (f : Token → Sums) (last : Option Token) (keys : List Token) → LastIsBelow last keys
-    → IsStrictlySortedBy token_cmp keys → do_tokens_rise last (map (λ t. (t, f t)) keys)
+    → IsStrictlySortedBy token_cmp keys → are_tokens_increasing last (map (λ t. (t, f t)) keys)
 unfolding IsStrictlySortedBy
-tokens_above f last [] below rises = tt
-tokens_above f last (k ∷ keys) below rises =
-    (first_above last below, tokens_above f (Some k) keys rises.0 rises.1)
+tokens_above f last [] below increases = tt
+tokens_above f last (k ∷ keys) below increases =
+    (first_above last below, tokens_above f (Some k) keys increases.0 increases.1)
   where
     first_above : (last : Option Token) → LastIsBelow last (k ∷ keys) → is_token_above last k ≡ true
     first_above None below = refl
     first_above (Some token) below = ap is_lt below.0
 
 -- what holds of all keys holds of them in their order
-pub all_rising : {K : Type 0} (cmp : K → K → Ordering) (P : K → Type 0) (keys : List K) → All P keys
-    → All P (rising cmp keys)
-unfolding rising
-all_rising cmp P [] all = All-nil P
-all_rising cmp P (key ∷ keys) all =
-    All-insert_key cmp key P (rising cmp keys) (all_rising cmp P keys (All-tail P key keys all))
+pub all_ascending : {K : Type 0} (cmp : K → K → Ordering) (P : K → Type 0) (keys : List K) → All P keys
+    → All P (increasing cmp keys)
+unfolding increasing
+all_ascending cmp P [] all = All-nil P
+all_ascending cmp P (key ∷ keys) all =
+    All-insert_key cmp key P (increasing cmp keys) (all_ascending cmp P keys (All-tail P key keys all))
     (All-head P key keys all)
 
 pub below_front : (last : Option Token) (xs ys : List Token) → LastIsBelow last (xs ++ ys)
@@ -117,12 +117,12 @@ below_front (Some last) (x ∷ xs) ys below =
     let (front, back) = below_front (Some last) xs ys below.1 in ((below.0, front), back)
 
 -- what is below all tokens is below them in their order
-pub below_rising : (last : Option Token) (keys : List Token) → LastIsBelow last keys
-    → LastIsBelow last (rising token_cmp keys)
-below_rising None keys below = tt
-below_rising (Some last) keys below =
-    recursion_from_All (λ t. token_cmp last t ≡ Less) (rising token_cmp keys)
-    (all_rising token_cmp (λ t. token_cmp last t ≡ Less) keys (from_recursion keys below))
+pub below_increasing : (last : Option Token) (keys : List Token) → LastIsBelow last keys
+    → LastIsBelow last (increasing token_cmp keys)
+below_increasing None keys below = tt
+below_increasing (Some last) keys below =
+    recursion_from_All (λ t. token_cmp last t ≡ Less) (increasing token_cmp keys)
+    (all_ascending token_cmp (λ t. token_cmp last t ≡ Less) keys (from_recursion keys below))
   where
     from_recursion : (ks : List Token) → AllByRecursion (λ t. token_cmp last t ≡ Less) ks
         → All (λ t. token_cmp last t ≡ Less) ks
@@ -130,13 +130,13 @@ below_rising (Some last) keys below =
     from_recursion (k ∷ ks) all =
         All-cons (λ t. token_cmp last t ≡ Less) k ks all.0 (from_recursion ks all.1)
 
-pub tokens_rise : (last : Option Token) (history : List Entry)
-    → LastIsBelow last (map token_of history) → do_tokens_rise last (sums_by_token history)
+pub tokens_increase : (last : Option Token) (history : List Entry)
+    → LastIsBelow last (map token_of history) → are_tokens_increasing last (sums_by_token history)
 unfolding sums_by_token tokens
-tokens_rise last history below =
-    tokens_above _ last (rising token_cmp (map token_of history))
-    (below_rising last (map token_of history) below)
-    (rising-is token_cmp-total token_cmp-ties (map token_of history)).rises
+tokens_increase last history below =
+    tokens_above _ last (increasing token_cmp (map token_of history))
+    (below_increasing last (map token_of history) below)
+    (increasing-is token_cmp-total token_cmp-ties (map token_of history)).increases
 
 last_below : (f : Token → Sums) (last : Option Token) (keys later : List Token)
     → LastIsBelow last later → All (λ t. All (λ u. token_cmp t u ≡ Less) later) keys
@@ -152,9 +152,9 @@ pub next_last : (last : Option Token) (history : List Entry) (later : List Token
     → LastIsBelow last later → AreBelow (map token_of history) later
     → LastIsBelow (last_of last (sums_by_token history)) later
 unfolding sums_by_token tokens
-next_last last history later below rise =
-    last_below _ last (rising token_cmp (map token_of history)) later below
-    (all_rising token_cmp (λ t. All (λ u. token_cmp t u ≡ Less) later) (map token_of history) rise)
+next_last last history later below increase =
+    last_below _ last (increasing token_cmp (map token_of history)) later below
+    (all_ascending token_cmp (λ t. All (λ u. token_cmp t u ≡ Less) later) (map token_of history) increase)
 
 -- ---- how many keys there are
 insert_few : {K : Type 0} (cmp : K → K → Ordering) (keys : List K) (key : K)
@@ -169,20 +169,20 @@ insert_few cmp (x ∷ keys) key = by_order (cmp key x) refl (insert_few cmp keys
     by_order Equal is rest = rw is (omega arith)
     by_order Greater is rest = rw is (omega (arith, rest))
 
-pub rising_few : {K : Type 0} (cmp : K → K → Ordering) (keys : List K)
-    → length (rising cmp keys) ≤ length keys
-unfolding rising
-rising_few cmp [] = omega arith
-rising_few cmp (key ∷ keys) =
-    omega (arith, rising_few cmp keys, insert_few cmp (rising cmp keys) key)
+pub increasing_few : {K : Type 0} (cmp : K → K → Ordering) (keys : List K)
+    → length (increasing cmp keys) ≤ length keys
+unfolding increasing
+increasing_few cmp [] = omega arith
+increasing_few cmp (key ∷ keys) =
+    omega (arith, increasing_few cmp keys, insert_few cmp (increasing cmp keys) key)
 
 pub tokens_few : (history : List Entry) → length (sums_by_token history) ≤ length history
 unfolding sums_by_token tokens
 tokens_few history =
     omega (
       arith,
-      length-map {B = Token × Sums} (rising token_cmp (map token_of history)) (λ t. (t, sums (own t history))),
-      rising_few token_cmp (map token_of history),
+      length-map {B = Token × Sums} (increasing token_cmp (map token_of history)) (λ t. (t, sums (own t history))),
+      increasing_few token_cmp (map token_of history),
       length-map history token_of,
     )
 
@@ -191,23 +191,23 @@ unfolding sums_by_validator validators
 validators_few history =
     omega (
       arith,
-      length-map {B = ℕ × Sums} (rising nat_cmp (map validator_of history))
+      length-map {B = ℕ × Sums} (increasing nat_cmp (map validator_of history))
           (λ v. (v, sums (entries_of_validator v history))),
-      rising_few nat_cmp (map validator_of history),
+      increasing_few nat_cmp (map validator_of history),
       length-map history validator_of,
     )
 
 -- ---- spans
-abbrev pub from_ends : List FileSpan → List (Option Place)
+abbrev pub from_ends : List FileSpan → List (Option Position)
 from_ends spans = map (λ (span : FileSpan). Some span.from) spans
 
-abbrev pub to_ends : List FileSpan → List (Option Place)
+abbrev pub to_ends : List FileSpan → List (Option Position)
 to_ends spans = map (λ (span : FileSpan). span.to) spans
 
 abbrev pub MayAllEnd : Bool → List FileSpan → Type 0
 MayAllEnd last spans = AllByRecursion (λ span. may_end last span.to ≡ true) spans
 
-pub joined_next : (last : Bool) (news : List (Option Place)) (spans : List FileSpan)
+pub joined_next : (last : Bool) (news : List (Option Position)) (spans : List FileSpan)
     → MayAllEnd last spans
     → are_joined false last (from_ends spans ++ news) spans (news ++ to_ends spans)
 joined_next last news [] ends = sym (append-nil news)
@@ -222,15 +222,15 @@ joined_next last news (span ∷ spans) ends = (
       (joined_next last (news ++ span.to ∷ []) spans ends.1)),
 )
 
-pub joined_first : (last : Bool) (news : List (Option Place)) (spans : List FileSpan)
-    → map (λ (span : FileSpan). Some first_place) spans ≡ from_ends spans → MayAllEnd last spans
+pub joined_first : (last : Bool) (news : List (Option Position)) (spans : List FileSpan)
+    → map (λ (span : FileSpan). Some first_position) spans ≡ from_ends spans → MayAllEnd last spans
     → are_joined true last news spans (news ++ to_ends spans)
 joined_first last news [] from ends = sym (append-nil news)
 joined_first last news (span ∷ spans) from ends =
-    let here : first_place ≡ span.from = cc in
-    let more : map (λ (span : FileSpan). Some first_place) spans ≡ from_ends spans = cc in (
+    let here : first_position ≡ span.from = cc in
+    let more : map (λ (span : FileSpan). Some first_position) spans ≡ from_ends spans = cc in (
       news,
-      ap (λ (p : Place). Some (p, news)) here,
+      ap (λ (p : Position). Some (p, news)) here,
       ends.0,
       subst (λ all. are_joined true last (news ++ span.to ∷ []) spans all)
           (append_assoc news (span.to ∷ []) (to_ends spans))
@@ -249,7 +249,7 @@ may_last (span ∷ spans) all = (
 )
 
 pub may_end_all : (spans : List FileSpan) (later : List (List FileSpan)) → DoJoin (to_ends spans) later
-    → MayAllEnd (is_none_behind later) spans
+    → MayAllEnd (is_none_after later) spans
 may_end_all spans [] all = may_last spans all
 may_end_all spans (next ∷ later) join = may_all spans
 
@@ -323,7 +323,7 @@ added_assoc (x ∷ xs) (y ∷ ys) (z ∷ zs) =
 
 -- ---- the parts so far
 -- these are the parts of this history so far, which has these taps of each file
-abbrev so_far : List (Option Place) → List ℕ → List Entry → Option Token → SoFar
+abbrev so_far : List (Option Position) → List ℕ → List Entry → Option Token → SoFar
 so_far ends taps history last = record {
   ends = ends;
   taps = taps;
@@ -346,7 +346,7 @@ part_right p fits few =
       totals = fits.totals;
       validators_number = (let v = validators_few p.history in omega (arith, v, few));
       validators = fits.validators;
-      validators_rise = validators_rise p.history;
+      validators_increase = validators_increase p.history;
       validators_add = all_add no_sums (sums p.history) (sums_by_validator p.history)
           (validators_add p.history ∙ sym (no_sums_add (all_added (sums_by_validator p.history)))) small;
       tokens_number = omega (arith, number, few);
@@ -355,7 +355,7 @@ part_right p fits few =
           (tokens_add p.history ∙ sym (no_sums_add (all_added (sums_by_token p.history)))) small;
     }
 
-one_part : (first last : Bool) (ends : List (Option Place)) (taps : List ℕ) (history : List Entry)
+one_part : (first last : Bool) (ends : List (Option Position)) (taps : List ℕ) (history : List Entry)
     (last_one : Option Token) (p : HistoryPart) → Fits p
     → (first || nat_eq (length p.spans) (length ends)) ≡ true
     → are_joined first last ends p.spans (to_ends p.spans)
@@ -366,7 +366,7 @@ one_part : (first last : Bool) (ends : List (Option Place)) (taps : List ℕ) (h
     → IsNextPart first last (so_far ends taps history last_one) (report_of p)
     (so_far (to_ends p.spans) (added taps p.taps) (history ++ p.history)
     (last_of last_one (sums_by_token p.history)))
-one_part first last ends taps history last_one p fits files joined posted few rise below =
+one_part first last ends taps history last_one p fits files joined posted few increase below =
     let all = length-append history p.history in
     let summed : (sums (history ++ p.history)).taps ≡ length (history ++ p.history) =
     sums-taps (history ++ p.history) in
@@ -374,7 +374,7 @@ one_part first last ends taps history last_one p fits files joined posted few ri
     let here = tokens_few p.history in
     let tokens : length (sums_by_token (history ++ p.history))
     ≡ length (sums_by_token history) + length (sums_by_token p.history) =
-    ap length (by_token_joined history p.history rise)
+    ap length (by_token_joined history p.history increase)
     ∙ length-append (sums_by_token history) (sums_by_token p.history) in
     let sum : 0 + sum_up p.taps ≡ (sums p.history).taps =
     (let e : 0 + sum_up p.taps ≡ sum_up p.taps = omega arith in e) ∙ fits.posted ∙ sym (sums-taps p.history) in
@@ -388,7 +388,7 @@ one_part first last ends taps history last_one p fits files joined posted few ri
       validators = validators_added history p.history (omega (arith, few));
       number = omega (arith, all, few, before, here);
       tokens = tokens;
-      rise = tokens_rise last_one p.history below;
+      increase = tokens_increase last_one p.history below;
       last_is = refl;
     }
 
@@ -420,9 +420,9 @@ below_both (x ∷ xs) ys zs below =
 abbrev pub spans_of : List HistoryPart → List (List FileSpan)
 spans_of parts = map (λ (p : HistoryPart). p.spans) parts
 
-none_behind : (ps : List HistoryPart) → is_none_behind (spans_of ps) ≡ is_none_behind (map report_of ps)
-none_behind [] = refl
-none_behind (p ∷ ps) = refl
+none_after : (ps : List HistoryPart) → is_none_after (spans_of ps) ≡ is_none_after (map report_of ps)
+none_after [] = refl
+none_after (p ∷ ps) = refl
 
 pub same_number : (a b : ℕ) → a ≡ b → nat_eq a b ≡ true
 same_number a b same = grind (arith, nat_tests, same)
@@ -433,7 +433,7 @@ record GoesOn (files : ℕ) (taps : List ℕ) (history : List Entry) (last : Opt
   number : AllByRecursion (λ p. length p.spans ≡ files) parts
   uploads : length taps ≡ files
   posted : sum_up taps ≡ length history
-  rise : DoRise (histories_of parts)
+  increase : AreIncreasing (histories_of parts)
   above : AreBelow (map token_of history) (map token_of (whole_history parts))
   below : LastIsBelow last (map token_of (whole_history parts))
   fit : AllByRecursion Fits parts
@@ -460,12 +460,12 @@ goes_further files taps history last p ps goes uploads =
       uploads = uploads;
       posted = added_sum taps p.taps ∙ ap (λ n. n + sum_up p.taps) goes.posted
           ∙ ap (λ n. length history + n) goes.fit.0.posted ∙ sym (length-append history p.history);
-      rise = goes.rise.1;
+      increase = goes.increase.1;
       above = subst (λ (ts : List Token). AreBelow ts (map token_of rest))
           (sym (tokens_both history p.history))
           (below_append (map token_of history) (map token_of p.history) (map token_of rest) above_rest
-          goes.rise.0);
-      below = next_last last p.history (map token_of rest) below_rest goes.rise.0;
+          goes.increase.0);
+      below = next_last last p.history (map token_of rest) below_rest goes.increase.0;
       fit = goes.fit.1;
       few = subst (λ n. n < 2 ^ 64) (sym (ap length (append_assoc history p.history rest))) goes.few;
     }
@@ -501,10 +501,10 @@ is_next files taps history last p ps goes =
 pub ends_length : (spans : List FileSpan) → length (to_ends spans) ≡ length spans
 ends_length spans = length-map spans (λ (span : FileSpan). span.to)
 
-follow : (files : ℕ) (ends : List (Option Place)) (taps : List ℕ) (history : List Entry)
+follow : (files : ℕ) (ends : List (Option Position)) (taps : List ℕ) (history : List Entry)
     (last : Option Token) (parts : List HistoryPart) → length ends ≡ files
     → DoJoin ends (spans_of parts) → GoesOn files taps history last parts
-    → (all_ends : List (Option Place)) × (all_last : Option Token)
+    → (all_ends : List (Option Position)) × (all_last : Option Token)
     × are_next_parts false (so_far ends taps history last) (map report_of parts)
     (so_far all_ends (added taps (numbers_of parts)) (history ++ whole_history parts) all_last)
 follow files ends taps history last [] number join goes = (
@@ -524,16 +524,16 @@ follow files ends taps history last (p ∷ ps) number join goes =
     let uploads : length (added taps p.taps) ≡ files =
     added_length taps p.taps same ∙ goes.fit.0.uploads ∙ goes.number.0 in
     let small : 0 + sum_up p.taps < 2 ^ 64 = (let s = is.sums in omega (arith, s)) in
-    let ends_well = may_end_all p.spans (spans_of ps) join.1 in
-    let joined : are_joined false (is_none_behind (map report_of ps)) ends p.spans (to_ends p.spans) =
-    subst (λ b. are_joined false b ends p.spans (to_ends p.spans)) (none_behind ps)
-    (subst (λ e. are_joined false (is_none_behind (spans_of ps)) e p.spans (to_ends p.spans))
+    let ends_valid = may_end_all p.spans (spans_of ps) join.1 in
+    let joined : are_joined false (is_none_after (map report_of ps)) ends p.spans (to_ends p.spans) =
+    subst (λ b. are_joined false b ends p.spans (to_ends p.spans)) (none_after ps)
+    (subst (λ e. are_joined false (is_none_after (spans_of ps)) e p.spans (to_ends p.spans))
     (append-nil (from_ends p.spans) ∙ sym join.0)
-    (joined_next (is_none_behind (spans_of ps)) [] p.spans ends_well)) in
+    (joined_next (is_none_after (spans_of ps)) [] p.spans ends_valid)) in
     let posted : are_posted_to false taps 0 p.taps (added taps p.taps) (0 + sum_up p.taps) =
     subst (λ t. are_posted_to false t 0 p.taps (added taps p.taps) (0 + sum_up p.taps))
     (append-nil taps) (posted_next taps [] p.taps 0 same small is.sums) in
-    let part = one_part false (is_none_behind (map report_of ps)) ends taps history last p goes.fit.0
+    let part = one_part false (is_none_after (map report_of ps)) ends taps history last p goes.fit.0
     (same_number (length p.spans) (length ends) (goes.number.0 ∙ sym number)) joined posted is.few
     is.above is.below in
     let (all_ends, all_last, more) = follow files (to_ends p.spans) (added taps p.taps)
@@ -558,11 +558,11 @@ follow files ends taps history last (p ∷ ps) number join goes =
     )
 
 starts_as : nothing_so_far ≡ so_far [] [] [] None
-unfolding sums_of_replies sums_by_validator validators sums_by_token tokens rising
+unfolding sums_of_replies sums_by_validator validators sums_by_token tokens increasing
 starts_as = refl
 
 begins : (files : ℕ) (p : HistoryPart) (ps : List HistoryPart) → AreRight files (p ∷ ps)
-    → (all_ends : List (Option Place)) × (all_last : Option Token)
+    → (all_ends : List (Option Position)) × (all_last : Option Token)
     × are_next_parts true nothing_so_far (map report_of (p ∷ ps))
     (so_far all_ends (numbers_of (p ∷ ps)) (whole_history (p ∷ ps)) all_last)
 begins files p ps right =
@@ -571,23 +571,23 @@ begins files p ps right =
     let few = right.few in
     let now = right.fit.0.posted in
     let whole = right.whole in
-    let ends_well = may_end_all p.spans (spans_of ps) whole.1 in
+    let ends_valid = may_end_all p.spans (spans_of ps) whole.1 in
     let small : 0 + sum_up p.taps < 2 ^ 64 = omega (arith, now, all, few) in
-    let joined : are_joined true (is_none_behind (map report_of ps)) [] p.spans (to_ends p.spans) =
-    subst (λ b. are_joined true b [] p.spans (to_ends p.spans)) (none_behind ps)
-    (joined_first (is_none_behind (spans_of ps)) [] p.spans whole.0 ends_well) in
+    let joined : are_joined true (is_none_after (map report_of ps)) [] p.spans (to_ends p.spans) =
+    subst (λ b. are_joined true b [] p.spans (to_ends p.spans)) (none_after ps)
+    (joined_first (is_none_after (spans_of ps)) [] p.spans whole.0 ends_valid) in
     let posted : are_posted_to true [] 0 p.taps (added [] p.taps) (0 + sum_up p.taps) =
     posted_first [] p.taps 0 small in
-    let part = one_part true (is_none_behind (map report_of ps)) [] [] [] None p right.fit.0 refl joined
+    let part = one_part true (is_none_after (map report_of ps)) [] [] [] None p right.fit.0 refl joined
     posted (omega (arith, all, few)) (All-nil _) tt in
     let goes : GoesOn files (added [] p.taps) ([] ++ p.history) (last_of None (sums_by_token p.history)) ps =
     record {
       number = right.number.1;
       uploads = right.fit.0.uploads ∙ right.number.0;
       posted = now;
-      rise = right.rise.1;
-      above = right.rise.0;
-      below = next_last None p.history (map token_of rest) tt right.rise.0;
+      increase = right.increase.1;
+      above = right.increase.0;
+      below = next_last None p.history (map token_of rest) tt right.increase.0;
       fit = right.fit.1;
       few = few;
     } in
@@ -597,7 +597,7 @@ begins files p ps right =
       all_last,
       (
         so_far (to_ends p.spans) (added [] p.taps) ([] ++ p.history) (last_of None (sums_by_token p.history)),
-        subst (λ s. IsNextPart true (is_none_behind (map report_of ps)) s (report_of p)
+        subst (λ s. IsNextPart true (is_none_after (map report_of ps)) s (report_of p)
             (so_far (to_ends p.spans) (added [] p.taps) ([] ++ p.history)
             (last_of None (sums_by_token p.history)))) (sym starts_as) part,
         more,
@@ -605,15 +605,15 @@ begins files p ps right =
     )
 
 none_of_none : [] ≡ sums_by_token []
-unfolding sums_by_token tokens rising
+unfolding sums_by_token tokens increasing
 none_of_none = refl
 
-whole_tokens : (parts : List HistoryPart) → DoRise (histories_of parts)
+whole_tokens : (parts : List HistoryPart) → AreIncreasing (histories_of parts)
     → tokens_of (map report_of parts) ≡ sums_by_token (whole_history parts)
-whole_tokens [] rise = none_of_none
-whole_tokens (p ∷ ps) rise =
-    ap (λ (ts : List (Token × Sums)). sums_by_token p.history ++ ts) (whole_tokens ps rise.1)
-    ∙ sym (by_token_joined p.history (whole_history ps) rise.0)
+whole_tokens [] increase = none_of_none
+whole_tokens (p ∷ ps) increase =
+    ap (λ (ts : List (Token × Sums)). sums_by_token p.history ++ ts) (whole_tokens ps increase.1)
+    ∙ sym (by_token_joined p.history (whole_history ps) increase.0)
 
 -- THE law: reports of parts of a history are merged into the report of the whole history
 pub histories_merge : (files : ℕ) (p : HistoryPart) (ps : List HistoryPart)
@@ -627,4 +627,4 @@ histories_merge files p ps right =
     (so_far all_ends (numbers_of (p ∷ ps)) (whole_history (p ∷ ps)) all_last) are
     ∙ ap (λ (ts : List (Token × Sums)). Ok (report (map Posted (numbers_of (p ∷ ps)))
     (sums (whole_history (p ∷ ps))) (sums_by_validator (whole_history (p ∷ ps))) ts))
-    (whole_tokens (p ∷ ps) right.rise)
+    (whole_tokens (p ∷ ps) right.increase)

@@ -17,11 +17,11 @@ use Rattle.tap_views.specs.declared.token.Token.{Token}
 use Rattle.tap_views.proofs.TokenLemmas.{token_eq-refl, same_token, token_cmp-ties, token_cmp-total}
 use Rattle.histories.specs.declared.entry.Entry.{Entry}
 use Rattle.histories.specs.Entry.{is_at, is_of, own}
-use Rattle.histories.specs.Rising.{rising}
+use Rattle.histories.specs.Increasing.{increasing}
 use Rattle.histories.specs.Sums.{Sums, add_all, add_sums, sums}
 use Rattle.histories.specs.SumsByKey.{entries_of_validator, sums_by_token, sums_by_validator}
 use Rattle.histories.specs.SumsByKey.{token_of, tokens, validator_of, validators}
-use Rattle.histories.proofs.RisingLemmas.{rising-is}
+use Rattle.histories.proofs.IncreasingLemmas.{increasing-is}
 use Rattle.histories.proofs.SumsLemmas.{add_assoc, none_add, sums-append}
 use Rattle.std.proofs.lemmas.Cmp.{nat_cmp_total}
 
@@ -118,10 +118,10 @@ module _ {K : Type 0} (cmp : K → K → Ordering) (key : Entry → K) (at : K �
   others : (k : K) (keys : List K) (entry : Entry) → is_eq (cmp (key entry) k) ≡ true
       → AllByRecursion (λ other. cmp k other ≡ Less) keys
       → AllByRecursion (λ other. at other entry ≡ false) keys
-  others k [] entry is rise = tt
-  others k (other ∷ keys) entry is rise = (
-    reports other entry ∙ above k other (key entry) is rise.0,
-    others k keys entry is rise.1,
+  others k [] entry is increase = tt
+  others k (other ∷ keys) entry is increase = (
+    reports other entry ∙ above k other (key entry) is increase.0,
+    others k keys entry is increase.1,
   )
 
   one_by : (k : K) (keys : List K) (entry : Entry) (b : Bool) → is_eq (cmp (key entry) k) ≡ b
@@ -129,17 +129,17 @@ module _ {K : Type 0} (cmp : K → K → Ordering) (key : Entry → K) (at : K �
       → (b || is_member (eq_by_cmp cmp) keys (key entry)) ≡ true
       → (is_member (eq_by_cmp cmp) keys (key entry) ≡ true → HasOneKey at keys entry)
       → HasOneKey at (k ∷ keys) entry
-  one_by k keys entry true is rise member rest =
-      inl (reports k entry ∙ is, others k keys entry is rise)
-  one_by k keys entry false is rise member rest = inr (reports k entry ∙ is, rest member)
+  one_by k keys entry true is increase member rest =
+      inl (reports k entry ∙ is, others k keys entry is increase)
+  one_by k keys entry false is increase member rest = inr (reports k entry ∙ is, rest member)
 
   one_of : (keys : List K) (entry : Entry) → IsStrictlySortedBy cmp keys
       → is_member (eq_by_cmp cmp) keys (key entry) ≡ true → HasOneKey at keys entry
   unfolding IsStrictlySortedBy
-  one_of [] entry rise member = absurd (cc)
-  one_of (k ∷ keys) entry rise member =
-      one_by k keys entry (is_eq (cmp (key entry) k)) refl rise.0 member
-      (one_of keys entry rise.1)
+  one_of [] entry increase member = absurd (cc)
+  one_of (k ∷ keys) entry increase member =
+      one_by k keys entry (is_eq (cmp (key entry) k)) refl increase.0 member
+      (one_of keys entry increase.1)
 
   either : (b c : Bool) → c ≡ true → (b || c) ≡ true
   either true c is = refl
@@ -161,10 +161,10 @@ module _ {K : Type 0} (cmp : K → K → Ordering) (key : Entry → K) (at : K �
       → ((q : K) → is_member (eq_by_cmp cmp) keys q ≡ is_member (eq_by_cmp cmp) (map key all) q)
       → AllByRecursion (λ entry. is_member (eq_by_cmp cmp) (map key all) (key entry) ≡ true) entries
       → AllByRecursion (HasOneKey at keys) entries
-  each_one keys all [] rise are each = tt
-  each_one keys all (entry ∷ entries) rise are each = (
-    one_of keys entry rise (are (key entry) ∙ each.0),
-    each_one keys all entries rise are each.1,
+  each_one keys all [] increase are each = tt
+  each_one keys all (entry ∷ entries) increase are each = (
+    one_of keys entry increase (are (key entry) ∙ each.0),
+    each_one keys all entries increase are each.1,
   )
 
   pub keys_add : (law : SumsAdd) (keys : List K) (entries : List Entry)
@@ -172,8 +172,8 @@ module _ {K : Type 0} (cmp : K → K → Ordering) (key : Entry → K) (at : K �
       → ((q : K) → is_member (eq_by_cmp cmp) keys q
       ≡ is_member (eq_by_cmp cmp) (map key entries) q)
       → keyed at keys entries ≡ sums entries
-  keys_add law keys entries rise are =
-      all_keys at law keys entries (each_one keys entries entries rise are
+  keys_add law keys entries increase are =
+      all_keys at law keys entries (each_one keys entries entries increase are
       (members entries entries (λ q is. is)))
 
 -- ---- validators and tokens
@@ -222,17 +222,17 @@ seconds f (k ∷ keys) = ap (λ rest. f k ∷ rest) (seconds f keys)
 pub validators_add : (entries : List Entry) → sums entries ≡ all_added (sums_by_validator entries)
 unfolding sums_by_validator validators entries_of_validator
 validators_add entries =
-    let keys = rising nat_cmp (map validator_of entries) in
-    let risen = rising-is nat_cmp_total number_ties (map validator_of entries) in
+    let keys = increasing nat_cmp (map validator_of entries) in
+    let risen = increasing-is nat_cmp_total number_ties (map validator_of entries) in
     sym (keys_add nat_cmp validator_of is_at number_reports number_above same_key sums-append keys
-    entries risen.rises risen.same)
+    entries risen.increases risen.same)
     ∙ ap add_all (sym (seconds (λ k. sums (filter (is_at k) entries)) keys))
 
 pub tokens_add : (entries : List Entry) → sums entries ≡ all_added (sums_by_token entries)
 unfolding sums_by_token tokens own
 tokens_add entries =
-    let keys = rising token_cmp (map token_of entries) in
-    let risen = rising-is token_cmp-total token_cmp-ties (map token_of entries) in
+    let keys = increasing token_cmp (map token_of entries) in
+    let risen = increasing-is token_cmp-total token_cmp-ties (map token_of entries) in
     sym (keys_add token_cmp token_of is_of token_reports token_above token_same sums-append keys
-    entries risen.rises risen.same)
+    entries risen.increases risen.same)
     ∙ ap add_all (sym (seconds (λ k. sums (filter (is_of k) entries)) keys))

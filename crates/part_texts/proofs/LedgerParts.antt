@@ -12,7 +12,7 @@ use Rattle.tap_views.specs.declared.token.Token.{Token}
 use Rattle.tap_views.proofs.TokenLemmas.{less_apart, token_eq-sym}
 use Rattle.tariffs.specs.Fares.{Fares}
 use Rattle.histories.specs.Entry.{own}
-use Rattle.histories.specs.Rising.{rising}
+use Rattle.histories.specs.Increasing.{increasing}
 use Rattle.histories.specs.Sums.{Sums, sums}
 use Rattle.histories.specs.SumsByKey.{sums_by_token, token_of, tokens}
 use Rattle.histories.specs.declared.entry.Entry.{Entry}
@@ -20,17 +20,17 @@ use Rattle.histories.proofs.OwnEntries.{own-append}
 use Rattle.histories.proofs.SumsByToken.{by_token_joined, none_of}
 use Rattle.fare_texts.specs.Ledger.{AreLinesOfEach, IsLedgerOver}
 use Rattle.fare_texts.specs.LedgerLines.{AreLedgerLines, head_text}
-use Rattle.sorted_taps.specs.Places.{DoJoin}
-use Rattle.sorted_taps.specs.declared.places.Place.{Place}
-use Rattle.sorted_taps.specs.declared.places.FileSpan.{FileSpan}
+use Rattle.sorted_taps.specs.Positions.{DoJoin}
+use Rattle.sorted_taps.specs.declared.positions.Position.{Position}
+use Rattle.sorted_taps.specs.declared.positions.FileSpan.{FileSpan}
 use Rattle.part_texts.specs.Heads.{part_head}
-use Rattle.part_texts.specs.HistoryParts.{DoRise, HistoryPart, histories_of, whole_history}
+use Rattle.part_texts.specs.HistoryParts.{AreIncreasing, HistoryPart, histories_of, whole_history}
 use Rattle.part_texts.specs.LedgerParts.{DoJoinUp, IsPartLedger}
 use Rattle.part_texts.specs.Merged.{merge_of}
 use Rattle.part_texts.specs.Shown.{SpanFits}
-use Rattle.part_texts.specs.inside.Shown.{are_joined, is_none_behind}
+use Rattle.part_texts.specs.inside.Shown.{are_joined, is_none_after}
 use Rattle.part_texts.specs.inside.ShownLedgers.{PartLedger, all_lines, are_next_ledgers, ledger_text}
-use Rattle.part_texts.proofs.HistoryParts.{all_rising, ends_length, from_ends, joined_first, joined_next, may_end_all, same_number, spans_of, to_ends}
+use Rattle.part_texts.proofs.HistoryParts.{all_ascending, ends_length, from_ends, joined_first, joined_next, may_end_all, same_number, spans_of, to_ends}
 use Rattle.part_texts.proofs.ShownLedgers.{ledgers_merge}
 
 -- ---- ledgers of histories, one behind the other
@@ -64,17 +64,17 @@ own_front xs ys below =
     (none_of t ys
     (All-weaker (λ o. token_cmp t o ≡ Less) (λ o. token_eq o t ≡ false)
     (λ o less. less_apart t o less) later all))
-    ∙ append-nil (own t xs)) (rising token_cmp (map token_of xs))
-    (all_rising token_cmp (λ t. All (λ o. token_cmp t o ≡ Less) later) (map token_of xs) below)
+    ∙ append-nil (own t xs)) (increasing token_cmp (map token_of xs))
+    (all_ascending token_cmp (λ t. All (λ o. token_cmp t o ≡ Less) later) (map token_of xs) below)
 
 -- the later tokens are above all earlier ones
 turned : (xs ys : List Token) → AreBelow xs ys → All (λ y. All (λ x. token_cmp x y ≡ Less) xs) ys
 turned xs ys below = λ j e g i d h. below i d h j e g
 
-own_behind : (xs ys : List Entry) → AreBelow (map token_of xs) (map token_of ys)
+own_after : (xs ys : List Entry) → AreBelow (map token_of xs) (map token_of ys)
     → All (λ t. own t (xs ++ ys) ≡ own t ys) (tokens ys)
 unfolding tokens
-own_behind xs ys below =
+own_after xs ys below =
     let earlier = map token_of xs in
     All-weaker (λ t. All (λ x. token_cmp x t ≡ Less) earlier) (λ t. own t (xs ++ ys) ≡ own t ys)
     (λ t all. own-append t xs ys
@@ -82,8 +82,8 @@ own_behind xs ys below =
     (none_of t xs
     (All-weaker (λ x. token_cmp x t ≡ Less) (λ x. token_eq x t ≡ false)
     (λ x less. token_eq-sym x t ∙ less_apart x t less) earlier all)))
-    (rising token_cmp (map token_of ys))
-    (all_rising token_cmp (λ t. All (λ x. token_cmp x t ≡ Less) earlier) (map token_of ys)
+    (increasing token_cmp (map token_of ys))
+    (all_ascending token_cmp (λ t. All (λ x. token_cmp x t ≡ Less) earlier) (map token_of ys)
     (turned earlier (map token_of ys) below))
 
 module _ (fares : Fares) where
@@ -121,10 +121,10 @@ module _ (fares : Fares) where
       (sym (tokens_joined xs ys below))
       (lines_append (xs ++ ys) (tokens xs) (tokens ys) a b
       (lines_moved xs (xs ++ ys) (tokens xs) a (own_front xs ys below) one)
-      (lines_moved ys (xs ++ ys) (tokens ys) b (own_behind xs ys below) two))
+      (lines_moved ys (xs ++ ys) (tokens ys) b (own_after xs ys below) two))
 
   no_lines : AreLinesOfEach fares [] (tokens []) []
-  unfolding tokens rising
+  unfolding tokens increasing
   no_lines = refl
 
   -- ---- the parts' ledgers
@@ -146,35 +146,35 @@ module _ (fares : Fares) where
       ∙ ap (λ (x : List ℕ). x ∷ map ledger_text (ledgers_of ps ts are.1)) (sym are.0.shown)
       ∙ ap (λ (l : List (List ℕ)). t ∷ l) (texts_are ps ts are.1)
 
-  none_behind_too : (parts : List HistoryPart) (texts : List (List ℕ))
+  none_after_too : (parts : List HistoryPart) (texts : List (List ℕ))
       (are : AllZip (IsPartLedger fares) parts texts)
-      → is_none_behind (spans_of parts) ≡ is_none_behind (ledgers_of parts texts are)
-  none_behind_too [] [] are = refl
-  none_behind_too [] (t ∷ ts) are = absurd are
-  none_behind_too (p ∷ ps) [] are = absurd are
-  none_behind_too (p ∷ ps) (t ∷ ts) are = refl
+      → is_none_after (spans_of parts) ≡ is_none_after (ledgers_of parts texts are)
+  none_after_too [] [] are = refl
+  none_after_too [] (t ∷ ts) are = absurd are
+  none_after_too (p ∷ ps) [] are = absurd are
+  none_after_too (p ∷ ps) (t ∷ ts) are = refl
 
-  next_ledgers : (files : ℕ) (ends : List (Option Place)) (parts : List HistoryPart)
+  next_ledgers : (files : ℕ) (ends : List (Option Position)) (parts : List HistoryPart)
       (texts : List (List ℕ)) (are : AllZip (IsPartLedger fares) parts texts) → length ends ≡ files
       → files < 2 ^ 64 → AllByRecursion (λ (p : HistoryPart). length p.spans ≡ files) parts
       → AllByRecursion (λ (p : HistoryPart). AllByRecursion SpanFits p.spans) parts
       → DoJoin ends (spans_of parts) → are_next_ledgers false ends (ledgers_of parts texts are)
-  next_ledgers files ends [] [] are number few lengths places join = tt
-  next_ledgers files ends [] (t ∷ ts) are number few lengths places join = absurd are
-  next_ledgers files ends (p ∷ ps) [] are number few lengths places join = absurd are
-  next_ledgers files ends (p ∷ ps) (t ∷ ts) are number few lengths places join =
-      let ends_well = may_end_all p.spans (spans_of ps) join.1 in
+  next_ledgers files ends [] [] are number few lengths positions join = tt
+  next_ledgers files ends [] (t ∷ ts) are number few lengths positions join = absurd are
+  next_ledgers files ends (p ∷ ps) [] are number few lengths positions join = absurd are
+  next_ledgers files ends (p ∷ ps) (t ∷ ts) are number few lengths positions join =
+      let ends_valid = may_end_all p.spans (spans_of ps) join.1 in
       let size : length p.spans ≡ files = lengths.0 in (
         to_ends p.spans,
         omega (arith, size, few),
-        places.0,
+        positions.0,
         same_number (length p.spans) (length ends) (size ∙ sym number),
-        subst (λ b. are_joined false b ends p.spans (to_ends p.spans)) (none_behind_too ps ts are.1)
-            (subst (λ e. are_joined false (is_none_behind (spans_of ps)) e p.spans (to_ends p.spans))
+        subst (λ b. are_joined false b ends p.spans (to_ends p.spans)) (none_after_too ps ts are.1)
+            (subst (λ e. are_joined false (is_none_after (spans_of ps)) e p.spans (to_ends p.spans))
             (append-nil (from_ends p.spans) ∙ sym join.0)
-            (joined_next (is_none_behind (spans_of ps)) [] p.spans ends_well)),
+            (joined_next (is_none_after (spans_of ps)) [] p.spans ends_valid)),
         next_ledgers files (to_ends p.spans) ps ts are.1 (ends_length p.spans ∙ size) few lengths.1
-            places.1 join.1,
+            positions.1 join.1,
       )
 
   pub first_ledgers : (files : ℕ) (p : HistoryPart) (ps : List HistoryPart) (t : List ℕ)
@@ -183,28 +183,28 @@ module _ (fares : Fares) where
   first_ledgers files p ps t ts are join =
       let whole = join.whole in
       let few = join.few in
-      let ends_well = may_end_all p.spans (spans_of ps) whole.1 in
+      let ends_valid = may_end_all p.spans (spans_of ps) whole.1 in
       let size : length p.spans ≡ files = join.number.0 in (
         to_ends p.spans,
         omega (arith, size, few),
-        join.places.0,
+        join.positions.0,
         refl,
-        subst (λ b. are_joined true b [] p.spans (to_ends p.spans)) (none_behind_too ps ts are.1)
-            (joined_first (is_none_behind (spans_of ps)) [] p.spans whole.0 ends_well),
+        subst (λ b. are_joined true b [] p.spans (to_ends p.spans)) (none_after_too ps ts are.1)
+            (joined_first (is_none_after (spans_of ps)) [] p.spans whole.0 ends_valid),
         next_ledgers files (to_ends p.spans) ps ts are.1 (ends_length p.spans ∙ size) join.few
-            join.number.1 join.places.1 whole.1,
+            join.number.1 join.positions.1 whole.1,
       )
 
   pub whole_lines : (parts : List HistoryPart) (texts : List (List ℕ))
-      (are : AllZip (IsPartLedger fares) parts texts) → DoRise (histories_of parts)
+      (are : AllZip (IsPartLedger fares) parts texts) → AreIncreasing (histories_of parts)
       → AreLinesOfEach fares (whole_history parts) (tokens (whole_history parts))
       (all_lines (ledgers_of parts texts are))
-  whole_lines [] [] are rise = no_lines
-  whole_lines [] (t ∷ ts) are rise = absurd are
-  whole_lines (p ∷ ps) [] are rise = absurd are
-  whole_lines (p ∷ ps) (t ∷ ts) are rise =
+  whole_lines [] [] are increase = no_lines
+  whole_lines [] (t ∷ ts) are increase = absurd are
+  whole_lines (p ∷ ps) [] are increase = absurd are
+  whole_lines (p ∷ ps) (t ∷ ts) are increase =
       joined_lines p.history (whole_history ps) are.0.over.lines (all_lines (ledgers_of ps ts are.1))
-      rise.0 are.0.over.of_each (whole_lines ps ts are.1 rise.1)
+      increase.0 are.0.over.of_each (whole_lines ps ts are.1 increase.1)
 
   -- THE law: what is merged is the ledger of the whole history
   pub merged_is_whole : (files : ℕ) (p : HistoryPart) (ps : List HistoryPart)
@@ -214,7 +214,7 @@ module _ (fares : Fares) where
   merged_is_whole files p ps [] join are text is = absurd are
   merged_is_whole files p ps (t ∷ ts) join are text is = record {
     lines = all_lines (ledgers_of (p ∷ ps) (t ∷ ts) are);
-    of_each = whole_lines (p ∷ ps) (t ∷ ts) are join.rise;
+    of_each = whole_lines (p ∷ ps) (t ∷ ts) are join.increase;
     whole = ledgers_merge (record { spans = p.spans; lines = are.0.over.lines }) (ledgers_of ps ts are.1)
         (first_ledgers files p ps t ts are join) text
         (ap merge_of (texts_are (p ∷ ps) (t ∷ ts) are) ∙ is);

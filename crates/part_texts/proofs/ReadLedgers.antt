@@ -17,10 +17,10 @@ use Rattle.tap_views.specs.declared.token.Token.{Token}
 use Rattle.tap_views.proofs.TokenLemmas.{token_cmp-total, token_cmp-ties}
 use Rattle.tariffs.specs.Fares.{Fares}
 use Rattle.histories.specs.Entry.{TokensFit, own}
-use Rattle.histories.specs.Rising.{rising}
+use Rattle.histories.specs.Increasing.{increasing}
 use Rattle.histories.specs.SumsByKey.{token_of, tokens}
 use Rattle.histories.specs.declared.entry.Entry.{Entry}
-use Rattle.histories.proofs.RisingLemmas.{rising-is}
+use Rattle.histories.proofs.IncreasingLemmas.{increasing-is}
 use Rattle.fare_texts.specs.Ledger.{AreLinesOfEach, IsLedgerOver}
 use Rattle.fare_texts.specs.LedgerLines.{AreLedgerLinesAfter, IsLedgerLineAfter, entry_fields, head_text, line_head}
 use Rattle.ledger_fields.specs.Lines.{row_in}
@@ -28,12 +28,12 @@ use Rattle.ledger_fields.specs.Rows.{Row}
 use Rattle.report_texts.specs.Forms.{token_read}
 use Rattle.report_texts.specs.FormLaws.{IsTokenDigits, token_law}
 use Rattle.part_texts.specs.EntryLines.{entry_token_in, first_of, token_with}
-use Rattle.part_texts.specs.HistoryParts.{DoRise, HistoryPart, histories_of, whole_history}
+use Rattle.part_texts.specs.HistoryParts.{AreIncreasing, HistoryPart, histories_of, whole_history}
 use Rattle.part_texts.specs.LedgerParts.{AreReadable, DoJoinUp, IsPartLedger, IsReadableLine}
 use Rattle.part_texts.specs.Merged.{merge_of}
 use Rattle.part_texts.specs.Sections.{may_follow}
 use Rattle.part_texts.specs.inside.ShownLedgers.{EntryLine, IsEntryLine, PartLedger, all_lines, are_read, do_follow, last_entry, lines_of_entries}
-use Rattle.part_texts.proofs.HistoryParts.{LastIsBelow, all_rising, below_front, below_rising, tokens_both}
+use Rattle.part_texts.proofs.HistoryParts.{LastIsBelow, all_ascending, below_front, below_increasing, tokens_both}
 use Rattle.part_texts.proofs.LedgerParts.{first_ledgers, ledgers_of, texts_are, whole_lines}
 use Rattle.part_texts.proofs.ShownLedgers.{ledgers_read}
 
@@ -43,11 +43,11 @@ row_read : (row : Option Row) (value : Row) (line : List ℕ) → row ≡ Some v
 row_read row value line is = ap (λ (r : Option Row). token_with r line) is
 
 -- the token stands in front of the line
-in_front : (token : Token) (digits behind rest : List ℕ) → IsTokenDigits token digits
-    → token_read ((digits ++ behind) ++ rest) ≡ Some (token, behind ++ rest)
-in_front token digits behind rest is =
-    ap token_read (append_assoc digits behind rest)
-    ∙ token_law.complete token digits (behind ++ rest) is tt
+in_front : (token : Token) (digits trailing rest : List ℕ) → IsTokenDigits token digits
+    → token_read ((digits ++ trailing) ++ rest) ≡ Some (token, trailing ++ rest)
+in_front token digits trailing rest is =
+    ap token_read (append_assoc digits trailing rest)
+    ∙ token_law.complete token digits (trailing ++ rest) is tt
 
 token_first : (token : Token) (number : ℕ) (rest : List ℕ) → TokenFits token
     → option_map first_of (token_read (line_head token number ++ rest)) ≡ Some token
@@ -84,17 +84,17 @@ module _ (fares : Fares) (history : List Entry) (readable : AreReadable fares hi
   token_lines token earlier [] text fits whole none =
       record { entries = []; shown = none; fit = tt; same = tt }
   token_lines token earlier (entry ∷ rest) text fits whole (line, more, is, others, shown) =
-      let behind = token_lines token (earlier ++ entry ∷ []) rest more fits
+      let trailing = token_lines token (earlier ++ entry ∷ []) rest more fits
       (whole ∙ sym (append_assoc earlier (entry ∷ []) rest)) others in
       record {
-        entries = record { token = token; line = line } ∷ behind.entries;
-        shown = shown ∙ ap (λ (t : List ℕ). line ++ t) behind.shown;
+        entries = record { token = token; line = line } ∷ trailing.entries;
+        shown = shown ∙ ap (λ (t : List ℕ). line ++ t) trailing.shown;
         fit = (
           entry_line fares token earlier entry line fits is
               (readable token earlier entry rest line whole is),
-          behind.fit,
+          trailing.fit,
         );
-        same = (refl, behind.same);
+        same = (refl, trailing.same);
       }
 
 -- ---- entries that follow
@@ -128,21 +128,21 @@ follow_one first last token (e ∷ entries) same below = (
   subst (λ (t : Token). do_follow false (Some t) entries) (sym same.0) (follow_same token entries same.1),
 )
 
-abbrev behind : Bool → List EntryLine → Bool
-behind first [] = first
-behind first (e ∷ entries) = false
+abbrev trailing : Bool → List EntryLine → Bool
+trailing first [] = first
+trailing first (e ∷ entries) = false
 
-behind_false : (entries : List EntryLine) → behind false entries ≡ false
-behind_false [] = refl
-behind_false (e ∷ entries) = refl
+after_false : (entries : List EntryLine) → trailing false entries ≡ false
+after_false [] = refl
+after_false (e ∷ entries) = refl
 
 follow_both : (first : Bool) (last : Option Token) (a b : List EntryLine) → do_follow first last a
-    → do_follow (behind first a) (last_entry last a) b → do_follow first last (a ++ b)
+    → do_follow (trailing first a) (last_entry last a) b → do_follow first last (a ++ b)
 follow_both first last [] b one two = two
 follow_both first last (e ∷ a) b one two = (
   one.0,
   follow_both false (Some e.token) a b one.1
-      (subst (λ f. do_follow f (last_entry (Some e.token) a) b) (sym (behind_false a)) two),
+      (subst (λ f. do_follow f (last_entry (Some e.token) a) b) (sym (after_false a)) two),
 )
 
 last_both : (last : Option Token) (a b : List EntryLine)
@@ -196,12 +196,12 @@ module _ (fares : Fares) (history : List Entry) (readable : AreReadable fares hi
       → AllByRecursion (λ k. AllByRecursion (λ z. token_cmp k z ≡ Less) later) keys
       → AreLinesOfEach fares history keys text → ReadAll first last later text
   unfolding IsStrictlySortedBy
-  each_line first last [] text fits rises below end ends none =
+  each_line first last [] text fits increases below end ends none =
       record { entries = []; shown = none; fit = tt; follow = tt; below = end }
-  each_line first last (k ∷ keys) text fits rises below end ends (lines, rest, are, each, shown) =
+  each_line first last (k ∷ keys) text fits increases below end ends (lines, rest, are, each, shown) =
       let here = token_lines fares history readable k [] (own k history) lines fits.0 refl are in
-      let more = each_line (behind first here.entries) (last_entry last here.entries) keys rest fits.1
-      rises.1 (last_below k last here.entries keys here.same (below_rest last k keys below) rises.0)
+      let more = each_line (trailing first here.entries) (last_entry last here.entries) keys rest fits.1
+      increases.1 (last_below k last here.entries keys here.same (below_rest last k keys below) increases.0)
       (last_below k last here.entries later here.same end ends.0) ends.1 each in
       record {
         entries = here.entries ++ more.entries;
@@ -219,16 +219,16 @@ module _ (fares : Fares) (history : List Entry) (readable : AreReadable fares hi
       → AreBelow (map token_of history) later
       → AreLinesOfEach fares history (tokens history) text → ReadAll true last later text
   unfolding tokens
-  part_read last text fits below end rise lines =
+  part_read last text fits below end increase lines =
       let keys = map token_of history in
-      each_line true last (rising token_cmp keys) text
-      (recursion_from_All TokenFits (rising token_cmp keys) (all_rising token_cmp TokenFits keys (mapped history fits)))
-      (rising-is token_cmp-total token_cmp-ties keys).rises (below_rising last keys below) end
-      (recursion_from_All (λ k. AllByRecursion (λ z. token_cmp k z ≡ Less) later) (rising token_cmp keys)
-      (all_rising token_cmp (λ k. AllByRecursion (λ z. token_cmp k z ≡ Less) later) keys
+      each_line true last (increasing token_cmp keys) text
+      (recursion_from_All TokenFits (increasing token_cmp keys) (all_ascending token_cmp TokenFits keys (mapped history fits)))
+      (increasing-is token_cmp-total token_cmp-ties keys).increases (below_increasing last keys below) end
+      (recursion_from_All (λ k. AllByRecursion (λ z. token_cmp k z ≡ Less) later) (increasing token_cmp keys)
+      (all_ascending token_cmp (λ k. AllByRecursion (λ z. token_cmp k z ≡ Less) later) keys
       (All-weaker (λ k. All (λ z. token_cmp k z ≡ Less) later)
       (λ k. AllByRecursion (λ z. token_cmp k z ≡ Less) later)
-      (λ k all. recursion_from_All (λ z. token_cmp k z ≡ Less) later all) keys rise))) lines
+      (λ k all. recursion_from_All (λ z. token_cmp k z ≡ Less) later all) keys increase))) lines
     where
       mapped : (es : List Entry) → TokensFit es → All TokenFits (map token_of es)
       mapped [] fits = All-nil TokenFits
@@ -240,24 +240,24 @@ module _ (fares : Fares) (history : List Entry) (readable : AreReadable fares hi
 -- ---- all parts
 module _ (fares : Fares) where
   all_read : (last : Option Token) (parts : List HistoryPart) (texts : List (List ℕ))
-      (are : AllZip (IsPartLedger fares) parts texts) → DoRise (histories_of parts)
+      (are : AllZip (IsPartLedger fares) parts texts) → AreIncreasing (histories_of parts)
       → LastIsBelow last (map token_of (whole_history parts))
       → AllByRecursion (λ p. TokensFit p.history × AreReadable fares p.history) parts
       → are_read last (ledgers_of fares parts texts are)
-  all_read last [] [] are rise below read = tt
-  all_read last [] (t ∷ ts) are rise below read = absurd are
-  all_read last (p ∷ ps) [] are rise below read = absurd are
-  all_read last (p ∷ ps) (t ∷ ts) are rise below read =
+  all_read last [] [] are increase below read = tt
+  all_read last [] (t ∷ ts) are increase below read = absurd are
+  all_read last (p ∷ ps) [] are increase below read = absurd are
+  all_read last (p ∷ ps) (t ∷ ts) are increase below read =
       let rest = whole_history ps in
       let (front, back) = below_front last (map token_of p.history) (map token_of rest)
       (subst (LastIsBelow last) (tokens_both p.history rest) below) in
       let here = part_read fares p.history read.0.1 (map token_of rest) last are.0.over.lines read.0.0 front
-      back rise.0 are.0.over.of_each in (
+      back increase.0 are.0.over.of_each in (
         here.entries,
         here.shown,
         here.fit,
         here.follow,
-        all_read (last_entry last here.entries) ps ts are.1 rise.1 here.below read.1,
+        all_read (last_entry last here.entries) ps ts are.1 increase.1 here.below read.1,
       )
 
   -- THE law: the ledgers are merged into the ledger of the whole history
@@ -272,5 +272,5 @@ module _ (fares : Fares) where
         ∙ ledgers_read (record { spans = p.spans; lines = are.0.over.lines })
         (ledgers_of fares ps ts are.1)
         (first_ledgers fares files p ps t ts are join)
-        (all_read None (p ∷ ps) (t ∷ ts) are join.rise tt read),
+        (all_read None (p ∷ ps) (t ∷ ts) are join.increase tt read),
   )

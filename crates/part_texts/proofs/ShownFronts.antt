@@ -16,14 +16,14 @@ use Rattle.report_texts.specs.declared.wrong.Wrong.TheVariants.{Form, NotPosted,
 use Rattle.report_texts.specs.declared.wrong.Wrong.TheVariants.{Totals as OtherTotals}
 use Rattle.report_texts.proofs.Lines.{head_complete, totals_complete, upload_complete, validator_complete}
 use Rattle.report_texts.proofs.OneLine.{head_is_one, totals_line_is_one, upload_is_one, validator_line_is_one}
-use Rattle.part_texts.specs.Fronts.{FrontsView, is_above, may_end, no_sums, place_eq, plus, posted_in, starts, sums_eq, sums_within, taps_before, with_validator}
+use Rattle.part_texts.specs.Fronts.{FrontsView, is_above, may_end, no_sums, position_eq, plus, posted_in, starts, sums_eq, sums_within, taps_before, with_validator}
 use Rattle.part_texts.specs.FrontSteps.{found_or, front_done, front_step, said, where_holds}
 use Rattle.part_texts.specs.Heads.{span_line, span_lines}
 use Rattle.part_texts.specs.Shown.{SpanFits}
 use Rattle.part_texts.specs.inside.Shown.{are_joined}
-use Rattle.part_texts.specs.inside.Shown.{adds_to, are_added, are_posted_to, do_rise}
-use Rattle.sorted_taps.specs.declared.places.Place.{Place}
-use Rattle.sorted_taps.specs.declared.places.FileSpan.{FileSpan}
+use Rattle.part_texts.specs.inside.Shown.{adds_to, are_added, are_posted_to, are_increasing}
+use Rattle.sorted_taps.specs.declared.positions.Position.{Position}
+use Rattle.sorted_taps.specs.declared.positions.FileSpan.{FileSpan}
 use Rattle.part_texts.specs.declared.fronts.Stage.{Stage}
 use Rattle.part_texts.specs.declared.fronts.Stage.TheVariants.{Head, Files, Uploads, AfterTotals, Validators, Tokens}
 use Rattle.part_texts.proofs.HeadLines.{span_complete, span_is_one}
@@ -35,8 +35,8 @@ FrontLeads = Leads front_done Form front_step
 true_itself : (n : ℕ) → nat_eq n n ≡ true
 true_itself n = grind (arith, nat_tests)
 
-same_place : (p : Place) → place_eq p p ≡ true
-same_place p = and_from _ _ (true_itself p.offset) (true_itself p.skip)
+same_position : (p : Position) → position_eq p p ≡ true
+same_position p = and_from _ _ (true_itself p.offset) (true_itself p.skip)
 
 pub same_sums : (s : Sums) → sums_eq s s ≡ true
 same_sums s = grind (arith, nat_tests)
@@ -46,15 +46,15 @@ plus_fits a b small =
     ap (λ t. cond t (Some (a + b)) None) (let t : nat_lt (a + b) (2 ^ 64) ≡ true = grind (arith, nat_tests, small) in t)
 
 -- the number of a line is its place
-place_is : (all at left : ℕ) → at + suc left ≡ all → nat_eq at (all - suc left) ≡ true
-place_is all at left is = grind (arith, nat_tests, is)
+position_is : (all at left : ℕ) → at + suc left ≡ all → nat_eq at (all - suc left) ≡ true
+position_is all at left is = grind (arith, nat_tests, is)
 
 one_less : (n : ℕ) → suc n - 1 ≡ n
 one_less n = omega arith
 
 -- ---- where the fold stands
 module _ (first last ledger : Bool) where
-  abbrev pub at : Stage → List (Option Place) → List ℕ → Sums → Sums → Sums → List (ℕ × Sums) → ℕ
+  abbrev pub at : Stage → List (Option Position) → List ℕ → Sums → Sums → Sums → List (ℕ × Sums) → ℕ
       → FrontsView
   at stage ends taps part so_far totals validators tokens = record {
     stage = stage;
@@ -72,7 +72,7 @@ module _ (first last ledger : Bool) where
 
   module _ (taps : List ℕ) (part so_far totals : Sums) (validators : List (ℕ × Sums)) (tokens : ℕ)
     where
-      pub head_taken : (ends : List (Option Place)) (files : ℕ) → files < 2 ^ 64
+      pub head_taken : (ends : List (Option Position)) (files : ℕ) → files < 2 ^ 64
           → (first || nat_eq files (length ends)) ≡ true
           → FrontLeads (at Head ends taps part so_far totals validators tokens)
           (number_line (codes "part files ") files) 1
@@ -86,37 +86,37 @@ module _ (first last ledger : Bool) where
           ∙ ap (λ b. where_holds b Form
           (Ok (at (Files files files) ends taps part so_far totals validators tokens))) may)
 
-      span_taken : (files left file : ℕ) (ends rest : List (Option Place)) (span : FileSpan)
+      span_taken : (files left file : ℕ) (ends rest : List (Option Position)) (span : FileSpan)
           → file + suc left ≡ files → files < 2 ^ 64 → SpanFits span
           → starts first ends ≡ Some (span.from, rest) → may_end last span.to ≡ true
           → FrontLeads (at (Files files (suc left)) ends taps part so_far totals validators tokens)
           (span_line file span) 1
           (at (Files files left) (rest ++ span.to ∷ []) taps part so_far totals validators tokens)
-      span_taken files left file ends rest span where_is small fits start ends_well =
+      span_taken files left file ends rest span where_is small fits start ends_valid =
           let few : file < 2 ^ 64 = omega (arith, where_is, small) in
-          let next = λ (file : ℕ) (span : FileSpan) (rest : List (Option Place)).
+          let next = λ (file : ℕ) (span : FileSpan) (rest : List (Option Position)).
           at (Files files (suc left - 1)) (rest ++ span.to ∷ []) taps part so_far totals validators
           tokens in
           by_line front_done Form front_step _ _ (span_line file span) (span_is_one file span few fits)
           refl
           (ap (λ read. said read (λ (span : ℕ × FileSpan).
           where_holds (nat_eq span.0 (files - suc left)) Form
-          (found_or Order (starts first ends) (λ (start : Place × List (Option Place)).
-          where_holds (place_eq start.0 span.1.from && may_end last span.1.to) Order
+          (found_or Order (starts first ends) (λ (start : Position × List (Option Position)).
+          where_holds (position_eq start.0 span.1.from && may_end last span.1.to) Order
           (Ok (next span.0 span.1 start.1)))))) (span_complete file span few fits)
           ∙ ap (λ b. where_holds b Form
-          (found_or Order (starts first ends) (λ (start : Place × List (Option Place)).
-          where_holds (place_eq start.0 span.from && may_end last span.to) Order
-          (Ok (next file span start.1))))) (place_is files file left where_is)
-          ∙ ap (λ r. found_or Order r (λ (start : Place × List (Option Place)).
-          where_holds (place_eq start.0 span.from && may_end last span.to) Order
+          (found_or Order (starts first ends) (λ (start : Position × List (Option Position)).
+          where_holds (position_eq start.0 span.from && may_end last span.to) Order
+          (Ok (next file span start.1))))) (position_is files file left where_is)
+          ∙ ap (λ r. found_or Order r (λ (start : Position × List (Option Position)).
+          where_holds (position_eq start.0 span.from && may_end last span.to) Order
           (Ok (next file span start.1)))) start
           ∙ ap (λ b. where_holds b Order (Ok (next file span rest)))
-          (and_from _ _ (same_place span.from) ends_well)
+          (and_from _ _ (same_position span.from) ends_valid)
           ∙ ap (λ n. Ok (at (Files files n) (rest ++ span.to ∷ []) taps part so_far totals validators
           tokens)) (one_less left))
 
-      pub spans_taken : (files file : ℕ) (ends all : List (Option Place)) (spans : List FileSpan)
+      pub spans_taken : (files file : ℕ) (ends all : List (Option Position)) (spans : List FileSpan)
           → file + length spans ≡ files → files < 2 ^ 64 → AllByRecursion SpanFits spans
           → are_joined first last ends spans all
           → FrontLeads (at (Files files (length spans)) ends taps part so_far totals validators tokens)
@@ -127,7 +127,7 @@ module _ (first last ledger : Bool) where
           0 (at (Files files 0) e taps part so_far totals validators tokens)) joined
           (by_nothing front_done Form front_step
           (at (Files files 0) ends taps part so_far totals validators tokens))
-      spans_taken files file ends all (span ∷ spans) where_is small fit (rest, start, ends_well, more) =
+      spans_taken files file ends all (span ∷ spans) where_is small fit (rest, start, ends_valid, more) =
           subst (λ n. FrontLeads
           (at (Files files (length (span ∷ spans))) ends taps part so_far totals validators tokens)
           (span_lines file (span ∷ spans)) n
@@ -136,7 +136,7 @@ module _ (first last ledger : Bool) where
           (by_both front_done Form front_step _
           (at (Files files (length spans)) (rest ++ span.to ∷ []) taps part so_far totals validators tokens)
           _ (span_line file span) (span_lines (file + 1) spans) 1 (length spans)
-          (span_taken files (length spans) file ends rest span where_is small fit.0 start ends_well)
+          (span_taken files (length spans) file ends rest span where_is small fit.0 start ends_valid)
           (spans_taken files (file + 1) (rest ++ span.to ∷ []) all spans (omega (arith, where_is)) small
           fit.1 more))
 
@@ -144,7 +144,7 @@ module _ (first last ledger : Bool) where
 module _ (first last : Bool) where
   module _ (taps : List ℕ) (part so_far totals : Sums) (validators : List (ℕ × Sums)) (tokens : ℕ)
     where
-      pub uploads_taken : (ends : List (Option Place)) (files : ℕ) → files < 2 ^ 64
+      pub uploads_taken : (ends : List (Option Position)) (files : ℕ) → files < 2 ^ 64
           → FrontLeads (at first last false (Files files 0) ends taps part so_far totals validators tokens)
           (number_line (codes "uploads ") files) 1
           (at first last false (Uploads files files 0) ends taps part so_far totals validators tokens)
@@ -158,7 +158,7 @@ module _ (first last : Bool) where
           (Ok (at first last false (Uploads files files 0) ends taps part so_far totals validators tokens)))
           (and_from _ _ (true_itself files) (or-true first)))
 
-  module _ (ends : List (Option Place)) (part so_far totals : Sums) (validators : List (ℕ × Sums))
+  module _ (ends : List (Option Position)) (part so_far totals : Sums) (validators : List (ℕ × Sums))
       (tokens : ℕ) where
     upload_taken : (uploads left upload posted n before : ℕ) (taps rest : List ℕ)
         → upload + suc left ≡ uploads → uploads < 2 ^ 64 → n < 2 ^ 64
@@ -174,7 +174,7 @@ module _ (first last : Bool) where
         let next = λ (sum all : ℕ) (rest : List ℕ).
         at first last false (Uploads uploads (suc left - 1) sum) ends (rest ++ all ∷ []) part so_far totals
         validators tokens in
-        let behind = λ (taps_in : ℕ).
+        let trailing = λ (taps_in : ℕ).
         found_or Form (taps_before first taps) (λ (before : ℕ × List ℕ).
         found_or OtherTotals (plus before.0 taps_in) (λ all.
         found_or OtherTotals (plus posted taps_in) (λ sum. Ok (next sum all before.1)))) in
@@ -182,9 +182,9 @@ module _ (first last : Bool) where
         (upload_is_one upload n few fits) refl
         (ap (λ read. said read (λ (upload : ℕ × _).
         where_holds (nat_eq upload.0 (uploads - suc left)) Form
-        (found_or NotPosted (posted_in upload.1) behind)))
+        (found_or NotPosted (posted_in upload.1) trailing)))
         (upload_complete upload (Posted n) few fits)
-        ∙ ap (λ b. where_holds b Form (behind n)) (place_is uploads upload left where_is)
+        ∙ ap (λ b. where_holds b Form (trailing n)) (position_is uploads upload left where_is)
         ∙ ap (λ r. found_or Form r (λ (before : ℕ × List ℕ).
         found_or OtherTotals (plus before.0 n) (λ all.
         found_or OtherTotals (plus posted n) (λ sum. Ok (next sum all before.1))))) found
@@ -227,7 +227,7 @@ module _ (first last : Bool) where
         (posted_taken uploads (upload + 1) (posted + n) sum (rest ++ (before + n) ∷ []) all ns
         (omega (arith, where_is)) small more))
 
-  module _ (ends : List (Option Place)) (taps : List ℕ) (tokens : ℕ) where
+  module _ (ends : List (Option Position)) (taps : List ℕ) (tokens : ℕ) where
     pub totals_taken : (uploads posted : ℕ) (old so_far part totals all : Sums)
         (validators : List (ℕ × Sums)) → AreCounts part → posted ≡ part.taps
         → sums_within totals part ≡ Some all
@@ -287,12 +287,12 @@ module _ (first last : Bool) where
 
     pub validators_taken : (part so_far totals end : Sums) (validators all : List (ℕ × Sums))
         (last_one : Option ℕ) (sums : List (ℕ × Sums)) → AllByRecursion IsValidatorSum sums
-        → do_rise last_one sums → adds_to so_far sums end → are_added validators sums all
+        → are_increasing last_one sums → adds_to so_far sums end → are_added validators sums all
         → FrontLeads
         (at first last false (Validators (length sums) last_one) ends taps part so_far totals validators tokens)
         (flat_map validator_line sums) (length sums)
         (at first last false (Validators 0 (last_key last_one sums)) ends taps part end totals all tokens)
-    validators_taken part so_far totals end validators all last_one [] fit rise adds added =
+    validators_taken part so_far totals end validators all last_one [] fit increase adds added =
         subst (λ s. FrontLeads
         (at first last false (Validators 0 last_one) ends taps part so_far totals validators tokens) [] 0
         (at first last false (Validators 0 last_one) ends taps part s totals all tokens)) adds
@@ -301,7 +301,7 @@ module _ (first last : Bool) where
         (at first last false (Validators 0 last_one) ends taps part so_far totals a tokens)) added
         (by_nothing front_done Form front_step
         (at first last false (Validators 0 last_one) ends taps part so_far totals validators tokens)))
-    validators_taken part so_far totals end validators all last_one (sum ∷ sums) fit rise
+    validators_taken part so_far totals end validators all last_one (sum ∷ sums) fit increase
         (next, one, more) (with_it, is_with, others) =
         subst (λ k. FrontLeads
         (at first last false (Validators (length (sum ∷ sums)) last_one) ends taps part so_far totals validators tokens)
@@ -312,8 +312,8 @@ module _ (first last : Bool) where
         (at first last false (Validators (length sums) (Some sum.0)) ends taps part next totals with_it tokens)
         _ (validator_line sum) (flat_map validator_line sums) 1 (length sums)
         (validator_taken part so_far totals next validators with_it (length sums) last_one sum fit.0
-        rise.0 one is_with)
-        (validators_taken part next totals end with_it all (Some sum.0) sums fit.1 rise.1 more others))
+        increase.0 one is_with)
+        (validators_taken part next totals end with_it all (Some sum.0) sums fit.1 increase.1 more others))
 
     pub tokens_head_taken : (part totals : Sums) (validators : List (ℕ × Sums)) (left : ℕ)
         (last_one : Option ℕ) → left < 2 ^ 64 → tokens + left < 2 ^ 64

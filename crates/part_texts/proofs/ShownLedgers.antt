@@ -23,9 +23,9 @@ use Rattle.part_texts.specs.Sections.{SectionView, may_follow, section_step}
 use Rattle.part_texts.specs.Merged.{OpenView, WrongLine, and_then, end_or, front_end, front_of, fronts_of, is_none_left, lines_left, merge_of, merged, section_ended, section_of, sections_of, whole_front}
 use Rattle.part_texts.specs.Heads.{span_lines}
 use Rattle.part_texts.specs.Shown.{SpanFits}
-use Rattle.part_texts.specs.inside.Shown.{are_joined, is_none_behind}
+use Rattle.part_texts.specs.inside.Shown.{are_joined, is_none_after}
 use Rattle.part_texts.specs.inside.ShownLedgers.{EntryLine, IsEntryLine, PartLedger, all_lines, are_next_ledgers, are_read, do_follow, last_entry, ledger_text, lines_of_entries}
-use Rattle.sorted_taps.specs.declared.places.Place.{Place}
+use Rattle.sorted_taps.specs.declared.positions.Position.{Position}
 use Rattle.part_texts.specs.declared.fronts.Stage.{Stage}
 use Rattle.part_texts.specs.declared.fronts.Stage.TheVariants.{Head, Files, Entries}
 use Rattle.part_texts.proofs.Leads.{Leads, by_both, by_line, by_nothing}
@@ -35,7 +35,7 @@ use Rattle.part_texts.proofs.ShownSections.{never}
 
 -- ---- one front
 -- where the fold stands behind ledgers that end so
-abbrev pub ledger_at : Bool → Bool → Bool → Stage → List (Option Place) → FrontsView
+abbrev pub ledger_at : Bool → Bool → Bool → Stage → List (Option Position) → FrontsView
 ledger_at first last ledger stage ends =
     at first last ledger stage ends [] no_sums no_sums no_sums [] 0
 
@@ -49,7 +49,7 @@ head_is_one = record {
   shown = refl;
 }
 
-header_taken : (first last ledger : Bool) (files : ℕ) (ends : List (Option Place))
+header_taken : (first last ledger : Bool) (files : ℕ) (ends : List (Option Position))
     → (first || ledger) ≡ true
     → FrontLeads (ledger_at first last ledger (Files files 0) ends) head_text 1
     (ledger_at first last true Entries ends)
@@ -65,7 +65,7 @@ front_lines p =
 abbrev front_count : PartLedger → ℕ
 front_count p = (1 + length p.spans) + 1
 
-front_leads : (first last ledger : Bool) (ends next : List (Option Place)) (p : PartLedger)
+front_leads : (first last ledger : Bool) (ends next : List (Option Position)) (p : PartLedger)
     → (first || ledger) ≡ true → length p.spans < 2 ^ 64 → AllByRecursion SpanFits p.spans
     → (first || nat_eq (length p.spans) (length ends)) ≡ true
     → are_joined first last ends p.spans next
@@ -95,20 +95,20 @@ ledger_opened number p = record {
   lines = lines_of p.lines;
 }
 
-front_shown : (place : ℕ) (first last ledger : Bool) (ends next : List (Option Place)) (p : PartLedger)
+front_shown : (position : ℕ) (first last ledger : Bool) (ends next : List (Option Position)) (p : PartLedger)
     → (first || ledger) ≡ true → length p.spans < 2 ^ 64 → AllByRecursion SpanFits p.spans
     → (first || nat_eq (length p.spans) (length ends)) ≡ true
     → are_joined first last ends p.spans next
-    → front_of place (ledger_at first last ledger Head ends) (ledger_text p)
+    → front_of position (ledger_at first last ledger Head ends) (ledger_text p)
     ≡ Ok (ledger_at first last true Entries next, ledger_opened (1 + front_count p) p)
-front_shown place first last ledger ends next p may few fit files joined =
+front_shown position first last ledger ends next p may few fit files joined =
     let s = ledger_at first last ledger Head ends in
     let t = ledger_at first last true Entries next in
     let rest = p.lines in
-    ap (λ text. front_end place (run front_done (bounded Form front_step) 1 s (lines_of text)))
+    ap (λ text. front_end position (run front_done (bounded Form front_step) 1 s (lines_of text)))
     (sym (append_assoc (number_line (codes "part files ") (length p.spans) ++ span_lines 0 p.spans)
     head_text rest))
-    ∙ ap (front_end place)
+    ∙ ap (front_end position)
     (front_leads first last ledger ends next p may few fit files joined 1 rest
     ∙ stopped (1 + front_count p) t (lines_of rest) refl)
 
@@ -120,15 +120,15 @@ are_opened (p ∷ ps) [] = ⊥
 are_opened (p ∷ ps) (opening ∷ opens) =
     (number : ℕ) × (opening ≡ ledger_opened number p) × are_opened ps opens
 
-none_left : (ps : List PartLedger) → is_none_left (map ledger_text ps) ≡ is_none_behind ps
+none_left : (ps : List PartLedger) → is_none_left (map ledger_text ps) ≡ is_none_after ps
 none_left [] = refl
 none_left (p ∷ ps) = refl
 
 -- behind the first ledger
-fronts_shown : (was_first was_last : Bool) (stage : Stage) (ends : List (Option Place))
+fronts_shown : (was_first was_last : Bool) (stage : Stage) (ends : List (Option Position))
     (opens : List OpenView) (parts : List PartLedger)
     → are_next_ledgers (nat_eq (length opens) 0) ends parts
-    → (first final : Bool) × (end : Stage) × (all_ends : List (Option Place)) × (more : List OpenView)
+    → (first final : Bool) × (end : Stage) × (all_ends : List (Option Position)) × (more : List OpenView)
     × are_opened parts more
     × (fronts_of (ledger_at was_first was_last true stage ends) opens (map ledger_text parts)
     ≡ Ok (ledger_at first final true end all_ends, opens ++ more))
@@ -143,7 +143,7 @@ fronts_shown was_first was_last stage ends opens [] are = (
 )
 fronts_shown was_first was_last stage ends opens (p ∷ ps) (next, few, fit, files, joined, others) =
     let first = nat_eq (length opens) 0 in
-    let final = is_none_behind ps in
+    let final = is_none_after ps in
     let opening = ledger_opened (1 + front_count p) p in
     let (f, l, end, all_ends, more, opened_rest, same) =
     fronts_shown first final Entries next (opens ++ opening ∷ []) ps
@@ -180,7 +180,7 @@ fronts_merge : (p : PartLedger) (ps : List PartLedger) → are_next_ledgers true
     ≡ and_then (sections_of 0 None opens) (λ last. Ok (head_text ++ all_lines (p ∷ ps))))
 fronts_merge p ps (next, few, fit, files, joined, others) =
     let opening = ledger_opened (1 + front_count p) p in
-    let final = is_none_behind ps in
+    let final = is_none_after ps in
     let (f, l, end, all_ends, more, opened_rest, same) =
     fronts_shown true final Entries next (opening ∷ []) ps others in
     let opened_all : are_opened (p ∷ ps) (opening ∷ more) = (1 + front_count p, refl, opened_rest) in
@@ -230,22 +230,22 @@ one_line entry is = record {
   shown = is.shown;
 }
 
-abbrev behind_entries : Bool → List EntryLine → Bool
-behind_entries first [] = first
-behind_entries first (entry ∷ more) = behind_entries false more
+abbrev after_entries : Bool → List EntryLine → Bool
+after_entries first [] = first
+after_entries first (entry ∷ more) = after_entries false more
 
 entries_taken : (first : Bool) (last : Option Token) (entries : List EntryLine)
     → AllByRecursion IsEntryLine entries → do_follow first last entries
     → Leads never Form section_step (entries_at first last) (lines_of_entries entries) (length entries)
-    (entries_at (behind_entries first entries) (last_entry last entries))
+    (entries_at (after_entries first entries) (last_entry last entries))
 entries_taken first last [] fit follow =
     by_nothing never Form section_step (entries_at first last)
 entries_taken first last (entry ∷ more) fit follow =
     subst (λ n. Leads never Form section_step (entries_at first last) (lines_of_entries (entry ∷ more)) n
-    (entries_at (behind_entries false more) (last_entry (Some entry.token) more)))
+    (entries_at (after_entries false more) (last_entry (Some entry.token) more)))
     (let e : 1 + length more ≡ length (entry ∷ more) = omega arith in e)
     (by_both never Form section_step (entries_at first last) (entries_at false (Some entry.token))
-    (entries_at (behind_entries false more) (last_entry (Some entry.token) more)) entry.line
+    (entries_at (after_entries false more) (last_entry (Some entry.token) more)) entry.line
     (lines_of_entries more) 1 (length more)
     (by_line never Form section_step (entries_at first last) (entries_at false (Some entry.token))
     entry.line (one_line entry fit.0) refl
@@ -254,30 +254,30 @@ entries_taken first last (entry ∷ more) fit follow =
     ∙ ap (λ b. where_holds b Order (Ok (entries_at false (Some entry.token)))) follow.0))
     (entries_taken false (Some entry.token) more fit.1 follow.1))
 
-one_section : (place number : ℕ) (last : Option Token) (p : PartLedger) (entries : List EntryLine)
+one_section : (position number : ℕ) (last : Option Token) (p : PartLedger) (entries : List EntryLine)
     → p.lines ≡ lines_of_entries entries
     → AllByRecursion IsEntryLine entries → do_follow true last entries
-    → section_of place last (ledger_opened number p)
-    ≡ Ok (entries_at (behind_entries true entries) (last_entry last entries))
-one_section place number last p entries shown fit follow =
-    ap (λ (l : List ℕ). section_ended place (run never (bounded Form section_step) number
+    → section_of position last (ledger_opened number p)
+    ≡ Ok (entries_at (after_entries true entries) (last_entry last entries))
+one_section position number last p entries shown fit follow =
+    ap (λ (l : List ℕ). section_ended position (run never (bounded Form section_step) number
     (entries_at true last) (lines_of l))) (shown ∙ sym (append-nil (lines_of_entries entries)))
-    ∙ ap (section_ended place) (entries_taken true last entries fit follow number [])
+    ∙ ap (section_ended position) (entries_taken true last entries fit follow number [])
 
-sections_shown : (place : ℕ) (last : Option Token) (parts : List PartLedger) (opens : List OpenView)
+sections_shown : (position : ℕ) (last : Option Token) (parts : List PartLedger) (opens : List OpenView)
     → are_read last parts → are_opened parts opens
-    → (end : Option Token) × (sections_of place last opens ≡ Ok end)
-sections_shown place last [] [] are opened_all = (last, refl)
-sections_shown place last [] (opening ∷ opens) are opened_all = absurd opened_all
-sections_shown place last (p ∷ ps) [] are opened_all = absurd opened_all
-sections_shown place last (p ∷ ps) (opening ∷ opens) (entries, lines, fit, follow, more)
+    → (end : Option Token) × (sections_of position last opens ≡ Ok end)
+sections_shown position last [] [] are opened_all = (last, refl)
+sections_shown position last [] (opening ∷ opens) are opened_all = absurd opened_all
+sections_shown position last (p ∷ ps) [] are opened_all = absurd opened_all
+sections_shown position last (p ∷ ps) (opening ∷ opens) (entries, lines, fit, follow, more)
     (number, shown, others) =
-    let (end, rest) = sections_shown (place + 1) (last_entry last entries) ps opens more others in (
+    let (end, rest) = sections_shown (position + 1) (last_entry last entries) ps opens more others in (
       end,
-      ap (λ (o : OpenView). and_then (section_of place last o)
-          (λ (s : SectionView). sections_of (place + 1) s.last opens)) shown
-          ∙ ap (λ r. and_then r (λ (s : SectionView). sections_of (place + 1) s.last opens))
-          (one_section place number last p entries lines fit follow)
+      ap (λ (o : OpenView). and_then (section_of position last o)
+          (λ (s : SectionView). sections_of (position + 1) s.last opens)) shown
+          ∙ ap (λ r. and_then r (λ (s : SectionView). sections_of (position + 1) s.last opens))
+          (one_section position number last p entries lines fit follow)
           ∙ rest,
     )
 

@@ -19,9 +19,9 @@ use Rattle.part_texts.specs.Sections.{SectionView, section_end, section_step}
 use Rattle.part_texts.specs.Merged.{OpenView, WrongLine, and_then, end_or, front_end, front_of, fronts_of, is_none_left, lines_left, merge_of, merged, opened, report_front, section_ended, section_of, sections_of, whole_front}
 use Rattle.part_texts.specs.Heads.{span_lines}
 use Rattle.part_texts.specs.Shown.{PartReport, part_text}
-use Rattle.part_texts.specs.inside.Shown.{is_none_behind}
+use Rattle.part_texts.specs.inside.Shown.{is_none_after}
 use Rattle.part_texts.specs.inside.Shown.{IsNextPart, SoFar, are_next_parts, last_of, nothing_so_far, tokens_of, whole_text}
-use Rattle.sorted_taps.specs.declared.places.Place.{Place}
+use Rattle.sorted_taps.specs.declared.positions.Position.{Position}
 use Rattle.part_texts.specs.declared.fronts.Stage.{Stage}
 use Rattle.part_texts.specs.declared.fronts.Stage.TheVariants.{Head, Files, Uploads, AfterTotals, Validators, Tokens}
 use Rattle.part_texts.proofs.Leads.{Leads, by_both}
@@ -46,8 +46,8 @@ lines_joined (byte ∷ text) = joined_with byte text (byte == 10) (lines_joined 
 
 -- ---- one front
 -- where the fold stands behind the parts so far, at this stage
-abbrev pub behind : Bool → Bool → Stage → Sums → Sums → SoFar → FrontsView
-behind first last stage part so_far s =
+abbrev pub trailing : Bool → Bool → Stage → Sums → Sums → SoFar → FrontsView
+trailing first last stage part so_far s =
     at first last false stage s.ends s.taps part so_far s.totals s.validators s.tokens
 
 -- what stands before the lines of tokens
@@ -84,8 +84,8 @@ front_count p =
 
 front_leads : (first last : Bool) (old so_far : Sums) (before after : SoFar) (p : PartReport)
     → IsNextPart first last before p after
-    → FrontLeads (behind first last Head old so_far before) (front_lines p) (front_count p)
-    (behind first last (Tokens (length p.tokens)) p.totals p.totals after)
+    → FrontLeads (trailing first last Head old so_far before) (front_lines p) (front_count p)
+    (trailing first last (Tokens (length p.tokens)) p.totals p.totals after)
 front_leads first last old so_far before after p is =
     let r = is.right in
     let files = length p.spans in
@@ -121,7 +121,7 @@ front_leads first last old so_far before after p is =
     let l6 = validators_head_taken first last e1 t1 k p.totals no_sums after.totals v0
     (length p.validators) r.validators_number in
     let l7 = validators_taken first last e1 t1 k p.totals no_sums after.totals p.totals v0 v1 None
-    p.validators r.validators r.validators_rise r.validators_add is.validators in
+    p.validators r.validators r.validators_increase r.validators_add is.validators in
     let l8 = tokens_head_taken first last e1 t1 k p.totals after.totals v1 (length p.tokens)
     (last_key first last e1 t1 k None p.validators) r.tokens_number is.number in
     let a1 : List ℕ = number_line (codes "part files ") files in
@@ -166,20 +166,20 @@ opened_at number p = record {
   lines = lines_of (flat_map token_line p.tokens);
 }
 
-pub front_shown : (place : ℕ) (first last : Bool) (old so_far : Sums) (before after : SoFar)
+pub front_shown : (position : ℕ) (first last : Bool) (old so_far : Sums) (before after : SoFar)
     (p : PartReport) → IsNextPart first last before p after
-    → front_of place (behind first last Head old so_far before) (part_text p)
+    → front_of position (trailing first last Head old so_far before) (part_text p)
     ≡ Ok (
-      behind first last (Tokens (length p.tokens)) p.totals p.totals after,
+      trailing first last (Tokens (length p.tokens)) p.totals p.totals after,
       opened_at (1 + front_count p) p,
     )
-front_shown place first last old so_far before after p is =
-    let s = behind first last Head old so_far before in
-    let t = behind first last (Tokens (length p.tokens)) p.totals p.totals after in
+front_shown position first last old so_far before after p is =
+    let s = trailing first last Head old so_far before in
+    let t = trailing first last (Tokens (length p.tokens)) p.totals p.totals after in
     let rest = flat_map token_line p.tokens in
-    ap (λ text. front_end place (run front_done (bounded Form front_step) 1 s (lines_of text)))
+    ap (λ text. front_end position (run front_done (bounded Form front_step) 1 s (lines_of text)))
     (text_parts p is.right.uploads)
-    ∙ ap (front_end place) (front_leads first last old so_far before after p is 1 rest
+    ∙ ap (front_end position) (front_leads first last old so_far before after p is 1 rest
     ∙ stopped (1 + front_count p) t (lines_of rest) refl)
 
 -- ---- all fronts
@@ -190,7 +190,7 @@ are_opened (p ∷ ps) [] = ⊥
 are_opened (p ∷ ps) (opening ∷ opens) =
     (number : ℕ) × (opening ≡ opened_at number p) × are_opened ps opens
 
-none_left : (ps : List PartReport) → is_none_left (map part_text ps) ≡ is_none_behind ps
+none_left : (ps : List PartReport) → is_none_left (map part_text ps) ≡ is_none_after ps
 none_left [] = refl
 none_left (p ∷ ps) = refl
 
@@ -203,8 +203,8 @@ pub fronts_shown : (was_first was_last : Bool) (stage : Stage) (old so_far : Sum
     → are_next_parts (nat_eq (length opens) 0) before parts after
     → (first last : Bool) × (end : Stage) × (part so : Sums) × (more : List OpenView)
     × are_opened parts more
-    × (fronts_of (behind was_first was_last stage old so_far before) opens (map part_text parts)
-    ≡ Ok (behind first last end part so after, opens ++ more))
+    × (fronts_of (trailing was_first was_last stage old so_far before) opens (map part_text parts)
+    ≡ Ok (trailing first last end part so after, opens ++ more))
 fronts_shown was_first was_last stage old so_far before after opens [] are = (
   was_first,
   was_last,
@@ -213,14 +213,14 @@ fronts_shown was_first was_last stage old so_far before after opens [] are = (
   so_far,
   [],
   tt,
-  ap (λ s. Ok (behind was_first was_last stage old so_far s, opens)) are
-      ∙ ap (λ os. Ok (behind was_first was_last stage old so_far after, os)) (sym (append-nil opens)),
+  ap (λ s. Ok (trailing was_first was_last stage old so_far s, opens)) are
+      ∙ ap (λ os. Ok (trailing was_first was_last stage old so_far after, os)) (sym (append-nil opens)),
 )
 fronts_shown was_first was_last stage old so_far before after opens (p ∷ ps) (next, is, more_parts) =
     let first = nat_eq (length opens) 0 in
-    let last = is_none_behind ps in
+    let last = is_none_after ps in
     let opening = opened_at (1 + front_count p) p in
-    let t = behind first last (Tokens (length p.tokens)) p.totals p.totals next in
+    let t = trailing first last (Tokens (length p.tokens)) p.totals p.totals next in
     let (f, l, end, part, so, more, opened_rest, same) =
     fronts_shown first last (Tokens (length p.tokens)) p.totals p.totals next after (opens ++ opening ∷ []) ps
     (subst (λ b. are_next_parts b next ps after) (sym (one_more opens opening)) more_parts) in (
@@ -231,49 +231,49 @@ fronts_shown was_first was_last stage old so_far before after opens (p ∷ ps) (
       so,
       opening ∷ more,
       (1 + front_count p, refl, opened_rest),
-      ap (λ b. and_then (front_of (length opens) (behind first b Head old so_far before) (part_text p))
+      ap (λ b. and_then (front_of (length opens) (trailing first b Head old so_far before) (part_text p))
           (λ read. fronts_of read.0 (opens ++ read.1 ∷ []) (map part_text ps))) (none_left ps)
           ∙ ap (λ r. and_then r (λ (read : FrontsView × OpenView).
           fronts_of read.0 (opens ++ read.1 ∷ []) (map part_text ps)))
           (front_shown (length opens) first last old so_far before next p is)
           ∙ same
-          ∙ ap (λ os. Ok (behind f l end part so after, os)) (append_assoc opens (opening ∷ []) more),
+          ∙ ap (λ os. Ok (trailing f l end part so after, os)) (append_assoc opens (opening ∷ []) more),
     )
 
 -- ---- all sections
-abbrev tokens_rise : Option Token → List PartReport → Type 0
-tokens_rise last [] = Unit {0}
-tokens_rise last (p ∷ ps) = Unit {0}
+abbrev tokens_increase : Option Token → List PartReport → Type 0
+tokens_increase last [] = Unit {0}
+tokens_increase last (p ∷ ps) = Unit {0}
 
-one_section : (place number : ℕ) (first last : Bool) (before after : SoFar) (p : PartReport)
+one_section : (position number : ℕ) (first last : Bool) (before after : SoFar) (p : PartReport)
     → IsNextPart first last before p after
-    → section_of place before.last (opened_at number p)
+    → section_of position before.last (opened_at number p)
     ≡ Ok (tokens_at 0 (last_of before.last p.tokens) p.totals p.totals)
-one_section place number first last before after p is =
+one_section position number first last before after p is =
     let r = is.right in
     let t = tokens_at 0 (last_of before.last p.tokens) p.totals p.totals in
     let text = flat_map token_line p.tokens in
-    ap (λ (l : List ℕ). section_ended place (run never (bounded Form section_step) number
+    ap (λ (l : List ℕ). section_ended position (run never (bounded Form section_step) number
     (tokens_at (length p.tokens) before.last p.totals no_sums) (lines_of l))) (sym (append-nil text))
-    ∙ ap (section_ended place) (tokens_taken before.last p.totals no_sums p.totals p.tokens r.tokens
-    is.rise r.tokens_add number [])
-    ∙ ap (end_or (place, (number + length p.tokens, Form)) t)
+    ∙ ap (section_ended position) (tokens_taken before.last p.totals no_sums p.totals p.tokens r.tokens
+    is.increase r.tokens_add number [])
+    ∙ ap (end_or (position, (number + length p.tokens, Form)) t)
     (tokens_end (last_of before.last p.tokens) p.totals)
 
-pub sections_shown : (place : ℕ) (first : Bool) (before after : SoFar) (parts : List PartReport)
+pub sections_shown : (position : ℕ) (first : Bool) (before after : SoFar) (parts : List PartReport)
     (opens : List OpenView) → are_next_parts first before parts after → are_opened parts opens
-    → sections_of place before.last opens ≡ Ok after.last
-sections_shown place first before after [] [] are opened_all = ap (λ (s : SoFar). Ok s.last) are
-sections_shown place first before after [] (opening ∷ opens) are opened_all = absurd opened_all
-sections_shown place first before after (p ∷ ps) [] are opened_all = absurd opened_all
-sections_shown place first before after (p ∷ ps) (opening ∷ opens) (next, is, more)
+    → sections_of position before.last opens ≡ Ok after.last
+sections_shown position first before after [] [] are opened_all = ap (λ (s : SoFar). Ok s.last) are
+sections_shown position first before after [] (opening ∷ opens) are opened_all = absurd opened_all
+sections_shown position first before after (p ∷ ps) [] are opened_all = absurd opened_all
+sections_shown position first before after (p ∷ ps) (opening ∷ opens) (next, is, more)
     (number, shown, others) =
-    ap (λ (o : OpenView). and_then (section_of place before.last o)
-    (λ (s : SectionView). sections_of (place + 1) s.last opens)) shown
-    ∙ ap (λ r. and_then r (λ (s : SectionView). sections_of (place + 1) s.last opens))
-    (one_section place number first (is_none_behind ps) before next p is)
-    ∙ ap (λ l. sections_of (place + 1) l opens) (sym is.last_is)
-    ∙ sections_shown (place + 1) false next after ps opens more others
+    ap (λ (o : OpenView). and_then (section_of position before.last o)
+    (λ (s : SectionView). sections_of (position + 1) s.last opens)) shown
+    ∙ ap (λ r. and_then r (λ (s : SectionView). sections_of (position + 1) s.last opens))
+    (one_section position number first (is_none_after ps) before next p is)
+    ∙ ap (λ l. sections_of (position + 1) l opens) (sym is.last_is)
+    ∙ sections_shown (position + 1) false next after ps opens more others
 
 left_shown : (parts : List PartReport) (opens : List OpenView) → are_opened parts opens
     → lines_left opens ≡ flat_map token_line (tokens_of parts)
@@ -304,14 +304,14 @@ pub reports_merge : (p : PartReport) (ps : List PartReport) (all : SoFar)
 reports_merge p ps all are =
     let (first, last, end, part, so, opens, opened_all, read) =
     fronts_shown true false Head no_sums no_sums nothing_so_far all [] (p ∷ ps) are in
-    let s = behind first last end part so all in
+    let s = trailing first last end part so all in
     let number : all.tokens ≡ length (tokens_of (p ∷ ps)) =
     tokens_counted true nothing_so_far all (p ∷ ps) are ∙ from_none (length (tokens_of (p ∷ ps))) in
     ap (λ r. and_then r merged) read
     ∙ ap (λ r. and_then r (λ last. Ok (whole_front s ++ lines_left opens)))
     (sections_shown 0 true nothing_so_far all (p ∷ ps) opens are opened_all)
     ∙ ap (λ (t : List ℕ). Ok (report_front s ++ t)) (left_shown (p ∷ ps) opens opened_all)
-    ∙ ap (λ (n : ℕ). Ok (report_front (behind first last end part so (record all { tokens = n }))
+    ∙ ap (λ (n : ℕ). Ok (report_front (trailing first last end part so (record all { tokens = n }))
     ++ flat_map token_line (tokens_of (p ∷ ps)))) number
     ∙ ap Ok (joined (uploads_section (map Posted all.taps)) (totals_line all.totals)
     (validators_section all.validators) (number_line (codes "tokens ") (length (tokens_of (p ∷ ps))))

@@ -16,7 +16,7 @@ use Rattle.report_texts.specs.declared.wrong.Wrong.TheVariants.{Totals as OtherT
 use Rattle.part_texts.specs.Fronts.{sums_eq, sums_within}
 use Rattle.part_texts.specs.FrontSteps.{found_or, said, where_holds}
 use Rattle.part_texts.specs.Sections.{SectionView, is_token_above, section_end, section_step}
-use Rattle.part_texts.specs.inside.Shown.{adds_to, do_tokens_rise, last_of}
+use Rattle.part_texts.specs.inside.Shown.{adds_to, are_tokens_increasing, last_of}
 use Rattle.part_texts.proofs.Leads.{Leads, by_both, by_line, by_nothing}
 use Rattle.part_texts.proofs.ShownFronts.{same_sums}
 
@@ -53,14 +53,14 @@ one_taken left last part so_far next sum fits above adds =
     ∙ ap (λ n. Ok (tokens_at n (Some sum.0) part next)) (let e : suc left - 1 ≡ left = omega arith in e)
 
 pub tokens_taken : (last : Option Token) (part so_far all : Sums) (tokens : List (Token × Sums))
-    → AllByRecursion IsTokenSum tokens → do_tokens_rise last tokens → adds_to so_far tokens all
+    → AllByRecursion IsTokenSum tokens → are_tokens_increasing last tokens → adds_to so_far tokens all
     → Leads never Form section_step (tokens_at (length tokens) last part so_far)
     (flat_map token_line tokens) (length tokens) (tokens_at 0 (last_of last tokens) part all)
-tokens_taken last part so_far all [] fit rise adds =
+tokens_taken last part so_far all [] fit increase adds =
     subst (λ s. Leads never Form section_step (tokens_at 0 last part so_far) [] 0
     (tokens_at 0 last part s)) adds
     (by_nothing never Form section_step (tokens_at 0 last part so_far))
-tokens_taken last part so_far all (sum ∷ tokens) fit rise (next, one, more) =
+tokens_taken last part so_far all (sum ∷ tokens) fit increase (next, one, more) =
     subst (λ n. Leads never Form section_step (tokens_at (length (sum ∷ tokens)) last part so_far)
     (flat_map token_line (sum ∷ tokens)) n (tokens_at 0 (last_of (Some sum.0) tokens) part all))
     (let e : 1 + length tokens ≡ length (sum ∷ tokens) = omega arith in e)
@@ -71,8 +71,8 @@ tokens_taken last part so_far all (sum ∷ tokens) fit rise (next, one, more) =
     (by_line never Form section_step (tokens_at (length (sum ∷ tokens)) last part so_far)
     (tokens_at (length tokens) (Some sum.0) part next) (token_line sum)
     (token_line_is_one sum fit.0) refl
-    (one_taken (length tokens) last part so_far next sum fit.0 rise.0 one))
-    (tokens_taken (Some sum.0) part next all tokens fit.1 rise.1 more))
+    (one_taken (length tokens) last part so_far next sum fit.0 increase.0 one))
+    (tokens_taken (Some sum.0) part next all tokens fit.1 increase.1 more))
 
 pub tokens_end : (last : Option Token) (all : Sums) → section_end (tokens_at 0 last all all) ≡ None
 tokens_end last all = ap (λ b. cond b None (Some OtherTotals)) (same_sums all)

@@ -19,11 +19,11 @@ use Rattle.std.proofs.lemmas.Cmp.{nat_cmp_total}
 use Rattle.std.proofs.lemmas.List.{length-map, map-append}
 use Rattle.std.proofs.lemmas.List.Elements.{filter-append}
 use Rattle.histories.specs.Entry.{is_at, reply_of}
-use Rattle.histories.specs.Rising.{rising}
+use Rattle.histories.specs.Increasing.{increasing}
 use Rattle.histories.specs.Sums.{Sums, add_sums, sums, sums_of_replies}
 use Rattle.histories.specs.SumsByKey.{entries_of_validator, sums_by_validator, validator_of, validators}
 use Rattle.histories.specs.declared.entry.Entry.{Entry}
-use Rattle.histories.proofs.RisingLemmas.{rising-is, rising-unique}
+use Rattle.histories.proofs.IncreasingLemmas.{increasing-is, increasing-unique}
 use Rattle.tap_views.proofs.Choices.{or_swap}
 use Rattle.std.proofs.Math.Bool.{or_self_left}
 use Rattle.histories.proofs.SumsLemmas.{sums-append, sums-taps}
@@ -64,9 +64,9 @@ set_one : (f g : ℕ → Sums) (v : ℕ) (x : Sums) (keys : List ℕ) → g v �
     → ((k : ℕ) → ¬ (k ≡ v) → f k ≡ g k) → IsStrictlySortedBy nat_cmp keys
     → insert_entry nat_cmp (table f keys) v x ≡ table g (insert_key nat_cmp keys v)
 unfolding IsStrictlySortedBy
-set_one f g v x [] here other rises = ap (λ (s : Sums). (v, s) ∷ []) (sym here)
-set_one f g v x (k ∷ keys) here other rises =
-    set_at (nat_cmp v k) refl (set_one f g v x keys here other rises.1)
+set_one f g v x [] here other increases = ap (λ (s : Sums). (v, s) ∷ []) (sym here)
+set_one f g v x (k ∷ keys) here other increases =
+    set_at (nat_cmp v k) refl (set_one f g v x keys here other increases.1)
   where
     set_at : (order : Ordering) → nat_cmp v k ≡ order
         → insert_entry nat_cmp (table f keys) v x ≡ table g (insert_key nat_cmp keys v)
@@ -77,14 +77,14 @@ set_one f g v x (k ∷ keys) here other rises =
         ap (λ (s : Sums). (v, s) ∷ (k, f k) ∷ table f keys) (sym here)
         ∙ ap (λ (t : List (ℕ × Sums)). (v, g v) ∷ t) (table_same f g (k ∷ keys) (
           other k (λ same. grind (arith, nat_tests, less, same)),
-          above_same f g v keys other (less_above v k keys less rises.0),
+          above_same f g v keys other (less_above v k keys less increases.0),
         ))
     set_at Equal tied more =
         let same = number_ties v k tied in
         ap (λ (s : Sums). (k, s) ∷ table f keys) (sym here ∙ ap g same)
         ∙ ap (λ (t : List (ℕ × Sums)). (k, g k) ∷ t) (table_same f g keys
         (above_same f g v keys other
-        (subst (λ (n : ℕ). AllByRecursion (λ z. nat_cmp n z ≡ Less) keys) (sym same) rises.0)))
+        (subst (λ (n : ℕ). AllByRecursion (λ z. nat_cmp n z ≡ Less) keys) (sym same) increases.0)))
     set_at Greater greater more =
         ap (λ (s : Sums). (k, s) ∷ insert_entry nat_cmp (table f keys) v x)
         (other k (λ same. grind (arith, nat_tests, greater, same)))
@@ -146,20 +146,20 @@ insert-above low (k ∷ keys) key above less =
     above_at Equal more = above
     above_at Greater more = (above.0, more)
 
-insert-rises : (keys : List ℕ) (key : ℕ) → IsStrictlySortedBy nat_cmp keys
+insert-increases : (keys : List ℕ) (key : ℕ) → IsStrictlySortedBy nat_cmp keys
     → IsStrictlySortedBy nat_cmp (insert_key nat_cmp keys key)
 unfolding IsStrictlySortedBy
-insert-rises [] key rises = (tt, tt)
-insert-rises (k ∷ keys) key rises = rises_at (nat_cmp key k) refl (insert-rises keys key rises.1)
+insert-increases [] key increases = (tt, tt)
+insert-increases (k ∷ keys) key increases = increases_at (nat_cmp key k) refl (insert-increases keys key increases.1)
   where
-    rises_at : (o : Ordering) → nat_cmp key k ≡ o
+    increases_at : (o : Ordering) → nat_cmp key k ≡ o
         → IsStrictlySortedBy nat_cmp (insert_key nat_cmp keys key)
         → IsStrictlySortedBy nat_cmp
         (match_ordering o (key ∷ k ∷ keys) (k ∷ keys) (k ∷ insert_key nat_cmp keys key))
-    rises_at Less less more = ((less, less_above key k keys less rises.0), rises)
-    rises_at Equal is more = rises
-    rises_at Greater greater more =
-        (insert-above k keys key rises.0 (grind (arith, nat_tests, greater)), more)
+    increases_at Less less more = ((less, less_above key k keys less increases.0), increases)
+    increases_at Equal is more = increases
+    increases_at Greater greater more =
+        (insert-above k keys key increases.0 (grind (arith, nat_tests, greater)), more)
 
 -- ---- two histories, one behind the other
 abbrev pub at_validator : ℕ → List Entry → Sums
@@ -169,11 +169,11 @@ abbrev pub inserted : List ℕ → List ℕ → List ℕ
 inserted keys [] = keys
 inserted keys (v ∷ vs) = inserted (insert_key nat_cmp keys v) vs
 
-inserted_rise : (keys vs : List ℕ) → IsStrictlySortedBy nat_cmp keys
+inserted_increase : (keys vs : List ℕ) → IsStrictlySortedBy nat_cmp keys
     → IsStrictlySortedBy nat_cmp (inserted keys vs)
-inserted_rise keys [] rise = rise
-inserted_rise keys (v ∷ vs) rise =
-    inserted_rise (insert_key nat_cmp keys v) vs (insert-rises keys v rise)
+inserted_increase keys [] increase = increase
+inserted_increase keys (v ∷ vs) increase =
+    inserted_increase (insert_key nat_cmp keys v) vs (insert-increases keys v increase)
 
 or_moved : (a b c : Bool) → ((a || b) || c) ≡ (b || (a || c))
 or_moved true true c = refl
@@ -202,14 +202,14 @@ pub keys_inserted : (xs ys : List Entry)
     → inserted (validators xs) (validators ys) ≡ validators (xs ++ ys)
 unfolding validators
 keys_inserted xs ys =
-    let front = rising-is nat_cmp_total number_ties (map validator_of xs) in
-    let back = rising-is nat_cmp_total number_ties (map validator_of ys) in
-    let whole = rising-is nat_cmp_total number_ties (map validator_of (xs ++ ys)) in
-    rising-unique nat_cmp_total number_ties _ _
-    (inserted_rise (rising nat_cmp (map validator_of xs)) (rising nat_cmp (map validator_of ys)) front.rises)
-    whole.rises
-    (λ q. inserted_has (rising nat_cmp (map validator_of xs)) (rising nat_cmp (map validator_of ys)) q
-    ∙ ap (λ b. b || has (rising nat_cmp (map validator_of ys)) q) (front.same q)
+    let front = increasing-is nat_cmp_total number_ties (map validator_of xs) in
+    let back = increasing-is nat_cmp_total number_ties (map validator_of ys) in
+    let whole = increasing-is nat_cmp_total number_ties (map validator_of (xs ++ ys)) in
+    increasing-unique nat_cmp_total number_ties _ _
+    (inserted_increase (increasing nat_cmp (map validator_of xs)) (increasing nat_cmp (map validator_of ys)) front.increases)
+    whole.increases
+    (λ q. inserted_has (increasing nat_cmp (map validator_of xs)) (increasing nat_cmp (map validator_of ys)) q
+    ∙ ap (λ b. b || has (increasing nat_cmp (map validator_of ys)) q) (front.same q)
     ∙ ap (λ b. has (map validator_of xs) q || b) (back.same q)
     ∙ sym (has_append (map validator_of xs) (map validator_of ys) q)
     ∙ ap (λ keys. has keys q) (sym (map-append validator_of xs ys))
@@ -244,7 +244,7 @@ pub none_at : (v : ℕ) (entries : List Entry) → has (validators entries) v �
 unfolding validators
 none_at v entries none =
     nothing_summed (entries_of_validator v entries)
-    (no_entries v entries (sym ((rising-is nat_cmp_total number_ties (map validator_of entries)).same v) ∙ none))
+    (no_entries v entries (sym ((increasing-is nat_cmp_total number_ties (map validator_of entries)).same v) ∙ none))
 
 both_at : (v : ℕ) (xs ys : List Entry)
     → at_validator v (xs ++ ys) ≡ add_sums (at_validator v xs) (at_validator v ys)
@@ -295,7 +295,7 @@ module _ (xs ys : List Entry) (few : length (xs ++ ys) ≤ 2 ^ 95) where
       → ((k : ℕ) → has keys k ≡ false → has (validators xs) k ≡ false)
       → with_validator (table (mixed done) keys) (v, at_validator v ys)
       ≡ Some (table (mixed (v ∷ done)) (insert_key nat_cmp keys v))
-  one_more done keys v rises out of_xs =
+  one_more done keys v increases out of_xs =
       let here : unwrap_or (lookup (is_key (nat_cmp v)) (table (mixed done) keys)) no_sums
       ≡ at_validator v xs =
       found (mixed done) v keys
@@ -309,7 +309,7 @@ module _ (xs ys : List Entry) (few : length (xs ++ ys) ≤ 2 ^ 95) where
       ∙ ap (option_map (λ sums. insert_entry nat_cmp (table (mixed done) keys) v sums))
       (within (at_validator v xs) (at_validator v ys) (at_validator v (xs ++ ys)) (both_at v xs ys) small)
       ∙ ap Some (set_one (mixed done) (mixed (v ∷ done)) v (at_validator v (xs ++ ys)) keys
-      (mixed_here done v) (mixed_other done v) rises)
+      (mixed_here done v) (mixed_other done v) increases)
 
   still_out : (v : ℕ) (done vs : List ℕ) → AllByRecursion (λ u. nat_cmp v u ≡ Less) vs
       → AllByRecursion (λ u. has done u ≡ false) vs
@@ -337,13 +337,13 @@ module _ (xs ys : List Entry) (few : length (xs ++ ys) ≤ 2 ^ 95) where
       → are_added (table (mixed done) keys) (table (λ v. at_validator v ys) vs)
       (table (mixed (done_after done vs)) (inserted keys vs))
   unfolding IsStrictlySortedBy
-  all_more done keys [] rises rise out of_xs = refl
-  all_more done keys (v ∷ vs) rises rise out of_xs = (
+  all_more done keys [] increases increase out of_xs = refl
+  all_more done keys (v ∷ vs) increases increase out of_xs = (
     table (mixed (v ∷ done)) (insert_key nat_cmp keys v),
-    one_more done keys v rises out.0 of_xs,
+    one_more done keys v increases out.0 of_xs,
     all_more (v ∷ done) (insert_key nat_cmp keys v) vs
-        (insert-rises keys v rises) rise.1
-        (still_out v done vs rise.0 out.1) (more_keys keys v of_xs),
+        (insert-increases keys v increases) increase.1
+        (still_out v done vs increase.0 out.1) (more_keys keys v of_xs),
   )
 
   done_has : (done vs : List ℕ) (k : ℕ) → has (done_after done vs) k ≡ (has done k || has vs k)
@@ -395,13 +395,13 @@ module _ (xs ys : List Entry) (few : length (xs ++ ys) ≤ 2 ^ 95) where
       (sums_by_validator (xs ++ ys))
   unfolding sums_by_validator validators
   validators_added =
-      let front = rising-is nat_cmp_total number_ties (map validator_of xs) in
-      let back = rising-is nat_cmp_total number_ties (map validator_of ys) in
+      let front = increasing-is nat_cmp_total number_ties (map validator_of xs) in
+      let back = increasing-is nat_cmp_total number_ties (map validator_of ys) in
       subst (λ (all : List (ℕ × Sums)). are_added (sums_by_validator xs) (sums_by_validator ys) all)
       (table_same (mixed (done_after [] (validators ys))) (λ k. at_validator k (xs ++ ys))
       (inserted (validators xs) (validators ys))
       (all_same (mixed (done_after [] (validators ys))) (λ k. at_validator k (xs ++ ys))
       (inserted (validators xs) (validators ys)) ends_as)
       ∙ ap (table (λ k. at_validator k (xs ++ ys))) (keys_inserted xs ys))
-      (all_more [] (validators xs) (validators ys) front.rises back.rises (all_out (validators ys))
+      (all_more [] (validators xs) (validators ys) front.increases back.increases (all_out (validators ys))
       (λ k absent. absent))

@@ -8,7 +8,7 @@ use Rattle.report_texts.specs.declared.wrong.Wrong.{Wrong}
 use Rattle.report_texts.specs.declared.wrong.Wrong.TheVariants.{Form, NotPosted, Order}
 use Rattle.report_texts.specs.declared.wrong.Wrong.TheVariants.{Totals as OtherTotals}
 use Rattle.part_texts.specs.HeadForms.{span_in}
-use Rattle.part_texts.specs.Fronts.{FrontsView, is_above, may_end, no_sums, place_eq, plus}
+use Rattle.part_texts.specs.Fronts.{FrontsView, is_above, may_end, no_sums, position_eq, plus}
 use Rattle.part_texts.specs.Fronts.{posted_in, starts, sums_eq, sums_within, taps_before}
 use Rattle.part_texts.specs.Fronts.{with_validator}
 use Rattle.part_texts.specs.declared.fronts.Stage.{Stage}
@@ -42,7 +42,7 @@ span_step files left s line =
     said (span_in line) (λ span.
     where_holds (nat_eq span.0 (files - left)) Form
     (found_or Order (starts s.is_first s.ends) (λ start.
-    where_holds (place_eq start.0 span.1.from && may_end s.is_last span.1.to) Order
+    where_holds (position_eq start.0 span.1.from && may_end s.is_last span.1.to) Order
     (Ok (record s { stage = Files files (left - 1); ends = start.1 ++ span.1.to ∷ [] })))))
 
 -- after the header line of a ledger

@@ -8,7 +8,7 @@ use Rattle.std.specs.Ordering.{nat_cmp}
 use Rattle.histories.specs.Sums.{Sums, add_sums, sums_of}
 use Rattle.tap_views.specs.declared.upload_end.UploadEnd.{UploadEnd}
 use Rattle.tap_views.specs.declared.upload_end.UploadEnd.TheVariants.{Posted}
-use Rattle.sorted_taps.specs.declared.places.Place.{Place}
+use Rattle.sorted_taps.specs.declared.positions.Position.{Position}
 use Rattle.part_texts.specs.declared.fronts.Stage.{Stage}
 use Rattle.part_texts.specs.declared.fronts.Stage.TheVariants.{Head}
 use Rattle.part_texts.specs.declared.fronts.Fronts.{Fronts}
@@ -21,7 +21,7 @@ pub record FrontsView : Type 0 where
   pub is_last : Bool
   pub is_ledger : Bool
   -- where the taps of the parts so far end in each file, from the next file on
-  pub ends : List (Option Place)
+  pub ends : List (Option Position)
   -- how many taps the parts so far have of each upload, from the next upload on
   pub taps : List ℕ
   -- the part's totals, and what its validators so far add up to
@@ -82,26 +82,26 @@ with_validator list sum =
     option_map (λ sums. insert_entry nat_cmp list sum.0 sums)
     (sums_within (unwrap_or (lookup (is_at (nat_cmp sum.0)) list) no_sums) sum.1)
 
-abbrev pub place_eq : Place → Place → Bool
-place_eq a b = nat_eq a.offset b.offset && nat_eq a.skip b.skip
+abbrev pub position_eq : Position → Position → Bool
+position_eq a b = nat_eq a.offset b.offset && nat_eq a.skip b.skip
 
-abbrev pub next_end : List (Option Place) → Option (Place × List (Option Place))
+abbrev pub next_end : List (Option Position) → Option (Position × List (Option Position))
 next_end [] = None
 next_end (None ∷ ends) = None
-next_end (Some place ∷ ends) = Some (place, ends)
+next_end (Some position ∷ ends) = Some (position, ends)
 
 -- where the part's taps must begin in the next file: at the file's begin, or where the part before
 -- it ends; with the ends of the files that follow
-abbrev pub starts : Bool → List (Option Place) → Option (Place × List (Option Place))
+abbrev pub starts : Bool → List (Option Position) → Option (Position × List (Option Position))
 starts true ends = Some (record { offset = 0; skip = 0 }, ends)
 starts false ends = next_end ends
 
-abbrev pub is_file_end : Option Place → Bool
+abbrev pub is_file_end : Option Position → Bool
 is_file_end None = true
-is_file_end (Some place) = false
+is_file_end (Some position) = false
 
 -- the last part ends at the end of each file
-abbrev pub may_end : Bool → Option Place → Bool
+abbrev pub may_end : Bool → Option Position → Bool
 may_end true to = is_file_end to
 may_end false to = true
 

@@ -6,36 +6,36 @@ use Rattle.line_forms.specs.FormLaws.{after_complete, after_sound, is_none, numb
 use Rattle.line_forms.specs.Numbers.{BeginsWithNoDigit, number_in, with_rest}
 use Rattle.report_texts.specs.Forms.{chosen, count_at}
 use Rattle.report_texts.specs.FormLaws.{IsChosen, IsCount, begins, chosen_law, count_form, some_one}
-use Rattle.part_texts.specs.HeadForms.{end_if, place_by, place_read, to_or, to_read}
-use Rattle.sorted_taps.specs.declared.places.Place.{Place}
+use Rattle.part_texts.specs.HeadForms.{end_if, position_by, position_read, to_or, to_read}
+use Rattle.sorted_taps.specs.declared.positions.Position.{Position}
 
 -- the text says the place, after the word
-abbrev pub IsPlaceText : List ℕ → Place → List ℕ → Type 0
-IsPlaceText word = IsChosen place_by (IsThen (IsCount word) (IsCount (codes " skip ")))
+abbrev pub IsPositionText : List ℕ → Position → List ℕ → Type 0
+IsPositionText word = IsChosen position_by (IsThen (IsCount word) (IsCount (codes " skip ")))
 
-pub place_law : (word : List ℕ) → IsForm (IsPlaceText word) BeginsWithNoDigit (place_read word)
-place_law word =
-    chosen_law place_by (then_law (count_form word) (count_form (codes " skip "))
+pub position_law : (word : List ℕ) → IsForm (IsPositionText word) BeginsWithNoDigit (position_read word)
+position_law word =
+    chosen_law position_by (then_law (count_form word) (count_form (codes " skip "))
     (begins (codes " skip ") (λ rest. refl)))
 
 -- the text says the place, or the end
-abbrev pub IsToText : Option Place → List ℕ → Type 0
+abbrev pub IsToText : Option Position → List ℕ → Type 0
 IsToText None text = text ≡ codes " to end"
-IsToText (Some place) text = IsPlaceText (codes " to ") place text
+IsToText (Some position) text = IsPositionText (codes " to ") position text
 
-to_sound : (whole : List ℕ) (r : Option (Place × List ℕ)) (s : Option (List ℕ)) (to : Option Place)
-    (rest : List ℕ) → place_read (codes " to ") whole ≡ r → after (codes " to end") whole ≡ s
+to_sound : (whole : List ℕ) (r : Option (Position × List ℕ)) (s : Option (List ℕ)) (to : Option Position)
+    (rest : List ℕ) → position_read (codes " to ") whole ≡ r → after (codes " to end") whole ≡ s
     → to_or r s ≡ Some (to, rest)
     → (text : List ℕ) × IsToText to text × (whole ≡ text ++ rest)
 to_sound whole (Some parts) s to rest is ends e =
-    let both : ◌≡◌ {A = Option Place × List ℕ} (Some parts.0, parts.1) (to, rest) = some_one e in
-    let (text, says, shown) = (place_law (codes " to ")).sound whole parts.0 parts.1 is in
-    subst (λ (x : Option Place × List ℕ). (text : List ℕ) × IsToText x.0 text × (whole ≡ text ++ x.1))
+    let both : ◌≡◌ {A = Option Position × List ℕ} (Some parts.0, parts.1) (to, rest) = some_one e in
+    let (text, says, shown) = (position_law (codes " to ")).sound whole parts.0 parts.1 is in
+    subst (λ (x : Option Position × List ℕ). (text : List ℕ) × IsToText x.0 text × (whole ≡ text ++ x.1))
     both (text, says, shown)
-to_sound whole None (Some behind) to rest is ends e =
-    let both : ◌≡◌ {A = Option Place × List ℕ} (None, behind) (to, rest) = some_one e in
-    subst (λ (x : Option Place × List ℕ). (text : List ℕ) × IsToText x.0 text × (whole ≡ text ++ x.1))
-    both (codes " to end", refl, after_sound (codes " to end") whole behind ends)
+to_sound whole None (Some trailing) to rest is ends e =
+    let both : ◌≡◌ {A = Option Position × List ℕ} (None, trailing) (to, rest) = some_one e in
+    subst (λ (x : Option Position × List ℕ). (text : List ℕ) × IsToText x.0 text × (whole ≡ text ++ x.1))
+    both (codes " to end", refl, after_sound (codes " to end") whole trailing ends)
 to_sound whole None None to rest is ends e = absurd (cc)
 
 -- no place is read where the end is
@@ -46,24 +46,24 @@ no_number =
     let some = decimal_nonempty n small in
     omega (arith, some, ap length is))
 
-no_place : (rest : List ℕ) → place_read (codes " to ") (codes " to end" ++ rest) ≡ None
-no_place rest =
-    ap (λ r. chosen place_by (go_on (count_at (codes " skip ")) (with_rest r (codes "end" ++ rest))))
+no_position : (rest : List ℕ) → position_read (codes " to ") (codes " to end" ++ rest) ≡ None
+no_position rest =
+    ap (λ r. chosen position_by (go_on (count_at (codes " skip ")) (with_rest r (codes "end" ++ rest))))
     no_number
 
 pub to_law : IsForm IsToText BeginsWithNoDigit to_read
 to_law = record {
   sound = λ whole to rest e.
-      to_sound whole (place_read (codes " to ") whole) (after (codes " to end") whole) to rest refl refl e;
+      to_sound whole (position_read (codes " to ") whole) (after (codes " to end") whole) to rest refl refl e;
   complete = complete_at;
 }
   where
-    complete_at : (to : Option Place) (text rest : List ℕ) → IsToText to text → BeginsWithNoDigit rest
+    complete_at : (to : Option Position) (text rest : List ℕ) → IsToText to text → BeginsWithNoDigit rest
         → to_read (text ++ rest) ≡ Some (to, rest)
     complete_at None text rest is ends =
         ap (λ (t : List ℕ). to_read (t ++ rest)) is
-        ∙ ap (λ r. to_or r (after (codes " to end") (codes " to end" ++ rest))) (no_place rest)
+        ∙ ap (λ r. to_or r (after (codes " to end") (codes " to end" ++ rest))) (no_position rest)
         ∙ ap end_if (after_complete (codes " to end") rest)
-    complete_at (Some place) text rest is ends =
+    complete_at (Some position) text rest is ends =
         ap (λ r. to_or r (after (codes " to end") (text ++ rest)))
-        ((place_law (codes " to ")).complete place text rest is ends)
+        ((position_law (codes " to ")).complete position text rest is ends)

@@ -2,22 +2,22 @@
 use Rattle.std.specs.Prelude.{ℕ, ◌+◌, List, [], ◌∷◌, ◌++◌, Option, Some, None, length, codes}
 use Rattle.std.specs.Fmt.{decimal}
 use Rattle.fare_texts.specs.ReportLines.{number_line}
-use Rattle.sorted_taps.specs.declared.places.Place.{Place}
-use Rattle.sorted_taps.specs.declared.places.FileSpan.{FileSpan}
+use Rattle.sorted_taps.specs.declared.positions.Position.{Position}
+use Rattle.sorted_taps.specs.declared.positions.FileSpan.{FileSpan}
 
 -- `14344 skip 25`
-abbrev pub place_text : Place → List ℕ
-place_text place = decimal place.offset ++ (codes " skip " ++ decimal place.skip)
+abbrev pub position_text : Position → List ℕ
+position_text position = decimal position.offset ++ (codes " skip " ++ decimal position.skip)
 
 -- `14344 skip 25`, or `end`
-abbrev pub to_text : Option Place → List ℕ
+abbrev pub to_text : Option Position → List ℕ
 to_text None = codes "end"
-to_text (Some place) = place_text place
+to_text (Some position) = position_text position
 
 -- `file 0 from 0 skip 0 to 14344 skip 25`
 unfoldable pub span_line : ℕ → FileSpan → List ℕ
 span_line file span =
-    codes "file " ++ (decimal file ++ (codes " from " ++ (place_text span.from
+    codes "file " ++ (decimal file ++ (codes " from " ++ (position_text span.from
     ++ (codes " to " ++ (to_text span.to ++ codes "\n")))))
 
 -- a line for each file, the first of which has the number `file`

@@ -6,9 +6,9 @@ use Rattle.histories.specs.Sums.{sums}
 use Rattle.histories.specs.SumsByKey.{sums_by_token, sums_by_validator, token_of}
 use Rattle.histories.specs.declared.entry.Entry.{Entry}
 use Rattle.report_texts.specs.Numbers.{AreCounts, IsTokenSum, IsValidatorSum}
-use Rattle.sorted_taps.specs.Places.{AreWhole}
+use Rattle.sorted_taps.specs.Positions.{AreWhole}
 use Rattle.part_texts.specs.Shown.{PartReport, SpanFits, sum_up}
-use Rattle.sorted_taps.specs.declared.places.FileSpan.{FileSpan}
+use Rattle.sorted_taps.specs.declared.positions.FileSpan.{FileSpan}
 
 -- where a part lies in each file, how many taps each file has there, and the history of the taps
 pub record HistoryPart : Type 0 where
@@ -26,11 +26,11 @@ report_of p = record {
 }
 
 -- each history's tokens are below those of all later ones
-abbrev pub DoRise : List (List Entry) → Type 0
-DoRise [] = Unit {0}
-DoRise (history ∷ later) =
+abbrev pub AreIncreasing : List (List Entry) → Type 0
+AreIncreasing [] = Unit {0}
+AreIncreasing (history ∷ later) =
     AreBelow (map token_of history) (map token_of (flat_map (λ entries. entries) later))
-    × DoRise later
+    × AreIncreasing later
 
 -- numbers added up, one by one
 abbrev pub added : List ℕ → List ℕ → List ℕ
@@ -64,6 +64,6 @@ pub record Fits (p : HistoryPart) : Type 0 where
 pub record AreRight (files : ℕ) (parts : List HistoryPart) : Type 0 where
   pub number : AllByRecursion (λ p. length p.spans ≡ files) parts
   pub whole : AreWhole (map (λ p. p.spans) parts)
-  pub rise : DoRise (histories_of parts)
+  pub increase : AreIncreasing (histories_of parts)
   pub fit : AllByRecursion Fits parts
   pub few : length (whole_history parts) < 2 ^ 64

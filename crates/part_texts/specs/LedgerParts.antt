@@ -10,9 +10,9 @@ use Rattle.fare_texts.specs.LedgerLines.{IsLedgerLineAfter}
 use Rattle.ledger_fields.specs.Lines.{row_in}
 use Rattle.ledger_fields.specs.Rows.{Row}
 use Rattle.part_texts.specs.Heads.{part_head}
-use Rattle.part_texts.specs.HistoryParts.{DoRise, HistoryPart, histories_of}
+use Rattle.part_texts.specs.HistoryParts.{AreIncreasing, HistoryPart, histories_of}
 use Rattle.part_texts.specs.Shown.{SpanFits}
-use Rattle.sorted_taps.specs.Places.{AreWhole}
+use Rattle.sorted_taps.specs.Positions.{AreWhole}
 
 -- the text of the part: where it lies in each file, and the ledger of its history
 pub record IsPartLedger (fares : Fares) (part : HistoryPart) (text : List ℕ) : Type 0 where
@@ -24,9 +24,9 @@ pub record IsPartLedger (fares : Fares) (part : HistoryPart) (text : List ℕ) :
 pub record DoJoinUp (files : ℕ) (parts : List HistoryPart) : Type 0 where
   pub few : files < 2 ^ 64
   pub number : AllByRecursion (λ p. length p.spans ≡ files) parts
-  pub places : AllByRecursion (λ p. AllByRecursion SpanFits p.spans) parts
+  pub positions : AllByRecursion (λ p. AllByRecursion SpanFits p.spans) parts
   pub whole : AreWhole (map (λ p. p.spans) parts)
-  pub rise : DoRise (histories_of parts)
+  pub increase : AreIncreasing (histories_of parts)
 
 -- The line is one: at most 1,000 bytes that are not line feeds, and a line feed. It has the form of
 -- a ledger's line.

@@ -55,9 +55,9 @@ opened read = record {
 -- a part ends after its front, or later
 abbrev pub front_end : ℕ → Result (ℕ × FrontsView × List (List ℕ)) (ℕ × Wrong)
     → Result (FrontsView × OpenView) WrongLine
-front_end place (Ok read) =
-    cond (front_done read.1) (Ok (read.1, opened read)) (Err (place, (read.0, Form)))
-front_end place (Err wrong) = Err (place, wrong)
+front_end position (Ok read) =
+    cond (front_done read.1) (Ok (read.1, opened read)) (Err (position, (read.0, Form)))
+front_end position (Err wrong) = Err (position, wrong)
 
 abbrev pub is_none_left : List (List ℕ) → Bool
 is_none_left [] = true
@@ -65,13 +65,13 @@ is_none_left (text ∷ texts) = false
 
 -- at the begin of the part at this place, after which these parts follow
 abbrev pub at_part : ℕ → List (List ℕ) → FrontsView → FrontsView
-at_part place texts s =
-    record s { stage = Head; is_first = nat_eq place 0; is_last = is_none_left texts }
+at_part position texts s =
+    record s { stage = Head; is_first = nat_eq position 0; is_last = is_none_left texts }
 
 -- the front of the part at this place
 abbrev pub front_of : ℕ → FrontsView → List ℕ → Result (FrontsView × OpenView) WrongLine
-front_of place s text =
-    front_end place (run front_done (bounded Form front_step) 1 s (lines_of text))
+front_of position s text =
+    front_end position (run front_done (bounded Form front_step) 1 s (lines_of text))
 
 -- the fronts of all parts, after those that were opened
 abbrev pub fronts_of : FrontsView → List OpenView → List (List ℕ)
@@ -82,14 +82,14 @@ fronts_of s opens (text ∷ texts) =
     fronts_of read.0 (opens ++ read.1 ∷ []) texts)
 
 abbrev pub end_or : {S : Type 0} → WrongLine → S → Option Wrong → Result S WrongLine
-end_or place s None = Ok s
-end_or place s (Some why) = Err (place.0, (place.1.0, why))
+end_or position s None = Ok s
+end_or position s (Some why) = Err (position.0, (position.1.0, why))
 
 -- the lines of a part end where they may
 abbrev pub section_ended : ℕ → Result (ℕ × SectionView × List (List ℕ)) (ℕ × Wrong)
     → Result SectionView WrongLine
-section_ended place (Ok read) = end_or (place, (read.0, Form)) read.1 (section_end read.1)
-section_ended place (Err wrong) = Err (place, wrong)
+section_ended position (Ok read) = end_or (position, (read.0, Form)) read.1 (section_end read.1)
+section_ended position (Err wrong) = Err (position, wrong)
 
 -- after the front of a part, and the last token of the parts before it
 abbrev pub section_at : OpenView → Option Token → SectionView
@@ -104,15 +104,15 @@ section_at opening last = record {
 
 -- the lines of the part at this place
 abbrev pub section_of : ℕ → Option Token → OpenView → Result SectionView WrongLine
-section_of place last opening =
-    section_ended place
+section_of position last opening =
+    section_ended position
     (run (λ s. false) (bounded Form section_step) opening.number (section_at opening last) opening.lines)
 
 -- the lines of all parts, from the part at this place on, after the last token
 abbrev pub sections_of : ℕ → Option Token → List OpenView → Result (Option Token) WrongLine
-sections_of place last [] = Ok last
-sections_of place last (opening ∷ opens) =
-    and_then (section_of place last opening) (λ s. sections_of (place + 1) s.last opens)
+sections_of position last [] = Ok last
+sections_of position last (opening ∷ opens) =
+    and_then (section_of position last opening) (λ s. sections_of (position + 1) s.last opens)
 
 -- the whole's report up to its lines of tokens
 abbrev pub report_front : FrontsView → List ℕ

@@ -6,8 +6,8 @@ use Rattle.tap_views.specs.declared.token.Token.{Token}
 use Rattle.tap_views.specs.declared.upload_end.UploadEnd.TheVariants.{Posted}
 use Rattle.report_texts.specs.Report.{report}
 use Rattle.part_texts.specs.Heads.{part_head}
-use Rattle.sorted_taps.specs.declared.places.Place.{Place}
-use Rattle.sorted_taps.specs.declared.places.FileSpan.{FileSpan}
+use Rattle.sorted_taps.specs.declared.positions.Position.{Position}
+use Rattle.sorted_taps.specs.declared.positions.FileSpan.{FileSpan}
 
 -- what the report of a part says
 pub record PartReport : Type 0 where
@@ -22,15 +22,15 @@ pub record PartReport : Type 0 where
 abbrev pub part_text : PartReport → List ℕ
 part_text p = part_head p.spans ++ report (map Posted p.taps) p.totals p.validators p.tokens
 
-abbrev pub PlaceFits : Place → Type 0
-PlaceFits place = (place.offset < 2 ^ 64) × (place.skip < 2 ^ 64)
+abbrev pub PositionFits : Position → Type 0
+PositionFits position = (position.offset < 2 ^ 64) × (position.skip < 2 ^ 64)
 
-abbrev pub EndFits : Option Place → Type 0
+abbrev pub EndFits : Option Position → Type 0
 EndFits None = Unit {0}
-EndFits (Some place) = PlaceFits place
+EndFits (Some position) = PositionFits position
 
 abbrev pub SpanFits : FileSpan → Type 0
-SpanFits span = PlaceFits span.from × EndFits span.to
+SpanFits span = PositionFits span.from × EndFits span.to
 
 abbrev pub sum_up : List ℕ → ℕ
 sum_up [] = 0

@@ -10,8 +10,8 @@ ghost use Rattle.histories.specs.Shown.{validator_sum};
 ghost use Rattle.histories.specs.Sums.{sums_of};
 ghost use Rattle.line_folds.specs.Folds.{TakesAs};
 ghost use Rattle.part_texts.specs.Fronts.{fronts_view, is_above, may_end, no_fronts, no_sums};
-ghost use Rattle.part_texts.specs.inside.Fronts.{IsWith, begun};
-ghost use Rattle.part_texts.specs.Fronts.{place_eq, plus, posted_in, shown_sums, starts, sums_eq};
+ghost use Rattle.part_texts.specs.inside.Fronts.{IsWith, started};
+ghost use Rattle.part_texts.specs.Fronts.{position_eq, plus, posted_in, shown_sums, starts, sums_eq};
 ghost use Rattle.part_texts.specs.Fronts.{sums_within, taps_before};
 ghost use Rattle.part_texts.specs.FrontSteps.{head_step, kind_step};
 ghost use Rattle.part_texts.specs.FrontSteps.{ledger_step, span_step, tokens_step, totals_step};
@@ -23,7 +23,7 @@ use histories::{Totals, ValidatorSum};
 use line_folds::{Fold, Refusal};
 use report_texts::Wrong;
 use report_texts::forms::{head_in, totals_in, upload_in, validator_in};
-use sorted_taps::{FileSpan, Place};
+use sorted_taps::{FileSpan, Position};
 use std::alloc::{AllocError, Global};
 use std::collections::{BTreeMap, VecDeque};
 use tap_views::UploadEnd;
@@ -73,7 +73,7 @@ pub struct Fronts {
     /// Whether the parts are ledgers.
     pub is_ledger: bool,
     /// Where the taps of the parts so far end in each file, from the next file on.
-    pub ends: VecDeque<Option<Place>>,
+    pub ends: VecDeque<Option<Position>>,
     /// How many taps the parts so far have of each upload, from the next upload on.
     pub taps: VecDeque<u64>,
     /// The part's totals.
@@ -119,13 +119,13 @@ fn plus(a: u64, b: u64) -> Option<u64>
     a.checked_add(b)
 }
 
-fn is_same_place(a: Place, b: Place) -> bool
-    ensures { result ≡ place_eq a b }
+fn is_same_position(a: Position, b: Position) -> bool
+    ensures { result ≡ position_eq a b }
 {
     a.offset == b.offset && a.skip == b.skip
 }
 
-fn may_end(is_last: bool, to: Option<Place>) -> bool
+fn may_end(is_last: bool, to: Option<Position>) -> bool
     ensures { result ≡ may_end is_last to }
 {
     match to {
@@ -134,15 +134,15 @@ fn may_end(is_last: bool, to: Option<Place>) -> bool
     }
 }
 
-fn next_start(is_first: bool, ends: &mut VecDeque<Option<Place>>) -> Option<Place>
+fn next_start(is_first: bool, ends: &mut VecDeque<Option<Position>>) -> Option<Position>
     ensures { MatchOption result (starts is_first ends.old.items ≡ None)
-        (λ place. starts is_first ends.old.items ≡ Some (place, ends.new.items)) }
+        (λ position. starts is_first ends.old.items ≡ Some (position, ends.new.items)) }
 {
     if is_first {
-        return Some(Place { offset: 0, skip: 0 });
+        return Some(Position { offset: 0, skip: 0 });
     }
     match ends.pop_front() {
-        Some(Some(place)) => Some(place),
+        Some(Some(position)) => Some(position),
         Some(None) => None,
         None => None,
     }
@@ -240,12 +240,12 @@ impl Fronts {
         }
     }
 
-    pub(crate) fn begin(&mut self, place: usize, count: usize)
-        ensures { fronts_view self.new ≡ begun place count (fronts_view self.old) }
+    pub(crate) fn begin(&mut self, position: usize, count: usize)
+        ensures { fronts_view self.new ≡ started position count (fronts_view self.old) }
     {
         self.stage = Stage::Head;
-        self.is_first = place == 0;
-        self.is_last = count <= place.saturating_add(1);
+        self.is_first = position == 0;
+        self.is_last = count <= position.saturating_add(1);
     }
 
     fn take_head(&mut self, line: &[u8]) -> Result<(), Refusal<Wrong>>
@@ -275,7 +275,7 @@ impl Fronts {
         let Some(start) = next_start(self.is_first, &mut self.ends) else {
             return Err(Refusal::Wrong(Wrong::Order));
         };
-        if !(is_same_place(start, span.from) && may_end(self.is_last, span.to)) {
+        if !(is_same_position(start, span.from) && may_end(self.is_last, span.to)) {
             return Err(Refusal::Wrong(Wrong::Order));
         }
         let Ok(()) = self.ends.push_back(span.to) else {

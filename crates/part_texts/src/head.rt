@@ -3,36 +3,36 @@
 ghost use Rattle.std.specs.Prelude.{◌≡◌, ◌++◌, IfErr, IfOk, OnOk, codes, string_bytes};
 ghost use Rattle.std.specs.Fmt.{decimal};
 ghost use Rattle.std.specs.Io.KnownBytes.{Appends};
-ghost use Rattle.fare_texts.specs.PrintFaults.{KeepsUnlessWrite};
+ghost use Rattle.fare_texts.specs.PrintFaults.{UnchangedUnlessWrite};
 ghost use Rattle.fare_texts.specs.WrittenOut.{Begins};
 ghost use Rattle.fare_texts.specs.declared.print_fault.PrintFault.TheVariants.{Write as ForWrite};
 ghost use Rattle.part_texts.specs.HeadForms.{span_in};
-ghost use Rattle.part_texts.specs.Heads.{part_head, place_text, span_line, span_lines, to_text};
+ghost use Rattle.part_texts.specs.Heads.{part_head, position_text, span_line, span_lines, to_text};
 
 use fare_texts::{PrintFault, write_out};
 use line_forms::form::FormOf;
-use line_forms::forms::{Behind, Then, after_word, line_of};
+use line_forms::forms::{After, Then, after_word, line_of};
 use line_forms::number::Number64;
 use report_texts::write_section_head;
-use sorted_taps::{FileSpan, Place};
+use sorted_taps::{FileSpan, Position};
 use std::alloc::{AllocError, Global};
 use std::io::Write;
 
 /// Appends `14344 skip 25`.
-fn write_place(text: &mut String, place: Place) -> Result<(), AllocError>
-    ensures { OnOk result (string_bytes text.new ≡ string_bytes text.old ++ place_text place) }
+fn write_position(text: &mut String, position: Position) -> Result<(), AllocError>
+    ensures { OnOk result (string_bytes text.new ≡ string_bytes text.old ++ position_text position) }
 {
-    let Place { offset, skip } = place;
+    let Position { offset, skip } = position;
     write!(text, "{offset} skip {skip}")
 }
 
 /// Appends `14344 skip 25`, or `end`.
-fn write_to(text: &mut String, to: Option<Place>) -> Result<(), AllocError>
+fn write_to(text: &mut String, to: Option<Position>) -> Result<(), AllocError>
     ensures { OnOk result (string_bytes text.new ≡ string_bytes text.old ++ to_text to) }
 {
     match to {
         None => text.push_str("end"),
-        Some(place) => write_place(text, place),
+        Some(position) => write_position(text, position),
     }
 }
 
@@ -55,7 +55,7 @@ fn write_span(text: &mut String, file: u64, span: &FileSpan) -> Result<(), Alloc
         ≡ string_bytes text.old ++ span_line file span.now) }
 {
     write_file(text, file)?;
-    write_place(text, span.from)?;
+    write_position(text, span.from)?;
     write_words(text, " to ")?;
     write_to(text, span.to)?;
     write_words(text, "\n")
@@ -88,9 +88,9 @@ pub fn write_part_head<W: Write>(
 ) -> Result<(), PrintFault>
     ensures ok { OnOk result
         (Appends (W.contents out.old) (W.contents out.new) (part_head spans.now)) }
-    ensures begun { IfErr result (λ fault. fault ≡ ForWrite
+    ensures started { IfErr result (λ fault. fault ≡ ForWrite
         → Begins (W.contents out.old) (W.contents out.new) (part_head spans.now)) }
-    ensures fault { IfErr result (λ fault. KeepsUnlessWrite fault (out.new ≡ out.old)) }
+    ensures fault { IfErr result (λ fault. UnchangedUnlessWrite fault (out.new ≡ out.old)) }
 {
     let Ok(text) = head_text(alloc, spans) else {
         return Err(PrintFault::NoMemory);
@@ -101,35 +101,35 @@ pub fn write_part_head<W: Write>(
 
 /// A place after a word.
 #[derive(Drop)]
-struct PlaceBehind<'w>(&'w [u8]);
+struct PositionAfter<'w>(&'w [u8]);
 
-impl<'a, 'w> FormOf<'a> for PlaceBehind<'w> {
-    type Value = Place;
+impl<'a, 'w> FormOf<'a> for PositionAfter<'w> {
+    type Value = Position;
 
     ghost use Rattle.line_forms.specs.Numbers.{BeginsWithNoDigit};
-    ghost use Rattle.sorted_taps.specs.declared.places.Place.{Place as APlace};
-    ghost use Rattle.part_texts.specs.HeadForms.{place_read};
-    ghost use Rattle.part_texts.specs.HeadLaws.{IsPlaceText, place_law};
+    ghost use Rattle.sorted_taps.specs.declared.positions.Position.{Position as APosition};
+    ghost use Rattle.part_texts.specs.HeadForms.{position_read};
+    ghost use Rattle.part_texts.specs.HeadLaws.{IsPositionText, position_law};
 
-    ghost Said = { APlace };
+    ghost Said = { APosition };
 
-    ghost said = { λ place. place };
+    ghost said = { λ position. position };
 
-    ghost reads = { λ form. place_read form.0.now };
+    ghost reads = { λ form. position_read form.0.now };
 
-    ghost says = { λ form. IsPlaceText form.0.now };
+    ghost says = { λ form. IsPositionText form.0.now };
 
     ghost ends = { λ form. BeginsWithNoDigit };
 
     ghost valid = { λ form. Unit {0} };
 
-    fn read(&self, text: &'a [u8]) -> Option<(Place, &'a [u8])> {
-        let form = Then(Behind(self.0, Number64), Behind(b" skip ", Number64));
+    fn read(&self, text: &'a [u8]) -> Option<(Position, &'a [u8])> {
+        let form = Then(After(self.0, Number64), After(b" skip ", Number64));
         let ((offset, skip), rest) = form.read(text)?;
-        Some((Place { offset, skip }, rest))
+        Some((Position { offset, skip }, rest))
     }
 
-    ghost law = { λ form valid. place_law form.0.now };
+    ghost law = { λ form valid. position_law form.0.now };
 }
 
 /// Where a span ends.
@@ -137,15 +137,15 @@ impl<'a, 'w> FormOf<'a> for PlaceBehind<'w> {
 struct SpanEnd;
 
 impl<'a> FormOf<'a> for SpanEnd {
-    type Value = Option<Place>;
+    type Value = Option<Position>;
 
     ghost use Rattle.std.specs.Prelude.{Option};
     ghost use Rattle.line_forms.specs.Numbers.{BeginsWithNoDigit};
-    ghost use Rattle.sorted_taps.specs.declared.places.Place.{Place as APlace};
+    ghost use Rattle.sorted_taps.specs.declared.positions.Position.{Position as APosition};
     ghost use Rattle.part_texts.specs.HeadForms.{to_read};
     ghost use Rattle.part_texts.specs.HeadLaws.{IsToText, to_law};
 
-    ghost Said = { Option APlace };
+    ghost Said = { Option APosition };
 
     ghost said = { λ to. to };
 
@@ -157,9 +157,9 @@ impl<'a> FormOf<'a> for SpanEnd {
 
     ghost valid = { λ form. Unit {0} };
 
-    fn read(&self, text: &'a [u8]) -> Option<(Option<Place>, &'a [u8])> {
-        match PlaceBehind(b" to ").read(text) {
-            Some((place, rest)) => Some((Some(place), rest)),
+    fn read(&self, text: &'a [u8]) -> Option<(Option<Position>, &'a [u8])> {
+        match PositionAfter(b" to ").read(text) {
+            Some((position, rest)) => Some((Some(position), rest)),
             None => {
                 let rest = after_word(text, b" to end")?;
                 Some((None, rest))
@@ -175,8 +175,8 @@ pub fn span_in(line: &[u8]) -> Option<(u64, FileSpan)>
     ensures { result ≡ span_in line.now }
 {
     let form = Then(
-        Behind(b"file ", Number64),
-        Then(PlaceBehind(b" from "), SpanEnd),
+        After(b"file ", Number64),
+        Then(PositionAfter(b" from "), SpanEnd),
     );
     let (file, (from, to)) = line_of(&form, line)?;
     Some((file, FileSpan { from, to }))

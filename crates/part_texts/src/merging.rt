@@ -42,17 +42,17 @@ pub struct Open<R> {
     part: Totals,
 }
 
-fn fault_by(place: usize, stop: Stop<Wrong>) -> MergeFault
-    ensures { result ≡ fault_by place stop }
+fn fault_by(position: usize, stop: Stop<Wrong>) -> MergeFault
+    ensures { result ≡ fault_by position stop }
 {
     match stop {
         Stop::Line { number, why } => MergeFault::Line {
-            text: place,
+            text: position,
             number,
             why,
         },
-        Stop::Unread => MergeFault::Unread(place),
-        Stop::TooLong => MergeFault::TooLong(place),
+        Stop::Unread => MergeFault::Unread(position),
+        Stop::TooLong => MergeFault::TooLong(position),
         Stop::Unwritten => MergeFault::Write,
         Stop::NoMemory => MergeFault::NoMemory,
     }
@@ -71,10 +71,10 @@ fn read_front<R: BufRead>(
     alloc: Global,
     fronts: &mut Fronts,
     from: &mut R,
-    place: usize,
+    position: usize,
 ) -> Result<u64, MergeFault>
     ensures { IfSome (R.remaining from.old) (λ text.
-        FrontRead (front_of place (fronts_view fronts.old) text) (fronts_view fronts.new)
+        FrontRead (front_of position (fronts_view fronts.old) text) (fronts_view fronts.new)
         (R.remaining from.new) result) }
 {
     match fold_lines(alloc, from, 1, fronts) {
@@ -83,13 +83,13 @@ fn read_front<R: BufRead>(
                 Ok(number)
             } else {
                 Err(MergeFault::Line {
-                    text: place,
+                    text: position,
                     number,
                     why: Wrong::Form,
                 })
             }
         }
-        Err(stop) => Err(fault_by(place, stop)),
+        Err(stop) => Err(fault_by(position, stop)),
     }
 }
 
@@ -105,9 +105,9 @@ fn read_fronts<R: BufRead + Drop>(
     let count = parts.len();
     let mut opens = Vec::new(alloc);
     for mut from in parts {
-        let place = opens.len();
-        fronts.begin(place, count);
-        let number = read_front(alloc, fronts, &mut from, place)?;
+        let position = opens.len();
+        fronts.begin(position, count);
+        let number = read_front(alloc, fronts, &mut from, position)?;
         opens.push(Open {
             from,
             number,
@@ -122,12 +122,12 @@ fn read_fronts<R: BufRead + Drop>(
 fn copy_section<R: BufRead, W: Write>(
     alloc: Global,
     part: &mut Open<R>,
-    place: usize,
+    position: usize,
     last: Option<Token>,
     out: &mut W,
 ) -> Result<Option<Token>, MergeFault>
     ensures { (view : OpenView) → open_view R.remaining part.old ≡ Some view
-        → Copied (λ s. s.last) (section_of place last view) (flat_map (λ line. line) view.lines)
+        → Copied (λ s. s.last) (section_of position last view) (flat_map (λ line. line) view.lines)
         (W.contents out.old) (W.contents out.new) result }
 {
     let mut section = Section {
@@ -142,12 +142,12 @@ fn copy_section<R: BufRead, W: Write>(
         Ok(number) => match section.end() {
             None => Ok(section.last),
             Some(why) => Err(MergeFault::Line {
-                text: place,
+                text: position,
                 number,
                 why,
             }),
         },
-        Err(stop) => Err(fault_by(place, stop)),
+        Err(stop) => Err(fault_by(position, stop)),
     }
 }
 
@@ -161,10 +161,10 @@ fn copy_sections<R: BufRead + Drop, W: Write>(
         (W.contents out.old) (W.contents out.new) result }
 {
     let mut last = None;
-    let mut place: usize = 0;
+    let mut position: usize = 0;
     for mut part in opens {
-        last = copy_section(alloc, &mut part, place, last, out)?;
-        place = place.saturating_add(1);
+        last = copy_section(alloc, &mut part, position, last, out)?;
+        position = position.saturating_add(1);
     }
     Ok(())
 }

@@ -79,7 +79,7 @@ fn may_follow(is_first: bool, last: Option<Token>, token: Token) -> bool
 }
 
 impl Section {
-    fn behind_entry(self, line: &[u8]) -> Result<Section, Wrong>
+    fn after_entry(self, line: &[u8]) -> Result<Section, Wrong>
         ensures { IsNext (entry_step (section_view self) line.now) result }
     {
         let Some(token) = entry_token_in(line) else {
@@ -98,7 +98,7 @@ impl Section {
         })
     }
 
-    fn behind_token(self, line: &[u8]) -> Result<Section, Wrong>
+    fn after_token(self, line: &[u8]) -> Result<Section, Wrong>
         ensures { IsNext (token_step (section_view self) line.now) result }
     {
         if self.left == 0 {
@@ -123,13 +123,13 @@ impl Section {
         })
     }
 
-    pub(crate) fn behind(self, line: &[u8]) -> Result<Section, Wrong>
+    pub(crate) fn trailing(self, line: &[u8]) -> Result<Section, Wrong>
         ensures { IsNext (section_step (section_view self) line.now) result }
     {
         if self.is_ledger {
-            self.behind_entry(line)
+            self.after_entry(line)
         } else {
-            self.behind_token(line)
+            self.after_token(line)
         }
     }
 
@@ -177,7 +177,7 @@ pub(crate) fn copy_lines<R: BufRead, W: Write>(
             Err(ReadFault::Unread) => return Err(Stop::Unread),
             Err(ReadFault::NoMemory) => return Err(Stop::NoMemory),
         }
-        match section.behind(&line) {
+        match section.trailing(&line) {
             Ok(next) => *section = next,
             Err(why) => return Err(Stop::Line { number, why }),
         }

@@ -8,7 +8,7 @@ use Rattle.std.proofs.lemmas.List.{length-drop}
 use Rattle.std.proofs.Common.{length-append}
 use Rattle.std.proofs.lemmas.Slice.{take-put_mid_below}
 use Rattle.placed_files.specs.Placed.{IsReadAt}
-use Rattle.placed_files.specs.inside.Begun.{IsBegunFrom}
+use Rattle.placed_files.specs.inside.Started.{IsStartedFrom}
 
 -- the first elements of two lists, if they reach past the first list
 take_past : (us vs : List ℕ) (n m : ℕ) → m ≡ length us + n → take m (us ++ vs) ≡ us ++ take n vs
@@ -19,34 +19,34 @@ take_past (u ∷ us) vs n (suc m) e =
 
 -- what was read is kept if the rest of the buffer is written
 pub kept : (known : Option (List ℕ)) (offset at k : ℕ) (buffer part : List ℕ) → at ≤ length buffer
-    → IfSome known (λ all. IsBegunFrom all offset buffer at)
-    → IfSome known (λ all. IsBegunFrom all offset (put_mid at k buffer part) at)
-kept None offset at k buffer part within begun = begun
-kept (Some all) offset at k buffer part within begun = record {
-  within = begun.within;
-  same = take-put_mid_below at k buffer part at (omega arith) within ∙ begun.same;
+    → IfSome known (λ all. IsStartedFrom all offset buffer at)
+    → IfSome known (λ all. IsStartedFrom all offset (put_mid at k buffer part) at)
+kept None offset at k buffer part within started = started
+kept (Some all) offset at k buffer part within started = record {
+  within = started.within;
+  same = take-put_mid_below at k buffer part at (omega arith) within ∙ started.same;
 }
 
 more : (all : List ℕ) (offset at k count : ℕ) (buffer part : List ℕ) → at ≤ length buffer
-    → count ≤ length part → IsBegunFrom all offset buffer at
+    → count ≤ length part → IsStartedFrom all offset buffer at
     → IsReadAt all (offset + at) part count
-    → IsBegunFrom all offset (put_mid at k buffer part) (at + count)
-more all offset at k count buffer part within few begun read =
+    → IsStartedFrom all offset (put_mid at k buffer part) (at + count)
+more all offset at k count buffer part within few started read =
     let X = drop offset all in
     let on : drop at X ≡ drop (offset + at) all = drop-drop at offset all in
     let long = length-take-le at buffer within in
-    let far = length-take-le at X begun.within in
+    let far = length-take-le at X started.within in
     let left = length-drop at X in
     let rest = ap length on in
     let some = read.within in
-    let before = begun.within in
+    let before = started.within in
     record {
       within = omega (arith, left, rest, some, before);
       same =
           take_past (take at buffer) (part ++ post_of at k buffer) count (at + count)
           (omega (arith, long))
           ∙ ap (λ l. take at buffer ++ l) (take-append-le count part (post_of at k buffer) few)
-          ∙ ap (λ l. l ++ take count part) begun.same
+          ∙ ap (λ l. l ++ take count part) started.same
           ∙ ap (λ l. take at X ++ l) (read.same ∙ ap (take count) (sym on))
           ∙ sym (take_past (take at X) (drop at X) count (at + count) (omega (arith, far)))
           ∙ ap (take (at + count)) (take-append-drop at X);
@@ -55,12 +55,12 @@ more all offset at k count buffer part within few begun read =
 -- what was read now is added to it
 pub grown : (known : Option (List ℕ)) (offset at k count : ℕ) (buffer part : List ℕ)
     → at ≤ length buffer → count ≤ length part
-    → IfSome known (λ all. IsBegunFrom all offset buffer at)
+    → IfSome known (λ all. IsStartedFrom all offset buffer at)
     → IfSome known (λ all. IsReadAt all (offset + at) part count)
-    → IfSome known (λ all. IsBegunFrom all offset (put_mid at k buffer part) (at + count))
-grown None offset at k count buffer part within few begun read = begun
-grown (Some all) offset at k count buffer part within few begun read =
-    more all offset at k count buffer part within few begun read
+    → IfSome known (λ all. IsStartedFrom all offset (put_mid at k buffer part) (at + count))
+grown None offset at k count buffer part within few started read = started
+grown (Some all) offset at k count buffer part within few started read =
+    more all offset at k count buffer part within few started read
 
 -- a buffer whose rest is written stays as long
 pub long_put : (at k : ℕ) (buffer part : List ℕ) → at ≤ length buffer → length part ≡ k

@@ -77,24 +77,24 @@ unfolding file_named
 cut_name word date some = rw some refl
 
 -- what is found behind a word that is right
-behind_right : (word : List ℕ) (fault : Option DateFault) (behind : Option (List ℕ × DateFault))
-    → found_or word fault behind ≡ None → (fault ≡ None) × (behind ≡ None)
-behind_right word None behind is = (refl, is)
-behind_right word (Some fault) behind is = cc
+after_right : (word : List ℕ) (fault : Option DateFault) (trailing : Option (List ℕ × DateFault))
+    → found_or word fault trailing ≡ None → (fault ≡ None) × (trailing ≡ None)
+after_right word None trailing is = (refl, is)
+after_right word (Some fault) trailing is = cc
 
 -- if no word is wrong, none of them is
-pub later_right : (words : List (Bor (List ℕ))) (place : ℕ) (other : Bor (List ℕ))
-    → wrong_later (map (λ w. w.now) words) ≡ None → place < length words
-    → date_fault false (get_or words place other).now ≡ None
-later_right [] place other right within = absurd (omega (arith, within))
+pub later_right : (words : List (Bor (List ℕ))) (position : ℕ) (other : Bor (List ℕ))
+    → wrong_later (map (λ w. w.now) words) ≡ None → position < length words
+    → date_fault false (get_or words position other).now ≡ None
+later_right [] position other right within = absurd (omega (arith, within))
 later_right (word ∷ words) zero other right within =
-    (behind_right word.now (date_fault false word.now) _ right).0
-later_right (word ∷ words) (suc place) other right within =
-    later_right words place other (behind_right word.now (date_fault false word.now) _ right).1
+    (after_right word.now (date_fault false word.now) _ right).0
+later_right (word ∷ words) (suc position) other right within =
+    later_right words position other (after_right word.now (date_fault false word.now) _ right).1
     (omega (arith, within))
 
 -- if all words are right, those behind the first one are
 pub tables_right : (tables : TableNames) → wrong_word tables ≡ None
     → wrong_later tables.later ≡ None
 tables_right tables right =
-    (behind_right tables.first (date_fault true tables.first) _ right).1
+    (after_right tables.first (date_fault true tables.first) _ right).1

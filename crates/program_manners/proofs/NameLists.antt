@@ -42,18 +42,18 @@ read_whole end text names rest read some = elim read.whole [
   | inr none ↦ absurd (some none.0)
 ]
 
-pub name_read : (end : ℕ) (text : List ℕ) (names : List (List ℕ)) (rest piece behind : List ℕ)
+pub name_read : (end : ℕ) (text : List ℕ) (names : List (List ℕ)) (rest piece trailing : List ℕ)
     → AreReadFrom end text names rest → rest ≢ []
-    → IsListedName end piece → (rest ≡ piece ++ end ∷ behind) ⊎ ((rest ≡ piece) × (behind ≡ []))
-    → AreReadFrom end text (names ++ piece ∷ []) behind
-name_read end text names rest piece behind read some name split = record {
+    → IsListedName end piece → (rest ≡ piece ++ end ∷ trailing) ⊎ ((rest ≡ piece) × (trailing ≡ []))
+    → AreReadFrom end text (names ++ piece ∷ []) trailing
+name_read end text names rest piece trailing read some name split = record {
   are_names = All-push (IsListedName end) names piece read.are_names name;
   whole = elim split [
     | inl ended ↦ inl (read_whole end text names rest read some
         ∙ ap (λ (t : List ℕ). ended_by end names ++ t)
-        (ended ∙ sym (append_assoc piece (end ∷ []) behind))
-        ∙ sym (append_assoc (ended_by end names) (piece ++ end ∷ []) behind)
-        ∙ ap (λ (t : List ℕ). t ++ behind) (sym (ended_push end names piece)))
+        (ended ∙ sym (append_assoc piece (end ∷ []) trailing))
+        ∙ sym (append_assoc (ended_by end names) (piece ++ end ∷ []) trailing)
+        ∙ ap (λ (t : List ℕ). t ++ trailing) (sym (ended_push end names piece)))
     | inr last ↦ inr (
       last.1,
       ap (λ (t : List ℕ). t ++ end ∷ [])
@@ -65,13 +65,13 @@ name_read end text names rest piece behind read some name split = record {
   ];
 }
 
-pub wrong_read : (end : ℕ) (text : List ℕ) (names : List (List ℕ)) (rest piece behind : List ℕ)
+pub wrong_read : (end : ℕ) (text : List ℕ) (names : List (List ℕ)) (rest piece trailing : List ℕ)
     (number : ℕ) (wrong : WrongName)
     → AreReadFrom end text names rest → rest ≢ [] → number ≡ length names + 1 → Lacks end piece
     → IsWrongBy wrong piece
-    → (rest ≡ piece ++ end ∷ behind) ⊎ ((rest ≡ piece) × (behind ≡ []))
+    → (rest ≡ piece ++ end ∷ trailing) ⊎ ((rest ≡ piece) × (trailing ≡ []))
     → IsFirstWrong end text number wrong
-wrong_read end text names rest piece behind number wrong read some is_number lacks is_wrong split =
+wrong_read end text names rest piece trailing number wrong read some is_number lacks is_wrong split =
     record {
       before = names;
       are_names = read.are_names;
@@ -81,7 +81,7 @@ wrong_read end text names rest piece behind number wrong read some is_number lac
       is_wrong = is_wrong;
       whole = elim split [
         | inl ended ↦ inl (
-          behind,
+          trailing,
           read_whole end text names rest read some
               ∙ ap (λ (t : List ℕ). ended_by end names ++ t) ended,
         )

@@ -35,8 +35,8 @@ later_push fares [] word loaded_before loaded_before' loaded_before'' texts text
     )
 later_push fares (first ∷ words) word loaded_before loaded_before' loaded_before'' texts text all
     next
-    (begun, rest, between, second, loaded, follows, more, whole) one is = (
-      begun,
+    (started, rest, between, second, loaded, follows, more, whole) one is = (
+      started,
       rest ++ text ∷ [],
       between,
       second,
@@ -74,25 +74,25 @@ tables_push first before word loaded_before loaded_before' loaded_before'' texts
 
 -- the words up to a place
 abbrev pub words_to : List ℕ → List (Bor (List ℕ)) → ℕ → TableNames
-words_to first words place = record { first = first; later = map (λ w. w.now) (take place words) }
+words_to first words position = record { first = first; later = map (λ w. w.now) (take position words) }
 
 -- one more table
-pub tables_on : (first : List ℕ) (words : List (Bor (List ℕ))) (place : ℕ) (other : Bor (List ℕ))
-    → place < length words → (before between after : Option (List Loaded))
+pub tables_on : (first : List ℕ) (words : List (Bor (List ℕ))) (position : ℕ) (other : Bor (List ℕ))
+    → position < length words → (before between after : Option (List Loaded))
     (texts more : List (List ℕ)) (text : List ℕ) (all next : Fares)
-    → LoadsTables (words_to first words place) before between texts all
-    → LoadsOne between after (Some (file_named (get_or words place other).now)) text
-    → Follows all (get_or words place other).now text next → more ≡ texts ++ text ∷ []
-    → LoadsTables (words_to first words (place + 1)) before after more next
-tables_on first words place other within before between after texts more text all next loads one
+    → LoadsTables (words_to first words position) before between texts all
+    → LoadsOne between after (Some (file_named (get_or words position other).now)) text
+    → Follows all (get_or words position other).now text next → more ≡ texts ++ text ∷ []
+    → LoadsTables (words_to first words (position + 1)) before after more next
+tables_on first words position other within before between after texts more text all next loads one
     follows are =
-    subst (λ (ts : List (List ℕ)). LoadsTables (words_to first words (place + 1)) before after ts
+    subst (λ (ts : List (List ℕ)). LoadsTables (words_to first words (position + 1)) before after ts
     next)
     (sym are)
     (subst (λ (ws : List (List ℕ)). LoadsTables (record { first = first; later = ws }) before after
     (texts ++ text ∷ []) next)
-    (sym (map_more (λ (w : Bor (List ℕ)). w.now) words place other within))
-    (tables_push first (map (λ w. w.now) (take place words)) (get_or words place other).now before
+    (sym (map_more (λ (w : Bor (List ℕ)). w.now) words position other within))
+    (tables_push first (map (λ w. w.now) (take position words)) (get_or words position other).now before
     between after texts text all next loads one follows))
 
 -- each word has a text, and each text adds a table
@@ -128,13 +128,13 @@ later_read : (fares : Fares) (words : List (List ℕ))
     (loaded_before loaded_before' : Option (List Loaded))
     (texts : List (List ℕ)) (all : Fares)
     → LoadsLater fares words loaded_before loaded_before' texts all
-    → (place : ℕ) (text : List ℕ) → slice_get texts place ≡ Some text
+    → (position : ℕ) (text : List ℕ) → slice_get texts position ≡ Some text
     → IsUtf8 text × ((meaning : TableMeaning) × (meaning_in text ≡ Ok meaning))
-later_read fares [] loaded_before loaded_before' texts all (none, same, still) place text at =
-    absurd (no_place place (rw none at at))
+later_read fares [] loaded_before loaded_before' texts all (none, same, still) position text at =
+    absurd (no_position position (rw none at at))
   where
-    no_place : (k : ℕ) → slice_get [] k ≡ Some text → ⊥
-    no_place k is = cc
+    no_position : (k : ℕ) → slice_get [] k ≡ Some text → ⊥
+    no_position k is = cc
 later_read fares (word ∷ words) loaded_before loaded_before' texts all
     (first, rest, between, next, loaded, follows, more, whole) zero text at =
     let same : first ≡ text = some_same (rw whole at at) in (
@@ -148,14 +148,14 @@ later_read fares (word ∷ words) loaded_before loaded_before' texts all
     some_same : Some first ≡ Some text → first ≡ text
     some_same is = cc
 later_read fares (word ∷ words) loaded_before loaded_before' texts all
-    (first, rest, between, next, loaded, follows, more, whole) (suc place) text at =
-    later_read next words between loaded_before' rest all more place text (rw whole at at)
+    (first, rest, between, next, loaded, follows, more, whole) (suc position) text at =
+    later_read next words between loaded_before' rest all more position text (rw whole at at)
 
 -- each text is UTF-8, and means a table
 pub tables_read : (tables : TableNames) (loaded_before loaded_before' : Option (List Loaded))
     (texts : List (List ℕ)) (fares : Fares)
     → LoadsTables tables loaded_before loaded_before' texts fares
-    → (place : ℕ) (text : List ℕ) → slice_get texts place ≡ Some text
+    → (position : ℕ) (text : List ℕ) → slice_get texts position ≡ Some text
     → IsUtf8 text × ((meaning : TableMeaning) × (meaning_in text ≡ Ok meaning))
 tables_read tables loaded_before loaded_before' texts fares loads zero text at =
     let same : loads.text ≡ text = some_same (rw loads.are_texts at at) in (
@@ -168,19 +168,19 @@ tables_read tables loaded_before loaded_before' texts fares loads zero text at =
   where
     some_same : Some loads.text ≡ Some text → loads.text ≡ text
     some_same is = cc
-tables_read tables loaded_before loaded_before' texts fares loads (suc place) text at =
+tables_read tables loaded_before loaded_before' texts fares loads (suc position) text at =
     later_read loads.alone tables.later loads.between loaded_before' loads.rest fares
-    loads.loads_later place
+    loads.loads_later position
     text (rw loads.are_texts at at)
 
 -- the words before one, that one, and those behind it
-pub words_at : (words : List (Bor (List ℕ))) (place : ℕ) (other : Bor (List ℕ))
-    → place < length words
-    → map (λ w. w.now) words ≡ map (λ w. w.now) (take place words)
-    ++ (get_or words place other).now ∷ map (λ w. w.now) (drop (place + 1) words)
-words_at [] place other within = absurd (omega (arith, within))
+pub words_at : (words : List (Bor (List ℕ))) (position : ℕ) (other : Bor (List ℕ))
+    → position < length words
+    → map (λ w. w.now) words ≡ map (λ w. w.now) (take position words)
+    ++ (get_or words position other).now ∷ map (λ w. w.now) (drop (position + 1) words)
+words_at [] position other within = absurd (omega (arith, within))
 words_at (word ∷ words) zero other within = refl
-words_at (word ∷ words) (suc place) other within =
-    let one : suc place + 1 ≡ suc (place + 1) = omega (arith) in
+words_at (word ∷ words) (suc position) other within =
+    let one : suc position + 1 ≡ suc (position + 1) = omega (arith) in
     rw one (ap (λ (ws : List (List ℕ)). word.now ∷ ws)
-    (words_at words place other (omega (arith, within))))
+    (words_at words position other (omega (arith, within))))

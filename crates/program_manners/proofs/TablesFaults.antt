@@ -11,7 +11,7 @@ use Rattle.program_manners.specs.Refusals.{IsFirstTableFault, IsOneOf, Refuses}
 use Rattle.program_manners.specs.TableLoads.{LoadsTables}
 use Rattle.program_manners.specs.TableRefusals.{RefusesNamed, RefusesOnly, RefusesToFollow}
 use Rattle.program_manners.specs.TableWords.{TableNames, file_named, table_files, written_date}
-use Rattle.program_manners.specs.TablesFaults.{IsTablesFault, KeepsRefusals}
+use Rattle.program_manners.specs.TablesFaults.{IsTablesFault, SameRefusals}
 use Rattle.program_manners.specs.declared.following.NextFault.{NextFault}
 use Rattle.program_manners.specs.declared.following.NextFault.TheVariants as next
 use Rattle.program_manners.specs.declared.loading.FileFault.{FileFault}
@@ -26,9 +26,9 @@ use Rattle.program_manners.proofs.TablesRefused.{among, first_refused, later_ref
 use Rattle.program_manners.proofs.TablesRefused.{not_following, only_refused}
 
 -- the file of a later word is one of those of all tables
-pub later_file : (tables : TableNames) (before behind : List (List ℕ)) (word : List ℕ)
-    → tables.later ≡ before ++ word ∷ behind → IsOneOf (file_named word) (table_files tables)
-later_file tables before behind word stands = inr (rw stands (among before behind word))
+pub later_file : (tables : TableNames) (before trailing : List (List ℕ)) (word : List ℕ)
+    → tables.later ≡ before ++ word ∷ trailing → IsOneOf (file_named word) (table_files tables)
+later_file tables before trailing word holds = inr (rw holds (among before trailing word))
 
 module _ (tables : TableNames) (loaded loaded' loaded'' : Option (List Loaded))
     (refused : Option (Option (List ℕ) × LoadFault)) where
@@ -57,8 +57,8 @@ module _ (tables : TableNames) (loaded loaded' loaded'' : Option (List Loaded))
   first_is_right text alone why NoMemory is_loaded first one several is = tt
   first_is_right text alone why _ is_loaded first one several is = absurd is
 
-  module _ (before behind : List (List ℕ)) (word text : List ℕ)
-      (stands : tables.later ≡ before ++ word ∷ behind) (texts : List (List ℕ)) (fares : Fares)
+  module _ (before trailing : List (List ℕ)) (word text : List ℕ)
+      (holds : tables.later ≡ before ++ word ∷ trailing) (texts : List (List ℕ)) (fares : Fares)
       (loads : LoadsTables (record { first = tables.first; later = before }) loaded loaded' texts
       fares)
       (is_loaded : LoadsOne loaded' loaded'' (Some (file_named word)) text) where
@@ -70,7 +70,7 @@ module _ (tables : TableNames) (loaded loaded' loaded'' : Option (List Loaded))
     next_is_right date dated (next.Table why) first (NamedTable line) is =
         subst (RefusesNamed tables loaded loaded'' line.name.now) (sym is.2)
         (subst (λ (n : List ℕ). RefusesNamed tables loaded loaded'' n why) (sym is.1)
-        (later_refused tables loaded loaded' loaded'' before behind word text stands texts fares
+        (later_refused tables loaded loaded' loaded'' before trailing word text holds texts fares
         loads is_loaded why first))
     next_is_right date dated (next.Table why) first NoMemory is = tt
     next_is_right date dated (next.Table why) first (Table fault) is =
@@ -79,28 +79,28 @@ module _ (tables : TableNames) (loaded loaded' loaded'' : Option (List Loaded))
     next_is_right date dated (next.Follow why) wrong (Follow line) is =
         subst (RefusesToFollow tables loaded loaded'' line.word.now) (sym is.1)
         (subst (λ (w : List ℕ). RefusesToFollow tables loaded loaded'' w why) (sym is.0)
-        (not_following tables loaded loaded' loaded'' before behind word text stands texts fares
+        (not_following tables loaded loaded' loaded'' before trailing word text holds texts fares
         loads is_loaded date dated why wrong))
     next_is_right date dated (next.Follow why) wrong _ is = absurd is
 
 module _ (refused refused' : Option (Option (List ℕ) × LoadFault)) (same : refused' ≡ refused) where
   -- behind a file that was loaded, nothing was refused
   pub named_kept : (name : List ℕ) (alone : Bool) (why : TableFault) (fault : TablesFault)
-      → IsRightNamed name alone why fault → KeepsRefusals refused refused' fault
+      → IsRightNamed name alone why fault → SameRefusals refused refused' fault
   named_kept name alone why (Table fault) is = same
   named_kept name alone why (NamedTable line) is = same
   named_kept name alone why NoMemory is = same
   named_kept name alone why _ is = absurd is
 
   pub later_kept : (word name : List ℕ) (why : NextFault) (fault : TablesFault)
-      → IsRightLater word name why fault → KeepsRefusals refused refused' fault
+      → IsRightLater word name why fault → SameRefusals refused refused' fault
   later_kept word name (next.Table why) fault is = named_kept name false why fault is
   later_kept word name (next.Follow why) (Follow line) is = same
   later_kept word name (next.Follow why) _ is = absurd is
 
 -- what was refused behind what was not
 pub kept_on : (refused between refused' : Option (Option (List ℕ) × LoadFault))
-    (fault : TablesFault) → between ≡ refused → KeepsRefusals between refused' fault
-    → KeepsRefusals refused refused' fault
+    (fault : TablesFault) → between ≡ refused → SameRefusals between refused' fault
+    → SameRefusals refused refused' fault
 kept_on refused between refused' fault same kept =
-    subst (λ (r : Option (Option (List ℕ) × LoadFault)). KeepsRefusals r refused' fault) same kept
+    subst (λ (r : Option (Option (List ℕ) × LoadFault)). SameRefusals r refused' fault) same kept

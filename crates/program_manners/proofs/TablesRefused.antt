@@ -14,15 +14,15 @@ use Rattle.program_manners.specs.TableWords.{TableNames, file_named, table_files
 use Rattle.program_manners.specs.declared.table_words.WrittenDate.{WrittenDate}
 
 -- there is a table behind the first one
-some_later : (before behind : List (List ℕ)) (word : List ℕ) → before ++ word ∷ behind ≡ [] → ⊥
-some_later [] behind word is = cc
-some_later (one ∷ before) behind word is = cc
+some_later : (before trailing : List (List ℕ)) (word : List ℕ) → before ++ word ∷ trailing ≡ [] → ⊥
+some_later [] trailing word is = cc
+some_later (one ∷ before) trailing word is = cc
 
 -- a word's file is among those of all words
-pub among : (before behind : List (List ℕ)) (word : List ℕ)
-    → IsOneOf (file_named word) (map file_named (before ++ word ∷ behind))
-among [] behind word = inl refl
-among (one ∷ before) behind word = inr (among before behind word)
+pub among : (before trailing : List (List ℕ)) (word : List ℕ)
+    → IsOneOf (file_named word) (map file_named (before ++ word ∷ trailing))
+among [] trailing word = inl refl
+among (one ∷ before) trailing word = inr (among before trailing word)
 
 -- of several tables, the file that is refused is one of theirs
 pub named_among : (tables : TableNames) (loaded_before loaded_before' : Option (List Loaded))
@@ -32,8 +32,8 @@ pub named_among : (tables : TableNames) (loaded_before loaded_before' : Option (
 named_among tables loaded_before loaded_before' name fault refuses = elim refuses.refused [
   | inl first ↦ inl first.0
   | inr later ↦ subst (λ (n : List ℕ). IsOneOf n (table_files tables)) (sym later.named)
-      (inr (rw later.up_to.stands
-      (among later.up_to.before later.up_to.behind later.word)))
+      (inr (rw later.up_to.holds
+      (among later.up_to.before later.up_to.trailing later.word)))
 ]
 
 module _ (tables : TableNames) (loaded_before loaded_before' : Option (List Loaded)) (text : List ℕ)
@@ -53,16 +53,16 @@ module _ (tables : TableNames) (loaded_before loaded_before' : Option (List Load
   }
 
 module _ (tables : TableNames) (loaded_before between loaded_before' : Option (List Loaded))
-    (before behind : List (List ℕ)) (word text : List ℕ)
-    (stands : tables.later ≡ before ++ word ∷ behind) (texts : List (List ℕ)) (fares : Fares)
+    (before trailing : List (List ℕ)) (word text : List ℕ)
+    (holds : tables.later ≡ before ++ word ∷ trailing) (texts : List (List ℕ)) (fares : Fares)
     (loads : LoadsTables (record { first = tables.first; later = before }) loaded_before between
     texts fares)
     (loaded : LoadsOne between loaded_before' (Some (file_named word)) text) where
   loads_up_to : LoadsUpTo tables loaded_before loaded_before' fares word text
   loads_up_to = record {
     before = before;
-    behind = behind;
-    stands = stands;
+    trailing = trailing;
+    holds = holds;
     texts = texts;
     between = between;
     loads = loads;
@@ -72,7 +72,7 @@ module _ (tables : TableNames) (loaded_before between loaded_before' : Option (L
   pub later_refused : (fault : TableFault) → IsFirstTableFault text fault
       → RefusesNamed tables loaded_before loaded_before' (file_named word) fault
   later_refused fault first = record {
-    several = λ none. some_later before behind word (sym stands ∙ none);
+    several = λ none. some_later before trailing word (sym holds ∙ none);
     refused = inr (record {
       fares = fares;
       word = word;

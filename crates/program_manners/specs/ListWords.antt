@@ -14,12 +14,12 @@ use Rattle.program_manners.specs.declared.file_list.NameEnd.TheVariants.{LineFee
 use Rattle.program_manners.specs.declared.list_words.ListWords.{ListWords}
 
 -- what ends the names of a list
-abbrev pub end_asked : List Row → NameEnd
-end_asked rows = if is_given (codes "null") rows then Nul else LineFeed
+abbrev pub end_request : List Row → NameEnd
+end_request rows = if is_given (codes "null") rows then Nul else LineFeed
 
 -- the list that is named, if any, and what ends its names
-abbrev pub list_asked : List Row → Option (Text × NameEnd)
-list_asked rows = option_map (λ name. (name, end_asked rows)) (first_of (codes "files-from") rows)
+abbrev pub list_request : List Row → Option (Text × NameEnd)
+list_request rows = option_map (λ name. (name, end_request rows)) (first_of (codes "files-from") rows)
 
 -- what the words say of a list, as a pair
 abbrev pub view_of : ListWords → Text × NameEnd

@@ -70,8 +70,8 @@ pub record LoadsTables (tables : TableNames) (loaded loaded' : Option (List Load
 pub record LoadsUpTo (tables : TableNames) (loaded loaded' : Option (List Loaded)) (fares : Fares)
     (word text : List ℕ) : Type 0 where
   pub before : List (List ℕ)
-  pub behind : List (List ℕ)
-  pub stands : tables.later ≡ before ++ word ∷ behind
+  pub trailing : List (List ℕ)
+  pub holds : tables.later ≡ before ++ word ∷ trailing
   pub texts : List (List ℕ)
   pub between : Option (List Loaded)
   pub loads : LoadsTables

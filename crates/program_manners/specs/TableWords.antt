@@ -23,7 +23,7 @@ two_digits tens ones =
 
 -- the byte at a place, and 0 if there is none
 abbrev pub byte_at : List ℕ → ℕ → ℕ
-byte_at bytes place = slice_index_or bytes place 0
+byte_at bytes position = slice_index_or bytes position 0
 
 -- eleven bytes, of which an `@` is the first, and hyphens are where they are in `@2026-01-04`
 abbrev pub has_form : List ℕ → Bool
@@ -87,8 +87,8 @@ date_fault first word = date_fault_of first (written_date word)
 -- the word and its fault, if it has one, else what is found after it
 abbrev pub found_or : List ℕ → Option DateFault → Option (List ℕ × DateFault)
     → Option (List ℕ × DateFault)
-found_or word (Some fault) behind = Some (word, fault)
-found_or word None behind = behind
+found_or word (Some fault) trailing = Some (word, fault)
+found_or word None trailing = trailing
 
 -- the first of these words that is wrong, none of which is the first of all
 abbrev pub wrong_later : List (List ℕ) → Option (List ℕ × DateFault)

@@ -25,7 +25,7 @@ IsTablesFault tables loaded loaded' refused (Follow line) =
 IsTablesFault tables loaded loaded' refused NoMemory = ⊤
 
 -- unless the fault is that a file was not loaded, the source has refused nothing meanwhile
-abbrev pub KeepsRefusals : Option (Option (List ℕ) × LoadFault)
+abbrev pub SameRefusals : Option (Option (List ℕ) × LoadFault)
     → Option (Option (List ℕ) × LoadFault) → TablesFault → Type 0
-KeepsRefusals refused refused' (File file) = ⊤
-KeepsRefusals refused refused' fault = refused' ≡ refused
+SameRefusals refused refused' (File file) = ⊤
+SameRefusals refused refused' fault = refused' ≡ refused

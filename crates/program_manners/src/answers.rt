@@ -38,7 +38,7 @@ pub fn show_answer<W: Write, E: Write>(
     ensures refused { IfOk result (λ status. status ≡ 1
         → LineWritten (E.contents err.old.writer) (E.contents err.new.writer) err.new.failed
         (codes "fault: out of memory")) }
-    ensures mistake { IfOk result (λ status. status ≡ 2 → ¬ IsRequest (kind_of error.now)) }
+    ensures usage_error { IfOk result (λ status. status ≡ 2 → ¬ IsRequest (kind_of error.now)) }
     ensures words { (¬ IsRequest (kind_of error.now)) → kind_of error.now ≢ ErrorKind.OutOfMemory
         → result ≡ Ok 2 }
     ensures kept { IfOk result (λ status. status ≢ 0

@@ -69,8 +69,8 @@ pub fn words_of<R: Env + AllocGlobal>(rt: &R) -> Result<Vec<String>, WordsFault>
 fn first_wrong_word<R: Env + AllocGlobal>(rt: &R) -> Result<String, AllocError> {
     let mut room = Vec::new(rt.alloc());
     room.resize(MAX_WORD_BYTES, 0)?;
-    for place in 0..usize::MAX {
-        let Ok(len) = rt.arg(place, room.as_mut_slice()) else {
+    for position in 0..usize::MAX {
+        let Ok(len) = rt.arg(position, room.as_mut_slice()) else {
             break;
         };
         let word = room.as_slice().get(..len).unwrap_or(&[]);

@@ -20,7 +20,7 @@ pub struct Escaping<W: Write + Drop> {
     piece: [u8; PIECE_BYTES],
     used: usize,
     /// Whether there was a byte.
-    is_begun: bool,
+    is_started: bool,
     /// Whether the first byte is that of `fault: ..`.
     is_fault: bool,
     /// Whether the last byte is a line feed that is held back, since it may be within the line.
@@ -43,7 +43,7 @@ impl<W: Write + Drop> Escaping<W> {
             to,
             piece: [0; PIECE_BYTES],
             used: 0,
-            is_begun: false,
+            is_started: false,
             is_fault: false,
             has_feed: false,
             has_lead: false,
@@ -60,8 +60,8 @@ impl<W: Write + Drop> Escaping<W> {
         if self.used >= PIECE_BYTES {
             self.send()?;
         }
-        if let Some(place) = self.piece.get_mut(self.used) {
-            *place = byte;
+        if let Some(position) = self.piece.get_mut(self.used) {
+            *position = byte;
             self.used = self.used.saturating_add(1);
         }
         Ok(())
@@ -75,8 +75,8 @@ impl<W: Write + Drop> Escaping<W> {
     }
 
     fn take(&mut self, byte: u8) -> io::Result<()> {
-        if !self.is_begun {
-            self.is_begun = true;
+        if !self.is_started {
+            self.is_started = true;
             self.is_fault = byte == b'f';
         }
         if self.has_feed {

@@ -134,12 +134,12 @@ pub fn names_of_list<'a>(
     let mut names = Vec::new(alloc);
     let mut rest = text;
     while !rest.is_empty() {
-        let (piece, behind) = split_name(rest, end.byte());
+        let (piece, trailing) = split_name(rest, end.byte());
         match name_of(piece) {
             Ok(name) => names.push(name)?,
             Err(wrong) => return Err(ListFault::Name(names.len() + 1, wrong)),
         }
-        rest = behind;
+        rest = trailing;
     }
     Ok(names)
 }

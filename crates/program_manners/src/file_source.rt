@@ -20,7 +20,7 @@ pub trait FileSource {
     fn load(&mut self, name: &str) -> Result<Vec<u8>, LoadFault>
         ensures reported { IfOk result (λ bytes.
             LoadsOne (loaded self.old) (loaded self.new) (Some name.now) bytes.items) }
-        ensures well { IfOk result (λ _. refused self.new ≡ refused self.old) }
+        ensures success { IfOk result (λ _. refused self.new ≡ refused self.old) }
         ensures fault { IfErr result
             (λ fault. Refuses (refused self.new) (Some name.now) fault) };
 }

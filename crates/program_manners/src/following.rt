@@ -101,7 +101,7 @@ impl fmt::Display for NamedClassLine<'_> {
 /// The fares, and after them the table of a text, valid from 00:00 of the date on: by the clocks of
 /// the zone that the tables name, else in UTC. An error is `Table`, if the text is not a fare
 /// table, or `Follow`: a date that begins before 1970-01-01T00:00Z is not after the first table's.
-pub fn table_behind(
+pub fn table_after(
     alloc: Global,
     fares: FareTable,
     date: WrittenDate,

@@ -30,7 +30,7 @@ pub use complaints::Complaints;
 pub use escaping::Escaping;
 pub use file_list::{ListFault, NameEnd, WrongName, names_of_list};
 pub use file_source::FileSource;
-pub use following::{FollowLine, NamedClassLine, NamedTableLine, NextFault, table_behind};
+pub use following::{FollowLine, NamedClassLine, NamedTableLine, NextFault, table_after};
 pub use list_line::ListLine;
 pub use list_words::{ListWords, take_list};
 pub use listed_words::{with_files, with_option_files};

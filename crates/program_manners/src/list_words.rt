@@ -6,7 +6,7 @@ ghost use Rattle.clap.specs.Words.{found_of, kind_of, rows_of};
 ghost use Rattle.program_manners.specs.LineWritten.{LineWritten};
 ghost use Rattle.program_manners.specs.Lines.{list_status, list_text};
 ghost use Rattle.program_manners.specs.ListWords.{HasNames, IsListReported, TakesList, called};
-ghost use Rattle.program_manners.specs.ListWords.{lacks_list, list_asked, view_of};
+ghost use Rattle.program_manners.specs.ListWords.{lacks_list, list_request, view_of};
 
 use crate::complaints::Complaints;
 use crate::file_list::{ListFault, NameEnd, names_of_list};
@@ -36,7 +36,7 @@ impl<'a> ListWords<'a> {
     /// What the words say of a list, if they name one. An error is `NullAlone`.
     pub fn of(matches: &ArgMatches<'a>) -> Result<Option<ListWords<'a>>, ListFault>
         ensures list { IfOk result (λ list. option_map view_of list
-            ≡ list_asked (rows_of (found_of matches.now))) }
+            ≡ list_request (rows_of (found_of matches.now))) }
         ensures right { IfOk result (λ _. lacks_list (rows_of (found_of matches.now)) ≡ false) }
         ensures wrong { IfErr result (λ fault. (fault ≡ ListFault.NullAlone)
             × (lacks_list (rows_of (found_of matches.now)) ≡ true)) }

@@ -86,9 +86,9 @@ impl<W: Write> Output<W> {
     pub fn put(&mut self, bytes: &[u8]) -> Result<(), WriteEnd>
         ensures whole { OnOk result (Appends (W.contents self.old.writer)
             (W.contents self.new.writer) bytes.now) }
-        ensures begun { OnErr result (Begins (W.contents self.old.writer)
+        ensures started { OnErr result (Begins (W.contents self.old.writer)
             (W.contents self.new.writer) bytes.now) }
-        ensures well { OnOk result (self.new.end ≡ self.old.end) }
+        ensures success { OnOk result (self.new.end ≡ self.old.end) }
         ensures noted { IfErr result (λ end. self.new.end ≡ Some end) }
     {
         self.is_flushed = false;
@@ -101,7 +101,7 @@ impl<W: Write> Output<W> {
     /// Flushes the writer, after the whole text. Only then is the output flushed.
     pub fn finish(&mut self) -> Result<(), WriteEnd>
         ensures kept { Keeps (W.contents self.old.writer) (W.contents self.new.writer) }
-        ensures well { OnOk result (self.new.end ≡ self.old.end) }
+        ensures success { OnOk result (self.new.end ≡ self.old.end) }
         ensures flushed { OnOk result (self.new.is_flushed ≡ true) }
         ensures unflushed { OnErr result (self.new.is_flushed ≡ false) }
         ensures noted { IfErr result (λ end. self.new.end ≡ Some end) }
@@ -131,7 +131,7 @@ impl<W: Write> Write for Output<W> {
         ensures bytes { WriteAppends (W.contents self.old.writer) (W.contents self.new.writer)
             result bytes.now }
         // That a write failed is noted only of one that did, or that took nothing.
-        ensures well { IfOk result (λ count. count ≢ 0 → self.new.end ≡ self.old.end) }
+        ensures success { IfOk result (λ count. count ≢ 0 → self.new.end ≡ self.old.end) }
         ensures noted { IfErr result (λ _. self.new.end ≢ None) }
         ensures failed { IfErr result (λ error. (error_kind error ≡ ErrorKind.BrokenPipe)
             ↔ (self.new.end ≡ Some WriteEnd.Closed)) }
@@ -155,7 +155,7 @@ impl<W: Write> Write for Output<W> {
 
     fn flush(&mut self) -> io::Result<()>
         ensures bytes { Keeps (W.contents self.old.writer) (W.contents self.new.writer) }
-        ensures well { IfOk result (λ _. self.new.end ≡ self.old.end) }
+        ensures success { IfOk result (λ _. self.new.end ≡ self.old.end) }
         ensures noted { IfErr result (λ _. self.new.end ≢ None) }
         ensures failed { IfErr result (λ error. (error_kind error ≡ ErrorKind.BrokenPipe)
             ↔ (self.new.end ≡ Some WriteEnd.Closed)) }

@@ -140,10 +140,10 @@ impl<'a> TableWords<'a> {
     }
 }
 
-fn byte_at(bytes: &[u8], place: usize) -> u8
-    ensures { result ≡ byte_at bytes.now place }
+fn byte_at(bytes: &[u8], position: usize) -> u8
+    ensures { result ≡ byte_at bytes.now position }
 {
-    match bytes.get(place) {
+    match bytes.get(position) {
         Some(byte) => *byte,
         None => 0,
     }
@@ -160,12 +160,12 @@ fn two_digits(tens: u8, ones: u8) -> Option<u8>
     }
 }
 
-fn number_at(bytes: &[u8], place: usize) -> Option<u8>
-    requires { place ≤ 9 }
-    ensures number { result ≡ two_digits (byte_at bytes.now place) (byte_at bytes.now (place + 1)) }
+fn number_at(bytes: &[u8], position: usize) -> Option<u8>
+    requires { position ≤ 9 }
+    ensures number { result ≡ two_digits (byte_at bytes.now position) (byte_at bytes.now (position + 1)) }
     ensures bound { IfSome result (λ number. number ≤ 99) }
 {
-    two_digits(byte_at(bytes, place), byte_at(bytes, place + 1))
+    two_digits(byte_at(bytes, position), byte_at(bytes, position + 1))
 }
 
 fn has_form(end: &[u8]) -> bool

@@ -3,13 +3,13 @@
 #![tactic(auto)]
 
 #[cfg(test)]
-mod lent;
-#[cfg(test)]
 mod loading;
 #[cfg(test)]
 mod noting;
 #[cfg(test)]
 mod pieces;
+#[cfg(test)]
+mod provided;
 #[cfg(test)]
 mod running;
 #[cfg(test)]

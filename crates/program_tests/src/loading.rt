@@ -3,7 +3,7 @@
 use super::running::{NoDisk, run_over};
 use super::shelf::{Content, Shelf};
 use fare_program::{
-    Disk, FileSource, Host, LOAD_LIMIT_BYTES, LoadFault, Source, load_from, read_ahead,
+    Disk, FileSource, Host, LOAD_LIMIT_BYTES, LoadFault, Source, load_from, prefetch_files,
 };
 use placed_files::{InMemory, Unopened};
 use std::alloc::{AllocError, Global};
@@ -84,7 +84,7 @@ fn loads_each_file_ahead_under_its_name(rt: HostRuntime) -> Result<(), Fail> {
     for threads in [1, 2, 3, 16] {
         for order in [[a, b, a, c], [c, b, a, a], [b, a, c, a]] {
             let mut host = Host::new(&rt);
-            host.keep_ahead(read_ahead(&rt, rt.alloc(), &rt, &[a, b, a, c], threads));
+            host.keep_prefetched(prefetch_files(&rt, rt.alloc(), &rt, &[a, b, a, c], threads));
             for name in order {
                 let loaded = host.load(name)?;
                 assert_eq!(rt; loaded.as_slice(), name.as_bytes(), "by {threads}");
@@ -107,7 +107,7 @@ fn reads_files_ahead_by_several_threads_alone(rt: HostRuntime) -> Result<(), Fai
             fs::write(&rt, name, "soon")?;
         }
         let mut host = Host::new(&rt);
-        host.keep_ahead(read_ahead(&rt, rt.alloc(), &rt, &[a, b, folder, c], threads));
+        host.keep_prefetched(prefetch_files(&rt, rt.alloc(), &rt, &[a, b, folder, c], threads));
         for name in [a, b, c] {
             fs::write(&rt, name, "late")?;
         }
@@ -142,7 +142,7 @@ impl<R: Disk> Disk for Names<'_, R> {
         Err(Unopened::Unread)
     }
 
-    fn size_ahead(&self, name: &str) -> Option<u64> {
+    fn prefetch_size(&self, name: &str) -> Option<u64> {
         if name == "pipe" { None } else { Some(0) }
     }
 
@@ -170,13 +170,13 @@ impl<R: Disk> Disk for Names<'_, R> {
 }
 
 /// The names of what two threads read ahead, in the order of the list.
-fn ahead_names<R: Threads + Sync + Disk>(
+fn prefetched_names<R: Threads + Sync + Disk>(
     rt: &R,
     alloc: Global,
     names: &[&str],
 ) -> Result<String, Fail> {
     let mut text = String::new(alloc);
-    for file in read_ahead(rt, alloc, &Names { rt }, names, 2) {
+    for file in prefetch_files(rt, alloc, &Names { rt }, names, 2) {
         write!(text, "{} ", file.name())?;
     }
     Ok(text)
@@ -200,7 +200,7 @@ fn reads_parts_up_to_a_fault(rt: HostRuntime) -> Result<(), Fail> {
         (["pipe", b, c, d], ""),
     ];
     for (names, reported) in rows {
-        let text = ahead_names(&rt, rt.alloc(), &names)?;
+        let text = prefetched_names(&rt, rt.alloc(), &names)?;
         assert_eq!(rt; text.as_str(), reported, "{names:?}");
     }
     for name in files {
@@ -211,18 +211,18 @@ fn reads_parts_up_to_a_fault(rt: HostRuntime) -> Result<(), Fail> {
 
 /// A source without files, which counts what was read before its turn.
 #[derive(Drop)]
-struct AheadCount {
+struct PrefetchCount {
     files: usize,
 }
 
-impl FileSource for AheadCount {
+impl FileSource for PrefetchCount {
     fn load(&mut self, _: &str) -> Result<Vec<u8>, LoadFault> {
         Err(LoadFault::Unread)
     }
 }
 
-impl Source for AheadCount {
-    fn keep_ahead(&mut self, ahead: Vec<Loaded>) {
+impl Source for PrefetchCount {
+    fn keep_prefetched(&mut self, ahead: Vec<Loaded>) {
         self.files = ahead.len();
     }
 
@@ -242,7 +242,7 @@ fn reads_files_ahead_for_any_number_of_workers(rt: HostRuntime) -> Result<(), Fa
         fs::write(&rt, name, name)?;
     }
     for workers in ["1", "2", "3", "16"] {
-        let mut source = AheadCount { files: 0 };
+        let mut source = PrefetchCount { files: 0 };
         let words = ["--workers", workers, a, b, c];
         let disk = Names { rt: &rt };
         let mut out = Vec::new(alloc);

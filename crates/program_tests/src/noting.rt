@@ -33,7 +33,7 @@ impl Disk for NotingDisk {
         Err(Unopened::Unread)
     }
 
-    fn size_ahead(&self, _: &str) -> Option<u64> {
+    fn prefetch_size(&self, _: &str) -> Option<u64> {
         None
     }
 

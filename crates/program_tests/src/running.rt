@@ -24,7 +24,7 @@ impl Disk for NoDisk {
         Err(Unopened::Unread)
     }
 
-    fn size_ahead(&self, _: &str) -> Option<u64> {
+    fn prefetch_size(&self, _: &str) -> Option<u64> {
         None
     }
 

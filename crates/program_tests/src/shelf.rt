@@ -69,7 +69,7 @@ impl FileSource for Shelf<'_> {
 }
 
 impl Source for Shelf<'_> {
-    fn keep_ahead(&mut self, _: Vec<Loaded>) {}
+    fn keep_prefetched(&mut self, _: Vec<Loaded>) {}
 
     fn input(&mut self) -> Result<Vec<u8>, LoadFault> {
         self.input.bytes(self.alloc)

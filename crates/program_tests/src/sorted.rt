@@ -43,7 +43,7 @@ impl<'a> Disk for TwoFiles<'a> {
         Ok(InMemory { all })
     }
 
-    fn size_ahead(&self, _: &str) -> Option<u64> {
+    fn prefetch_size(&self, _: &str) -> Option<u64> {
         None
     }
 
@@ -148,18 +148,18 @@ fn the_text_is_that_of_a_settled_run(rt: HostRuntime) -> Result<(), Fail> {
 #[test]
 fn the_first_fault_is_reported(rt: HostRuntime) -> Result<(), Fail> {
     let alloc = rt.alloc();
-    let good = upload(alloc, &first_taps())?;
+    let valid = upload(alloc, &first_taps())?;
     let mut taps = other_taps();
     taps.reverse();
     let unsorted = upload(alloc, &taps)?;
-    let damaged = &good[..good.len().saturating_sub(1)];
+    let damaged = &valid[..valid.len().saturating_sub(1)];
     let rows = [
         (
-            good.as_slice(),
+            valid.as_slice(),
             unsorted.as_slice(),
             "fault: b: tap 1 is out of order\n",
         ),
-        (good.as_slice(), damaged, "fault: b at 0 L5\n"),
+        (valid.as_slice(), damaged, "fault: b at 0 L5\n"),
         (damaged, unsorted.as_slice(), "fault: a at 0 L5\n"),
         (
             unsorted.as_slice(),
@@ -169,7 +169,7 @@ fn the_first_fault_is_reported(rt: HostRuntime) -> Result<(), Fail> {
     ];
     for (a, b, line) in rows {
         let disk = TwoFiles { a, b };
-        for asked in [
+        for request in [
             "--settle",
             "--ledger",
             "--token=000000000000000000000000000000a1",
@@ -179,8 +179,8 @@ fn the_first_fault_is_reported(rt: HostRuntime) -> Result<(), Fail> {
                 for word in ["--table", "t", "--sorted", "--workers", workers, "a", "b"] {
                     words.push(word)?;
                 }
-                if asked != "--settle" {
-                    words.push(asked)?;
+                if request != "--settle" {
+                    words.push(request)?;
                 }
                 words.push("--settle")?;
                 let (status, text, err) = run_on(&rt, alloc, &words, &disk, a, b)?;
@@ -235,7 +235,7 @@ impl<'a> Disk for FickleDisk<'a> {
         self.opened
     }
 
-    fn size_ahead(&self, _: &str) -> Option<u64> {
+    fn prefetch_size(&self, _: &str) -> Option<u64> {
         None
     }
 

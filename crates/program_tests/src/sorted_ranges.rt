@@ -31,14 +31,14 @@ fn long_file(alloc: Global, number: u64, batch: usize) -> Result<Vec<u8>, Fail> 
 fn the_text_does_not_depend_on_the_workers(rt: HostRuntime) -> Result<(), Fail> {
     let alloc = rt.alloc();
     let token = "--token=0000000000000000000000000000007b";
-    for (batch, asked) in [(512, "--ledger"), (500, "--ledger"), (512, token)] {
+    for (batch, request) in [(512, "--ledger"), (500, "--ledger"), (512, token)] {
         let a = long_file(alloc, 18_000, batch)?;
         let b = long_file(alloc, 14_000, batch)?;
         let disk = TwoFiles { a: &a, b: &b };
-        let settled = ["--table=t", "--settle", asked, "a", "b", "a"];
+        let settled = ["--table=t", "--settle", request, "a", "b", "a"];
         let (status, text, err) = run_on(&rt, alloc, &settled, &disk, &a, &b)?;
-        assert_eq!(rt; (status, err.len()), (0, 0), "{asked}");
-        assert!(rt; text.len() > 5_000, "{asked}");
+        assert_eq!(rt; (status, err.len()), (0, 0), "{request}");
+        assert!(rt; text.len() > 5_000, "{request}");
         for workers in ["--workers=1", "--workers=3"] {
             let mut words = Vec::from_slice(alloc, settled.as_slice())?;
             words.push("--sorted")?;

@@ -40,12 +40,12 @@ by_ends text wanted (Taps line uploads ledger) is = absurd is
 own_ends : (entries : List Entry) (text : List ℕ) (own : IsReportOfLedger entries text)
     → uploads_in (lines_of text) ≡ Ok own.ends
 own_ends entries text own =
-    let behind = totals_line (sums entries)
+    let trailing = totals_line (sums entries)
     ++ (validators_section (sums_by_validator entries) ++ tokens_section (sums_by_token entries)) in
     ap (λ (t : List ℕ). uploads_in (lines_of t)) (own.shown
     ∙ append_assoc (number_line (codes "uploads ") (length own.ends)) (upload_lines 0 own.ends)
-    behind)
-    ∙ uploads_complete own.ends behind own.have.each own.have.number
+    trailing)
+    ∙ uploads_complete own.ends trailing own.have.each own.have.number
 
 same_ends : (ends others : List UploadEnd) (found : Result (List UploadEnd) ℕ)
     → found ≡ Ok ends → found ≡ Ok others → ends ≡ others

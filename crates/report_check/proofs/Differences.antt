@@ -2,7 +2,7 @@
 use Rattle.std.proofs.Common.{◌≡◌, ◌∙◌, ◌==◌, ℕ, ◌+◌, Bool, true, false, List, [], ◌∷◌, ◌++◌}
 use Rattle.std.proofs.Common.{Option, Some, None, refl, sym, ap, arith, length, ◌≤◌, ◌<◌}
 use Rattle.std.proofs.Common.{if◌then◌else◌}
-use Rattle.ledger_check.specs.Lines.{begun_with, lines_of}
+use Rattle.ledger_check.specs.Lines.{started_with, lines_of}
 use Rattle.line_forms.specs.Forms.{after}
 use Rattle.line_forms.specs.FormLaws.{after_complete, after_sound}
 use Rattle.report_check.specs.Reports.{difference, rest_or}
@@ -12,16 +12,16 @@ joined : List (List ℕ) → List ℕ
 joined [] = []
 joined (line ∷ lines) = line ++ joined lines
 
-begun_joined : (byte : ℕ) (lines : List (List ℕ)) → joined (begun_with byte lines) ≡ byte ∷ joined lines
-unfolding begun_with joined
-begun_joined byte [] = refl
-begun_joined byte (line ∷ lines) = refl
+started_joined : (byte : ℕ) (lines : List (List ℕ)) → joined (started_with byte lines) ≡ byte ∷ joined lines
+unfolding started_with joined
+started_joined byte [] = refl
+started_joined byte (line ∷ lines) = refl
 
 joined_by : (byte : ℕ) (lines : List (List ℕ)) (b : Bool)
-    → joined (if b then (byte ∷ []) ∷ lines else begun_with byte lines) ≡ byte ∷ joined lines
+    → joined (if b then (byte ∷ []) ∷ lines else started_with byte lines) ≡ byte ∷ joined lines
 unfolding joined
 joined_by byte lines true = refl
-joined_by byte lines false = begun_joined byte lines
+joined_by byte lines false = started_joined byte lines
 
 lines_joined : (text : List ℕ) → joined (lines_of text) ≡ text
 unfolding lines_of joined
@@ -65,16 +65,16 @@ same_none text wanted same =
     ∙ joined_none 1 (lines_of wanted)
 
 -- all lines stand before the rest
-pub none_behind : (number : ℕ) (left rest : List ℕ) → length left ≤ 0 → length rest ≤ 0
+pub none_after : (number : ℕ) (left rest : List ℕ) → length left ≤ 0 → length rest ≤ 0
     → difference number (lines_of left) rest ≡ None
 unfolding lines_of
-none_behind number [] [] gone none = refl
-none_behind number [] (byte ∷ rest) gone none = absurd (omega (arith, none))
-none_behind number (byte ∷ left) rest gone none = absurd (omega (arith, gone))
+none_after number [] [] gone none = refl
+none_after number [] (byte ∷ rest) gone none = absurd (omega (arith, none))
+none_after number (byte ∷ left) rest gone none = absurd (omega (arith, gone))
 
-pub more_behind : (number : ℕ) (left rest : List ℕ) → length left ≤ 0 → 0 < length rest
+pub more_after : (number : ℕ) (left rest : List ℕ) → length left ≤ 0 → 0 < length rest
     → difference number (lines_of left) rest ≡ Some (number, None)
 unfolding lines_of
-more_behind number [] [] gone some = absurd (omega (arith, some))
-more_behind number [] (byte ∷ rest) gone some = refl
-more_behind number (byte ∷ left) rest gone some = absurd (omega (arith, gone))
+more_after number [] [] gone some = absurd (omega (arith, some))
+more_after number [] (byte ∷ rest) gone some = refl
+more_after number (byte ∷ left) rest gone some = absurd (omega (arith, gone))

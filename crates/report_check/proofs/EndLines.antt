@@ -10,7 +10,7 @@ use Rattle.std.proofs.lemmas.List.Elements.{All-nil, All-push, recursion_from_Al
 use Rattle.fare_texts.specs.ReportLines.{number_line}
 use Rattle.ledger_check.proofs.ColumnLemmas.{decimal_lacks_feed}
 use Rattle.ledger_check.proofs.LineLemmas.{lacks-tested, lines-line}
-use Rattle.ledger_check.proofs.RecountLemmas.{line_ends}
+use Rattle.ledger_check.proofs.FullCheckLemmas.{line_ends}
 use Rattle.ledger_check.specs.Lines.{IsLine, Lacks, lines_of}
 use Rattle.line_forms.specs.Forms.{value_if}
 use Rattle.report_texts.proofs.EndTexts.{line_words, refused_spelt, small_number}
@@ -178,23 +178,23 @@ upload_line_is number end small fits =
     (line_ends (codes "upload ") _ (lacks-tested 10 (codes "upload ") refl)
     (line_ends (decimal number) _ (decimal_lacks_feed number small) (words_are end fits)))
 
-pub line_first : (line behind : List ℕ) → IsLine line
-    → lines_of (line ++ behind) ≡ line ∷ lines_of behind
-line_first line behind is =
-    ap lines_of (ap (λ (t : List ℕ). t ++ behind) is.shown ∙ append_assoc is.front (10 ∷ []) behind)
-    ∙ lines-line is.front behind is.lacks
-    ∙ ap (λ (l : List ℕ). l ∷ lines_of behind) (sym is.shown)
+pub line_first : (line trailing : List ℕ) → IsLine line
+    → lines_of (line ++ trailing) ≡ line ∷ lines_of trailing
+line_first line trailing is =
+    ap lines_of (ap (λ (t : List ℕ). t ++ trailing) is.shown ∙ append_assoc is.front (10 ∷ []) trailing)
+    ∙ lines-line is.front trailing is.lacks
+    ∙ ap (λ (l : List ℕ). l ∷ lines_of trailing) (sym is.shown)
 
-ends_complete : (more ends : List UploadEnd) (behind : List ℕ) → AllByRecursion IsReportEnd more
+ends_complete : (more ends : List UploadEnd) (trailing : List ℕ) → AllByRecursion IsReportEnd more
     → length ends + length more < 2 ^ 64
-    → ends_from (length more) ends (lines_of (upload_lines (length ends) more ++ behind))
+    → ends_from (length more) ends (lines_of (upload_lines (length ends) more ++ trailing))
     ≡ Ok (ends ++ more)
-ends_complete [] ends behind each small = ap (λ (es : List UploadEnd). Ok es) (sym (append-nil ends))
-ends_complete (end ∷ more) ends behind each small =
+ends_complete [] ends trailing each small = ap (λ (es : List UploadEnd). Ok es) (sym (append-nil ends))
+ends_complete (end ∷ more) ends trailing each small =
     let n = length ends in
     let here : n < 2 ^ 64 = omega (arith, small) in
-    let rest = upload_lines (n + 1) more ++ behind in
-    let split = ap lines_of (append_assoc (upload_line n end) (upload_lines (n + 1) more) behind)
+    let rest = upload_lines (n + 1) more ++ trailing in
+    let split = ap lines_of (append_assoc (upload_line n end) (upload_lines (n + 1) more) trailing)
     ∙ line_first (upload_line n end) rest (upload_line_is n end here each.0) in
     let at : end_at n (upload_line n end) ≡ Some end =
     ap (end_if n) (end_complete n end here each.0)
@@ -204,23 +204,23 @@ ends_complete (end ∷ more) ends behind each small =
     ∙ ap (λ (o : Option UploadEnd). found_or (n + 2) o
     (λ e. ends_from (length more) (ends ++ e ∷ []) (lines_of rest))) at
     ∙ ap (λ (k : ℕ). ends_from (length more) (ends ++ end ∷ [])
-    (lines_of (upload_lines k more ++ behind))) next
-    ∙ ends_complete more (ends ++ end ∷ []) behind each.1 (omega (arith, small, next))
+    (lines_of (upload_lines k more ++ trailing))) next
+    ∙ ends_complete more (ends ++ end ∷ []) trailing each.1 (omega (arith, small, next))
     ∙ ap (λ (es : List UploadEnd). Ok es) (append_assoc ends (end ∷ []) more)
 
-pub uploads_complete : (ends : List UploadEnd) (behind : List ℕ) → All IsReportEnd ends
+pub uploads_complete : (ends : List UploadEnd) (trailing : List ℕ) → All IsReportEnd ends
     → length ends < 2 ^ 64
     → uploads_in (lines_of (number_line (codes "uploads ") (length ends)
-    ++ (upload_lines 0 ends ++ behind))) ≡ Ok ends
-uploads_complete ends behind each small =
-    let lines = lines_of (upload_lines 0 ends ++ behind) in
+    ++ (upload_lines 0 ends ++ trailing))) ≡ Ok ends
+uploads_complete ends trailing each small =
+    let lines = lines_of (upload_lines 0 ends ++ trailing) in
     ap uploads_in (line_first (number_line (codes "uploads ") (length ends))
-    (upload_lines 0 ends ++ behind)
+    (upload_lines 0 ends ++ trailing)
     (number_line_is (codes "uploads ") (length ends) (lacks-tested 10 (codes "uploads ") refl)
     small))
     ∙ ap (λ (o : Option ℕ). found_or 1 o (λ uploads. ends_from uploads [] lines))
     (head_complete (codes "uploads ") (length ends) small)
-    ∙ ends_complete ends [] behind (recursion_from_All IsReportEnd ends each)
+    ∙ ends_complete ends [] trailing (recursion_from_All IsReportEnd ends each)
     (omega (arith, small))
 
 -- ---- the next line of a loop
@@ -242,15 +242,15 @@ no_line uploads upload ends below =
     let left : uploads - upload ≡ suc (uploads - (upload + 1)) = omega (arith, below) in
     ap (λ (n : ℕ). ends_from n ends []) left
 
-pub first_lines : (text head behind : List ℕ) (uploads : ℕ) (ends : List UploadEnd)
-    → lines_of text ≡ head ∷ lines_of behind → Some uploads ≡ head_in (codes "uploads ") head
-    → ends ≡ [] → uploads_in (lines_of text) ≡ ends_from (uploads - 0) ends (lines_of behind)
-first_lines text head behind uploads ends lines is none =
+pub first_lines : (text head trailing : List ℕ) (uploads : ℕ) (ends : List UploadEnd)
+    → lines_of text ≡ head ∷ lines_of trailing → Some uploads ≡ head_in (codes "uploads ") head
+    → ends ≡ [] → uploads_in (lines_of text) ≡ ends_from (uploads - 0) ends (lines_of trailing)
+first_lines text head trailing uploads ends lines is none =
     let all : uploads ≡ uploads - 0 = omega arith in
     ap uploads_in lines
-    ∙ ap (λ (o : Option ℕ). found_or 1 o (λ n. ends_from n [] (lines_of behind))) (sym is)
-    ∙ ap (λ (n : ℕ). ends_from n [] (lines_of behind)) all
-    ∙ ap (λ (es : List UploadEnd). ends_from (uploads - 0) es (lines_of behind)) (sym none)
+    ∙ ap (λ (o : Option ℕ). found_or 1 o (λ n. ends_from n [] (lines_of trailing))) (sym is)
+    ∙ ap (λ (n : ℕ). ends_from n [] (lines_of trailing)) all
+    ∙ ap (λ (es : List UploadEnd). ends_from (uploads - 0) es (lines_of trailing)) (sym none)
 
 pub last_lines : (uploads upload : ℕ) (ends : List UploadEnd) (lines : List (List ℕ))
     → uploads ≤ upload → ends_from (uploads - upload) ends lines ≡ Ok ends

@@ -20,7 +20,7 @@ use Rattle.report_check.specs.inside.RideTerms.{HasRideTerms}
 use Rattle.fare_texts.specs.LedgerLines.{IsLedgerLine, entry_fields, line_head, mode_field}
 use Rattle.ledger_check.specs.Lines.{Lacks}
 use Rattle.ledger_check.proofs.LineLemmas.{lacks-tested}
-use Rattle.histories.specs.Entry.{mode_of_place, tap_of, taps_of}
+use Rattle.histories.specs.Entry.{mode_of_position, tap_of, taps_of}
 use Rattle.histories.specs.History.{IsReplied}
 use Rattle.histories.specs.declared.entry.Entry.{Entry}
 use Rattle.tap_views.specs.Token.{bytes_of}
@@ -33,25 +33,25 @@ answer_lacks Capped = lacks-tested 44 (answer_text Capped) refl
 answer_lacks Stale = lacks-tested 44 (answer_text Stale) refl
 answer_lacks Unknown = lacks-tested 44 (answer_text Unknown) refl
 
-pub behind_comma : (a b : List ℕ) → 44 ∷ a ≡ 44 ∷ b → a ≡ b
-behind_comma a b is = cc
+pub after_comma : (a b : List ℕ) → 44 ∷ a ≡ 44 ∷ b → a ≡ b
+after_comma a b is = cc
 
 -- the fields up to the cents, and what stands behind them
 pub record CentsFields (fares : Fares) (token : Token) (number : ℕ) (entry : Entry) (line : List ℕ)
     : Type 0 where
   pub moment : List ℕ
   pub is : IsMomentText entry.moment moment
-  pub behind : List ℕ
+  pub trailing : List ℕ
   pub shown : line ≡ encode_lower (bytes_of token) ++ 44 ∷ (decimal number ++ 44 ∷ (moment
       ++ 44 ∷ (decimal entry.validator ++ 44 ∷ (mode_field fares entry.moment entry.validator
-      ++ 44 ∷ (answer_text entry.answer ++ 44 ∷ (decimal entry.cents ++ 44 ∷ behind))))))
+      ++ 44 ∷ (answer_text entry.answer ++ 44 ∷ (decimal entry.cents ++ 44 ∷ trailing))))))
 
-spelt : (token number moment validator mode answer cents behind : List ℕ)
+spelt : (token number moment validator mode answer cents trailing : List ℕ)
     → (token ++ (44 ∷ [] ++ (number ++ 44 ∷ []))) ++ (moment ++ ((44 ∷ [] ++ (validator ++ (44 ∷ []
-    ++ (mode ++ (44 ∷ [] ++ (answer ++ (44 ∷ [] ++ (cents ++ 44 ∷ [])))))))) ++ behind))
+    ++ (mode ++ (44 ∷ [] ++ (answer ++ (44 ∷ [] ++ (cents ++ 44 ∷ [])))))))) ++ trailing))
     ≡ token ++ 44 ∷ (number ++ 44 ∷ (moment ++ 44 ∷ (validator ++ 44 ∷ (mode ++ 44 ∷ (answer
-    ++ 44 ∷ (cents ++ 44 ∷ behind))))))
-spelt token number moment validator mode answer cents behind = simp append_assoc
+    ++ 44 ∷ (cents ++ 44 ∷ trailing))))))
+spelt token number moment validator mode answer cents trailing = simp append_assoc
 
 pub cents_fields : (fares : Fares) (token : Token) (number : ℕ) (entry : Entry) (why : Reason)
     (line : List ℕ) → IsLedgerLine fares token number entry why line
@@ -60,7 +60,7 @@ unfolding entry_fields line_head
 cents_fields fares token number entry why line is = record {
   moment = is.moment;
   is = is.is;
-  behind = is.reason_fields ++ 10 ∷ [];
+  trailing = is.reason_fields ++ 10 ∷ [];
   shown = is.shown
       ∙ spelt (encode_lower (bytes_of token)) (decimal number) is.moment (decimal entry.validator)
       (mode_field fares entry.moment entry.validator) (answer_text entry.answer)
@@ -77,16 +77,16 @@ unfolding tap_of rules_of token_class live_at
 terms_at_entry fares entry bounds mode is = by (mode_at fares entry.moment entry.validator) refl is
   where
     by : (o : Option ℕ) → mode_at fares entry.moment entry.validator ≡ o
-        → option_map mode_of_place o ≡ Some mode
+        → option_map mode_of_position o ≡ Some mode
         → AreRideTerms (ride_terms (meaning_at fares entry.moment)
-        (class_of (meaning_at fares entry.moment) (bytes_of entry.token)) mode.place)
+        (class_of (meaning_at fares entry.moment) (bytes_of entry.token)) mode.position)
     by None at none = absurd (cc)
-    by (Some place) at one =
-        let same : mode_of_place place ≡ mode = cc in
+    by (Some position) at one =
+        let same : mode_of_position position ≡ mode = cc in
         subst (λ (m : Mode). AreRideTerms
         (ride_terms (meaning_at fares entry.moment)
-        (class_of (meaning_at fares entry.moment) (bytes_of entry.token)) m.place))
-        same (bounds place at)
+        (class_of (meaning_at fares entry.moment) (bytes_of entry.token)) m.position))
+        same (bounds position at)
 
 pub cents_most : (fares : Fares) (earlier : List Entry) (entry : Entry)
     → HasRideTerms fares entry.token entry.moment entry.validator → IsReplied fares earlier entry

@@ -105,13 +105,13 @@ below_last entries tokens last token is some fits greater all =
     let P : Entry → Type 0 = λ e. token_number e.token ≤ token_number token in
     let whole : All P (is.lower ++ is.run) = subst (λ (es : List Entry). All P es) is.both all in
     let above = greater_number last.token token is.fits fits greater in
-    none is.run some is.its (behind is.lower is.run whole) above
+    none is.run some is.its (trailing is.lower is.run whole) above
   where
-    behind : (xs ys : List Entry)
+    trailing : (xs ys : List Entry)
         → All (λ (e : Entry). token_number e.token ≤ token_number token) (xs ++ ys)
         → All (λ (e : Entry). token_number e.token ≤ token_number token) ys
-    behind [] ys all = all
-    behind (x ∷ xs) ys all = behind xs ys (λ k d within. all (suc k) d (omega arith))
+    trailing [] ys all = all
+    trailing (x ∷ xs) ys all = trailing xs ys (λ k d within. all (suc k) d (omega arith))
 
     none : (run : List Entry) → 0 < length run → All (λ (e : Entry). e.token ≡ last.token) run
         → All (λ (e : Entry). token_number e.token ≤ token_number token) run

@@ -14,9 +14,9 @@ use Rattle.ledger_check.specs.Ledger.{AreNext, IsLedger, IsLedgerOf, IsNext, tok
 use Rattle.ledger_check.specs.Lines.{IsLine, Lacks, lines_of}
 use Rattle.ledger_check.proofs.EntryLists.{next-parts, none_left}
 use Rattle.ledger_check.proofs.CheckerLemmas.{head_ends, next_ends}
-use Rattle.ledger_check.proofs.RecountLemmas.{split_line_at, split_part}
+use Rattle.ledger_check.proofs.FullCheckLemmas.{split_line_at, split_part}
 use Rattle.ledger_check.proofs.LineLemmas.{lacks-append, lines-open, lines-part}
-use Rattle.report_check.specs.LedgerSums.{AreBehindHead, AreSummed, HasSummed, IsSummed}
+use Rattle.report_check.specs.LedgerSums.{AreAfterHead, AreSummed, HasSummed, IsSummed}
 use Rattle.report_check.specs.inside.LedgerSums.{HasNoLedger}
 use Rattle.report_check.specs.Sums.{AreSumsOf}
 use Rattle.report_check.specs.declared.ledger_sums.LedgerSums.{LedgerSums}
@@ -38,17 +38,17 @@ head_read fares old new [] line is none some same = record {
   seen = is.seen;
   are = subst (λ o. AreOpenSums is.seen o) (sym same) is.are;
   few = is.few;
-  behind = (
+  trailing = (
     some,
-    λ entries are. ap (map without_moment) (none_left fares [] entries are) ∙ sym is.behind.1,
+    λ entries are. ap (map without_moment) (none_left fares [] entries are) ∙ sym is.trailing.1,
   );
 }
 head_read fares old new (h ∷ lines) line is none some same =
-    absurd (apart (sym is.behind.0 ∙ none))
+    absurd (apart (sym is.trailing.0 ∙ none))
 
-one_behind : (h head : List ℕ) (rest more others : List (List ℕ)) (line : List ℕ)
+one_after : (h head : List ℕ) (rest more others : List (List ℕ)) (line : List ℕ)
     → ((h ∷ rest) ++ line ∷ []) ++ more ≡ head ∷ others → rest ++ line ∷ more ≡ others
-one_behind h head rest more others line is =
+one_after h head rest more others line is =
     sym (append_assoc rest (line ∷ []) more) ∙ tails h head ((rest ++ line ∷ []) ++ more) others is
   where
     tails : (x y : List ℕ) (xs ys : List (List ℕ)) → x ∷ xs ≡ y ∷ ys → xs ≡ ys
@@ -60,13 +60,13 @@ pub no_next : (fares : Fares) (sums : LineSums) (lines : List (List ℕ)) (line 
     → ((earlier : List Entry) (entry : Entry) → map without_moment earlier ≡ is.seen
     → IsNext fares earlier entry line → ⊥)
     → HasNoLedger fares (lines ++ line ∷ [])
-no_next fares sums [] line is some wrong = absurd (apart (sym some ∙ is.behind.0))
+no_next fares sums [] line is some wrong = absurd (apart (sym some ∙ is.trailing.0))
 no_next fares sums (h ∷ rest) line is some wrong = λ entries head more others same are.
     let whole : AreNext fares [] entries (rest ++ line ∷ more) =
     subst (λ (ls : List (List ℕ)). AreNext fares [] entries ls)
-    (sym (one_behind h head rest more others line same)) are in
+    (sym (one_after h head rest more others line same)) are in
     let parts = next-parts fares [] entries rest line more whole in
-    wrong parts.entries parts.entry (is.behind.1 parts.entries parts.are) parts.is
+    wrong parts.entries parts.entry (is.trailing.1 parts.entries parts.are) parts.is
 
 -- the line's entry was added
 pub line_added : (fares : Fares) (old new : LineSums) (lines : List (List ℕ)) (line : List ℕ)
@@ -77,12 +77,12 @@ pub line_added : (fares : Fares) (old new : LineSums) (lines : List (List ℕ)) 
     → length is.seen < 2 ^ 62 → AreOpenSums (is.seen ++ read ∷ []) new.added
     → AreSummed fares new (lines ++ line ∷ [])
 line_added fares old new [] line read is some still found few are =
-    absurd (apart (sym some ∙ is.behind.0))
+    absurd (apart (sym some ∙ is.trailing.0))
 line_added fares old new (h ∷ rest) line read is some still found few are = record {
   seen = is.seen ++ read ∷ [];
   are = are;
   few = omega (arith, few, length-append is.seen (read ∷ []));
-  behind = (
+  trailing = (
     still,
     λ entries next.
         let parts = next-parts fares [] entries rest line [] next in
@@ -93,7 +93,7 @@ line_added fares old new (h ∷ rest) line read is some still found few are = re
         ∙ ap (λ (es : List Entry). parts.entries ++ parts.entry ∷ es) last)
         ∙ map-append without_moment parts.entries (parts.entry ∷ [])
         ∙ ap (λ (es : List Entry). es ++ without_moment parts.entry ∷ [])
-        (is.behind.1 parts.entries parts.are)
+        (is.trailing.1 parts.entries parts.are)
         ∙ ap (λ (e : Entry). is.seen ++ e ∷ []) one,
   );
 }
@@ -123,19 +123,19 @@ too_many fares sums lines line is some many =
     omega (arith, few, long, many, length-map earlier without_moment))
 
 -- a line whose token falls
-pub falls : (fares : Fares) (sums : LineSums) (lines : List (List ℕ)) (line : List ℕ) (read : Entry)
+pub is_decrease : (fares : Fares) (sums : LineSums) (lines : List (List ℕ)) (line : List ℕ) (read : Entry)
     (is : AreSummed fares sums lines) → sums.has_head ≡ true
     → ((earlier : List Entry) (entry : Entry) → IsNext fares earlier entry line
     → Some read ≡ Some (without_moment entry))
     → IsBelow read.token is.seen → HasNoLedger fares (lines ++ line ∷ [])
-falls fares sums lines line read is some found below =
+is_decrease fares sums lines line read is some found below =
     no_next fares sums lines line is some
     (λ earlier entry seen next.
     let same : read.token ≡ entry.token =
     tokens read (without_moment entry) (found earlier entry next) in
     let P : Token → Entry → Type 0 = λ t e. token_number e.token ≤ token_number t in
     let up_to : All (P entry.token) (map without_moment earlier) =
-    All-map (P entry.token) without_moment earlier next.no_fall in
+    All-map (P entry.token) without_moment earlier next.nondecreasing in
     below (subst (λ (es : List Entry). All (P read.token) es) seen
     (subst (λ (t : Token). All (P t) (map without_moment earlier)) (sym same) up_to)))
   where
@@ -147,15 +147,15 @@ falls fares sums lines line read is some found below =
 line_more : (fares : Fares) (sums : LedgerSums) (text line : List ℕ) (is : IsSummed fares sums text)
     → IsLine line → (more : List ℕ)
     → lines_of ((text ++ line) ++ more)
-    ≡ (is.lines ++ (sums.begun.items ++ line) ∷ []) ++ lines_of more
+    ≡ (is.lines ++ (sums.started.items ++ line) ∷ []) ++ lines_of more
 line_more fares sums text line is ends more =
-    split_line_at is.lines text sums.begun.items line is.split is.lacks ends more
+    split_line_at is.lines text sums.started.items line is.split is.lacks ends more
 
 -- a line was read whole, and is one of a ledger's
 pub read_on : (fares : Fares) (old new : LedgerSums) (text line whole : List ℕ)
     (is : IsSummed fares old text)
-    → IsLine line → whole ≡ old.begun.items ++ line
-    → AreSummed fares new.lines (is.lines ++ whole ∷ []) → new.begun.items ≡ []
+    → IsLine line → whole ≡ old.started.items ++ line
+    → AreSummed fares new.lines (is.lines ++ whole ∷ []) → new.started.items ≡ []
     → IsSummed fares new (text ++ line)
 read_on fares old new text line whole is ends same summed none = record {
   lines = is.lines ++ whole ∷ [];
@@ -170,7 +170,7 @@ read_on fares old new text line whole is ends same summed none = record {
 -- or none of a ledger's
 pub read_none : (fares : Fares) (old : LedgerSums) (text line whole : List ℕ)
     (is : IsSummed fares old text)
-    → IsLine line → whole ≡ old.begun.items ++ line → HasNoLedger fares (is.lines ++ whole ∷ [])
+    → IsLine line → whole ≡ old.started.items ++ line → HasNoLedger fares (is.lines ++ whole ∷ [])
     → (more : List ℕ) → ¬ (IsLedger fares ((text ++ line) ++ more))
 read_none fares old text line whole is ends same none more (entries, ledger) =
     none entries head_text (lines_of more) ledger.lines
@@ -178,22 +178,22 @@ read_none fares old text line whole is ends same none more (entries, ledger) =
     ∙ sym (line_more fares old text line is ends more) ∙ ledger.split) ledger.are
 
 -- no ledger is behind a beginning of no ledger
-pub none_behind : (fares : Fares) (text piece : List ℕ)
+pub none_after : (fares : Fares) (text piece : List ℕ)
     → ((more : List ℕ) → ¬ (IsLedger fares (text ++ more)))
     → (more : List ℕ) → ¬ (IsLedger fares ((text ++ piece) ++ more))
-none_behind fares text piece none more ledger =
+none_after fares text piece none more ledger =
     none (piece ++ more) (subst (IsLedger fares) (append_assoc text piece more) ledger)
 
 -- the beginning of a line was kept
 pub kept_on : (fares : Fares) (old new : LedgerSums) (text piece : List ℕ) → IsSummed fares old text
-    → Lacks 10 piece → new.lines ≡ old.lines → new.begun.items ≡ old.begun.items ++ piece
-    → length new.begun.items ≤ 255 → IsSummed fares new (text ++ piece)
-kept_on fares old new text piece is lacks same begun short = record {
+    → Lacks 10 piece → new.lines ≡ old.lines → new.started.items ≡ old.started.items ++ piece
+    → length new.started.items ≤ 255 → IsSummed fares new (text ++ piece)
+kept_on fares old new text piece is lacks same started short = record {
   lines = is.lines;
   summed = subst (λ (l : LineSums). AreSummed fares l is.lines) (sym same) is.summed;
-  split = λ more. split_part is.lines text old.begun.items piece is.split more
-      ∙ ap (λ (b : List ℕ). is.lines ++ lines_of (b ++ more)) (sym begun);
-  lacks = subst (Lacks 10) (sym begun) (lacks-append 10 old.begun.items piece is.lacks lacks);
+  split = λ more. split_part is.lines text old.started.items piece is.split more
+      ∙ ap (λ (b : List ℕ). is.lines ++ lines_of (b ++ more)) (sym started);
+  lacks = subst (Lacks 10) (sym started) (lacks-append 10 old.started.items piece is.lacks lacks);
   short = short;
 }
 
@@ -227,36 +227,36 @@ long_head line long is =
 
 pub kept_none : (fares : Fares) (old : LedgerSums) (text piece whole : List ℕ)
     → IsSummed fares old text
-    → Lacks 10 piece → whole ≡ old.begun.items ++ piece → 255 < length whole
+    → Lacks 10 piece → whole ≡ old.started.items ++ piece → 255 < length whole
     → (more : List ℕ) → ¬ (IsLedger fares ((text ++ piece) ++ more))
 kept_none fares old text piece whole is lacks same long more (entries, ledger) =
-    let joined = old.begun.items ++ piece in
+    let joined = old.started.items ++ piece in
     let size : 255 < length joined = subst (λ (p : List ℕ). 255 < length p) same long in
-    let opens = lines-open joined more (lacks-append 10 old.begun.items piece is.lacks lacks)
+    let opens = lines-open joined more (lacks-append 10 old.started.items piece is.lacks lacks)
     (omega (arith, size)) in
     let line = joined ++ opens.rest in
     let longer : 255 < length line = omega (arith, size, length-append joined opens.rest) in
     no_line fares is.lines line opens.after (long_head line longer)
     (λ earlier entry next. omega (arith, longer, next.short)) entries ledger.lines
     (ap (λ (ls : List (List ℕ)). is.lines ++ ls) (sym opens.is)
-    ∙ sym (split_part is.lines text old.begun.items piece is.split more) ∙ ledger.split)
+    ∙ sym (split_part is.lines text old.started.items piece is.split more) ∙ ledger.split)
     ledger.are
 
 pub cut_none : (fares : Fares) (sums : LedgerSums) (text : List ℕ) → IsSummed fares sums text
-    → 0 < length sums.begun.items → ¬ (IsLedger fares text)
+    → 0 < length sums.started.items → ¬ (IsLedger fares text)
 cut_none fares sums text is some (entries, ledger) =
-    let begun = sums.begun.items in
-    let last = lines-part begun is.lacks some in
-    no_line fares is.lines begun [] (head_ends begun is.lacks)
-    (λ earlier entry next. next_ends fares earlier entry begun next is.lacks) entries ledger.lines
+    let started = sums.started.items in
+    let last = lines-part started is.lacks some in
+    no_line fares is.lines started [] (head_ends started is.lacks)
+    (λ earlier entry next. next_ends fares earlier entry started next is.lacks) entries ledger.lines
     (ap (λ (ls : List (List ℕ)). is.lines ++ ls) (sym last)
-    ∙ ap (λ (b : List ℕ). is.lines ++ lines_of b) (sym (append-nil begun))
+    ∙ ap (λ (b : List ℕ). is.lines ++ lines_of b) (sym (append-nil started))
     ∙ sym (is.split []) ∙ ap lines_of (append-nil text) ∙ ledger.split) ledger.are
 
 -- the sums are those of the ledger
 pub all_added : (fares : Fares) (sums : LedgerSums) (text : List ℕ) (made : EntrySums)
     (is : IsSummed fares sums text)
-    → sums.begun.items ≡ [] → AreSumsOf is.summed.seen made → (entries : List Entry)
+    → sums.started.items ≡ [] → AreSumsOf is.summed.seen made → (entries : List Entry)
     → IsLedgerOf fares entries text → AreSumsOf entries made
 unfolding lines_of
 all_added fares sums text made is none are entries ledger =
@@ -264,10 +264,10 @@ all_added fares sums text made is none are entries ledger =
     sym (append-nil is.lines)
     ∙ ap (λ (b : List ℕ). is.lines ++ lines_of (b ++ [])) (sym none)
     ∙ sym (is.split []) ∙ ap lines_of (append-nil text) ∙ ledger.split in
-    let behind = subst (λ (ls : List (List ℕ)). AreBehindHead fares sums.lines is.summed.seen ls)
-    whole is.summed.behind in
+    let trailing = subst (λ (ls : List (List ℕ)). AreAfterHead fares sums.lines is.summed.seen ls)
+    whole is.summed.trailing in
     with_moments entries made
-    (subst (λ (es : List Entry). AreSumsOf es made) (sym (behind.1 entries ledger.are)) are)
+    (subst (λ (es : List Entry). AreSumsOf es made) (sym (trailing.1 entries ledger.are)) are)
 
 -- ---- by whether a ledger may have the lines
 
@@ -312,22 +312,22 @@ pub added_or : (fares : Fares) (old new : LineSums) (lines : List (List ℕ)) (l
     (HasNoLedger fares (lines ++ line ∷ []))
 added_or fares old new lines line read is_added is some still found few added =
     match_map is_added (line_added fares old new lines line read is some still found few)
-    (falls fares old lines line read is some found) added
+    (is_decrease fares old lines line read is some found) added
 
 -- a line was read whole
 pub ended : (fares : Fares) (old new : LedgerSums) (text line whole : List ℕ)
     (is : IsSummed fares old text)
-    → IsLine line → whole ≡ old.begun.items ++ line
+    → IsLine line → whole ≡ old.started.items ++ line
     → MatchBool new.lines.may_be (AreSummed fares new.lines (is.lines ++ whole ∷ []))
     (HasNoLedger fares (is.lines ++ whole ∷ []))
-    → new.begun.items ≡ [] → HasSummed fares new (text ++ line)
+    → new.started.items ≡ [] → HasSummed fares new (text ++ line)
 ended fares old new text line whole is ends same read none =
     match_map new.lines.may_be
     (λ summed. read_on fares old new text line whole is ends same summed none)
     (read_none fares old text line whole is ends same) read
 
 pub no_ledger : (fares : Fares) (sums : LedgerSums) (text : List ℕ) → HasSummed fares sums text
-    → (sums.lines.may_be ≡ true → 0 < length sums.begun.items) → ¬ (IsLedger fares text)
+    → (sums.lines.may_be ≡ true → 0 < length sums.started.items) → ¬ (IsLedger fares text)
 no_ledger fares sums text is cut ledger =
     ⊎_elim
     (λ (may : sums.lines.may_be ≡ true).

@@ -3,7 +3,7 @@ use Rattle.std.proofs.Common.{◌≡◌, ℕ, Bool, true, false, cond, List, [],
 use Rattle.std.proofs.Common.{◌∙◌}
 use Rattle.std.specs.Ordering.{nat_cmp}
 use Rattle.histories.specs.Entry.{is_at, is_of, own, reply_of}
-use Rattle.histories.specs.Rising.{rising}
+use Rattle.histories.specs.Increasing.{increasing}
 use Rattle.histories.specs.Sums.{Sums, sums, sums_of_replies}
 use Rattle.histories.specs.SumsByKey.{entries_of_validator, sums_by_token, sums_by_validator}
 use Rattle.histories.specs.SumsByKey.{token_of, tokens, validator_of, validators}
@@ -50,10 +50,10 @@ unfolding sums_by_token tokens own
 by_token_without es =
     let f : Token → Sums = λ t. sums (filter (is_of t) (map without_moment es)) in
     let g : Token → Sums = λ t. sums (filter (is_of t) es) in
-    ap (λ (ts : List Token). keyed f (rising token_cmp ts)) (mapped token_of (λ e. refl) es)
+    ap (λ (ts : List Token). keyed f (increasing token_cmp ts)) (mapped token_of (λ e. refl) es)
     ∙ keyed_same f g
     (λ t. ap sums (kept (is_of t) (λ e. refl) es) ∙ sums_without (filter (is_of t) es))
-    (rising token_cmp (map token_of es))
+    (increasing token_cmp (map token_of es))
 
 by_validator_without : (es : List Entry)
     → sums_by_validator (map without_moment es) ≡ sums_by_validator es
@@ -61,10 +61,10 @@ unfolding sums_by_validator validators entries_of_validator
 by_validator_without es =
     let f : ℕ → Sums = λ v. sums (filter (is_at v) (map without_moment es)) in
     let g : ℕ → Sums = λ v. sums (filter (is_at v) es) in
-    ap (λ (vs : List ℕ). keyed f (rising nat_cmp vs)) (mapped validator_of (λ e. refl) es)
+    ap (λ (vs : List ℕ). keyed f (increasing nat_cmp vs)) (mapped validator_of (λ e. refl) es)
     ∙ keyed_same f g
     (λ v. ap sums (kept (is_at v) (λ e. refl) es) ∙ sums_without (filter (is_at v) es))
-    (rising nat_cmp (map validator_of es))
+    (increasing nat_cmp (map validator_of es))
 
 pub with_moments : (es : List Entry) (made : EntrySums) → AreSumsOf (map without_moment es) made
     → AreSumsOf es made

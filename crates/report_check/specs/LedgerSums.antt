@@ -11,9 +11,9 @@ use Rattle.report_check.specs.EntryLines.{without_moment}
 use Rattle.report_check.specs.OpenSums.{AreOpenSums}
 
 -- whatever entries have the lines after the header line, these are they, but for their moments
-abbrev pub AreBehindHead : Fares → LineSums → List Entry → List (List ℕ) → Type 0
-AreBehindHead fares sums seen [] = (sums.has_head ≡ false) × (seen ≡ [])
-AreBehindHead fares sums seen (head ∷ lines) = (sums.has_head ≡ true)
+abbrev pub AreAfterHead : Fares → LineSums → List Entry → List (List ℕ) → Type 0
+AreAfterHead fares sums seen [] = (sums.has_head ≡ false) × (seen ≡ [])
+AreAfterHead fares sums seen (head ∷ lines) = (sums.has_head ≡ true)
     × ((entries : List Entry) → AreNext fares [] entries lines
     → map without_moment entries ≡ seen)
 
@@ -22,16 +22,16 @@ pub record AreSummed (fares : Fares) (sums : LineSums) (lines : List (List ℕ))
   pub seen : List Entry
   pub are : AreOpenSums seen sums.added
   pub few : length seen ≤ 2 ^ 62
-  pub behind : AreBehindHead fares sums seen lines
+  pub trailing : AreAfterHead fares sums seen lines
 
 -- these whole lines were read, and some of the next one
 pub record IsSummed (fares : Fares) (sums : LedgerSums) (text : List ℕ) : Type 0 where
   pub lines : List (List ℕ)
   pub summed : AreSummed fares sums.lines lines
   pub split : (more : List ℕ)
-      → lines_of (text ++ more) ≡ lines ++ lines_of (sums.begun.items ++ more)
-  pub lacks : Lacks 10 sums.begun.items
-  pub short : length sums.begun.items ≤ 255
+      → lines_of (text ++ more) ≡ lines ++ lines_of (sums.started.items ++ more)
+  pub lacks : Lacks 10 sums.started.items
+  pub short : length sums.started.items ≤ 255
 
 -- this text was read, or no ledger begins with it
 abbrev pub HasSummed : Fares → LedgerSums → List ℕ → Type 0

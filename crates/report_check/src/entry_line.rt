@@ -55,22 +55,22 @@ fn answer_by(name: &[u8]) -> Option<Answer>
 
 fn token_of(line: &[u8]) -> Option<(Token, &[u8])>
     ensures fits { IfSome result (λ parts. Fits parts.0) }
-    ensures found { (token : AToken) (behind : List ℕ) → Fits token
-        → line.now ≡ encode_lower (bytes_of token) ++ 44 ∷ behind
-        → IsSomeAnd result (λ parts. (parts.0 ≡ token) × (parts.1.now ≡ behind)) }
+    ensures found { (token : AToken) (trailing : List ℕ) → Fits token
+        → line.now ≡ encode_lower (bytes_of token) ++ 44 ∷ trailing
+        → IsSomeAnd result (λ parts. (parts.0 ≡ token) × (parts.1.now ≡ trailing)) }
 {
-    let (digits, behind) = field(line)?;
+    let (digits, trailing) = field(line)?;
     let token = read_token(digits)?;
-    Some((token, behind))
+    Some((token, trailing))
 }
 
 fn validator_of(text: &[u8]) -> Option<(u64, u32, &[u8])>
-    ensures { (number shown behind : List ℕ) (moment validator : ℕ) → Lacks 44 number
+    ensures { (number shown trailing : List ℕ) (moment validator : ℕ) → Lacks 44 number
         → Lacks 44 shown → moment < 4_102_444_800_000 → IsMomentText moment shown
         → validator < 2 ^ 32
-        → text.now ≡ number ++ 44 ∷ (shown ++ 44 ∷ (decimal validator ++ 44 ∷ behind))
+        → text.now ≡ number ++ 44 ∷ (shown ++ 44 ∷ (decimal validator ++ 44 ∷ trailing))
         → IsSomeAnd result (λ parts. (parts.0 ≡ moment) × (parts.1 ≡ validator)
-        × (parts.2.now ≡ behind)) }
+        × (parts.2.now ≡ trailing)) }
 {
     let (_number, rest) = field(text)?;
     let (shown, rest) = field(rest)?;
@@ -88,8 +88,8 @@ fn after_word<'a>(text: &'a [u8], word: &[u8]) -> Option<&'a [u8]>
 }
 
 fn reply_of(text: &[u8], mode: &[u8]) -> Option<(Answer, u32)>
-    ensures { (answer : AnAnswer) (cents : ℕ) (behind : List ℕ) → cents < 2 ^ 32
-        → text.now ≡ mode.now ++ 44 ∷ (answer_text answer ++ 44 ∷ (decimal cents ++ 44 ∷ behind))
+    ensures { (answer : AnAnswer) (cents : ℕ) (trailing : List ℕ) → cents < 2 ^ 32
+        → text.now ≡ mode.now ++ 44 ∷ (answer_text answer ++ 44 ∷ (decimal cents ++ 44 ∷ trailing))
         → IsSomeAnd result (λ parts. (parts.0 ≡ answer) × (parts.1 ≡ cents)) }
 {
     let rest = after_word(text, mode)?;

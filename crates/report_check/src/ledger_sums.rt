@@ -65,7 +65,7 @@ impl LineSums {
 pub struct LedgerSums {
     lines: LineSums,
     /// The prefix of the line that has not ended. Of no use if no ledger has the lines.
-    begun: Vec<u8>,
+    started: Vec<u8>,
 }
 
 impl LedgerSums {
@@ -79,7 +79,7 @@ impl LedgerSums {
                 may_be: true,
                 added: OpenSums::new(alloc, seed),
             },
-            begun: Vec::new(alloc),
+            started: Vec::new(alloc),
         }
     }
 
@@ -93,12 +93,12 @@ impl LedgerSums {
     {
         let mut rest = piece;
         while !rest.is_empty() {
-            let Some((line, behind)) = split_line(rest) else {
+            let Some((line, trailing)) = split_line(rest) else {
                 self.keep(rest)?;
                 return Ok(());
             };
             self.end_line(alloc, table, line)?;
-            rest = behind;
+            rest = trailing;
         }
         Ok(())
     }
@@ -112,13 +112,13 @@ impl LedgerSums {
         if !self.lines.may_be {
             return Ok(());
         }
-        if self.begun.is_empty() {
+        if self.started.is_empty() {
             self.lines.add_line(alloc, table, line)?;
             return Ok(());
         }
-        self.begun.extend_from_slice(line)?;
-        self.lines.add_line(alloc, table, self.begun.as_slice())?;
-        self.begun.clear();
+        self.started.extend_from_slice(line)?;
+        self.lines.add_line(alloc, table, self.started.as_slice())?;
+        self.started.clear();
         Ok(())
     }
 
@@ -130,10 +130,10 @@ impl LedgerSums {
         if !self.lines.may_be {
             return Ok(());
         }
-        self.begun.extend_from_slice(rest)?;
-        if self.begun.len() > MAX_LINE_BYTES {
+        self.started.extend_from_slice(rest)?;
+        if self.started.len() > MAX_LINE_BYTES {
             self.lines.may_be = false;
-            self.begun.clear();
+            self.started.clear();
         }
         Ok(())
     }
@@ -149,7 +149,7 @@ impl LedgerSums {
         if !self.lines.may_be {
             return Ok(None);
         }
-        if !self.begun.is_empty() {
+        if !self.started.is_empty() {
             return Ok(None);
         }
         let sums = self.lines.added.into_sums(alloc)?;

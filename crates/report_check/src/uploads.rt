@@ -12,7 +12,7 @@ ghost use Rattle.report_check.specs.Uploads.{uploads_in};
 
 use ledger_check::{same_bytes, split_line};
 use line_forms::form::FormOf;
-use line_forms::forms::Behind;
+use line_forms::forms::After;
 use line_forms::number::Number64;
 use report_texts::forms::{head_in, upload_in};
 use std::alloc::Global;
@@ -41,7 +41,7 @@ fn number_in(line: &[u8]) -> Option<(u64, &[u8])>
     ensures { MatchOption result (count_at (codes "upload ") line.now ≡ None)
         (λ parts. count_at (codes "upload ") line.now ≡ Some (parts.0, parts.1.now)) }
 {
-    Behind(b"upload ", Number64).read(line)
+    After(b"upload ", Number64).read(line)
 }
 
 /// The end in ` cut 4` or ` undrawn`, with the line feed.
@@ -94,12 +94,12 @@ pub(crate) fn upload_lines(alloc: Global, text: &[u8]) -> Result<UploadLines, No
     if text.is_empty() {
         return Ok(UploadLines::NoLine(1));
     }
-    let (head, behind) = first_line(text);
+    let (head, trailing) = first_line(text);
     let Some(uploads) = head_in(head, b"uploads ") else {
         return Ok(UploadLines::NoLine(1));
     };
     let mut ends = Vec::new(alloc);
-    let mut rest = behind;
+    let mut rest = trailing;
     for upload in 0..uploads {
         if rest.is_empty() {
             return Ok(UploadLines::NoLine(ends.len() as u64 + 2));

@@ -36,14 +36,14 @@ fn first_difference(alloc: Global, text: &[u8], wanted: &[u8]) -> Result<ReportV
     let mut left = wanted;
     let mut number: u64 = 1;
     while !left.is_empty() {
-        let (line, behind) = first_line(left);
+        let (line, trailing) = first_line(left);
         let Some(more) = after_word(rest, line) else {
             let mut own = Vec::new(alloc);
             own.extend_from_slice(line)?;
             return Ok(ReportVerdict::Wants(number, own));
         };
         rest = more;
-        left = behind;
+        left = trailing;
         number += 1;
     }
     if rest.is_empty() {

@@ -36,11 +36,11 @@ pub refused_spelt : (taps offset : ℕ) (fault : LayoutFault)
 refused_spelt taps offset fault =
     let named = ap (λ (t : List ℕ). decimal offset ++ (codes " " ++ (t ++ codes "\n")))
     (name_spelt fault) in
-    let behind = append_assoc (decimal offset) (codes " " ++ fault_name fault) (codes "\n")
+    let trailing = append_assoc (decimal offset) (codes " " ++ fault_name fault) (codes "\n")
     ∙ named in
     ap (λ (t : List ℕ). codes " refused " ++ t) (append_assoc (decimal taps) (codes " at "
     ++ (decimal offset ++ (codes " " ++ fault_name fault))) (codes "\n")
-    ∙ ap (λ (t : List ℕ). decimal taps ++ (codes " at " ++ t)) behind)
+    ∙ ap (λ (t : List ℕ). decimal taps ++ (codes " at " ++ t)) trailing)
 
 -- the number that a fault shows has 64 bits
 pub small_number : (fault : LayoutFault) → fault_number fault < 2 ^ 64

@@ -11,8 +11,8 @@ use Rattle.fare_texts.specs.ReportLines.{number_line, token_line, validator_line
 use Rattle.histories.specs.Sums.{Sums}
 use Rattle.tap_views.specs.Token.{Fits, bytes_of}
 use Rattle.tap_views.specs.declared.token.Token.{Token}
-use Rattle.line_forms.specs.Forms.{IsBehind, IsForm, IsThen, said_by, then_read, behind_read, value_if}
-use Rattle.line_forms.specs.FormLaws.{behind_law, line_complete, line_sound, number_law, then_law, wide_64}
+use Rattle.line_forms.specs.Forms.{IsAfter, IsForm, IsThen, said_by, then_read, after_read, value_if}
+use Rattle.line_forms.specs.FormLaws.{after_law, line_complete, line_sound, number_law, then_law, wide_64}
 use Rattle.line_forms.specs.Numbers.{BeginsWithNoDigit, IsNumber}
 use Rattle.report_texts.specs.Forms.{Counted, count_at, counts_read, end_in, end_or, fault_by, head_in, refused_by, refused_in, sums_by, sums_with, token_line_in, token_read, totals_in, upload_if, upload_in, validator_if, validator_in}
 use Rattle.report_texts.specs.FormLaws.{IsCount, IsCountedText, IsCountsText, IsTokenDigits, count_form, counts_law, begins, begins_then, some_one, token_law, value_if_some, begins_chosen}
@@ -88,9 +88,9 @@ counts_line s =
     (codes " unknown ") (decimal s.unknown) (codes " cents ") (decimal s.cents) (10 ∷ []))
 
 -- the same behind another word that ends so
-counts_behind : (word : List ℕ) (s : Sums)
+counts_after : (word : List ℕ) (s : Sums)
     → word ++ counts_text s ≡ counted_text (word ++ codes "taps ") (counted_of s) ++ 10 ∷ []
-counts_behind word s =
+counts_after word s =
     ap (λ (x : List ℕ). word ++ x) (counts_line s)
     ∙ moved word (codes "taps ") (decimal s.taps) _ (10 ∷ [])
   where
@@ -173,7 +173,7 @@ counts_of n s word text is made =
 -- ---- totals
 pub totals_complete : (s : Sums) → AreCounts s → totals_in (totals_line s) ≡ Some s
 totals_complete s are =
-    ap totals_in (counts_behind (codes "totals ") s)
+    ap totals_in (counts_after (codes "totals ") s)
     ∙ line_complete (counts_law (codes "totals taps ")) refl s _ (sums_say (codes "totals taps ") s are)
 
 pub totals_sound : (line : List ℕ) (s : Sums) → totals_in line ≡ Some s
@@ -181,7 +181,7 @@ pub totals_sound : (line : List ℕ) (s : Sums) → totals_in line ≡ Some s
 totals_sound line s e =
     let (text, (n, is, made), shown) = line_sound (counts_law (codes "totals taps ")) line s e in
     let (are, same) = counts_of n s (codes "totals taps ") text is made in
-    (are, shown ∙ ap (λ (x : List ℕ). x ++ 10 ∷ []) same ∙ sym (counts_behind (codes "totals ") s))
+    (are, shown ∙ ap (λ (x : List ℕ). x ++ 10 ∷ []) same ∙ sym (counts_after (codes "totals ") s))
 
 -- ---- heads of sections
 pub head_complete : (word : List ℕ) (n : ℕ) → n < 2 ^ 64 → head_in word (number_line word n) ≡ Some n
@@ -203,7 +203,7 @@ key_line : (word digits : List ℕ) (s : Sums)
     → word ++ (digits ++ (codes " " ++ counts_text s))
     ≡ ((word ++ digits) ++ counted_text (codes " taps ") (counted_of s)) ++ 10 ∷ []
 key_line word digits s =
-    ap (λ (x : List ℕ). word ++ (digits ++ x)) (counts_behind (codes " ") s)
+    ap (λ (x : List ℕ). word ++ (digits ++ x)) (counts_after (codes " ") s)
     ∙ moved word digits _ (10 ∷ [])
   where
     moved : (a b c e : List ℕ) → a ++ (b ++ (c ++ e)) ≡ ((a ++ b) ++ c) ++ e
@@ -248,10 +248,10 @@ validator_sound line sum e =
     )
 
 -- ---- tokens
-token_form : IsForm (IsThen (IsBehind (codes "token ") IsTokenDigits) (IsCountsText (codes " taps ")))
-    BeginsWithNoDigit (then_read (behind_read (codes "token ") token_read) (counts_read (codes " taps ")))
+token_form : IsForm (IsThen (IsAfter (codes "token ") IsTokenDigits) (IsCountsText (codes " taps ")))
+    BeginsWithNoDigit (then_read (after_read (codes "token ") token_read) (counts_read (codes " taps ")))
 token_form =
-    then_law (behind_law (codes "token ") token_law) (counts_law (codes " taps ")) (λ v t r says. tt)
+    then_law (after_law (codes "token ") token_law) (counts_law (codes " taps ")) (λ v t r says. tt)
 
 pub token_complete : (sum : Token × Sums) → IsTokenSum sum → token_line_in (token_line sum) ≡ Some sum
 token_complete sum is =

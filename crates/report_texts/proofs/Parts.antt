@@ -57,17 +57,17 @@ last_out a b c start waits sums i all gone written =
     (goes_last a b c start waits (flat_map token_line (take i sums)) gone written)
 
 -- if a write fails, a beginning of all lines is out
-pub lines_begun : (a b c : Option (List ℕ)) (start waits : List ℕ) (sums : List (Token × Sums))
+pub lines_started : (a b c : Option (List ℕ)) (start waits : List ℕ) (sums : List (Token × Sums))
     (i : ℕ) → GoesOut a start b waits (flat_map token_line (take i sums)) → Begins b c waits
     → Begins a c (start ++ flat_map token_line sums)
-lines_begun a b c start waits sums i gone begun =
+lines_started a b c start waits sums i gone started =
     let whole : flat_map token_line (take i sums) ++ flat_map token_line (drop i sums)
     ≡ flat_map token_line sums =
     sym (flat_map-append token_line (take i sums) (drop i sums))
     ∙ ap (λ (all : List (Token × Sums)). flat_map token_line all) (take-append-drop i sums) in
     subst (λ (text : List ℕ). Begins a c (start ++ text)) whole
     (goes_then_on a b c start waits (flat_map token_line (take i sums))
-    (flat_map token_line (drop i sums)) gone begun)
+    (flat_map token_line (drop i sums)) gone started)
 
 -- one upload more
 pub upload_lines-push : (upload : ℕ) (ends : List UploadEnd) (end : UploadEnd)

@@ -22,8 +22,8 @@ use Rattle.hex.proofs.HexLemmas.{decode_sized-twice, length-encode_with}
 use Rattle.tap_views.proofs.TokenBytes.{back_byte, eight_bytes, front_byte, token_bytes}
 use Rattle.tap_views.proofs.TokenBytes.{token_length, two_numbers}
 use Rattle.tap_views.proofs.TokenLemmas.{high_back, low_back}
-use Rattle.line_forms.specs.Forms.{IsBehind, IsFirst, IsForm, IsThen, Reader, said_by, value_if}
-use Rattle.line_forms.specs.FormLaws.{behind_law, number_law, then_law, wide_64, with_rest_some}
+use Rattle.line_forms.specs.Forms.{IsAfter, IsFirst, IsForm, IsThen, Reader, said_by, value_if}
+use Rattle.line_forms.specs.FormLaws.{after_law, number_law, then_law, wide_64, with_rest_some}
 use Rattle.line_forms.specs.Numbers.{BeginsWithNoDigit, IsNumber, with_rest}
 use Rattle.report_texts.specs.Forms.{Counted, again, chosen, count_at, counted_read, counts_read, sums_by, sums_with, token_in, token_read, token_with}
 use Rattle.report_texts.specs.Numbers.{AreCounts}
@@ -58,10 +58,10 @@ chosen_law {reads = reads} choice form = record {
 
 -- ---- counts
 abbrev pub IsCount : List ℕ → ℕ → List ℕ → Type 0
-IsCount word = IsBehind word (IsNumber (2 ^ 64))
+IsCount word = IsAfter word (IsNumber (2 ^ 64))
 
 pub count_form : (word : List ℕ) → IsForm (IsCount word) BeginsWithNoDigit (count_at word)
-count_form word = behind_law word (number_law (2 ^ 64) wide_64)
+count_form word = after_law word (number_law (2 ^ 64) wide_64)
 
 pub begins : (word : List ℕ) → ((rest : List ℕ) → BeginsWithNoDigit (word ++ rest))
     → IsFirst BeginsWithNoDigit (IsCount word)

@@ -12,12 +12,12 @@ use Rattle.tap_views.specs.declared.fault.LayoutFault.TheVariants.{Length, Momen
 use Rattle.tap_views.specs.declared.token.Token.{Token}
 use Rattle.tap_views.specs.declared.upload_end.UploadEnd.{UploadEnd}
 use Rattle.tap_views.specs.declared.upload_end.UploadEnd.TheVariants.{Posted, Refused}
-use Rattle.line_forms.specs.Forms.{Reader, behind_read, said_by, then_read, value_if}
+use Rattle.line_forms.specs.Forms.{Reader, after_read, said_by, then_read, value_if}
 use Rattle.line_forms.specs.Numbers.{number_at, with_rest}
 
 -- the number of 64 bits after a word
 abbrev pub count_at : List ℕ → Reader ℕ
-count_at word = behind_read word (number_at (2 ^ 64))
+count_at word = after_read word (number_at (2 ^ 64))
 
 -- the number of a line that is a word, a number and a line feed, as `validators 3`
 abbrev pub head_in : List ℕ → List ℕ → Option ℕ
@@ -98,7 +98,7 @@ token_read text =
 -- the token and its sums in `token 000000000000000000000000000000a1 taps 4 paid 2 ..`
 abbrev pub token_line_in : List ℕ → Option (Token × Sums)
 token_line_in line = said_by
-    (then_read (behind_read (codes "token ") token_read) (counts_read (codes " taps "))) line
+    (then_read (after_read (codes "token ") token_read) (counts_read (codes " taps "))) line
 
 -- ---- uploads
 -- the layout fault whose name has this number; what the fault has beside its name is 0

@@ -10,7 +10,7 @@ ghost use Rattle.report_texts.specs.Forms.{totals_in, upload_in, validator_in};
 
 use histories::{TokenSum, Totals, ValidatorSum};
 use line_forms::form::FormOf;
-use line_forms::forms::{Behind, Then, line_of};
+use line_forms::forms::{After, Then, line_of};
 use line_forms::number::Number64;
 use tap_views::{LayoutFault, Token, UploadEnd};
 
@@ -18,14 +18,14 @@ fn count<'a>(text: &'a [u8], word: &[u8]) -> Option<(u64, &'a [u8])>
     ensures { MatchOption result (count_at word.now text.now ≡ None)
         (λ parts. count_at word.now text.now ≡ Some (parts.0, parts.1.now)) }
 {
-    Behind(word, Number64).read(text)
+    After(word, Number64).read(text)
 }
 
 /// The number of a line that is a word, a number and a line feed, as `validators 3`.
 pub fn head_in(line: &[u8], word: &[u8]) -> Option<u64>
     ensures { result ≡ head_in word.now line.now }
 {
-    line_of(&Behind(word, Number64), line)
+    line_of(&After(word, Number64), line)
 }
 
 fn totals_by(counts: (u64, (u64, (u64, (u64, (u64, (u64, u64))))))) -> Option<Totals>
@@ -121,7 +121,7 @@ pub fn totals_in(line: &[u8]) -> Option<Totals>
 pub fn validator_in(line: &[u8]) -> Option<ValidatorSum>
     ensures { option_map validator_sum result ≡ validator_in line.now }
 {
-    let form = Then(Behind(b"validator ", Number64), Counts(b" taps "));
+    let form = Then(After(b"validator ", Number64), Counts(b" taps "));
     let (number, totals) = line_of(&form, line)?;
     if number < 4_294_967_296 {
         let validator = number as u32;
@@ -194,7 +194,7 @@ impl<'a> FormOf<'a> for TokenDigits {
 pub fn token_line_in(line: &[u8]) -> Option<TokenSum>
     ensures { option_map token_sum result ≡ token_line_in line.now }
 {
-    let form = Then(Behind(b"token ", TokenDigits), Counts(b" taps "));
+    let form = Then(After(b"token ", TokenDigits), Counts(b" taps "));
     let (token, totals) = line_of(&form, line)?;
     Some(TokenSum { token, totals })
 }
@@ -224,8 +224,8 @@ fn refused_in(text: &[u8]) -> Option<UploadEnd>
     ensures { result ≡ refused_in text.now }
 {
     let form = Then(
-        Behind(b" refused ", Number64),
-        Then(Behind(b" at ", Number64), Behind(b" L", Number64)),
+        After(b" refused ", Number64),
+        Then(After(b" at ", Number64), After(b" L", Number64)),
     );
     let (taps, (offset, number)) = line_of(&form, text)?;
     let fault = fault_by(number)?;

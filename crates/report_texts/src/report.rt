@@ -3,7 +3,7 @@
 ghost use Rattle.std.specs.Prelude.{◌≡◌, ◌≤◌, ◌++◌, OnOk, IfOk, IfErr, map, vec_capacity};
 ghost use Rattle.std.specs.Io.KnownBytes.{Appends};
 ghost use Rattle.std.specs.List.{flat_map};
-ghost use Rattle.fare_texts.specs.PrintFaults.{KeepsUnlessWrite};
+ghost use Rattle.fare_texts.specs.PrintFaults.{UnchangedUnlessWrite};
 ghost use Rattle.fare_texts.specs.ReportLines.{token_line};
 ghost use Rattle.fare_texts.specs.WrittenOut.{Begins};
 ghost use Rattle.fare_texts.specs.declared.print_fault.PrintFault.TheVariants.{Write as ForWrite};
@@ -22,7 +22,7 @@ use tap_views::{NoMemory, UploadEnd};
 /// The least room for lines that wait to be written: a write then costs little beside them.
 const PIECE_BYTES: usize = 65_536;
 
-fn begun(
+fn started(
     alloc: Global,
     ends: &[UploadEnd],
     totals: &Totals,
@@ -50,12 +50,12 @@ pub fn write_report<W: Write>(
 ) -> Result<(), PrintFault>
     ensures ok { OnOk result (Appends (W.contents out.old) (W.contents out.new)
         (report ends.now (sums_of totals.now) (map validator_sum validators.now) tokens.now)) }
-    ensures begun { IfErr result (λ fault. fault ≡ ForWrite
+    ensures started { IfErr result (λ fault. fault ≡ ForWrite
         → Begins (W.contents out.old) (W.contents out.new) (report ends.now (sums_of totals.now)
         (map validator_sum validators.now) tokens.now)) }
-    ensures fault { IfErr result (λ fault. KeepsUnlessWrite fault (out.new ≡ out.old)) }
+    ensures fault { IfErr result (λ fault. UnchangedUnlessWrite fault (out.new ≡ out.old)) }
 {
-    let Ok(mut text) = begun(alloc, ends, totals, validators, tokens) else {
+    let Ok(mut text) = started(alloc, ends, totals, validators, tokens) else {
         return Err(PrintFault::NoMemory);
     };
     write_lines(&mut text, tokens, out)?;

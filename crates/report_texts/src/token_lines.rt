@@ -22,7 +22,7 @@ fn make_room<W: Write>(text: &mut Vec<u8>, needed: usize, out: &mut W) -> Result
     requires { needed ≤ vec_capacity text.old }
     ensures gone { OnOk result (GoesOut (W.contents out.old) text.old.items (W.contents out.new)
         text.new.items []) }
-    ensures begun { OnErr result (Begins (W.contents out.old) (W.contents out.new)
+    ensures started { OnErr result (Begins (W.contents out.old) (W.contents out.new)
         text.old.items) }
     ensures room { OnOk result (vec_len text.new + needed ≤ vec_capacity text.new) }
     ensures capacity { vec_capacity text.new ≡ vec_capacity text.old }
@@ -40,7 +40,7 @@ fn push_line<W: Write>(text: &mut Vec<u8>, line: &Line, out: &mut W) -> Result<(
     requires { 384 ≤ vec_capacity text.old }
     ensures gone { OnOk result (GoesOut (W.contents out.old) text.old.items (W.contents out.new)
         text.new.items line.now) }
-    ensures begun { OnErr result (Begins (W.contents out.old) (W.contents out.new)
+    ensures started { OnErr result (Begins (W.contents out.old) (W.contents out.new)
         text.old.items) }
     ensures capacity { vec_capacity text.old ≤ vec_capacity text.new }
     ensures fault { IfErr result (λ fault. fault ≡ ForWrite) }
@@ -61,13 +61,13 @@ pub(crate) fn write_lines<W: Write>(
     requires { 384 ≤ vec_capacity text.old }
     ensures ok { OnOk result (Appends (W.contents out.old) (W.contents out.new)
         (text.old.items ++ flat_map token_line sums.now)) }
-    ensures begun { OnErr result (Begins (W.contents out.old) (W.contents out.new)
+    ensures started { OnErr result (Begins (W.contents out.old) (W.contents out.new)
         (text.old.items ++ flat_map token_line sums.now)) }
     ensures fault { IfErr result (λ fault. fault ≡ ForWrite) }
 {
     let mut line = Line::new();
-    for place in 0..sums.len() {
-        let sum = sums.get(place);
+    for position in 0..sums.len() {
+        let sum = sums.get(position);
         make_line(&mut line, &sum);
         push_line(text, &line, out)?;
     }

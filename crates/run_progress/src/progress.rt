@@ -69,7 +69,7 @@ impl Steps {
         }
     }
 
-    pub(crate) fn begin_ahead(&mut self) {
+    pub(crate) fn begin_prefetch(&mut self) {
         self.stage = Stage::Ahead;
     }
 
@@ -78,20 +78,20 @@ impl Steps {
         self.stage = Stage::Loaded;
     }
 
-    pub(crate) fn end_ahead(&mut self) {
+    pub(crate) fn end_prefetch(&mut self) {
         self.ahead = self.ahead.saturating_add(1);
     }
 
     /// Has read one more file while taps are settled. After the last one they are charged.
     pub(crate) fn end_settled(&mut self) {
-        self.end_ahead();
+        self.end_prefetch();
         if self.knows_all && self.ahead >= self.found {
             self.stage = Stage::Loaded;
         }
     }
 
     /// Begins to read files in their turns. `ahead` were read before.
-    pub(crate) fn keep_ahead(&mut self, ahead: usize) {
+    pub(crate) fn keep_prefetched(&mut self, ahead: usize) {
         self.stage = Stage::Files;
         self.ahead = ahead;
     }

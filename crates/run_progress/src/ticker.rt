@@ -59,7 +59,7 @@ impl Ticker {
 
     /// Shows the line again and again, until it is taken away or the clock cannot be read.
     pub fn tick<R: Wait + Clock>(&self, rt: &R) {
-        let Ok(begun) = Instant::now(rt) else {
+        let Ok(started) = Instant::now(rt) else {
             return;
         };
         let mut pace = Pace::new();
@@ -68,7 +68,7 @@ impl Ticker {
             if self.is_over_after(rt, pause_ms) {
                 return;
             }
-            let Ok(passed) = begun.elapsed(rt) else {
+            let Ok(passed) = started.elapsed(rt) else {
                 return;
             };
             if passed.as_millis() >= u128::from(QUIET_MS) {

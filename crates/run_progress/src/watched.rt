@@ -86,8 +86,8 @@ impl<'a, R: Wait, D: Disk> Disk for WatchedDisk<'a, R, D> {
         Ok(WatchedFile { meter, from })
     }
 
-    fn size_ahead(&self, name: &str) -> Option<u64> {
-        let size = self.from.size_ahead(name);
+    fn prefetch_size(&self, name: &str) -> Option<u64> {
+        let size = self.from.prefetch_size(name);
         self.ticker.steps.lock(self.rt).look(size.is_some());
         size
     }
@@ -102,9 +102,9 @@ impl<'a, R: Wait, D: Disk> Disk for WatchedDisk<'a, R, D> {
     }
 
     fn read(&self, alloc: Global, name: String) -> Result<Loaded, LoadFault> {
-        self.ticker.steps.lock(self.rt).begin_ahead();
+        self.ticker.steps.lock(self.rt).begin_prefetch();
         let file = self.from.read(alloc, name)?;
-        self.ticker.steps.lock(self.rt).end_ahead();
+        self.ticker.steps.lock(self.rt).end_prefetch();
         Ok(file)
     }
 
@@ -114,7 +114,7 @@ impl<'a, R: Wait, D: Disk> Disk for WatchedDisk<'a, R, D> {
         room: Vec<u8>,
         calls: &mut Trace,
     ) -> Result<Vec<u8>, LoadFault> {
-        self.ticker.steps.lock(self.rt).begin_ahead();
+        self.ticker.steps.lock(self.rt).begin_prefetch();
         let bytes = self.from.read_into(name, room, calls)?;
         self.ticker.steps.lock(self.rt).end_settled();
         Ok(bytes)
@@ -153,9 +153,9 @@ impl<R: Wait, S: FileSource + Drop> FileSource for Watched<'_, R, S> {
 }
 
 impl<R: Wait, S: Source + Drop> Source for Watched<'_, R, S> {
-    fn keep_ahead(&mut self, ahead: Vec<Loaded>) {
-        self.ticker.steps.lock(self.rt).keep_ahead(ahead.len());
-        self.from.keep_ahead(ahead);
+    fn keep_prefetched(&mut self, ahead: Vec<Loaded>) {
+        self.ticker.steps.lock(self.rt).keep_prefetched(ahead.len());
+        self.from.keep_prefetched(ahead);
     }
 
     fn input(&mut self) -> Result<Vec<u8>, LoadFault> {

@@ -12,9 +12,9 @@ use Rattle.tap_views.specs.declared.token.Token.{Token}
 use Rattle.tap_views.specs.Layout.{moment_limit}
 use Rattle.tap_views.specs.declared.encoder.TapFields.{TapFields}
 use Rattle.tap_views.proofs.Lists.{All-split}
-use Rattle.settled_texts.specs.inside.Seats.{IsSoundList}
-use Rattle.settled_texts.specs.ExplainedTaps.{NoTapFallsFrom, last_token}
-use Rattle.settled_texts.proofs.TapsExplained.{fall_within}
+use Rattle.settled_texts.specs.inside.WorkerSlots.{IsSoundList}
+use Rattle.settled_texts.specs.ExplainedTaps.{TapsNondecreasingFrom, last_token}
+use Rattle.settled_texts.proofs.TapsExplained.{nondecreasing_within}
 
 -- the taps of lists, one list behind the other
 abbrev pub joined : List (Vec TapFields Global) → List TapFields
@@ -24,46 +24,46 @@ abbrev pub Early : TapFields → Type 0
 Early tap = tap.moment < moment_limit
 
 -- one list more
-pub joined_more : (lists : List (Vec TapFields Global)) (place : ℕ) (other : Vec TapFields Global)
-    → place < length lists
-    → joined (take (place + 1) lists)
-    ≡ joined (take place lists) ++ (get_or lists place other).items
-joined_more lists place other within =
+pub joined_more : (lists : List (Vec TapFields Global)) (position : ℕ) (other : Vec TapFields Global)
+    → position < length lists
+    → joined (take (position + 1) lists)
+    ≡ joined (take position lists) ++ (get_or lists position other).items
+joined_more lists position other within =
     let f : Vec TapFields Global → List TapFields = λ list. list.items in
-    ap (flat_map f) (take_more lists place other within)
-    ∙ flat_map-append f (take place lists) (get_or lists place other ∷ [])
-    ∙ ap (λ ts. joined (take place lists) ++ ts) (append-nil (get_or lists place other).items)
+    ap (flat_map f) (take_more lists position other within)
+    ∙ flat_map-append f (take position lists) (get_or lists position other ∷ [])
+    ∙ ap (λ ts. joined (take position lists) ++ ts) (append-nil (get_or lists position other).items)
 
 -- the lists before one, that one and those behind it
-pub joined_at : (lists : List (Vec TapFields Global)) (place : ℕ) (other : Vec TapFields Global)
-    → place < length lists
-    → joined (take place lists)
-    ++ ((get_or lists place other).items ++ joined (drop (place + 1) lists))
+pub joined_at : (lists : List (Vec TapFields Global)) (position : ℕ) (other : Vec TapFields Global)
+    → position < length lists
+    → joined (take position lists)
+    ++ ((get_or lists position other).items ++ joined (drop (position + 1) lists))
     ≡ joined lists
-joined_at lists place other within =
+joined_at lists position other within =
     let f : Vec TapFields Global → List TapFields = λ list. list.items in
-    let at : drop place lists ≡ get_or lists place other ∷ drop (place + 1) lists =
-    rw (add-one) (drop-cons lists place other within) in
-    ap (λ ts. joined (take place lists) ++ ts) (sym (ap (flat_map f) at))
-    ∙ sym (flat_map-append f (take place lists) (drop place lists))
-    ∙ ap (flat_map f) (take-append-drop place lists)
+    let at : drop position lists ≡ get_or lists position other ∷ drop (position + 1) lists =
+    rw (add-one) (drop-cons lists position other within) in
+    ap (λ ts. joined (take position lists) ++ ts) (sym (ap (flat_map f) at))
+    ∙ sym (flat_map-append f (take position lists) (drop position lists))
+    ∙ ap (flat_map f) (take-append-drop position lists)
 
 -- each of the lists is sound
-pub sound_at : (token : Token) (lists : List (Vec TapFields Global)) (place : ℕ)
-    (other : Vec TapFields Global) → place < length lists
-    → All Early (joined lists) → NoTapFallsFrom token (joined lists)
-    → IsSoundList (get_or lists place other).items
-sound_at token lists place other within early no_fall =
-    let whole = joined_at lists place other within in
-    let before = joined (take place lists) in
-    let here = (get_or lists place other).items in
-    let behind = joined (drop (place + 1) lists) in
+pub sound_at : (token : Token) (lists : List (Vec TapFields Global)) (position : ℕ)
+    (other : Vec TapFields Global) → position < length lists
+    → All Early (joined lists) → TapsNondecreasingFrom token (joined lists)
+    → IsSoundList (get_or lists position other).items
+sound_at token lists position other within early nondecreasing =
+    let whole = joined_at lists position other within in
+    let before = joined (take position lists) in
+    let here = (get_or lists position other).items in
+    let trailing = joined (drop (position + 1) lists) in
     record {
-      early = (All-split Early here behind (All-split Early before (here ++ behind)
+      early = (All-split Early here trailing (All-split Early before (here ++ trailing)
           (subst (λ (ts : List TapFields). All Early ts) (sym whole) early)).1).0;
       from = last_token token before;
-      no_fall = fall_within token (last_token token before) before here behind (joined lists) whole
-          no_fall refl;
+      nondecreasing = nondecreasing_within token (last_token token before) before here trailing (joined lists) whole
+          nondecreasing refl;
     }
 
 pub joined_append : (xs ys : List (Vec TapFields Global))
@@ -71,9 +71,9 @@ pub joined_append : (xs ys : List (Vec TapFields Global))
 joined_append xs ys = flat_map-append (λ (list : Vec TapFields Global). list.items) xs ys
 
 -- what holds of the element at a place holds of the one that is lent there
-pub at_lent : {A : Type 0} (P : A → Type 0) (xs : List A) (place : ℕ) (lent : Option (Bor A))
-    → IsItemAt xs place lent → ((x : A) → slice_get xs place ≡ Some x → P x)
-    → IfSome lent (λ x. P x.now)
-at_lent P xs place None is holds = tt
-at_lent P xs place (Some x) is holds =
-    holds x.now (slice_get-get_or xs place x.now is.3.0 ∙ ap Some (sym is.1))
+pub at_provided : {A : Type 0} (P : A → Type 0) (xs : List A) (position : ℕ) (provided : Option (Bor A))
+    → IsItemAt xs position provided → ((x : A) → slice_get xs position ≡ Some x → P x)
+    → IfSome provided (λ x. P x.now)
+at_provided P xs position None is holds = tt
+at_provided P xs position (Some x) is holds =
+    holds x.now (slice_get-get_or xs position x.now is.3.0 ∙ ap Some (sym is.1))

@@ -15,12 +15,12 @@ use Rattle.tap_views.specs.declared.encoder.TapFields.{TapFields}
 use Rattle.tap_views.proofs.Orderings.{first_not_less}
 use Rattle.histories.specs.declared.entry.Entry.{Entry}
 use Rattle.histories.specs.Plain.{answered}
-use Rattle.fare_texts.specs.Lines.{NoFall, NoFallFrom}
+use Rattle.fare_texts.specs.Lines.{Nondecreasing, NondecreasingFrom}
 use Rattle.tap_views.specs.TokenOrder.{IsUpTo}
 use Rattle.tap_parts.specs.Canonical.{tap_cmp}
 use Rattle.settlement.specs.Posted.{HasName, posted_after, token_of_tap, unposted}
 use Rattle.settlement.proofs.Placed.{NotLess, Pairs, sorted_pairs}
-use Rattle.settled_texts.specs.ExplainedTaps.{NoTapFallsFrom}
+use Rattle.settled_texts.specs.ExplainedTaps.{TapsNondecreasingFrom}
 
 up_to : (a b : TapFields) → HasName a → HasName b → NotLess a b
     → IsUpTo (token_of_tap a) (token_of_tap b)
@@ -30,13 +30,13 @@ up_to a b of_a of_b not =
     ∙ (λ i. slice_cmp nat_cmp (of_b.named i) (of_a.named i)) in
     ap is_lt bytes ∙ first_not_less (slice_cmp nat_cmp b.token a.token) _ not
 
-fall_from : (a : TapFields) (taps : List TapFields) → HasName a → All HasName taps
-    → All (NotLess a) taps → Pairs NotLess taps → NoTapFallsFrom (token_of_tap a) taps
-fall_from a [] of_a names above pairs = tt
-fall_from a (b ∷ taps) of_a names above pairs =
+nondecreasing_from : (a : TapFields) (taps : List TapFields) → HasName a → All HasName taps
+    → All (NotLess a) taps → Pairs NotLess taps → TapsNondecreasingFrom (token_of_tap a) taps
+nondecreasing_from a [] of_a names above pairs = tt
+nondecreasing_from a (b ∷ taps) of_a names above pairs =
     let of_b = All-head HasName b taps names in (
       up_to a b of_a of_b (All-head (NotLess a) b taps above),
-      fall_from b taps of_b (All-tail HasName b taps names) pairs.0 pairs.1,
+      nondecreasing_from b taps of_b (All-tail HasName b taps names) pairs.0 pairs.1,
     )
 
 -- no number is below zero
@@ -57,34 +57,34 @@ not_below_zero high low =
     (not_below low (nat_cmp low 0) (ranks low 0))
 
 -- taps in canonical order do not fall from the least token
-pub canonical_falls : (least : Token) (taps : List TapFields) → least ≡ record { high = 0; low = 0 }
-    → All HasName taps → IsSorted tap_cmp taps → NoTapFallsFrom least taps
-canonical_falls least [] is names sorted = tt
-canonical_falls least (a ∷ taps) is names sorted =
+pub canonical_nondecreasing : (least : Token) (taps : List TapFields) → least ≡ record { high = 0; low = 0 }
+    → All HasName taps → IsSorted tap_cmp taps → TapsNondecreasingFrom least taps
+canonical_nondecreasing least [] is names sorted = tt
+canonical_nondecreasing least (a ∷ taps) is names sorted =
     let pairs = sorted_pairs (a ∷ taps) sorted in
     let token = token_of_tap a in (
       ap (λ (t : Token). is_lt (token_cmp token t)) is ∙ not_below_zero token.high token.low,
-      fall_from a taps (All-head HasName a taps names) (All-tail HasName a taps names) pairs.0
+      nondecreasing_from a taps (All-head HasName a taps names) (All-tail HasName a taps names) pairs.0
           pairs.1,
     )
 
 -- the entries of taps whose tokens do not fall
 posted_from : (fares : Fares) (earlier : List Entry) (token : Token) (taps : List TapFields)
-    → NoTapFallsFrom token taps → NoFallFrom token (posted_after fares earlier taps)
+    → TapsNondecreasingFrom token taps → NondecreasingFrom token (posted_after fares earlier taps)
 unfolding posted_after answered
-posted_from fares earlier token [] no_fall = tt
-posted_from fares earlier token (tap ∷ taps) (up, no_fall) = (
+posted_from fares earlier token [] nondecreasing = tt
+posted_from fares earlier token (tap ∷ taps) (up, nondecreasing) = (
   up,
   posted_from fares (earlier ++ answered fares earlier (unposted tap) ∷ []) (token_of_tap tap) taps
-      no_fall,
+      nondecreasing,
 )
 
-falls_whole : (token : Token) (entries : List Entry) → NoFallFrom token entries → NoFall entries
-falls_whole token [] no_fall = tt
-falls_whole token (entry ∷ entries) no_fall = no_fall.1
+nondecreasing_whole : (token : Token) (entries : List Entry) → NondecreasingFrom token entries → Nondecreasing entries
+nondecreasing_whole token [] nondecreasing = tt
+nondecreasing_whole token (entry ∷ entries) nondecreasing = nondecreasing.1
 
 -- entries posted in canonical order have tokens that do not fall
-pub posted_falls : (fares : Fares) (token : Token) (taps : List TapFields)
-    → NoTapFallsFrom token taps → NoFall (posted_after fares [] taps)
-posted_falls fares token taps no_fall =
-    falls_whole token (posted_after fares [] taps) (posted_from fares [] token taps no_fall)
+pub posted_nondecreasing : (fares : Fares) (token : Token) (taps : List TapFields)
+    → TapsNondecreasingFrom token taps → Nondecreasing (posted_after fares [] taps)
+posted_nondecreasing fares token taps nondecreasing =
+    nondecreasing_whole token (posted_after fares [] taps) (posted_from fares [] token taps nondecreasing)

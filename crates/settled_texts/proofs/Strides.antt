@@ -36,10 +36,10 @@ early_parts front back trace whole early =
     (ap taps_of_trace (sym whole) ∙ taps_append front back) early)
 
 -- the taps of three parts
-pub taps_whole : (done stride behind rest trace : List TracedTap) → stride ++ behind ≡ rest
+pub taps_whole : (done stride trailing rest trace : List TracedTap) → stride ++ trailing ≡ rest
     → done ++ rest ≡ trace
-    → taps_of_trace done ++ (taps_of_trace stride ++ taps_of_trace behind) ≡ taps_of_trace trace
-taps_whole done stride behind rest trace halves whole =
+    → taps_of_trace done ++ (taps_of_trace stride ++ taps_of_trace trailing) ≡ taps_of_trace trace
+taps_whole done stride trailing rest trace halves whole =
     ap (λ (ts : List TapFields). taps_of_trace done ++ ts)
-    (sym (taps_append stride behind) ∙ ap taps_of_trace halves)
+    (sym (taps_append stride trailing) ∙ ap taps_of_trace halves)
     ∙ sym (taps_append done rest) ∙ ap taps_of_trace whole

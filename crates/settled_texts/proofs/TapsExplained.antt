@@ -14,24 +14,24 @@ use Rattle.fare_texts.specs.Explainers.{HasExplained, next_entry}
 use Rattle.fare_texts.specs.LedgerLines.{IsLedgerLineAfter}
 use Rattle.fare_texts.specs.declared.explainer.Explainer.{Explainer}
 use Rattle.histories.specs.Plain.{answered}
-use Rattle.fare_texts.specs.Lines.{AreLinesAlong, AreUpTo, HasCome}
+use Rattle.fare_texts.specs.Lines.{AreLinesAlong, AreUpTo, HasConsumed}
 use Rattle.tap_views.specs.TokenOrder.{IsUpTo}
 use Rattle.fare_texts.specs.WrittenOut.{Begins, GoesOut}
 use Rattle.fare_texts.proofs.Beginnings.{goes_begins_on, goes_then_on}
 use Rattle.tap_views.proofs.TokensUp.{up_itself}
-use Rattle.fare_texts.proofs.PieceWriting.{along_append, come_next}
+use Rattle.fare_texts.proofs.PieceWriting.{along_append, consumed_next}
 use Rattle.fare_texts.proofs.TextsExist.{along_exist}
 use Rattle.settlement.specs.Posted.{posted_after, token_of_tap, unposted}
 use Rattle.settlement.proofs.Concats.{posted_append}
-use Rattle.settled_texts.specs.ExplainedTaps.{AreExplained, NoTapFallsFrom, last_token}
+use Rattle.settled_texts.specs.ExplainedTaps.{AreExplained, TapsNondecreasingFrom, last_token}
 
 -- ---- the tokens
 
-pub fall_append : (token : Token) (xs ys : List TapFields) → NoTapFallsFrom token (xs ++ ys)
-    → NoTapFallsFrom token xs × NoTapFallsFrom (last_token token xs) ys
-fall_append token [] ys no_fall = (tt, no_fall)
-fall_append token (x ∷ xs) ys (up, no_fall) =
-    let both = fall_append (token_of_tap x) xs ys no_fall in ((up, both.0), both.1)
+pub nondecreasing_append : (token : Token) (xs ys : List TapFields) → TapsNondecreasingFrom token (xs ++ ys)
+    → TapsNondecreasingFrom token xs × TapsNondecreasingFrom (last_token token xs) ys
+nondecreasing_append token [] ys nondecreasing = (tt, nondecreasing)
+nondecreasing_append token (x ∷ xs) ys (up, nondecreasing) =
+    let both = nondecreasing_append (token_of_tap x) xs ys nondecreasing in ((up, both.0), both.1)
 
 -- the last token of two lists of taps
 pub last_append : (token : Token) (xs ys : List TapFields)
@@ -43,11 +43,11 @@ last_append token (x ∷ xs) ys = last_append (token_of_tap x) xs ys
 
 -- no taps have no lines
 pub none_reported : (fares : Fares) (earlier : List Entry) (explainer : Explainer)
-    → HasCome fares explainer earlier → AreExplained fares earlier [] explainer []
+    → HasConsumed fares explainer earlier → AreExplained fares earlier [] explainer []
 unfolding posted_after
-none_reported fares earlier explainer come = record {
+none_reported fares earlier explainer consumed = record {
   are = refl;
-  come = subst (λ (es : List Entry). HasCome fares explainer es) (sym (append-nil earlier)) come;
+  consumed = subst (λ (es : List Entry). HasConsumed fares explainer es) (sym (append-nil earlier)) consumed;
 }
 
 -- the lines of two lists of taps, one after the other
@@ -63,36 +63,36 @@ reported_append fares earlier xs ys explainer next lines more front back =
     record {
       are = subst (λ (es : List Entry). AreLinesAlong fares earlier es (lines ++ more)) (sym joined)
           (along_append fares earlier first second lines more front.are back.are);
-      come = subst (λ (es : List Entry). HasCome fares next (earlier ++ es)) (sym joined)
-          (subst (λ (es : List Entry). HasCome fares next es) (append_assoc earlier first second)
-          back.come);
+      consumed = subst (λ (es : List Entry). HasConsumed fares next (earlier ++ es)) (sym joined)
+          (subst (λ (es : List Entry). HasConsumed fares next es) (append_assoc earlier first second)
+          back.consumed);
     }
 
 -- explained taps have lines, and so have those behind them
-pub reported_then : (fares : Fares) (earlier : List Entry) (done next behind taps : List TapFields)
-    (explainer : Explainer) (lines others : List ℕ) → done ++ (next ++ behind) ≡ taps
+pub reported_then : (fares : Fares) (earlier : List Entry) (done next trailing taps : List TapFields)
+    (explainer : Explainer) (lines others : List ℕ) → done ++ (next ++ trailing) ≡ taps
     → AreExplained fares earlier done explainer lines
     → AreLinesAlong fares (earlier ++ posted_after fares earlier done)
     (posted_after fares (earlier ++ posted_after fares earlier done) next) others
     → (more : List ℕ)
     × AreLinesAlong fares earlier (posted_after fares earlier taps) (lines ++ (others ++ more))
-reported_then fares earlier done next behind taps explainer lines others whole explained along =
+reported_then fares earlier done next trailing taps explainer lines others whole explained along =
     let first = posted_after fares earlier done in
     let second = posted_after fares (earlier ++ first) next in
-    let third = posted_after fares ((earlier ++ first) ++ second) behind in
+    let third = posted_after fares ((earlier ++ first) ++ second) trailing in
     let last = along_exist fares ((earlier ++ first) ++ second) third in
     let back = subst
     (λ (es : List Entry). AreLinesAlong fares (earlier ++ first) es (others ++ last.0))
-    (sym (posted_append fares (earlier ++ first) next behind))
+    (sym (posted_append fares (earlier ++ first) next trailing))
     (along_append fares (earlier ++ first) second third others last.0 along last.1) in
     let all = along_append fares earlier first
-    (posted_after fares (earlier ++ first) (next ++ behind)) lines (others ++ last.0) explained.are
+    (posted_after fares (earlier ++ first) (next ++ trailing)) lines (others ++ last.0) explained.are
     back in (
       last.0,
       subst (λ (ts : List TapFields). AreLinesAlong fares earlier (posted_after fares earlier ts)
           (lines ++ (others ++ last.0))) whole
           (subst (λ (es : List Entry). AreLinesAlong fares earlier es (lines ++ (others ++ last.0)))
-          (sym (posted_append fares earlier done (next ++ behind))) all),
+          (sym (posted_append fares earlier done (next ++ trailing))) all),
     )
 
 -- all lines of taps of which the first were explained
@@ -114,38 +114,38 @@ reported_all fares earlier done left taps explainer lines whole explained =
     )
 
 -- if a beginning of what waits goes out, what has gone out is a beginning of all lines
-pub explained_begun : (fares : Fares) (earlier : List Entry) (done left taps : List TapFields)
+pub explained_started : (fares : Fares) (earlier : List Entry) (done left taps : List TapFields)
     (explainer : Explainer) (lines : List ℕ) (a b c : Option (List ℕ)) (old new : List ℕ)
     → done ++ left ≡ taps → AreExplained fares earlier done explainer lines
     → GoesOut a old b new lines
     → Begins b c new
     → (all : List ℕ) × AreLinesAlong fares earlier (posted_after fares earlier taps) all
     × Begins a c (old ++ all)
-explained_begun fares earlier done left taps explainer lines a b c old new whole explained gone
-    begun =
+explained_started fares earlier done left taps explainer lines a b c old new whole explained gone
+    started =
     let all = reported_all fares earlier done left taps explainer lines whole explained in
-    (lines ++ all.0, all.1, goes_then_on a b c old new lines all.0 gone begun)
+    (lines ++ all.0, all.1, goes_then_on a b c old new lines all.0 gone started)
 
 -- so it is if a beginning of the next lines goes out too
-pub explained_begun_on : (fares : Fares) (earlier : List Entry)
-    (done next behind taps : List TapFields)
+pub explained_started_on : (fares : Fares) (earlier : List Entry)
+    (done next trailing taps : List TapFields)
     (explainer : Explainer) (lines others : List ℕ) (a b c : Option (List ℕ)) (old new : List ℕ)
-    → done ++ (next ++ behind) ≡ taps → AreExplained fares earlier done explainer lines
+    → done ++ (next ++ trailing) ≡ taps → AreExplained fares earlier done explainer lines
     → AreLinesAlong fares (earlier ++ posted_after fares earlier done)
     (posted_after fares (earlier ++ posted_after fares earlier done) next) others
     → GoesOut a old b new lines → Begins b c (new ++ others)
     → (all : List ℕ) × AreLinesAlong fares earlier (posted_after fares earlier taps) all
     × Begins a c (old ++ all)
-explained_begun_on fares earlier done next behind taps explainer lines others a b c old new whole
+explained_started_on fares earlier done next trailing taps explainer lines others a b c old new whole
     explained along
-    gone begun
+    gone started
     =
     let all =
-    reported_then fares earlier done next behind taps explainer lines others whole explained
+    reported_then fares earlier done next trailing taps explainer lines others whole explained
     along in (
       lines ++ (others ++ all.0),
       all.1,
-      goes_begins_on a b c old new lines others all.0 gone begun,
+      goes_begins_on a b c old new lines others all.0 gone started,
     )
 
 -- the next entry of the token is what the tap is answered
@@ -166,14 +166,14 @@ answered_token fares earlier tap = refl
 pub one_reported : (fares : Fares) (earlier : List Entry) (tap : TapFields)
     (explainer next : Explainer)
     (line : List ℕ) → explainer.token ≡ token_of_tap tap → next.token ≡ explainer.token
-    → HasCome fares explainer earlier
+    → HasConsumed fares explainer earlier
     → IsLedgerLineAfter fares explainer.token (own explainer.token earlier)
     (next_entry fares explainer.token (own explainer.token earlier) tap.validator tap.moment) line
     → HasExplained fares next (own explainer.token earlier
     ++ next_entry fares explainer.token (own explainer.token earlier) tap.validator tap.moment ∷ [])
     → AreExplained fares earlier (tap ∷ []) next line
 unfolding posted_after
-one_reported fares earlier tap explainer next line its same come is explained =
+one_reported fares earlier tap explainer next line its same consumed is explained =
     let entry = answered fares earlier (unposted tap) in
     let of = next_answered fares earlier tap explainer.token its in
     let here : explainer.token ≡ entry.token = its ∙ sym (answered_token fares earlier tap) in
@@ -189,32 +189,32 @@ one_reported fares earlier tap explainer next line its same come is explained =
         refl,
         sym (append-nil line),
       );
-      come = come_next fares explainer next earlier entry here same come
+      consumed = consumed_next fares explainer next earlier entry here same consumed
           (subst (λ (e : Entry). HasExplained fares next (own explainer.token earlier ++ e ∷ [])) of
           explained);
     }
 
 -- a tap is not below the token of the taps before it
-pub fall_here : (from token : Token) (taps : List TapFields) (place : ℕ) (other : TapFields)
-    → place < length taps → NoTapFallsFrom from taps → token ≡ last_token from (take place taps)
-    → IsUpTo token (token_of_tap (get_or taps place other))
-fall_here from token taps place other within no_fall is =
-    let parts : take place taps ++ get_or taps place other ∷ drop (place + 1) taps ≡ taps =
-    ap (λ (ts : List TapFields). take place taps ++ ts)
-    (sym (rw (add-one) (drop-cons taps place other within))) ∙ take-append-drop place taps in
-    subst (λ (t : Token). IsUpTo t (token_of_tap (get_or taps place other))) (sym is)
-    (fall_append from (take place taps) (get_or taps place other ∷ drop (place + 1) taps)
-    (subst (λ (ts : List TapFields). NoTapFallsFrom from ts) (sym parts) no_fall)).1.0
+pub nondecreasing_here : (from token : Token) (taps : List TapFields) (position : ℕ) (other : TapFields)
+    → position < length taps → TapsNondecreasingFrom from taps → token ≡ last_token from (take position taps)
+    → IsUpTo token (token_of_tap (get_or taps position other))
+nondecreasing_here from token taps position other within nondecreasing is =
+    let parts : take position taps ++ get_or taps position other ∷ drop (position + 1) taps ≡ taps =
+    ap (λ (ts : List TapFields). take position taps ++ ts)
+    (sym (rw (add-one) (drop-cons taps position other within))) ∙ take-append-drop position taps in
+    subst (λ (t : Token). IsUpTo t (token_of_tap (get_or taps position other))) (sym is)
+    (nondecreasing_append from (take position taps) (get_or taps position other ∷ drop (position + 1) taps)
+    (subst (λ (ts : List TapFields). TapsNondecreasingFrom from ts) (sym parts) nondecreasing)).1.0
 
 -- taps in the middle do not fall from the token before them
-pub fall_within : (from token : Token) (done some behind taps : List TapFields)
-    → done ++ (some ++ behind) ≡ taps → NoTapFallsFrom from taps → token ≡ last_token from done
-    → NoTapFallsFrom token some
-fall_within from token done some behind taps whole no_fall is =
-    let rest = fall_append from done (some ++ behind)
-    (subst (λ (ts : List TapFields). NoTapFallsFrom from ts) (sym whole) no_fall) in
-    subst (λ (t : Token). NoTapFallsFrom t some) (sym is)
-    (fall_append (last_token from done) some behind rest.1).0
+pub nondecreasing_within : (from token : Token) (done some trailing taps : List TapFields)
+    → done ++ (some ++ trailing) ≡ taps → TapsNondecreasingFrom from taps → token ≡ last_token from done
+    → TapsNondecreasingFrom token some
+nondecreasing_within from token done some trailing taps whole nondecreasing is =
+    let rest = nondecreasing_append from done (some ++ trailing)
+    (subst (λ (ts : List TapFields). TapsNondecreasingFrom from ts) (sym whole) nondecreasing) in
+    subst (λ (t : Token). TapsNondecreasingFrom t some) (sym is)
+    (nondecreasing_append (last_token from done) some trailing rest.1).0
 
 -- the front of a list and what stands behind it
 pub halves_of : {A : Type 0} (n : ℕ) (xs front back : List A) → front ≡ take n xs → back ≡ drop n xs
@@ -223,15 +223,15 @@ halves_of n xs front back is_front is_back =
     ap (λ ys. ys ++ back) is_front ∙ ap (λ ys. take n xs ++ ys) is_back ∙ take-append-drop n xs
 
 -- taps that do not fall from a token do not fall from the first one's, which is not below it
-pub fall_first : (token : Token) (taps : List TapFields) (first : TapFields)
-    → slice_get taps 0 ≡ Some first → NoTapFallsFrom token taps
-    → IsUpTo token (token_of_tap first) × NoTapFallsFrom (token_of_tap first) taps
-fall_first token [] first is no_fall = cc
-fall_first token (tap ∷ taps) first is (up, no_fall) =
+pub nondecreasing_first : (token : Token) (taps : List TapFields) (first : TapFields)
+    → slice_get taps 0 ≡ Some first → TapsNondecreasingFrom token taps
+    → IsUpTo token (token_of_tap first) × TapsNondecreasingFrom (token_of_tap first) taps
+nondecreasing_first token [] first is nondecreasing = cc
+nondecreasing_first token (tap ∷ taps) first is (up, nondecreasing) =
     let same : tap ≡ first = cc in
     subst (λ (t : TapFields). IsUpTo token (token_of_tap t)
-    × NoTapFallsFrom (token_of_tap t) (tap ∷ taps))
-    same (up, (up_itself (token_of_tap tap), no_fall))
+    × TapsNondecreasingFrom (token_of_tap t) (tap ∷ taps))
+    same (up, (up_itself (token_of_tap tap), nondecreasing))
 
 -- if there is a tap, the last token does not depend on the one before
 pub last_first : (token other : Token) (taps : List TapFields) (first : TapFields)
@@ -240,11 +240,11 @@ last_first token other [] first is = cc
 last_first token other (tap ∷ taps) first is = refl
 
 -- a fresh explainer has come past entries that are none of its token, and not above it
-pub come_fresh : (fares : Fares) (explainer : Explainer) (earlier : List Entry)
+pub consumed_fresh : (fares : Fares) (explainer : Explainer) (earlier : List Entry)
     → own explainer.token earlier ≡ [] → AreUpTo earlier explainer.token
     → HasExplained fares explainer []
-    → HasCome fares explainer earlier
-come_fresh fares explainer earlier none up fresh = record {
+    → HasConsumed fares explainer earlier
+consumed_fresh fares explainer earlier none up fresh = record {
   explained = subst (λ (es : List Entry). HasExplained fares explainer es) (sym none) fresh;
   up = up;
 }

@@ -59,20 +59,20 @@ feeds_append (x ∷ a) b = by (x == 10) (feeds_append a b)
     by false is = is
 
 -- the line feeds of a byte and of a text behind it
-pub feeds_first : (byte : ℕ) (behind : List ℕ)
-    → (if byte == 10 then 1 else 0) + feeds behind ≡ feeds (byte ∷ behind)
-feeds_first byte behind = by (byte == 10)
+pub feeds_first : (byte : ℕ) (trailing : List ℕ)
+    → (if byte == 10 then 1 else 0) + feeds trailing ≡ feeds (byte ∷ trailing)
+feeds_first byte trailing = by (byte == 10)
   where
     by : (t : Bool)
-        → (if t then 1 else 0) + feeds behind ≡ (if t then feeds behind + 1 else feeds behind)
+        → (if t then 1 else 0) + feeds trailing ≡ (if t then feeds trailing + 1 else feeds trailing)
     by true = omega arith
     by false = omega arith
 
 -- a byte that is no line feed stands where it stood
-pub with_other : (byte : ℕ) (behind : List ℕ) (columns : List (List ℕ)) → (byte == 10) ≡ false
-    → with_columns (byte ∷ behind) columns ≡ byte ∷ with_columns behind columns
-with_other byte behind [] is = ap (λ (t : List ℕ). byte ∷ t) (sym (no_columns behind))
-with_other byte behind (c ∷ columns) is = rw is refl
+pub with_other : (byte : ℕ) (trailing : List ℕ) (columns : List (List ℕ)) → (byte == 10) ≡ false
+    → with_columns (byte ∷ trailing) columns ≡ byte ∷ with_columns trailing columns
+with_other byte trailing [] is = ap (λ (t : List ℕ). byte ∷ t) (sym (no_columns trailing))
+with_other byte trailing (c ∷ columns) is = rw is refl
 
 pub drop_twice : {A : Type 0} (n m : ℕ) (xs : List A) → drop m (drop n xs) ≡ drop (n + m) xs
 drop_twice n m xs = drop-drop m n xs

@@ -20,7 +20,7 @@ head_columns = codes ",class,upload,place"
 abbrev pub columns_of : List ℕ → TracedTap → List ℕ
 columns_of class traced =
     codes "," ++ (class ++ (codes "," ++ (decimal traced.upload
-    ++ (codes "," ++ decimal traced.place))))
+    ++ (codes "," ++ decimal traced.position))))
 
 -- what is put after the lines of these taps, by the class of each token at a moment
 abbrev pub columns_by : (ℕ → List ℕ → List ℕ) → List TracedTap → List (List ℕ)

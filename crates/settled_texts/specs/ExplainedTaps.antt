@@ -5,15 +5,15 @@ use Rattle.tap_views.specs.declared.token.Token.{Token}
 use Rattle.tap_views.specs.declared.encoder.TapFields.{TapFields}
 use Rattle.histories.specs.declared.entry.Entry.{Entry}
 use Rattle.fare_texts.specs.declared.explainer.Explainer.{Explainer}
-use Rattle.fare_texts.specs.Lines.{AreLinesAlong, HasCome}
+use Rattle.fare_texts.specs.Lines.{AreLinesAlong, HasConsumed}
 use Rattle.tap_views.specs.TokenOrder.{IsUpTo}
 use Rattle.settlement.specs.Posted.{posted_after, token_of_tap}
 
 -- the taps' tokens never fall, from this one on
-abbrev pub NoTapFallsFrom : Token → List TapFields → Type 0
-NoTapFallsFrom token [] = Unit {0}
-NoTapFallsFrom token (tap ∷ taps) =
-    IsUpTo token (token_of_tap tap) × NoTapFallsFrom (token_of_tap tap) taps
+abbrev pub TapsNondecreasingFrom : Token → List TapFields → Type 0
+TapsNondecreasingFrom token [] = Unit {0}
+TapsNondecreasingFrom token (tap ∷ taps) =
+    IsUpTo token (token_of_tap tap) × TapsNondecreasingFrom (token_of_tap tap) taps
 
 -- the token of the last tap, or this one if there is none
 abbrev pub last_token : Token → List TapFields → Token
@@ -25,4 +25,4 @@ pub record AreExplained (fares : Fares) (earlier : List Entry) (taps : List TapF
     (explainer : Explainer)
     (lines : List ℕ) : Type 0 where
   pub are : AreLinesAlong fares earlier (posted_after fares earlier taps) lines
-  pub come : HasCome fares explainer (earlier ++ posted_after fares earlier taps)
+  pub consumed : HasConsumed fares explainer (earlier ++ posted_after fares earlier taps)

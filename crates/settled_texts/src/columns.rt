@@ -28,7 +28,7 @@ fn put_columns(text: &mut Vec<u8>, class: &str, traced: &TracedTap) -> Result<()
     text.extend_from_slice(b",")?;
     text.extend_from_slice(class.as_bytes())?;
     put_number(text, traced.upload)?;
-    put_number(text, traced.place)?;
+    put_number(text, traced.position)?;
     Ok(())
 }
 
@@ -96,9 +96,9 @@ pub(crate) fn put_lines<'t>(
 {
     let mut rest = lines;
     let mut left = taps;
-    while let Some((byte, behind)) = rest.split_first() {
+    while let Some((byte, trailing)) = rest.split_first() {
         left = put_byte(text, *byte, names, left)?;
-        rest = behind;
+        rest = trailing;
     }
     Ok(left)
 }

@@ -6,7 +6,7 @@ ghost use Rattle.std.specs.List.Sorted.{IsSorted};
 ghost use Rattle.std.specs.Io.KnownBytes.{Appends};
 ghost use Rattle.tap_views.specs.Encoding.{AreEarly};
 ghost use Rattle.tap_parts.specs.Canonical.{tap_cmp};
-ghost use Rattle.fare_texts.specs.PrintFaults.{KeepsUnlessWrite};
+ghost use Rattle.fare_texts.specs.PrintFaults.{UnchangedUnlessWrite};
 ghost use Rattle.fare_texts.specs.WrittenOut.{Begins};
 ghost use Rattle.fare_texts.specs.declared.print_fault.PrintFault.TheVariants.{Write as ForWrite};
 ghost use Rattle.fare_texts.specs.Ledger.{IsLedgerOver};
@@ -14,7 +14,7 @@ ghost use Rattle.settlement.specs.Posted.{HasName, posted};
 
 use crate::lines::STRIDE_ROOM_BYTES;
 use crate::rounds::write_lists;
-use crate::seat::Seat;
+use crate::slot::WorkerSlot;
 use fare_texts::{Explainer, PrintFault, head_with_room, pass_on};
 use std::alloc::Global;
 use std::io::Write;
@@ -44,14 +44,14 @@ pub fn least_token() -> Token
 }
 
 /// A slot for each worker, if there are two or more.
-fn seats_of(alloc: Global, workers: u32) -> Result<Vec<Seat>, NoMemory> {
-    let mut seats = Vec::new(alloc);
+fn seats_of(alloc: Global, workers: u32) -> Result<Vec<WorkerSlot>, NoMemory> {
+    let mut slots = Vec::new(alloc);
     if workers > 1 {
         for _ in 0..workers {
-            seats.push(Seat::new(alloc))?;
+            slots.push(WorkerSlot::new(alloc))?;
         }
     }
-    Ok(seats)
+    Ok(slots)
 }
 
 /// Writes the ledger of taps in canonical order, list after list: the header line, and a line for
@@ -73,17 +73,17 @@ pub fn write_settled_ledger<R: Threads + Sync, W: Write>(
     ensures ok { OnOk result ((text : List ℕ) × IsLedgerOver table.now
         (posted table.now (flat_map (λ list. list.items) lists.now)) None text
         × Appends (W.contents out.old) (W.contents out.new) text) }
-    ensures begun { IfErr result (λ fault. fault ≡ ForWrite
+    ensures started { IfErr result (λ fault. fault ≡ ForWrite
         → (text : List ℕ) × IsLedgerOver table.now
         (posted table.now (flat_map (λ list. list.items) lists.now)) None text
         × Begins (W.contents out.old) (W.contents out.new) text) }
-    ensures fault { IfErr result (λ fault. KeepsUnlessWrite fault (out.new ≡ out.old)) }
+    ensures fault { IfErr result (λ fault. UnchangedUnlessWrite fault (out.new ≡ out.old)) }
 {
     // proof: the taps can be counted
     let _count = count(lists)?;
     let clock = table.clock(alloc)?;
     let mut text = head_with_room(alloc, STRIDE_ROOM_BYTES)?;
-    let mut seats = seats_of(alloc, workers)?;
+    let mut slots = seats_of(alloc, workers)?;
     let mut explainer = Explainer::of(least_token());
     write_lists(
         rt,
@@ -91,7 +91,7 @@ pub fn write_settled_ledger<R: Threads + Sync, W: Write>(
         table,
         &clock,
         &mut explainer,
-        &mut seats,
+        &mut slots,
         lists,
         out,
     )?;

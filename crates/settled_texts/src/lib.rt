@@ -9,7 +9,7 @@ mod ledger;
 mod lines;
 mod one_token;
 mod rounds;
-mod seat;
+mod slot;
 mod trace;
 mod traced_ledger;
 

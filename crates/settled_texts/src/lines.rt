@@ -5,11 +5,11 @@ ghost use Rattle.std.specs.Prelude.{OnOk, length, string_bytes};
 ghost use Rattle.tap_views.specs.Encoding.{AreEarly};
 ghost use Rattle.histories.specs.declared.entry.Entry.{Entry};
 ghost use Rattle.fare_texts.specs.declared.print_fault.PrintFault.TheVariants.{Write as ForWrite};
-ghost use Rattle.fare_texts.specs.Lines.{AreLinesAlong, HasCome};
+ghost use Rattle.fare_texts.specs.Lines.{AreLinesAlong, HasConsumed};
 ghost use Rattle.tap_views.specs.TokenOrder.{IsUpTo};
 ghost use Rattle.fare_texts.specs.WrittenOut.{Begins, GoesOut};
 ghost use Rattle.settlement.specs.Posted.{posted_after, token_of_tap};
-ghost use Rattle.settled_texts.specs.ExplainedTaps.{AreExplained, NoTapFallsFrom, last_token};
+ghost use Rattle.settled_texts.specs.ExplainedTaps.{AreExplained, TapsNondecreasingFrom, last_token};
 
 use fare_texts::{Explainer, LINE_ROOM_BYTES, PrintFault, go_on_to, pass_piece};
 use std::alloc::AllocError;
@@ -43,12 +43,12 @@ fn explain_tap(
     requires clock { clock.now ≡ table.now.zone }
     requires early { tap.now.moment < 4_102_444_800_000 }
     requires up { IsUpTo explainer.old.token (token_of_tap tap.now) }
-    requires come { (earlier : List Entry) × HasCome table.now explainer.old earlier }
+    requires consumed { (earlier : List Entry) × HasConsumed table.now explainer.old earlier }
     requires room { explainer.old.number + 1 < 2 ^ 64 }
 
     // After all entries that the explainer has consumed.
     ensures explained { OnOk result
-        ((earlier : List Entry) → HasCome table.now explainer.old earlier
+        ((earlier : List Entry) → HasConsumed table.now explainer.old earlier
         → (line : List ℕ) × AreExplained table.now earlier (tap.now ∷ []) explainer.new line
         × (string_bytes text.new ≡ string_bytes text.old ++ line)) }
     ensures token { explainer.new.token ≡ token_of_tap tap.now }
@@ -69,13 +69,13 @@ pub(crate) fn explain_taps(
 ) -> Result<(), AllocError>
     requires clock { clock.now ≡ table.now.zone }
     requires early { AreEarly (λ tap. tap.moment) taps.now }
-    requires no_fall { NoTapFallsFrom explainer.old.token taps.now }
-    requires come { (earlier : List Entry) × HasCome table.now explainer.old earlier }
+    requires nondecreasing { TapsNondecreasingFrom explainer.old.token taps.now }
+    requires consumed { (earlier : List Entry) × HasConsumed table.now explainer.old earlier }
     requires room { explainer.old.number + length taps.now < 2 ^ 64 }
 
     // After all entries that the explainer has consumed.
     ensures explained { OnOk result
-        ((earlier : List Entry) → HasCome table.now explainer.old earlier
+        ((earlier : List Entry) → HasConsumed table.now explainer.old earlier
         → (lines : List ℕ) × AreExplained table.now earlier taps.now explainer.new lines
         × (string_bytes text.new ≡ string_bytes text.old ++ lines)) }
     ensures token { OnOk result (explainer.new.token ≡ last_token explainer.old.token taps.now) }
@@ -100,17 +100,17 @@ pub fn write_taps<W: Write>(
 ) -> Result<(), PrintFault>
     requires clock { clock.now ≡ table.now.zone }
     requires early { AreEarly (λ tap. tap.moment) taps.now }
-    requires no_fall { NoTapFallsFrom explainer.old.token taps.now }
-    requires come { (earlier : List Entry) × HasCome table.now explainer.old earlier }
+    requires nondecreasing { TapsNondecreasingFrom explainer.old.token taps.now }
+    requires consumed { (earlier : List Entry) × HasConsumed table.now explainer.old earlier }
     requires room { explainer.old.number + length taps.now < 2 ^ 64 }
 
     // After all entries that the explainer has consumed.
     ensures explained { OnOk result
-        ((earlier : List Entry) → HasCome table.now explainer.old earlier
+        ((earlier : List Entry) → HasConsumed table.now explainer.old earlier
         → (lines : List ℕ) × AreExplained table.now earlier taps.now explainer.new lines
         × GoesOut (W.contents out.old) (string_bytes text.old) (W.contents out.new)
         (string_bytes text.new) lines) }
-    ensures begun { OnErr result ((earlier : List Entry) → HasCome table.now explainer.old earlier
+    ensures started { OnErr result ((earlier : List Entry) → HasConsumed table.now explainer.old earlier
         → (lines : List ℕ)
         × AreLinesAlong table.now earlier (posted_after table.now earlier taps.now) lines
         × Begins (W.contents out.old) (W.contents out.new) (string_bytes text.old ++ lines)) }
@@ -121,12 +121,12 @@ pub fn write_taps<W: Write>(
     let mut rest = taps;
     while !rest.is_empty() {
         pass_piece(text, out)?;
-        let (stride, behind) = rest.split_at(rest.len().min(STRIDE_TAPS));
+        let (stride, trailing) = rest.split_at(rest.len().min(STRIDE_TAPS));
         // The text has room for a stride, so that none is refused.
         let Ok(()) = explain_taps(text, table, clock, explainer, stride) else {
             return Err(PrintFault::Write);
         };
-        rest = behind;
+        rest = trailing;
     }
     Ok(())
 }

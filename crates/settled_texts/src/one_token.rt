@@ -6,7 +6,7 @@ ghost use Rattle.std.specs.Io.KnownBytes.{Appends};
 ghost use Rattle.tap_views.specs.Encoding.{AreEarly};
 ghost use Rattle.histories.specs.Entry.{own};
 ghost use Rattle.histories.specs.declared.entry.Entry.{Entry};
-ghost use Rattle.fare_texts.specs.PrintFaults.{KeepsUnlessWrite};
+ghost use Rattle.fare_texts.specs.PrintFaults.{UnchangedUnlessWrite};
 ghost use Rattle.fare_texts.specs.WrittenOut.{Begins};
 ghost use Rattle.fare_texts.specs.declared.print_fault.PrintFault.TheVariants.{Write as ForWrite};
 ghost use Rattle.report_texts.specs.OverHistory.{IsStatementOver};
@@ -66,12 +66,12 @@ pub fn write_token_ledger<W: Write>(
         × ((history : List Entry) → own token history ≡ posted table.now taps.now
         → IsLedgerOver table.now history (Some token) text)
         × Appends (W.contents out.old) (W.contents out.new) text) }
-    ensures begun { IfErr result (λ fault. fault ≡ ForWrite
+    ensures started { IfErr result (λ fault. fault ≡ ForWrite
         → (text : List ℕ)
         × ((history : List Entry) → own token history ≡ posted table.now taps.now
         → IsLedgerOver table.now history (Some token) text)
         × Begins (W.contents out.old) (W.contents out.new) text) }
-    ensures fault { IfErr result (λ fault. KeepsUnlessWrite fault (out.new ≡ out.old)) }
+    ensures fault { IfErr result (λ fault. UnchangedUnlessWrite fault (out.new ≡ out.old)) }
 {
     let PostedTaps { entries, .. } = post(alloc, table, token, taps)?;
     write_ledger_of(alloc, table, token, &entries, out)
@@ -92,12 +92,12 @@ pub fn write_token_explained<W: Write>(
         × ((history : List Entry) → own token history ≡ posted table.now taps.now
         → IsExplainedOver table.now history token text)
         × Appends (W.contents out.old) (W.contents out.new) text) }
-    ensures begun { IfErr result (λ fault. fault ≡ ForWrite
+    ensures started { IfErr result (λ fault. fault ≡ ForWrite
         → (text : List ℕ)
         × ((history : List Entry) → own token history ≡ posted table.now taps.now
         → IsExplainedOver table.now history token text)
         × Begins (W.contents out.old) (W.contents out.new) text) }
-    ensures fault { IfErr result (λ fault. KeepsUnlessWrite fault (out.new ≡ out.old)) }
+    ensures fault { IfErr result (λ fault. UnchangedUnlessWrite fault (out.new ≡ out.old)) }
 {
     let PostedTaps { entries, .. } = post(alloc, table, token, taps)?;
     write_explained_of(alloc, table, token, &entries, out)
@@ -142,12 +142,12 @@ pub fn write_token_statement<W: Write>(
         × ((history : List Entry) → own token history ≡ posted table.now taps.now
         → IsStatementOver table.now history token text)
         × Appends (W.contents out.old) (W.contents out.new) text) }
-    ensures begun { IfErr result (λ fault. fault ≡ ForWrite
+    ensures started { IfErr result (λ fault. fault ≡ ForWrite
         → (text : List ℕ)
         × ((history : List Entry) → own token history ≡ posted table.now taps.now
         → IsStatementOver table.now history token text)
         × Begins (W.contents out.old) (W.contents out.new) text) }
-    ensures fault { IfErr result (λ fault. KeepsUnlessWrite fault (out.new ≡ out.old)) }
+    ensures fault { IfErr result (λ fault. UnchangedUnlessWrite fault (out.new ≡ out.old)) }
 {
     let text = statement_of(alloc, table, token, taps)?;
     write_out(text.as_bytes(), out)?;

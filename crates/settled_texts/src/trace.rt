@@ -3,12 +3,12 @@
 ghost use Rattle.std.specs.Prelude.{◌≡◌, ◌&&◌, ◌+◌, ◌++◌, ℕ, List, IfOk, length, map};
 ghost use Rattle.std.specs.List.{list_all};
 ghost use Rattle.tap_views.specs.Encoding.{fields_of};
-ghost use Rattle.tap_views.specs.Files.{GoodBatchesView, IsReadAs};
-ghost use Rattle.settled_texts.specs.Traces.{AreReadAs, IsTrace, good_fields, is_whole, numbered};
+ghost use Rattle.tap_views.specs.Files.{ValidBatchesView, IsReadAs};
+ghost use Rattle.settled_texts.specs.Traces.{AreReadAs, IsTrace, valid_fields, is_whole, numbered};
 ghost use Rattle.settled_texts.specs.Traces.{traced_from};
 
 use std::alloc::Global;
-use tap_views::{Batch, NoMemory, TapFields, good_batches};
+use tap_views::{Batch, NoMemory, TapFields, valid_batches};
 
 /// A tap, and where it is in the uploads. The order is the canonical one, then by upload and index.
 #[derive(Clone, Copy, Debug, PartialEq, Eq, PartialOrd, Ord)]
@@ -17,7 +17,7 @@ pub struct TracedTap {
     /// The number of its upload, from 0.
     pub upload: u64,
     /// The tap's number in that upload, from 1.
-    pub place: u64,
+    pub position: u64,
 }
 
 /// The valid taps of uploads in canonical order, each with its upload and its index there.
@@ -32,20 +32,20 @@ pub struct Trace {
 fn add_batch(
     taps: &mut Vec<TracedTap>,
     upload: u64,
-    place: u64,
+    position: u64,
     batch: &Batch<'_>,
 ) -> Result<u64, NoMemory>
     ensures added { IfOk result (λ next. taps.new.items
-        ≡ taps.old.items ++ numbered upload place (map fields_of batch.now)) }
-    ensures next { IfOk result (λ next. next ≡ place + length batch.now) }
+        ≡ taps.old.items ++ numbered upload position (map fields_of batch.now)) }
+    ensures next { IfOk result (λ next. next ≡ position + length batch.now) }
 {
-    let mut next = place;
+    let mut next = position;
     for tap in batch.taps() {
         let tap = TapFields::of(&tap);
         taps.push(TracedTap {
             tap,
             upload,
-            place: next,
+            position: next,
         })?;
         next = next.checked_add(1).ok_or(NoMemory)?;
     }
@@ -54,17 +54,17 @@ fn add_batch(
 
 /// Returns whether it has no layout fault.
 fn add_upload(taps: &mut Vec<TracedTap>, upload: u64, bytes: &[u8]) -> Result<bool, NoMemory>
-    ensures { IfOk result (λ whole. (reading : GoodBatchesView)
+    ensures { IfOk result (λ whole. (reading : ValidBatchesView)
         × IsReadAs bytes.now reading.batches reading.fault
-        × (taps.new.items ≡ taps.old.items ++ numbered upload 1 (good_fields reading))
+        × (taps.new.items ≡ taps.old.items ++ numbered upload 1 (valid_fields reading))
         × (whole ≡ is_whole reading)) }
 {
-    let mut place = 1;
-    let mut good = good_batches(bytes);
-    while let Some(batch) = good.next() {
-        place = add_batch(taps, upload, place, &batch)?;
+    let mut position = 1;
+    let mut valid = valid_batches(bytes);
+    while let Some(batch) = valid.next() {
+        position = add_batch(taps, upload, position, &batch)?;
     }
-    Ok(good.fault().is_none())
+    Ok(valid.fault().is_none())
 }
 
 fn both(a: bool, b: bool) -> bool
@@ -74,7 +74,7 @@ fn both(a: bool, b: bool) -> bool
 }
 
 fn collected(alloc: Global, uploads: &[Vec<u8>]) -> Result<Trace, NoMemory>
-    ensures { IfOk result (λ trace. (readings : List GoodBatchesView)
+    ensures { IfOk result (λ trace. (readings : List ValidBatchesView)
         × AreReadAs (map (λ u. u.items) uploads.now) readings
         × (trace.taps.items ≡ traced_from 0 readings)
         × (trace.whole ≡ list_all is_whole readings)) }

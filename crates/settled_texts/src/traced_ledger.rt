@@ -8,14 +8,14 @@ ghost use Rattle.std.specs.Io.KnownBytes.{Appends};
 ghost use Rattle.tap_views.specs.Encoding.{AreEarly};
 ghost use Rattle.tap_views.specs.TapOrder.{tap_cmp};
 ghost use Rattle.histories.specs.declared.entry.Entry.{Entry};
-ghost use Rattle.fare_texts.specs.PrintFaults.{KeepsUnlessWrite};
+ghost use Rattle.fare_texts.specs.PrintFaults.{UnchangedUnlessWrite};
 ghost use Rattle.fare_texts.specs.WrittenOut.{Begins};
 ghost use Rattle.fare_texts.specs.declared.print_fault.PrintFault.TheVariants.{Write as ForWrite};
 ghost use Rattle.fare_texts.specs.declared.print_fault.PrintFault.TheVariants.{Write as ForWrite};
 ghost use Rattle.fare_texts.specs.Ledger.{IsLedgerOver};
-ghost use Rattle.fare_texts.specs.Lines.{AreLinesAlong, HasCome};
+ghost use Rattle.fare_texts.specs.Lines.{AreLinesAlong, HasConsumed};
 ghost use Rattle.settlement.specs.Posted.{HasName, posted};
-ghost use Rattle.settled_texts.specs.ExplainedTaps.{AreExplained, NoTapFallsFrom, last_token};
+ghost use Rattle.settled_texts.specs.ExplainedTaps.{AreExplained, TapsNondecreasingFrom, last_token};
 ghost use Rattle.settled_texts.specs.Columns.{columns_by, head_columns, with_columns};
 ghost use Rattle.settled_texts.specs.inside.Feeds.{feeds};
 ghost use Rattle.settled_texts.specs.Ledgers.{IsTracedLedger};
@@ -30,7 +30,7 @@ use fare_texts::{Explainer, PrintFault, pass_on, write_out};
 use histories::laws::plain_history;
 use std::alloc::{AllocError, Global};
 use std::io::Write;
-use tap_views::laws::one_reading_each;
+use tap_views::laws::unique_parse_each;
 use tap_views::{NoMemory, TapFields};
 use tariffs::{Clock, FareTable};
 
@@ -95,12 +95,12 @@ impl Room {
     ) -> Result<(), PrintFault>
         requires clock { clock.now ≡ table.now.zone }
         requires early { AreEarly (λ tap. tap.moment) (taps_of_trace stride.now) }
-        requires no_fall { NoTapFallsFrom explainer.old.token (taps_of_trace stride.now) }
-        requires come { (earlier : List Entry) × HasCome table.now explainer.old earlier }
+        requires nondecreasing { TapsNondecreasingFrom explainer.old.token (taps_of_trace stride.now) }
+        requires consumed { (earlier : List Entry) × HasConsumed table.now explainer.old earlier }
         requires room { explainer.old.number + length (taps_of_trace stride.now) < 2 ^ 64 }
         requires empty { string_bytes self.old.text ≡ [] }
         ensures explained { OnOk result
-            ((earlier : List Entry) → HasCome table.now explainer.old earlier
+            ((earlier : List Entry) → HasConsumed table.now explainer.old earlier
             → AreExplained table.now earlier (taps_of_trace stride.now) explainer.new
             self.new.lines.items) }
         ensures token { OnOk result
@@ -136,7 +136,7 @@ impl Room {
         ensures left { IfOk result (λ left. left.now ≡ drop (feeds self.old.lines.items) taps.now) }
         ensures written { OnOk result (Appends (W.contents out.old) (W.contents out.new)
             (with_columns self.old.lines.items (columns_by (class_by names.now) taps.now))) }
-        ensures begun { OnErr result (Begins (W.contents out.old) (W.contents out.new)
+        ensures started { OnErr result (Begins (W.contents out.old) (W.contents out.new)
             (with_columns self.old.lines.items (columns_by (class_by names.now) taps.now))) }
         ensures text { self.new.text ≡ self.old.text }
         ensures fault { IfErr result (λ fault. fault ≡ ForWrite) }
@@ -162,8 +162,8 @@ fn write_lines<W: Write>(
 ) -> Result<(), PrintFault>
     requires clock { clock.now ≡ table.now.zone }
     requires early { AreEarly (λ tap. tap.moment) (taps_of_trace trace.now) }
-    requires no_fall { NoTapFallsFrom explainer.old.token (taps_of_trace trace.now) }
-    requires come { HasCome table.now explainer.old [] }
+    requires nondecreasing { TapsNondecreasingFrom explainer.old.token (taps_of_trace trace.now) }
+    requires consumed { HasConsumed table.now explainer.old [] }
     requires none { explainer.old.number ≡ 0 }
     requires room { length trace.now < 2 ^ 64 }
     requires empty { string_bytes room.old.text ≡ [] }
@@ -171,7 +171,7 @@ fn write_lines<W: Write>(
         × AreExplained table.now [] (taps_of_trace trace.now) explainer.new lines
         × Appends (W.contents out.old) (W.contents out.new)
         (with_columns lines (columns_by (class_by names.now) trace.now))) }
-    ensures begun { OnErr result ((lines : List ℕ)
+    ensures started { OnErr result ((lines : List ℕ)
         × AreLinesAlong table.now [] (posted table.now (taps_of_trace trace.now)) lines
         × Begins (W.contents out.old) (W.contents out.new)
         (with_columns lines (columns_by (class_by names.now) trace.now))) }
@@ -180,10 +180,10 @@ fn write_lines<W: Write>(
     let mut rest = trace;
     let mut left = trace;
     while !rest.is_empty() {
-        let (stride, behind) = rest.split_at(rest.len().min(STRIDE_TAPS));
+        let (stride, trailing) = rest.split_at(rest.len().min(STRIDE_TAPS));
         room.explain(table, clock, explainer, stride)?;
         left = room.write(names, left, out)?;
-        rest = behind;
+        rest = trailing;
     }
     Ok(())
 }
@@ -203,12 +203,12 @@ fn write_trace<W: Write>(
         × IsLedgerOver table.now (posted table.now (taps_of_trace trace.now)) None untraced
         × Appends (W.contents out.old) (W.contents out.new)
         (with_columns untraced (head_columns ∷ columns_by (class_by names.now) trace.now))) }
-    ensures begun { IfErr result (λ fault. fault ≡ ForWrite
+    ensures started { IfErr result (λ fault. fault ≡ ForWrite
         → (untraced : List ℕ)
         × IsLedgerOver table.now (posted table.now (taps_of_trace trace.now)) None untraced
         × Begins (W.contents out.old) (W.contents out.new)
         (with_columns untraced (head_columns ∷ columns_by (class_by names.now) trace.now))) }
-    ensures fault { IfErr result (λ fault. KeepsUnlessWrite fault (out.new ≡ out.old)) }
+    ensures fault { IfErr result (λ fault. UnchangedUnlessWrite fault (out.new ≡ out.old)) }
 {
     // proof: the taps can be counted
     let _count = trace.len();
@@ -235,13 +235,13 @@ pub fn write_traced_ledger<W: Write>(
     ensures ok { IfOk result (λ whole. (text : List ℕ)
         × IsTracedLedger (class_by names.now) table.now (map (λ u. u.items) uploads.now) text whole
         × Appends (W.contents out.old) (W.contents out.new) text) }
-    ensures begun { IfErr result (λ fault. fault ≡ ForWrite → (text : List ℕ) × (whole : Bool)
+    ensures started { IfErr result (λ fault. fault ≡ ForWrite → (text : List ℕ) × (whole : Bool)
         × IsTracedLedger (class_by names.now) table.now (map (λ u. u.items) uploads.now) text whole
         × Begins (W.contents out.old) (W.contents out.new) text) }
-    ensures fault { IfErr result (λ fault. KeepsUnlessWrite fault (out.new ≡ out.old)) }
+    ensures fault { IfErr result (λ fault. UnchangedUnlessWrite fault (out.new ≡ out.old)) }
 {
     // proof: the tokens of the taps have 16 bytes
-    one_reading_each(uploads);
+    unique_parse_each(uploads);
     plain_history(uploads);
     // proof: the taps, posted in their order, are the settled history
     settlement::laws::posted_taps();

@@ -30,14 +30,14 @@ kept_there p [] z passes there = absurd (omega (arith, there.1))
 kept_there {X} p (x ∷ xs) z passes there =
     by_cases (there_cases x z xs there) (kept_there p xs z passes)
   where
-    behind : (b : Bool) → Contains (filter p xs) z
+    trailing : (b : Bool) → Contains (filter p xs) z
         → Contains (cond b (x ∷ filter p xs) (filter p xs)) z
-    behind true rest = later_there x z (filter p xs) rest
-    behind false rest = rest
+    trailing true rest = later_there x z (filter p xs) rest
+    trailing false rest = rest
 
     by_cases : (x ≡ z) ⊎ Contains xs z → (Contains xs z → Contains (filter p xs) z)
         → Contains (filter p (x ∷ xs)) z
-    by_cases (inr later) more = behind (p x) (more later)
+    by_cases (inr later) more = trailing (p x) (more later)
     by_cases (inl e) more =
         let C : Bool → Type 0 = λ b. Contains (cond b (x ∷ filter p xs) (filter p xs)) z in
         let D : X → Type 0 = λ y. Contains (y ∷ filter p xs) z in

@@ -4,11 +4,11 @@ use Rattle.std.proofs.lemmas.List.Elements.{All-nil, All-append}
 use Rattle.tap_views.specs.Layout.{Tap}
 use Rattle.tap_parts.specs.Parts.{taps_of_uploads}
 use Rattle.tap_parts.proofs.Early.{Early, file_early}
-use Rattle.tap_views.specs.Files.{AreGoodTapsOfEach}
+use Rattle.tap_views.specs.Files.{AreValidTapsOfEach}
 
 -- the taps of uploads have moments that fit
 pub uploads_early : (uploads : List (List ℕ)) (taps : List (List Tap))
-    → AreGoodTapsOfEach uploads taps
+    → AreValidTapsOfEach uploads taps
     → All Early (taps_of_uploads taps)
 uploads_early [] [] each = All-nil Early
 uploads_early [] (t ∷ ts) each = absurd each

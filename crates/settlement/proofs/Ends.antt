@@ -1,7 +1,7 @@
 -- How uploads end whose taps were added to parts.
 use Rattle.std.proofs.Common.{◌≡◌, ℕ, List, refl, ap, ◌∙◌}
 use Rattle.tap_views.specs.declared.encoder.TapFields.{TapFields}
-use Rattle.tap_views.specs.Files.{AreGoodTaps, taps_of_batches}
+use Rattle.tap_views.specs.Files.{AreValidTaps, taps_of_batches}
 use Rattle.tap_parts.specs.Uploads.{IsUploadAddedBy}
 use Rattle.tap_parts.specs.declared.upload.UploadTaps.{UploadTaps}
 use Rattle.tap_views.specs.UploadEnds.{end_by, IsPlainEnd}
@@ -11,7 +11,7 @@ use Rattle.tap_views.specs.declared.upload_end.UploadEnd.{UploadEnd}
 pub taps_added : (part_of : List ℕ → ℕ) (upload : List ℕ) (old new : List (List TapFields))
     (added : UploadTaps)
     → (is : IsUploadAddedBy part_of upload old new added)
-    → AreGoodTaps upload (taps_of_batches is.batches)
+    → AreValidTaps upload (taps_of_batches is.batches)
 taps_added part_of upload old new added is = record {
   batches = is.batches;
   rest = is.read.rest;

@@ -7,13 +7,13 @@ use Rattle.tap_views.specs.Layout.{Tap}
 use Rattle.tap_views.specs.declared.encoder.TapFields.{TapFields}
 use Rattle.account_rule.specs.declared.reply.Answer.TheVariants.{Unknown}
 use Rattle.histories.specs.declared.entry.Entry.{Entry}
-use Rattle.tap_views.specs.Files.{AreGoodTaps, IsFileOf, HasOneReading}
+use Rattle.tap_views.specs.Files.{AreValidTaps, IsFileOf, HasUniqueParse}
 use Rattle.histories.specs.Plain.{token_of_bytes, unanswered, answered}
 use Rattle.histories.specs.Plain.{plain_after}
 
 -- a file's taps have the fields that it is read as
-pub read_fields : (file : List ℕ) (taps : List Tap) (list : List TapFields) → HasOneReading file
-    → AreGoodTaps file taps → IsFileOf file list → map fields_of taps ≡ list
+pub read_fields : (file : List ℕ) (taps : List Tap) (list : List TapFields) → HasUniqueParse file
+    → AreValidTaps file taps → IsFileOf file list → map fields_of taps ≡ list
 read_fields file taps list cut of reads =
     let same = cut of.batches reads.batches of.rest [] of.is_file reads.is_file in
     ap (map fields_of) (of.all ∙ ap (flat_map (λ (batch : List Tap). batch)) same.0) ∙ reads.read

@@ -7,7 +7,7 @@ use Rattle.tap_views.specs.Layout.{Tap}
 use Rattle.tap_views.specs.declared.encoder.TapFields.{TapFields}
 use Rattle.tap_parts.specs.Parts.{taps_at, taps_of_uploads}
 use Rattle.tap_parts.proofs.Adding.{fields-append}
-use Rattle.tap_views.specs.Files.{AreGoodTaps}
+use Rattle.tap_views.specs.Files.{AreValidTaps}
 use Rattle.tap_views.proofs.Lists.{AllZip-append}
 use Rattle.tap_views.specs.UploadEnds.{IsPlainEnd}
 use Rattle.tap_views.specs.declared.upload_end.UploadEnd.{UploadEnd}
@@ -31,7 +31,7 @@ pub both_split : (part_of : List ℕ → ℕ) (parts : ℕ) (one other : List (L
     → AreInParts part_of parts (one ++ other) (lists ++ more) (ends ++ later)
 both_split part_of parts one other lists more ends later front back = record {
   taps = front.taps ++ back.taps;
-  of_uploads = AllZip-append AreGoodTaps one front.taps other back.taps front.of_uploads
+  of_uploads = AllZip-append AreValidTaps one front.taps other back.taps front.of_uploads
       back.of_uploads;
   number = All-append (λ (list : List (List TapFields)). length list ≡ parts) lists more
       front.number back.number;

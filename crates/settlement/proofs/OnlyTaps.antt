@@ -8,7 +8,7 @@ use Rattle.tariffs.specs.Fares.{Fares}
 use Rattle.tap_views.specs.Token.{bytes_of, token_eq}
 use Rattle.tap_views.specs.declared.token.Token.{Token}
 use Rattle.tap_views.specs.Encoding.{fields_of}
-use Rattle.tap_views.specs.Files.{AreGoodTaps}
+use Rattle.tap_views.specs.Files.{AreValidTaps}
 use Rattle.tap_views.specs.Layout.{Tap}
 use Rattle.tap_views.specs.declared.encoder.TapFields.{TapFields}
 use Rattle.account_rule.specs.Replies.{reply}
@@ -77,7 +77,7 @@ pub both_own : (token : Token) (one other : List (List ℕ)) (own more : List Ta
     → AreOwnTaps token (one ++ other) (own ++ more) (ends ++ later)
 both_own token one other own more ends later front back = record {
   taps = front.taps ++ back.taps;
-  of_uploads = AllZip-append AreGoodTaps one front.taps other back.taps front.of_uploads
+  of_uploads = AllZip-append AreValidTaps one front.taps other back.taps front.of_uploads
       back.of_uploads;
   are = ap (λ (ts : List TapFields). ts ++ more) front.are
       ∙ ap (λ (ts : List TapFields). only token (map fields_of (taps_of_uploads front.taps)) ++ ts)
@@ -95,7 +95,7 @@ pub upload_own : (token : Token) (uploads : List (List ℕ)) (upload : List ℕ)
     → AreOwnTaps token (uploads ++ upload ∷ []) new (ends ++ end ∷ [])
 upload_own token uploads upload old new ends end are is = record {
   taps = are.taps ++ is.taps ∷ [];
-  of_uploads = AllZip-append AreGoodTaps uploads are.taps (upload ∷ []) (is.taps ∷ [])
+  of_uploads = AllZip-append AreValidTaps uploads are.taps (upload ∷ []) (is.taps ∷ [])
       are.of_uploads (is.of_upload, tt);
   are = only_batch token [] old new are.taps is.taps are.are is.added;
   ended = AllZip-append IsPlainEnd uploads ends (upload ∷ []) (end ∷ []) are.ended

@@ -27,8 +27,8 @@ abbrev pub NotLess : TapFields → TapFields → Type 0
 NotLess a b = is_lt (tap_cmp b a) ≡ false
 
 -- of one token, the second is not before the first
-abbrev pub Rises : TapFields → TapFields → Type 0
-Rises a b = a.token ≡ b.token → NotLess a b
+abbrev pub Ascends : TapFields → TapFields → Type 0
+Ascends a b = a.token ≡ b.token → NotLess a b
 
 -- of one token, a tap that is not less is not earlier
 pub no_earlier : (a b : TapFields) → NotLess a b → a.token ≡ b.token → a.moment ≤ b.moment
@@ -65,5 +65,5 @@ pairs_map R S (x ∷ xs) f pairs =
     (All-weaker (R x) (S x) (f x) xs pairs.0, pairs_map R S xs f pairs.1)
 
 -- in order, and so in order within each token
-pub all_rising : (xs : List TapFields) → IsSorted tap_cmp xs → Pairs Rises xs
-all_rising xs up = pairs_map NotLess Rises xs (λ x y not same. not) (sorted_pairs xs up)
+pub all_ascending : (xs : List TapFields) → IsSorted tap_cmp xs → Pairs Ascends xs
+all_ascending xs up = pairs_map NotLess Ascends xs (λ x y not same. not) (sorted_pairs xs up)

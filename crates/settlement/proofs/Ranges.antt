@@ -23,7 +23,7 @@ use Rattle.tap_views.specs.Layout.{num}
 use Rattle.tap_views.specs.declared.encoder.TapFields.{TapFields}
 use Rattle.tap_parts.specs.Canonical.{HasTokenBytes, IsCanonical}
 use Rattle.tap_parts.specs.Ranges.{range_of_token}
-use Rattle.tap_parts.proofs.RangeLemmas.{counts_rise}
+use Rattle.tap_parts.proofs.RangeLemmas.{counts_ascend}
 use Rattle.tap_parts.proofs.TokenOrder.{number_order}
 use Rattle.histories.specs.SumsByKey.{token_of}
 use Rattle.histories.specs.declared.entry.Entry.{Entry}
@@ -84,8 +84,8 @@ later_range bounds a b one other less = by_number (cases_lt (num a.token) (num b
         → token_cmp (token_of_tap a) (token_of_tap b) ≡ Less
     by_number (inl below) = lower_token a b one other below
     by_number (inr most) =
-        let rise = counts_rise bounds (num b.token) (num a.token) most in
-        absurd (omega (arith, rise, less))
+        let increase = counts_ascend bounds (num b.token) (num a.token) most in
+        absurd (omega (arith, increase, less))
 
 -- ---- taps whose tokens are below those of others
 -- each tap's token is below each of the others'

@@ -7,10 +7,10 @@ use Rattle.std.proofs.lemmas.Bool.{cases_lt}
 use Rattle.std.proofs.lemmas.List.{get_or_append_left, get_or-append-add, map-append}
 use Rattle.std.proofs.lemmas.List.Elements.{All-append, All-cons, All-head, All-nil, All-tail}
 use Rattle.tap_views.specs.Encoding.{fields_of}
-use Rattle.tap_views.specs.Files.{AreGoodTapsOfEach, taps_of_batches}
+use Rattle.tap_views.specs.Files.{AreValidTapsOfEach, taps_of_batches}
 use Rattle.tap_views.specs.Layout.{Tap}
 use Rattle.tap_views.specs.declared.encoder.TapFields.{TapFields}
-use Rattle.tap_views.proofs.ReadingLemmas.{each_more}
+use Rattle.tap_views.proofs.ParseLemmas.{each_more}
 use Rattle.tap_parts.specs.Canonical.{HasTokenBytes}
 use Rattle.tap_parts.specs.Parts.{taps_of_uploads}
 use Rattle.tap_parts.specs.Uploads.{IsUploadAddedBy}
@@ -20,12 +20,12 @@ use Rattle.tap_views.specs.UploadEnds.{IsPlainEnd, end_by}
 use Rattle.tap_views.specs.declared.upload_end.UploadEnd.{UploadEnd}
 use Rattle.tap_views.specs.declared.token.Token.{Token}
 use Rattle.tap_views.proofs.Lists.{AllZip-append}
-use Rattle.world.specs.Origins.{IsFrom, IsLent, Origin, loads_from, with_loads}
+use Rattle.world.specs.Origins.{IsFrom, IsProvided, Origin, loads_from, with_loads}
 use Rattle.world.specs.Run.{Run, nothing_yet, with_all}
 use Rattle.world.proofs.Laws.{joined_loads, more_loads, no_loads}
 use Rattle.settlement.specs.Reading.{AreRead, loads_in_order}
 use Rattle.settlement.specs.inside.OwnTaps.{AreOwnAdded, AreOwnBetween}
-use Rattle.settlement.specs.inside.SplitTaps.{HasGoodTokens, AreAddedBetween, AreInPartsBetween}
+use Rattle.settlement.specs.inside.SplitTaps.{HasValidTokens, AreAddedBetween, AreInPartsBetween}
 use Rattle.settlement.proofs.Ends.{plain_end, taps_added}
 use Rattle.settlement.proofs.Lists.{both_split}
 use Rattle.settlement.proofs.OnlyTaps.{both_own, no_own, upload_own}
@@ -57,7 +57,7 @@ pub both_read : (origin : ℕ → Origin) (start middle end : ℕ) (front back :
     → AreRead origin start end (front ++ back) r t
 both_read origin start middle end front back r s t one other = record {
   number = omega (arith, one.number, other.number, length-append front back);
-  each = λ at below. by_place at below (cases_lt at (length front));
+  each = λ at below. by_position at below (cases_lt at (length front));
   loads = other.loads
       ∙ ap (λ x. with_loads x (loads_in_order origin middle back)) one.loads
       ∙ more_loads r (loads_in_order origin start front) (loads_in_order origin middle back)
@@ -66,12 +66,12 @@ both_read origin start middle end front back r s t one other = record {
       ∙ ap (with_loads r) (sym (loads_append origin start front back));
 }
   where
-    by_place : (at : ℕ) → at < length (front ++ back) → (at < length front) ⊎ (length front ≤ at)
+    by_position : (at : ℕ) → at < length (front ++ back) → (at < length front) ⊎ (length front ≤ at)
         → IsFrom (origin (start + at)) (get_or (front ++ back) at [])
-    by_place at below (inl before) =
+    by_position at below (inl before) =
         subst (IsFrom (origin (start + at))) (sym (get_or_append_left front back [] at before))
         (one.each at before)
-    by_place at below (inr past) =
+    by_position at below (inr past) =
         let k = at - length front in
         let here : length front + k ≡ at = omega (arith, past) in
         let there : middle + k ≡ start + at = omega (arith, past, one.number) in
@@ -83,15 +83,15 @@ both_read origin start middle end front back r s t one other = record {
 
 -- one file more
 pub one_read : (origin : ℕ → Origin) (upload : ℕ) (bytes : List ℕ) (r s : Run)
-    → IsLent (origin upload) r s bytes → AreRead origin upload (upload + 1) (bytes ∷ []) r s
-one_read origin upload bytes r s lent = record {
+    → IsProvided (origin upload) r s bytes → AreRead origin upload (upload + 1) (bytes ∷ []) r s
+one_read origin upload bytes r s provided = record {
   number = omega arith;
   each = λ at below.
       let first : 0 ≡ at = omega (arith, below) in
       let same : upload ≡ upload + 0 = omega arith in
       subst (λ n. IsFrom (origin (upload + n)) (get_or (bytes ∷ []) n [])) first
-      (subst (λ n. IsFrom (origin n) bytes) same lent.from);
-  loads = lent.loads
+      (subst (λ n. IsFrom (origin n) bytes) same provided.from);
+  loads = provided.loads
       ∙ ap (with_loads r) (sym (append-nil (loads_from (origin upload) bytes)));
 }
 
@@ -116,16 +116,16 @@ both_joined origin start middle end front back r s t one other joined =
     (joined_read origin middle end back r s t other joined)
 
 -- the tokens of all good taps have 16 bytes
-pub all_tokens : (files : List (List ℕ)) (taps : List (List Tap)) → All HasGoodTokens files
-    → AreGoodTapsOfEach files taps → All HasTokenBytes (map fields_of (taps_of_uploads taps))
+pub all_tokens : (files : List (List ℕ)) (taps : List (List Tap)) → All HasValidTokens files
+    → AreValidTapsOfEach files taps → All HasTokenBytes (map fields_of (taps_of_uploads taps))
 all_tokens [] [] tokens each = All-nil HasTokenBytes
 all_tokens [] (t ∷ taps) tokens each = absurd each
 all_tokens (f ∷ files) [] tokens each = absurd each
 all_tokens (f ∷ files) (t ∷ taps) tokens each =
     subst (All HasTokenBytes) (sym (map-append fields_of t (taps_of_uploads taps)))
     (All-append HasTokenBytes (map fields_of t) (map fields_of (taps_of_uploads taps))
-    (All-head HasGoodTokens f files tokens t each.0)
-    (all_tokens files taps (All-tail HasGoodTokens f files tokens) each.1))
+    (All-head HasValidTokens f files tokens t each.0)
+    (all_tokens files taps (All-tail HasValidTokens f files tokens) each.1))
 
 -- ---- taps that were added to parts
 pub no_run : (origin : ℕ → Origin) (start : ℕ) (part_of : List ℕ → ℕ)
@@ -134,7 +134,7 @@ pub no_run : (origin : ℕ → Origin) (start : ℕ) (part_of : List ℕ → ℕ
 no_run origin start part_of parts r = record {
   files = [];
   read = none_read origin start r;
-  tokens = All-nil HasGoodTokens;
+  tokens = All-nil HasValidTokens;
   added = record { taps = []; of_uploads = tt; added = none_added part_of parts; ended = tt };
 }
 
@@ -142,7 +142,7 @@ pub run_more : (origin : ℕ → Origin) (start upload : ℕ) (part_of : List �
     (old now new : List (List TapFields)) (ends : List UploadEnd) (file : List ℕ)
     (added : UploadTaps) (end : UploadEnd) (r s t : Run)
     → AreAddedBetween origin start upload part_of old now ends r s
-    → IsLent (origin upload) s t file → HasGoodTokens file
+    → IsProvided (origin upload) s t file → HasValidTokens file
     → IsUploadAddedBy part_of file now new added → end ≡ end_by added.taps added.fault
     → AreAddedBetween origin start (upload + 1) part_of old new (ends ++ end ∷ []) r t
 run_more origin start upload part_of old now new ends file added end r s t run is tokens one
@@ -152,8 +152,8 @@ run_more origin start upload part_of old now new ends file added end r s t run i
       files = run.files ++ file ∷ [];
       read = both_read origin start upload (upload + 1) run.files (file ∷ []) r s t run.read
           (one_read origin upload file s t is);
-      tokens = All-append HasGoodTokens run.files (file ∷ []) run.tokens
-          (All-cons HasGoodTokens file [] tokens (All-nil HasGoodTokens));
+      tokens = All-append HasValidTokens run.files (file ∷ []) run.tokens
+          (All-cons HasValidTokens file [] tokens (All-nil HasValidTokens));
       added = record {
         taps = run.added.taps ++ more ∷ [];
         of_uploads = each_more run.files run.added.taps file more run.added.of_uploads
@@ -174,7 +174,7 @@ both_runs origin start middle end part_of parts lists more ends later r s t one 
     record {
       files = one.files ++ other.files;
       read = both_joined origin start middle end one.files other.files r s t one.read other.read joined;
-      tokens = All-append HasGoodTokens one.files other.files one.tokens other.tokens;
+      tokens = All-append HasValidTokens one.files other.files one.tokens other.tokens;
       inside = both_split part_of parts one.files other.files lists more ends later one.inside
           other.inside;
     }
@@ -185,21 +185,21 @@ pub no_run_own : (origin : ℕ → Origin) (start : ℕ) (token : Token) (r : Ru
 no_run_own origin start token r = record {
   files = [];
   read = none_read origin start r;
-  tokens = All-nil HasGoodTokens;
+  tokens = All-nil HasValidTokens;
   are = no_own token;
 }
 
 pub run_own_more : (origin : ℕ → Origin) (start upload : ℕ) (token : Token)
     (old new : List TapFields) (ends : List UploadEnd) (file : List ℕ) (end : UploadEnd)
     (r s t : Run) → AreOwnBetween origin start upload token old ends r s
-    → IsLent (origin upload) s t file → HasGoodTokens file → AreOwnAdded token file old new end
+    → IsProvided (origin upload) s t file → HasValidTokens file → AreOwnAdded token file old new end
     → AreOwnBetween origin start (upload + 1) token new (ends ++ end ∷ []) r t
 run_own_more origin start upload token old new ends file end r s t run is tokens one = record {
   files = run.files ++ file ∷ [];
   read = both_read origin start upload (upload + 1) run.files (file ∷ []) r s t run.read
       (one_read origin upload file s t is);
-  tokens = All-append HasGoodTokens run.files (file ∷ []) run.tokens
-      (All-cons HasGoodTokens file [] tokens (All-nil HasGoodTokens));
+  tokens = All-append HasValidTokens run.files (file ∷ []) run.tokens
+      (All-cons HasValidTokens file [] tokens (All-nil HasValidTokens));
   are = upload_own token run.files file old new ends end run.are one;
 }
 
@@ -211,6 +211,6 @@ pub both_runs_own : (origin : ℕ → Origin) (start middle end : ℕ) (token : 
 both_runs_own origin start middle end token own more ends later r s t one other joined = record {
   files = one.files ++ other.files;
   read = both_joined origin start middle end one.files other.files r s t one.read other.read joined;
-  tokens = All-append HasGoodTokens one.files other.files one.tokens other.tokens;
+  tokens = All-append HasValidTokens one.files other.files one.tokens other.tokens;
   are = both_own token one.files other.files own more ends later one.are other.are;
 }

@@ -9,7 +9,7 @@ use Rattle.std.proofs.lemmas.List.Sorted.{All-permutation, ranks_by, sum_by-IsPe
 use Rattle.tariffs.specs.Fares.{Fares}
 use Rattle.tap_views.specs.declared.token.Token.{Token}
 use Rattle.tap_views.specs.Encoding.{AreEarly, fields_of}
-use Rattle.tap_views.specs.Files.{AreGoodTapsOfEach}
+use Rattle.tap_views.specs.Files.{AreValidTapsOfEach}
 use Rattle.tap_views.specs.Layout.{Tap, moment_limit}
 use Rattle.tap_views.specs.declared.encoder.TapFields.{TapFields}
 use Rattle.tap_views.proofs.TokenLemmas.{same_token}
@@ -33,21 +33,21 @@ use Rattle.settlement.proofs.Unique.{same_sorted}
 
 -- taps in canonical order, with their tokens' names, are a settled order
 pub settled_order : (uploads : List (List ℕ)) (taps : List (List Tap)) (order : List TapFields)
-    → AreGoodTapsOfEach uploads taps → All HasTokenBytes (map fields_of (taps_of_uploads taps))
+    → AreValidTapsOfEach uploads taps → All HasTokenBytes (map fields_of (taps_of_uploads taps))
     → IsCanonical (map fields_of (taps_of_uploads taps)) order → AreSettledTaps uploads order
 settled_order uploads taps order each tokens canonical =
-    let good = taps_of_uploads taps in
+    let valid = taps_of_uploads taps in
     record {
       taps = taps;
       of_uploads = each;
       canonical = canonical;
-      early = All-permutation (λ (tap : TapFields). tap.moment < moment_limit) (map fields_of good)
+      early = All-permutation (λ (tap : TapFields). tap.moment < moment_limit) (map fields_of valid)
           order
           canonical.moved
-          (All-map (λ (tap : TapFields). tap.moment < moment_limit) fields_of good
+          (All-map (λ (tap : TapFields). tap.moment < moment_limit) fields_of valid
           (uploads_early uploads taps each));
       named = All-weaker HasTokenBytes HasName has_name order
-          (All-permutation HasTokenBytes (map fields_of good) order canonical.moved tokens);
+          (All-permutation HasTokenBytes (map fields_of valid) order canonical.moved tokens);
     }
 
 lists_joined : (lists : List (Vec TapFields Global))
@@ -69,13 +69,13 @@ lists_settled uploads ends parts lists split zip =
 pub posted_history : (fares : Fares) (uploads : List (List ℕ)) (order : List TapFields)
     → AreSettledTaps uploads order → IsSettledHistory fares uploads (posted fares order)
 posted_history fares uploads order is =
-    let good = map fields_of (taps_of_uploads is.taps) in
+    let valid = map fields_of (taps_of_uploads is.taps) in
     let list = canonical_order (taps_of_uploads is.taps) in
     let same : order ≡ map fields_of list.0 =
     same_sorted tap_cmp tap_cmp_total tap_cmp_exact order (map fields_of list.0) is.canonical.sorted
     list.1.sorted
-    (λ f. sum_by-IsPermutation f good order is.canonical.moved
-    ∙ sym (sum_by-IsPermutation f good (map fields_of list.0) list.1.moved)) in
+    (λ f. sum_by-IsPermutation f valid order is.canonical.moved
+    ∙ sym (sum_by-IsPermutation f valid (map fields_of list.0) list.1.moved)) in
     record {
       taps = is.taps;
       of_uploads = is.of_uploads;
@@ -91,7 +91,7 @@ pub own_settled : (uploads : List (List ℕ)) (token : Token) (own list : List T
     → AreSettledTapsOf uploads token list
 own_settled uploads token own list ends is tokens canonical =
     let p = is_its token in
-    let good = map fields_of (taps_of_uploads is.taps) in
+    let valid = map fields_of (taps_of_uploads is.taps) in
     let order = canonical_order (taps_of_uploads is.taps) in
     let ordered = map fields_of order.0 in
     record {
@@ -104,8 +104,8 @@ own_settled uploads token own list ends is tokens canonical =
           p ordered order.1.sorted)
           (λ f. sum_by-IsPermutation f own list canonical.moved
           ∙ ap (sum_by f) is.are
-          ∙ sum_filter p f good
-          ∙ sym (sum_by-IsPermutation (λ x. cond (p x) (f x) 0) good ordered order.1.moved)
+          ∙ sum_filter p f valid
+          ∙ sym (sum_by-IsPermutation (λ x. cond (p x) (f x) 0) valid ordered order.1.moved)
           ∙ sym (sum_filter p f ordered));
     }
 

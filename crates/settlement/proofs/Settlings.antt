@@ -12,7 +12,7 @@ use Rattle.histories.specs.History.{IsLegal}
 use Rattle.tap_views.specs.Token.{bytes_of}
 use Rattle.histories.specs.Entry.{AreEntriesOf}
 use Rattle.histories.specs.declared.entry.Entry.{Entry}
-use Rattle.tap_views.specs.Files.{AreGoodTapsOfEach, HasOneReading}
+use Rattle.tap_views.specs.Files.{AreValidTapsOfEach, HasUniqueParse}
 use Rattle.histories.specs.Plain.{IsPlain}
 use Rattle.histories.specs.Plain.{plain, plain_after, answered, unanswered}
 use Rattle.histories.proofs.PlainReplies.{bare, plain_bare, plain_legal}
@@ -20,19 +20,19 @@ use Rattle.settlement.specs.Alike.{HaveSameTaps}
 use Rattle.tap_parts.specs.Canonical.{tap_cmp}
 use Rattle.settlement.specs.Settled.{IsSettledHistory}
 use Rattle.tap_parts.specs.Parts.{taps_of_uploads}
-use Rattle.settlement.specs.Twins.{HasTwin, IsInTimeOrder}
+use Rattle.settlement.specs.SameMoments.{HasSameMoment, IsInTimeOrder}
 use Rattle.settlement.proofs.Histories.{same_after}
 use Rattle.settlement.proofs.Own.{IsNamedBy}
-use Rattle.settlement.proofs.Placed.{all_rising, no_earlier, Pairs, Rises}
-use Rattle.tap_views.proofs.ReadingLemmas.{one_list}
+use Rattle.settlement.proofs.Placed.{all_ascending, no_earlier, Pairs, Ascends}
+use Rattle.tap_views.proofs.ParseLemmas.{one_list}
 use Rattle.settlement.proofs.Sorting.{canonical_order}
-use Rattle.settlement.proofs.Stale.{before_rises, fields, has_twin, same_fields}
+use Rattle.settlement.proofs.Stale.{before_ascends, fields, has_same_moment, same_fields}
 use Rattle.settlement.proofs.OwnEntries.{fields_named}
 use Rattle.tap_parts.proofs.Total.{tap_cmp_total, tap_cmp_exact}
 use Rattle.settlement.proofs.Unique.{same_sorted}
 
 pub same_history : (fares : Fares) (uploads others : List (List ℕ)) (history again : List Entry)
-    → All HasOneReading uploads → All HasOneReading others → HaveSameTaps uploads others
+    → All HasUniqueParse uploads → All HasUniqueParse others → HaveSameTaps uploads others
     → IsSettledHistory fares uploads history → IsSettledHistory fares others again → history ≡ again
 same_history fares uploads others history again cuts other_cuts same one other =
     let here = one_list uploads same.taps one.taps cuts same.of_uploads one.of_uploads in
@@ -59,7 +59,7 @@ same_history fares uploads others history again cuts other_cuts same one other =
     one.entries ∙ same_after fares [] one.order other.order list ∙ sym other.entries
 
 pub some_history : (fares : Fares) (uploads : List (List ℕ)) (taps : List (List Tap))
-    → AreGoodTapsOfEach uploads taps
+    → AreValidTapsOfEach uploads taps
     → (history : List Entry) × IsSettledHistory fares uploads history
 some_history fares uploads taps each =
     let (order, canonical) = canonical_order (taps_of_uploads taps) in (
@@ -95,7 +95,7 @@ zip_after fares earlier (tap ∷ taps) names = (
       (All-tail IsNamedBy (fields_of tap) (map fields_of taps) names),
 )
 
-module _ (fares : Fares) (uploads : List (List ℕ)) (cuts : All HasOneReading uploads)
+module _ (fares : Fares) (uploads : List (List ℕ)) (cuts : All HasUniqueParse uploads)
     (later : List Entry) (p : IsPlain fares uploads later)
     (zip : AreEntriesOf (taps_of_uploads p.taps) later) where
   -- the bytes of the taps' tokens name them
@@ -118,7 +118,7 @@ module _ (fares : Fares) (uploads : List (List ℕ)) (cuts : All HasOneReading u
       subst E (sym is.entries) (zip_after fares [] is.order (named_order history is))
 
   pub each_once : (history : List Entry) (taps : List (List Tap))
-      → IsSettledHistory fares uploads history → AreGoodTapsOfEach uploads taps
+      → IsSettledHistory fares uploads history → AreValidTapsOfEach uploads taps
       → (order : List Tap) × AreEntriesOf order history
       × IsPermutation (map fields_of (taps_of_uploads taps)) (map fields_of order)
   each_once history taps is each =
@@ -132,20 +132,20 @@ module _ (fares : Fares) (uploads : List (List ℕ)) (cuts : All HasOneReading u
   time_order history is = λ before entry after whole other there same.
       let E : List Entry → Type 0 = λ es. AreEntriesOf is.order es in
       let zipped = subst E whole (in_order history is) in
-      let R : List TapFields → Type 0 = λ fs. Pairs Rises fs in
-      let all = before_rises before entry after
+      let R : List TapFields → Type 0 = λ fs. Pairs Ascends fs in
+      let all = before_ascends before entry after
       (subst R (same_fields is.order (before ++ entry ∷ after) zipped)
-      (all_rising (map fields_of is.order) is.canonical.sorted)) in
+      (all_ascending (map fields_of is.order) is.canonical.sorted)) in
       let tokens = ap bytes_of same in
       no_earlier (fields other) (fields entry)
-      (All-contains (λ (e : Entry). Rises (fields e) (fields entry)) before other all there
+      (All-contains (λ (e : Entry). Ascends (fields e) (fields entry)) before other all there
       tokens) tokens
 
   pub stale : (before : List Entry) (entry : Entry) (after : List Entry)
       → IsSettledHistory fares uploads (before ++ entry ∷ after) → entry.answer ≡ Stale
-      → HasTwin fares before entry
+      → HasSameMoment fares before entry
   stale before entry after is answer =
-      has_twin fares is.order before entry after
-      (all_rising (map fields_of is.order) is.canonical.sorted)
+      has_same_moment fares is.order before entry after
+      (all_ascending (map fields_of is.order) is.canonical.sorted)
       (in_order (before ++ entry ∷ after) is)
       (legal_history fares uploads (before ++ entry ∷ after) is) answer

@@ -116,10 +116,10 @@ up_to a b of_a of_b not =
     ap is_lt bytes ∙ first_not_less (slice_cmp nat_cmp b.token a.token) _ not
 
 -- the tokens of taps in canonical order do not fall
-pub rise_far : (taps : List TapFields) → IsSorted tap_cmp taps → All HasName taps
+pub ascend_far : (taps : List TapFields) → IsSorted tap_cmp taps → All HasName taps
     → (i j : ℕ) (d : TapFields) → i ≤ j → j < length taps
     → IsUpTo (token_of_tap (get_or taps i d)) (token_of_tap (get_or taps j d))
-rise_far taps sorted names i j d order inside =
+ascend_far taps sorted names i j d order inside =
     up_to (get_or taps i d) (get_or taps j d) (names i d (omega (arith, order, inside)))
     (names j d inside)
     (sorted_far (λ a b. is_lt (tap_cmp a b)) (ranks_by tap_cmp_total (λ (t : TapFields). t)) taps
@@ -128,35 +128,35 @@ rise_far taps sorted names i j d order inside =
 -- ---- taps that are posted run by run
 -- the token of each of the first taps is below that of each of the others
 abbrev pub IsEdge : List TapFields → ℕ → Type 0
-IsEdge taps place =
-    (i j : ℕ) (d : TapFields) → i < place → place ≤ j → j < length taps
+IsEdge taps position =
+    (i j : ℕ) (d : TapFields) → i < position → position ≤ j → j < length taps
     → token_cmp (token_of_tap (get_or taps i d)) (token_of_tap (get_or taps j d)) ≡ Less
 
 -- behind a run of one token there is an edge again
-pub next_edge : (taps : List TapFields) (place run : ℕ) (token : Token) → IsSorted tap_cmp taps
-    → All HasName taps → IsEdge taps place → place + run ≤ length taps
-    → ((i : ℕ) (d : TapFields) → place ≤ i → i < place + run
+pub next_edge : (taps : List TapFields) (position run : ℕ) (token : Token) → IsSorted tap_cmp taps
+    → All HasName taps → IsEdge taps position → position + run ≤ length taps
+    → ((i : ℕ) (d : TapFields) → position ≤ i → i < position + run
     → token_of_tap (get_or taps i d) ≡ token)
-    → ((d : TapFields) → place + run < length taps
-    → token_of_tap (get_or taps (place + run) d) ≢ token)
-    → 0 < run → IsEdge taps (place + run)
-next_edge taps place run token sorted names edge within same next some =
-    λ i j d low high inside. by_place i j d low high inside (cases_lt i place)
+    → ((d : TapFields) → position + run < length taps
+    → token_of_tap (get_or taps (position + run) d) ≢ token)
+    → 0 < run → IsEdge taps (position + run)
+next_edge taps position run token sorted names edge within same next some =
+    λ i j d low high inside. by_position i j d low high inside (cases_lt i position)
   where
-    by_place : (i j : ℕ) (d : TapFields) → i < place + run → place + run ≤ j → j < length taps
-        → (i < place) ⊎ (place ≤ i)
+    by_position : (i j : ℕ) (d : TapFields) → i < position + run → position + run ≤ j → j < length taps
+        → (i < position) ⊎ (position ≤ i)
         → token_cmp (token_of_tap (get_or taps i d)) (token_of_tap (get_or taps j d)) ≡ Less
-    by_place i j d low high inside (inl before) =
+    by_position i j d low high inside (inl before) =
         edge i j d before (omega (arith, high)) inside
-    by_place i j d low high inside (inr here) =
-        let after = place + run in
+    by_position i j d low high inside (inr here) =
+        let after = position + run in
         let a = token_of_tap (get_or taps i d) in
         let b = token_of_tap (get_or taps after d) in
         let c = token_of_tap (get_or taps j d) in
         let fits : after < length taps = omega (arith, high, inside) in
-        let up : IsUpTo a b = rise_far taps sorted names i after d (omega (arith, low)) fits in
+        let up : IsUpTo a b = ascend_far taps sorted names i after d (omega (arith, low)) fits in
         let apart : a ≢ b = λ e. next d fits (sym e ∙ same i d here low) in
-        less_up a b c (up_apart a b up apart) (rise_far taps sorted names after j d high inside)
+        less_up a b c (up_apart a b up apart) (ascend_far taps sorted names after j d high inside)
 
 -- a token that 16 bytes name
 token_back : (token : Token) → Fits token → token_of_bytes (bytes_of token) ≡ token

@@ -3,14 +3,14 @@ use Rattle.std.specs.Prelude.{ℕ, List, map}
 use Rattle.std.specs.List.Sorted.{IsPermutation}
 use Rattle.tap_views.specs.Encoding.{fields_of}
 use Rattle.tap_views.specs.Layout.{Tap}
-use Rattle.tap_views.specs.Files.{AreGoodTapsOfEach}
+use Rattle.tap_views.specs.Files.{AreValidTapsOfEach}
 use Rattle.tap_parts.specs.Parts.{taps_of_uploads}
 
 -- the valid taps of the uploads are those of the others, in some order
 pub record HaveSameTaps (uploads others : List (List ℕ)) : Type 0 where
   pub taps : List (List Tap)
   pub other_taps : List (List Tap)
-  pub of_uploads : AreGoodTapsOfEach uploads taps
-  pub of_others : AreGoodTapsOfEach others other_taps
+  pub of_uploads : AreValidTapsOfEach uploads taps
+  pub of_others : AreValidTapsOfEach others other_taps
   pub moved : IsPermutation (map fields_of (taps_of_uploads taps))
       (map fields_of (taps_of_uploads other_taps))

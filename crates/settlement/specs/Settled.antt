@@ -5,7 +5,7 @@ use Rattle.tap_views.specs.Layout.{Tap}
 use Rattle.tariffs.specs.Fares.{Fares}
 use Rattle.histories.specs.declared.entry.Entry.{Entry}
 use Rattle.tap_parts.specs.Parts.{taps_of_uploads}
-use Rattle.tap_views.specs.Files.{AreGoodTapsOfEach}
+use Rattle.tap_views.specs.Files.{AreValidTapsOfEach}
 use Rattle.histories.specs.Plain.{plain}
 use Rattle.tap_parts.specs.Canonical.{IsCanonical}
 
@@ -14,7 +14,7 @@ use Rattle.tap_parts.specs.Canonical.{IsCanonical}
 pub record IsSettledHistory (fares : Fares) (uploads : List (List ℕ)) (history : List Entry)
     : Type 0 where
   pub taps : List (List Tap)
-  pub of_uploads : AreGoodTapsOfEach uploads taps
+  pub of_uploads : AreValidTapsOfEach uploads taps
   pub order : List Tap
   pub canonical : IsCanonical (map fields_of (taps_of_uploads taps)) (map fields_of order)
   pub entries : history ≡ plain fares order

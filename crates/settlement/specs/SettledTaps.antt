@@ -1,7 +1,7 @@
 -- The valid taps of uploads in canonical order, and those of one token among them.
 use Rattle.std.specs.Prelude.{◌≡◌, ℕ, List, All, map}
 use Rattle.tap_views.specs.Encoding.{AreEarly, fields_of}
-use Rattle.tap_views.specs.Files.{AreGoodTapsOfEach}
+use Rattle.tap_views.specs.Files.{AreValidTapsOfEach}
 use Rattle.tap_views.specs.Layout.{Tap}
 use Rattle.tap_views.specs.declared.encoder.TapFields.{TapFields}
 use Rattle.tap_views.specs.declared.token.Token.{Token}
@@ -13,7 +13,7 @@ use Rattle.settlement.specs.Posted.{HasName, only}
 -- the 16 bytes of each token name it.
 pub record AreSettledTaps (uploads : List (List ℕ)) (order : List TapFields) : Type 0 where
   pub taps : List (List Tap)
-  pub of_uploads : AreGoodTapsOfEach uploads taps
+  pub of_uploads : AreValidTapsOfEach uploads taps
   pub canonical : IsCanonical (map fields_of (taps_of_uploads taps)) order
   pub early : AreEarly (λ (tap : TapFields). tap.moment) order
   pub named : All HasName order

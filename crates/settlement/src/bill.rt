@@ -46,9 +46,9 @@ fn count_of_first(token: Token, taps: &[TapFields]) -> usize
     ensures next { (tap : TapFields) → result < length taps.now
         → token_of_tap (slice_index_or taps.now result tap) ≢ token }
 {
-    for place in 1..taps.len() {
-        if token_of(&taps[place]) != token {
-            return place;
+    for position in 1..taps.len() {
+        if token_of(&taps[position]) != token {
+            return position;
         }
     }
     taps.len()

@@ -8,13 +8,13 @@ ghost use Rattle.settlement.specs.inside.OwnTaps.{AreOwnAdded, AreOwnBetween};
 ghost use Rattle.world.specs.Run.{nothing_yet};
 
 use crate::memory::release;
-use crate::split_taps::{good_tokens, middle_of};
+use crate::split_taps::{middle_of, valid_tokens};
 use crate::uploads::Uploads;
 use std::alloc::{AllocError, Global};
 use std::marker::Sync;
 use std::thread;
 use std::thread::Threads;
-use tap_views::{Batch, TapFields, Token, UploadEnd, good_batches};
+use tap_views::{Batch, TapFields, Token, UploadEnd, valid_batches};
 use world::Trace;
 
 #[derive(Drop)]
@@ -46,12 +46,12 @@ fn add_upload(
         AreOwnAdded token upload.now taps.old.items taps.new.items end) }
 {
     let mut number = 0;
-    let mut good = good_batches(upload);
-    while let Some(batch) = good.next() {
+    let mut valid = valid_batches(upload);
+    while let Some(batch) = valid.next() {
         add_batch(token, &batch, taps)?;
         number += u64::from(batch.len());
     }
-    Ok(UploadEnd::by_fault(number, good.fault()))
+    Ok(UploadEnd::by_fault(number, valid.fault()))
 }
 
 /// All are read into one room, one after the other. No other tap is kept.
@@ -74,7 +74,7 @@ fn own_taps<U: Uploads>(
     for number in start..end {
         let upload = uploads.read(number, room, &mut calls)?;
         // proof: its tokens have 16 bytes
-        good_tokens(&upload);
+        valid_tokens(&upload);
         let end_of_upload = add_upload(token, upload.as_slice(), &mut taps)?;
         ends.push(end_of_upload)?;
         room = upload;

@@ -74,10 +74,10 @@ fn join(parts: &mut [Pieces], lists: Vec<Vec<TapFields>>) -> Result<(), AllocErr
     ensures { OnOk result (ArePiecesAdded (map (λ list. list.items) lists.items) parts.old
         parts.new) }
 {
-    let mut place = 0usize;
+    let mut position = 0usize;
     for piece in lists {
-        parts[place].push(piece)?;
-        place += 1;
+        parts[position].push(piece)?;
+        position += 1;
     }
     Ok(())
 }

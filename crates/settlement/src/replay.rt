@@ -20,7 +20,7 @@ use tariffs::{Clock, FareTable};
 #[inline(always)]
 fn seen(table: &FareTable, tap: &TapFields) -> TapIn
     ensures tap { result ≡ tap_of table.now (unposted tap.now) }
-    ensures mode { ForSome result.mode (λ mode. mode.place < length table.now.meaning.modes) }
+    ensures mode { ForSome result.mode (λ mode. mode.position < length table.now.meaning.modes) }
     ensures moment { result.moment ≡ tap.now.moment }
 {
     TapIn {

@@ -3,7 +3,7 @@
 ghost use Rattle.std.specs.Prelude.{◌≡◌, ◌+◌, ◌<◌, ◌≤◌, length, IfOk};
 ghost use denote.Param.Send.{IsSync};
 ghost use Rattle.tap_parts.specs.Ranges.{range_of_token};
-ghost use Rattle.settlement.specs.inside.SplitTaps.{HasGoodTokens, AreAddedBetween};
+ghost use Rattle.settlement.specs.inside.SplitTaps.{HasValidTokens, AreAddedBetween};
 ghost use Rattle.settlement.specs.inside.SplitTaps.{AreInPartsBetween};
 ghost use Rattle.world.specs.Run.{nothing_yet};
 
@@ -15,7 +15,7 @@ use std::marker::Sync;
 use std::thread::Threads;
 use std::{slice, thread};
 use tap_parts::{Parts, TokenRanges};
-use tap_views::laws::one_reading_each;
+use tap_views::laws::unique_parse_each;
 use tap_views::{TAP2_TAP_BYTES, UploadEnd};
 use world::Trace;
 
@@ -37,10 +37,10 @@ pub(crate) fn bytes_of<U: Uploads>(uploads: &U, start: usize, end: usize) -> usi
 }
 
 /// proof: the tokens of an upload's valid taps have 16 bytes. Reads no tap.
-pub(crate) fn good_tokens(upload: &Vec<u8>)
-    ensures { HasGoodTokens upload.now.items }
+pub(crate) fn valid_tokens(upload: &Vec<u8>)
+    ensures { HasValidTokens upload.now.items }
 {
-    one_reading_each(slice::from_ref(upload));
+    unique_parse_each(slice::from_ref(upload));
     plain_history(slice::from_ref(upload));
 }
 
@@ -65,7 +65,7 @@ fn add_all<U: Uploads>(
     for number in start..end {
         let upload = uploads.read(number, room, calls)?;
         // proof: its tokens have 16 bytes
-        good_tokens(&upload);
+        valid_tokens(&upload);
         let added = parts.add_upload(ranges, upload.as_slice())?;
         ends.push(UploadEnd::by_fault(added.taps, added.fault))?;
         room = upload;

@@ -6,7 +6,7 @@ use world::Trace;
 /// Uploads that are read one by one, by several threads at once.
 pub trait Uploads {
     ghost use Rattle.std.specs.Prelude.{◌≡◌, ◌<◌, ℕ, IfOk};
-    ghost use Rattle.world.specs.Origins.{IsLent, Origin};
+    ghost use Rattle.world.specs.Origins.{IsProvided, Origin};
 
     // How many uploads there are.
     ghost number: { Self → ℕ };
@@ -30,7 +30,7 @@ pub trait Uploads {
     fn read(&self, upload: usize, room: Vec<u8>, calls: &mut Trace) -> Result<Vec<u8>, AllocError>
         requires { upload < number self.now }
         ensures { IfOk result (λ bytes.
-            IsLent (origin self.now upload) calls.old.run calls.new.run bytes.items) };
+            IsProvided (origin self.now upload) calls.old.run calls.new.run bytes.items) };
 
     /// Notes how many valid taps are to be charged, before the first one is, for whoever watches
     /// the run.

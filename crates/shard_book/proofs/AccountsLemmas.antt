@@ -9,13 +9,13 @@ use Rattle.indexmap.specs.IndexMap.{with_value_at}
 use Rattle.indexmap.proofs.CallerLemmas.{insert_entry-new, updates-with_value_at}
 use Rattle.account_rule.specs.declared.tap.TapIn.{TapIn}
 use Rattle.account_rule.specs.TokenRules.{TokenRules}
-use Rattle.account_rule.specs.Stands.{Stands}
+use Rattle.account_rule.specs.Represents.{Represents}
 use Rattle.shard_book.specs.declared.accounts.Accounts.{Accounts}
 use Rattle.shard_book.specs.declared.accounts.KeptAccount.{KeptAccount}
-use Rattle.shard_book.specs.inside.Accounts.{IsKept, IsKeptOrFresh, HasPlaceFor, IsPlace, StandsOn}
+use Rattle.shard_book.specs.inside.Accounts.{IsKept, IsKeptOrFresh, HasPositionFor, IsPosition, StillRepresents}
 use Rattle.shard_book.specs.inside.Accounts.{counted, kept_at}
 use Rattle.histories.specs.Counts.{sums_of_counts}
-use Rattle.shard_book.specs.inside.Packed.{KeepPlaces, tokens_of}
+use Rattle.shard_book.specs.inside.Packed.{KeepPositions, tokens_of}
 use Rattle.histories.specs.Sums.{sums_of_replies}
 use Rattle.tap_views.specs.Token.{token_eq}
 use Rattle.tap_views.specs.declared.token.Token.{Token}
@@ -25,13 +25,13 @@ use Rattle.std.proofs.lemmas.Bool.{cases_Bool, false≢true}
 use Rattle.std.proofs.lemmas.Option.{slice_get_within}
 
 -- the kept account, or else a fresh one, stands for the taps
-pub stands_or : (rules : TokenRules) (kept : Option KeptAccount) (here : KeptAccount)
+pub holds_or : (rules : TokenRules) (kept : Option KeptAccount) (here : KeptAccount)
     (taps : List TapIn) → IsKeptOrFresh kept here → IsKept rules kept taps
-    → Stands rules here.account taps
-stands_or rules None here taps is empty =
-    subst (λ (ts : List TapIn). Stands rules here.account ts) (sym empty) (is.0 rules)
-stands_or rules (Some kept) here taps is stands =
-    subst (λ (k : KeptAccount). Stands rules k.account taps) (sym is) stands
+    → Represents rules here.account taps
+holds_or rules None here taps is empty =
+    subst (λ (ts : List TapIn). Represents rules here.account ts) (sym empty) (is.0 rules)
+holds_or rules (Some kept) here taps is holds =
+    subst (λ (k : KeptAccount). Represents rules k.account taps) (sym is) holds
 
 -- the kept counts, or else those of nothing, are what is counted
 pub counted_or : (kept : Option KeptAccount) (here : KeptAccount) → IsKeptOrFresh kept here
@@ -41,11 +41,11 @@ counted_or (Some kept) here is = ap (λ (k : KeptAccount). sums_of_counts k.coun
 
 -- what is written at the place is kept of the token from then on, and what is kept of the others
 -- stays
-pub written : (accounts : Accounts) (place : ℕ) (token : Token) (kept next : KeptAccount)
-    → IsUnique token_eq accounts.map → slice_get accounts.map.entries place ≡ Some (token, kept)
-    → Updates token_eq accounts.map (with_value_at accounts.map place next) token (Some next)
-written accounts place token kept next unique at =
-    updates-with_value_at accounts.map place next token_eq-laws unique token kept at
+pub written : (accounts : Accounts) (position : ℕ) (token : Token) (kept next : KeptAccount)
+    → IsUnique token_eq accounts.map → slice_get accounts.map.entries position ≡ Some (token, kept)
+    → Updates token_eq accounts.map (with_value_at accounts.map position next) token (Some next)
+written accounts position token kept next unique at =
+    updates-with_value_at accounts.map position next token_eq-laws unique token kept at
 
 -- the second of a pair, if there is one
 kept_in : Option (Token × KeptAccount) → KeptAccount → KeptAccount
@@ -53,27 +53,27 @@ kept_in None other = other
 kept_in (Some pair) other = pair.1
 
 -- what stands at a token's place is what was kept of it, or fresh
-pub found : {old new : Accounts} {token there : Token} {place : ℕ} {here : KeptAccount}
-    → HasPlaceFor old new token place → slice_get new.map.entries place ≡ Some (there, here)
+pub found : {old new : Accounts} {token there : Token} {position : ℕ} {here : KeptAccount}
+    → HasPositionFor old new token position → slice_get new.map.entries position ≡ Some (there, here)
     → IsKeptOrFresh (kept_at old token) here
 unfolding kept_in
-found {old} {new} {token} {there} {place} {here} made at =
+found {old} {new} {token} {there} {position} {here} made at =
     let same : made.kept ≡ here =
     ap (λ (o : Option (Token × KeptAccount)). kept_in o here) (sym made.at ∙ at) in
     subst (λ (k : KeptAccount). IsKeptOrFresh (kept_at old token) k) same made.is
 
 -- a token is at its place
-pub at_place : (accounts : Accounts) (token there : Token) (place : ℕ) (kept : KeptAccount)
-    → there ≡ token → slice_get accounts.map.entries place ≡ Some (there, kept)
-    → get token_eq accounts.map token ≡ Some kept → IsPlace accounts token place
+pub at_position : (accounts : Accounts) (token there : Token) (position : ℕ) (kept : KeptAccount)
+    → there ≡ token → slice_get accounts.map.entries position ≡ Some (there, kept)
+    → get token_eq accounts.map token ≡ Some kept → IsPosition accounts token position
 unfolding kept_at
-at_place accounts token there place kept same at is =
+at_position accounts token there position kept same at is =
     record { kept = kept; at = at ∙ ap (λ (t : Token). Some (t, kept)) same; is = is }
 
 -- what is at its place need not be made
-pub made_before : (accounts : Accounts) (token : Token) (place : ℕ) → IsPlace accounts token place
-    → HasPlaceFor accounts accounts token place
-made_before accounts token place there =
+pub made_before : (accounts : Accounts) (token : Token) (position : ℕ) → IsPosition accounts token position
+    → HasPositionFor accounts accounts token position
+made_before accounts token position there =
     record {
       kept = there.kept;
       at = there.at;
@@ -89,26 +89,26 @@ slice_get-last [] x = refl
 slice_get-last (y ∷ ys) x = slice_get-last ys x
 
 -- an account that is opened stands last
-pub made_last : (old new : Accounts) (token : Token) (place : ℕ) (fresh : KeptAccount)
-    → place ≡ length old.map.entries → kept_at old token ≡ None → kept_at new token ≡ Some fresh
+pub made_last : (old new : Accounts) (token : Token) (position : ℕ) (fresh : KeptAccount)
+    → position ≡ length old.map.entries → kept_at old token ≡ None → kept_at new token ≡ Some fresh
     → new.map.entries ≡ insert_entry token_eq old.map.entries token fresh
-    → ((rules : TokenRules) → Stands rules fresh.account [])
-    → sums_of_counts fresh.counts ≡ sums_of_replies [] → HasPlaceFor old new token place
+    → ((rules : TokenRules) → Represents rules fresh.account [])
+    → sums_of_counts fresh.counts ≡ sums_of_replies [] → HasPositionFor old new token position
 unfolding kept_at
-made_last old new token place fresh at none now entries stands counts =
+made_last old new token position fresh at none now entries holds counts =
     let last : new.map.entries ≡ old.map.entries ++ (token, fresh) ∷ [] =
     entries ∙ insert_entry-new token_eq old.map token fresh none in
     record {
       kept = fresh;
       at = rw last (rw at (slice_get-last old.map.entries (token, fresh)));
-      is = subst (λ (o : Option KeptAccount). IsKeptOrFresh o fresh) (sym none) (stands, counts);
+      is = subst (λ (o : Option KeptAccount). IsKeptOrFresh o fresh) (sym none) (holds, counts);
       now = now;
     }
 
 -- a key that passes stands at its index
-record IsAt (token : Token) (es : List (Token × KeptAccount)) (place : ℕ) : Type 0 where
+record IsAt (token : Token) (es : List (Token × KeptAccount)) (position : ℕ) : Type 0 where
   kept : KeptAccount
-  at : slice_get es place ≡ Some (token, kept)
+  at : slice_get es position ≡ Some (token, kept)
   is : lookup (token_eq token) es ≡ Some kept
 
 slice_get-next : {X : Type 0} (x : X) (xs : List X) (n : ℕ)
@@ -144,11 +144,11 @@ at_index token (e ∷ es) some =
     (cases_Bool (token_eq token e.0))
 
 -- an account that was found stands at the index of its token
-pub made_found : (old new : Accounts) (token : Token) (place : ℕ)
+pub made_found : (old new : Accounts) (token : Token) (position : ℕ)
     → new.map.entries ≡ old.map.entries → is_some (kept_at old token) ≡ true
-    → place ≡ insert_index token_eq old.map token → HasPlaceFor old new token place
+    → position ≡ insert_index token_eq old.map token → HasPositionFor old new token position
 unfolding kept_at
-made_found old new token place same some index =
+made_found old new token position same some index =
     let there : IsAt token old.map.entries (insert_index token_eq old.map token) =
     at_index token old.map.entries some in
     record {
@@ -169,7 +169,7 @@ index-within accounts token some =
     (token, there.kept) there.at
 
 -- what is kept stands on where it stayed
-pub on-same : {old new : Option KeptAccount} → new ≡ old → StandsOn old new
+pub on-same : {old new : Option KeptAccount} → new ≡ old → StillRepresents old new
 on-same {old} {new} same = record {
   kept = λ rules taps kept. subst (λ (o : Option KeptAccount). IsKept rules o taps) (sym same) kept;
   sums = ap counted same;
@@ -177,14 +177,14 @@ on-same {old} {new} same = record {
 
 -- no account moves if the entries stayed
 pub keep_found : (old new : List (Token × KeptAccount)) → new ≡ old
-    → KeepPlaces (keys_of old) (keys_of new)
+    → KeepPositions (keys_of old) (keys_of new)
 keep_found old new same = keep_same (ap (λ (es : List (Token × KeptAccount)). keys_of es) same)
 
 -- nor if an account is opened
 pub keep_opened : (old : Accounts) (new : List (Token × KeptAccount)) (token : Token)
     (fresh : KeptAccount) → kept_at old token ≡ None
     → new ≡ insert_entry token_eq old.map.entries token fresh
-    → KeepPlaces (tokens_of old) (keys_of new)
+    → KeepPositions (tokens_of old) (keys_of new)
 unfolding kept_at
 keep_opened old new token fresh none entries =
     keep_entries old.map.entries new (token, fresh)

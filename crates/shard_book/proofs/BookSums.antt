@@ -10,7 +10,7 @@ use Rattle.histories.specs.declared.sums.ValidatorSum.{ValidatorSum}
 use Rattle.shard_book.specs.Book.{Book, all_entries}
 use Rattle.histories.specs.SumsByKey.{sums_by_validator, validators}
 use Rattle.histories.specs.SumsBy.{sums_by}
-use Rattle.histories.specs.Rising.{rising}
+use Rattle.histories.specs.Increasing.{increasing}
 use Rattle.histories.specs.Shown.{validator_sum}
 use Rattle.histories.specs.Sums.{Sums}
 use Rattle.histories.specs.TalliesByKey.{AreByKey, HaveRoom}
@@ -29,13 +29,13 @@ all-more books i blank within =
 pub sums_by-none : {K Y : Type 0} (cmp : K → K → Ordering) (eq : K → K → Bool) (key_of : Entry → K)
     (shown : Y → K × Sums) (books : List Book) (items : List Y) → items ≡ []
     → None ≡ slice_get books 0 → map shown items ≡ sums_by cmp eq key_of (all_entries books)
-unfolding sums_by rising
+unfolding sums_by increasing
 sums_by-none cmp eq key_of shown [] items none first = ap (map shown) none
 sums_by-none cmp eq key_of shown (book ∷ books) items none first = absurd (cc)
 
 pub validators-none : (books : List Book) (items : List ValidatorSum) → items ≡ []
     → None ≡ slice_get books 0 → map validator_sum items ≡ sums_by_validator (all_entries books)
-unfolding sums_by_validator validators rising
+unfolding sums_by_validator validators increasing
 validators-none [] items none first = ap (map validator_sum) none
 validators-none (book ∷ books) items none first = absurd (cc)
 

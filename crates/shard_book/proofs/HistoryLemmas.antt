@@ -64,24 +64,24 @@ agree-more (first ∷ left) right i within same before =
     at (sym same ∙ at) refl before
 
 -- if one list has ended and the other has not, they differ
-ended : (left right : List Entry) (place : ℕ) → length left ≤ place → place < length right
-    → slice_get left place ≡ slice_get right place → ⊥
-ended left [] place past within same = omega arith
-ended left (first ∷ right) place past within same =
-    let some : slice_get (first ∷ right) place ≡ Some (get_or (first ∷ right) place first) =
-    slice_get-get_or (first ∷ right) place first within in
-    let none : slice_get left place ≡ None = slice_get_past left place past in
+ended : (left right : List Entry) (position : ℕ) → length left ≤ position → position < length right
+    → slice_get left position ≡ slice_get right position → ⊥
+ended left [] position past within same = omega arith
+ended left (first ∷ right) position past within same =
+    let some : slice_get (first ∷ right) position ≡ Some (get_or (first ∷ right) position first) =
+    slice_get-get_or (first ∷ right) position first within in
+    let none : slice_get left position ≡ None = slice_get_past left position past in
     cc
 
 -- so lists of two lengths differ at the end of the shorter
-pub ends-apart : (left right : List Entry) (place : ℕ) → (length left ≡ length right → ⊥)
-    → place ≡ min (length left) (length right) → slice_get left place ≡ slice_get right place → ⊥
-ends-apart left right place apart is same =
+pub ends-apart : (left right : List Entry) (position : ℕ) → (length left ≡ length right → ⊥)
+    → position ≡ min (length left) (length right) → slice_get left position ≡ slice_get right position → ⊥
+ends-apart left right position apart is same =
     ⊎_elim
-    (λ (shorter : length left < length right). ended left right place (omega arith) (omega arith)
+    (λ (shorter : length left < length right). ended left right position (omega arith) (omega arith)
     same)
     (λ (other : length right ≤ length left). ⊎_elim
-    (λ (longer : length right < length left). ended right left place (omega arith) (omega arith)
+    (λ (longer : length right < length left). ended right left position (omega arith) (omega arith)
     (sym same))
     (λ (back : length left ≤ length right). apart (omega arith))
     (cases_lt (length right) (length left)))

@@ -139,7 +139,7 @@ pub count-more : (before entries after : List Entry) (i : ℕ) (entry : Entry)
     ≡ late_after before (take i entries) + (if late then 1 else 0))
 count-more before entries after i entry old new late at kept is gone =
     let front = before ++ take i entries in
-    let told : is_late front entry ≡ late =
+    let reported : is_late front entry ≡ late =
     late_by (is_stale entry.answer) (has_tap front (key_of entry))
     (has_stale (before ++ entries ++ after) (key_of entry))
     (list_any (key_eq (key_of entry)) old)
@@ -148,7 +148,7 @@ count-more before entries after i entry old new late at kept is gone =
     let one : late_after front (entry ∷ []) ≡ (if late then 1 else 0) =
     let none : late_after front (entry ∷ []) ≡ (if is_late front entry then 1 else 0) =
     omega arith in
-    none ∙ ap (λ (b : Bool). if b then 1 else 0) told in
+    none ∙ ap (λ (b : Bool). if b then 1 else 0) reported in
     let more = late_after-append before (take i entries) (entry ∷ []) in
     let next : late_after before (take (i + 1) entries)
     ≡ late_after before (take i entries ++ entry ∷ []) =

@@ -15,13 +15,13 @@ use Rattle.shard_book.specs.declared.accounts.KeptAccount.{KeptAccount}
 use Rattle.histories.specs.declared.entry.Entry.{Entry}
 use Rattle.shard_book.specs.declared.packed.PackedEntry.{PackedEntry}
 use Rattle.tap_views.specs.declared.token.Token.{Token}
-use Rattle.shard_book.specs.inside.Packed.{ArePlaced, HasToken, KeepPlaces, answer_at, entry_of}
+use Rattle.shard_book.specs.inside.Packed.{ArePlaced, HasToken, KeepPositions, answer_at, entry_of}
 use Rattle.shard_book.specs.inside.Packed.{entry_with, history_of, no_token, bits_answer}
 use Rattle.shard_book.specs.inside.Packed.{bits_cents, bits_moment}
-use Rattle.histories.specs.Places.{count_place}
+use Rattle.histories.specs.Positions.{count_position}
 
 -- the answer with the number of an answer is that answer
-answer-back : (answer : Answer) → answer_at (count_place answer) ≡ answer
+answer-back : (answer : Answer) → answer_at (count_position answer) ≡ answer
 answer-back Paid = refl
 answer-back Transfer = refl
 answer-back Capped = refl
@@ -29,12 +29,12 @@ answer-back Stale = refl
 answer-back Unknown = refl
 
 -- the number of an answer takes three bits
-place-below : (answer : Answer) → count_place answer < 8
-place-below Paid = omega arith
-place-below Transfer = omega arith
-place-below Capped = omega arith
-place-below Stale = omega arith
-place-below Unknown = omega arith
+position-below : (answer : Answer) → count_position answer < 8
+position-below Paid = omega arith
+position-below Transfer = omega arith
+position-below Capped = omega arith
+position-below Stale = omega arith
+position-below Unknown = omega arith
 
 -- the bits of an entry give their three parts back
 pub moment-back : (cents number moment : ℕ) → moment < 2 ^ 42
@@ -46,18 +46,18 @@ upper-back : (upper moment : ℕ) → moment < 2 ^ 42 → (upper * 2 ^ 42 + mome
 upper-back upper moment early = div-mul-add upper (2 ^ 42) moment early
 
 pub answer-in_bits : (cents moment : ℕ) (answer : Answer) → moment < 2 ^ 42
-    → bits_answer ((cents * 8 + count_place answer) * 2 ^ 42 + moment) ≡ answer
+    → bits_answer ((cents * 8 + count_position answer) * 2 ^ 42 + moment) ≡ answer
 answer-in_bits cents moment answer early =
     ap (λ (upper : ℕ). answer_at (upper % 8))
-    (upper-back (cents * 8 + count_place answer) moment early)
-    ∙ ap answer_at (mod-mul-add cents 8 (count_place answer) (place-below answer))
+    (upper-back (cents * 8 + count_position answer) moment early)
+    ∙ ap answer_at (mod-mul-add cents 8 (count_position answer) (position-below answer))
     ∙ answer-back answer
 
 pub cents-in_bits : (cents moment : ℕ) (answer : Answer) → moment < 2 ^ 42
-    → bits_cents ((cents * 8 + count_place answer) * 2 ^ 42 + moment) ≡ cents
+    → bits_cents ((cents * 8 + count_position answer) * 2 ^ 42 + moment) ≡ cents
 cents-in_bits cents moment answer early =
-    ap (λ (upper : ℕ). upper / 8) (upper-back (cents * 8 + count_place answer) moment early)
-    ∙ div-mul-add cents 8 (count_place answer) (place-below answer)
+    ap (λ (upper : ℕ). upper / 8) (upper-back (cents * 8 + count_position answer) moment early)
+    ∙ div-mul-add cents 8 (count_position answer) (position-below answer)
 
 abbrev pub record_of : Token → ℕ → ℕ → Answer → ℕ → Entry
 record_of token validator moment answer cents = record {
@@ -99,7 +99,7 @@ answer-same packed token answer is =
 
 -- a packed entry stands for the entry of the token at its place
 pub entry-at : (tokens : List Token) (packed : PackedEntry) (token : Token)
-    → slice_get tokens packed.place ≡ Some token → entry_of tokens packed ≡ with_token packed token
+    → slice_get tokens packed.position ≡ Some token → entry_of tokens packed ≡ with_token packed token
 unfolding entry_of
 entry-at tokens packed token at =
     ap (λ (found : Option Token). with_token packed (unwrap_or found no_token)) at
@@ -112,21 +112,21 @@ slice_get-front (y ∷ xs) ys zero x is = is
 slice_get-front (y ∷ xs) ys (suc i) x is = slice_get-front xs ys i x is
 
 -- no account moves if the tokens stay
-pub keep_same : {before after : List Token} → after ≡ before → KeepPlaces before after
+pub keep_same : {before after : List Token} → after ≡ before → KeepPositions before after
 keep_same same = record {
   each = λ at token is. subst (λ (tokens : List Token). slice_get tokens at ≡ Some token)
       (sym same) is;
 }
 
 -- nor by one change after another
-pub keep_then : {before between after : List Token} → KeepPlaces before between
-    → KeepPlaces between after → KeepPlaces before after
+pub keep_then : {before between after : List Token} → KeepPositions before between
+    → KeepPositions between after → KeepPositions before after
 keep_then first second =
     record { each = λ at token is. second.each at token (first.each at token is) }
 
 -- nor if an account is opened behind all others
 pub keep_entries : (before after : List (Token × KeptAccount)) (opened : Token × KeptAccount)
-    → after ≡ before ++ opened ∷ [] → KeepPlaces (keys_of before) (keys_of after)
+    → after ≡ before ++ opened ∷ [] → KeepPositions (keys_of before) (keys_of after)
 keep_entries before after opened is = record {
   each = λ at token there.
       ap (λ (es : List (Token × KeptAccount)). slice_get (keys_of es) at) is
@@ -144,57 +144,57 @@ token-at entries at token kept is =
 
 -- a packed history stands for the same entries if no account moves
 pub history-kept : (before after : List Token) (packed : List PackedEntry) → ArePlaced before packed
-    → KeepPlaces before after → history_of after packed ≡ history_of before packed
+    → KeepPositions before after → history_of after packed ≡ history_of before packed
 history-kept before after [] placed keep = refl
 history-kept before after (entry ∷ packed) placed keep =
-    let here : HasToken before entry.place =
-    All-head (λ (e : PackedEntry). HasToken before e.place) entry packed placed.each in
+    let here : HasToken before entry.position =
+    All-head (λ (e : PackedEntry). HasToken before e.position) entry packed placed.each in
     let rest : history_of after packed ≡ history_of before packed =
     history-kept before after packed
     (record {
-      each = All-tail (λ (e : PackedEntry). HasToken before e.place) entry packed
+      each = All-tail (λ (e : PackedEntry). HasToken before e.position) entry packed
           placed.each;
     }) keep in
     let one : entry_of after entry ≡ entry_of before entry =
-    entry-at after entry here.0 (keep.each entry.place here.0 here.1)
+    entry-at after entry here.0 (keep.each entry.position here.0 here.1)
     ∙ sym (entry-at before entry here.0 here.1) in
     ap (λ (e : Entry). e ∷ history_of after packed) one
     ∙ ap (λ (es : List Entry). entry_of before entry ∷ es) rest
 
 -- so does one that stayed
 pub history-same : (before after : List Token) (packed next : List PackedEntry) → next ≡ packed
-    → ArePlaced before packed → KeepPlaces before after
+    → ArePlaced before packed → KeepPositions before after
     → history_of after next ≡ history_of before packed
 history-same before after packed next same placed keep =
     ap (history_of after) same ∙ history-kept before after packed placed keep
 
 -- and with one entry more for one more
 pub history-push : (before after : List Token) (packed next : List PackedEntry) (more : PackedEntry)
-    (entry : Entry) → next ≡ packed ++ more ∷ [] → ArePlaced before packed → KeepPlaces before after
+    (entry : Entry) → next ≡ packed ++ more ∷ [] → ArePlaced before packed → KeepPositions before after
     → entry_of after more ≡ entry → history_of after next ≡ history_of before packed ++ entry ∷ []
-history-push before after packed next more entry is placed keep stands =
+history-push before after packed next more entry is placed keep holds =
     ap (history_of after) is
     ∙ map-append (entry_of after) packed (more ∷ [])
     ∙ ap (λ (es : List Entry). es ++ entry_of after more ∷ [])
     (history-kept before after packed placed keep)
-    ∙ ap (λ (e : Entry). history_of before packed ++ e ∷ []) stands
+    ∙ ap (λ (e : Entry). history_of before packed ++ e ∷ []) holds
 
 -- places stay those of accounts
 pub placed-kept : (before after : List Token) (packed next : List PackedEntry) → next ≡ packed
-    → ArePlaced before packed → KeepPlaces before after → ArePlaced after next
+    → ArePlaced before packed → KeepPositions before after → ArePlaced after next
 placed-kept before after packed next same placed keep =
     subst (λ (es : List PackedEntry). ArePlaced after es) (sym same) (record {
-      each = All-weaker (λ (e : PackedEntry). HasToken before e.place)
-          (λ (e : PackedEntry). HasToken after e.place)
-          (λ e here. (here.0, keep.each e.place here.0 here.1)) packed placed.each;
+      each = All-weaker (λ (e : PackedEntry). HasToken before e.position)
+          (λ (e : PackedEntry). HasToken after e.position)
+          (λ e here. (here.0, keep.each e.position here.0 here.1)) packed placed.each;
     })
 
 pub placed-push : (before after : List Token) (packed next : List PackedEntry) (more : PackedEntry)
-    → next ≡ packed ++ more ∷ [] → ArePlaced before packed → KeepPlaces before after
-    → HasToken after more.place → ArePlaced after next
+    → next ≡ packed ++ more ∷ [] → ArePlaced before packed → KeepPositions before after
+    → HasToken after more.position → ArePlaced after next
 placed-push before after packed next more is placed keep here =
     subst (λ (es : List PackedEntry). ArePlaced after es) (sym is) (record {
-      each = All-push (λ (e : PackedEntry). HasToken after e.place) packed more
+      each = All-push (λ (e : PackedEntry). HasToken after e.position) packed more
           (placed-kept before after packed packed refl placed keep).each here;
     })
 
@@ -202,7 +202,7 @@ pub placed-none : (tokens : List Token) (packed : List PackedEntry) → packed �
     → ArePlaced tokens packed
 placed-none tokens packed empty =
     subst (λ (es : List PackedEntry). ArePlaced tokens es) (sym empty)
-    (record { each = All-nil (λ (e : PackedEntry). HasToken tokens e.place) })
+    (record { each = All-nil (λ (e : PackedEntry). HasToken tokens e.position) })
 
 -- the entry at a place of the history
 pub read-at : (tokens : List Token) (packed : List PackedEntry) (i : ℕ) (entry : PackedEntry)
@@ -213,8 +213,8 @@ read-at tokens packed i entry is =
 
 -- has the place of an account
 pub placed-at : (tokens : List Token) (packed : List PackedEntry) (i : ℕ) (entry : PackedEntry)
-    → ArePlaced tokens packed → slice_get packed i ≡ Some entry → HasToken tokens entry.place
+    → ArePlaced tokens packed → slice_get packed i ≡ Some entry → HasToken tokens entry.position
 placed-at tokens packed i entry placed is =
-    subst (λ (e : PackedEntry). HasToken tokens e.place)
+    subst (λ (e : PackedEntry). HasToken tokens e.position)
     (get_or_from_slice_get packed i entry entry is)
     (placed.each i entry (slice_get_within packed i entry is))

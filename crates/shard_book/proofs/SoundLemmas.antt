@@ -13,14 +13,14 @@ use Rattle.shard_book.specs.declared.accounts.Accounts.{Accounts}
 use Rattle.shard_book.specs.declared.accounts.KeptAccount.{KeptAccount}
 use Rattle.histories.specs.declared.entry.Entry.{Entry}
 use Rattle.tap_views.specs.declared.token.Token.{Token}
-use Rattle.shard_book.specs.inside.Accounts.{kept_at, counted, IsCounting, IsKept, StandsOn}
+use Rattle.shard_book.specs.inside.Accounts.{kept_at, counted, IsCounting, IsKept, StillRepresents}
 use Rattle.histories.specs.Entry.{own, tap_of, taps_of, reply_of}
 use Rattle.histories.specs.History.{IsReplied}
 use Rattle.shard_book.specs.inside.Sound.{IsBook, IsSound, AreKept}
 use Rattle.tap_views.specs.Token.{Fits, bytes_of, token_eq}
 use Rattle.histories.specs.Sums.{sums_of_replies, add_sums}
 use Rattle.shard_book.specs.declared.packed.PackedEntry.{PackedEntry}
-use Rattle.shard_book.specs.inside.Packed.{KeepPlaces, history_of, tokens_of}
+use Rattle.shard_book.specs.inside.Packed.{KeepPositions, history_of, tokens_of}
 use Rattle.shard_book.proofs.AccountsLemmas.{on-same}
 use Rattle.shard_book.proofs.CountingLemmas.{counted-same, counted-push, counted-none}
 use Rattle.histories.proofs.Histories.{legal-none, legal-push, tap_of-post}
@@ -30,7 +30,7 @@ use Rattle.shard_book.proofs.PackedLemmas.{history-same, placed-kept, placed-non
 -- nothing was posted: the entries are the same, and what is kept of the tokens stands on
 pub sound-on : {table : Fares} {shard shards : ℕ} {accounts after : Accounts}
     {entries items : List Entry} → items ≡ entries
-    → ((other : Token) → StandsOn (kept_at accounts other) (kept_at after other))
+    → ((other : Token) → StillRepresents (kept_at accounts other) (kept_at after other))
     → (IsCounting after → IsCounting accounts) → IsSound table shard shards accounts entries
     → IsSound table shard shards after items
 unfolding AreKept
@@ -85,7 +85,7 @@ pub sound-post : {table : Fares} {shard shards : ℕ} {accounts after : Accounts
     → IsSound table shard shards accounts entries
     → shard_of_token (bytes_of entry.token) shards ≡ shard
     → Fits entry.token
-    → option_map (λ m. m.place) mode ≡ mode_at table entry.moment entry.validator
+    → option_map (λ m. m.position) mode ≡ mode_at table entry.moment entry.validator
     → ((taps : List TapIn)
     → IsKept (rules_of table (bytes_of entry.token)) (kept_at accounts entry.token) taps
     → reply_of entry ≡ reply (rules_of table (bytes_of entry.token)) taps
@@ -102,7 +102,7 @@ pub sound-post : {table : Fares} {shard shards : ℕ} {accounts after : Accounts
     → IsSound table shard shards after items
 unfolding AreKept IsReplied
 sound-post {table} {shard} {shards} {accounts} {after} {entries} {items} entry mode pushed sound
-    here fits is_mode by_rule stands added counting others =
+    here fits is_mode by_rule holds added counting others =
     let tap_is : tap_of table entry ≡ record { moment = entry.moment; mode = mode } =
     tap_of-post table entry mode is_mode in
     sound-push entry pushed sound here fits
@@ -111,7 +111,7 @@ sound-post {table} {shard} {shards} {accounts} {after} {entries} {items} entry m
     (taps_of table entry.token entries) tap) (sym tap_is))
     (subst (λ (tap : TapIn). IsKept (rules_of table (bytes_of entry.token))
     (kept_at after entry.token) (taps_of table entry.token entries ++ tap ∷ [])) (sym tap_is)
-    (stands _ (sound.kept entry.token)))
+    (holds _ (sound.kept entry.token)))
     added counting others
 
 -- a book without entries and without accounts is sound
@@ -136,8 +136,8 @@ sound-none {table} {shard} {shards} {accounts} {items} empty within few none =
 -- nothing was posted, and no account moved: the parts are still those of a book
 pub book-on : {table : Fares} {shard shards : ℕ} {accounts after : Accounts}
     {packed next : List PackedEntry} → next ≡ packed
-    → KeepPlaces (tokens_of accounts) (tokens_of after)
-    → ((other : Token) → StandsOn (kept_at accounts other) (kept_at after other))
+    → KeepPositions (tokens_of accounts) (tokens_of after)
+    → ((other : Token) → StillRepresents (kept_at accounts other) (kept_at after other))
     → (IsCounting after → IsCounting accounts) → IsBook table shard shards accounts packed
     → IsBook table shard shards after next
 book-on {table} {shard} {shards} {accounts} {after} {packed} {next} same keep others counting book =
@@ -152,7 +152,7 @@ book-on {table} {shard} {shards} {accounts} {after} {packed} {next} same keep ot
 -- likewise if all that is kept stayed
 pub book-same : {table : Fares} {shard shards : ℕ} {accounts after : Accounts}
     {packed next : List PackedEntry} → next ≡ packed
-    → KeepPlaces (tokens_of accounts) (tokens_of after)
+    → KeepPositions (tokens_of accounts) (tokens_of after)
     → ((other : Token) → kept_at after other ≡ kept_at accounts other)
     → (IsCounting after → IsCounting accounts) → IsBook table shard shards accounts packed
     → IsBook table shard shards after next

@@ -39,7 +39,7 @@ use Rattle.tap_views.specs.Token.{bytes_of, token_eq, token_cmp}
 use Rattle.shard_book.proofs.CountingLemmas.{own-member}
 use Rattle.tap_views.proofs.TokenLemmas.{same_token, token_eq-sym, token_eq-laws, token_cmp-total}
 use Rattle.tap_views.proofs.TokenLemmas.{token_cmp-ties}
-use Rattle.histories.proofs.RisingLemmas.{rising-only, sorted-rises}
+use Rattle.histories.proofs.IncreasingLemmas.{increasing-only, sorted-increases}
 use Rattle.shard_book.proofs.BookSums.{all-more}
 
 -- a token that is apart from all keys is apart from those that a test leaves
@@ -267,8 +267,8 @@ summed-sorted entries pairs sorted summed moved in_order =
     IsDistinct-IsPermutation token_eq token_eq-sym (keys_of pairs) (keys_of sorted) keys_moved
     summed.once in
     let risen : keys_of sorted ≡ tokens entries =
-    rising-only token_cmp-total token_cmp-ties (map token_of entries) (keys_of sorted) (record {
-      rises = sorted-rises token_cmp-total token_cmp-ties (keys_of sorted) in_order
+    increasing-only token_cmp-total token_cmp-ties (map token_of entries) (keys_of sorted) (record {
+      increases = sorted-increases token_cmp-total token_cmp-ties (keys_of sorted) in_order
           (subst (λ (e : Token → Token → Bool). IsDistinct e (keys_of sorted)) alike once);
       same = λ token. subst
           (λ (e : Token → Token → Bool). is_member e (keys_of sorted) token

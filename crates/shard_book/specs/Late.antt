@@ -7,15 +7,15 @@ use Rattle.histories.specs.Sums.{is_stale}
 use Rattle.tap_views.specs.Token.{token_eq}
 
 -- whether two entries are of equal taps: of one token, at one moment, at one validator
-abbrev pub are_twins : Entry → Entry → Bool
-are_twins entry other =
+abbrev pub are_same_moment : Entry → Entry → Bool
+are_same_moment entry other =
     token_eq entry.token other.token
     && (entry.moment == other.moment && entry.validator == other.validator)
 
 -- whether the entry is stale, and no equal tap is among these before it
 abbrev pub is_late : List Entry → Entry → Bool
 is_late before entry =
-    is_stale entry.answer && not (list_any (λ earlier. are_twins earlier entry) before)
+    is_stale entry.answer && not (list_any (λ earlier. are_same_moment earlier entry) before)
 
 -- how many of the entries that follow these are stale and follow no equal tap
 abbrev pub late_after : List Entry → List Entry → ℕ

@@ -6,12 +6,12 @@ ghost use Rattle.std.specs.Prelude.{slice_get};
 ghost use Rattle.std.specs.Option.{ForSome};
 ghost use Rattle.account_rule.specs.Replies.{reply};
 ghost use Rattle.account_rule.specs.TokenRules.{TokenRules, rules_of};
-ghost use Rattle.account_rule.specs.Stands.{Stands, StandsForSome};
+ghost use Rattle.account_rule.specs.Represents.{Represents, RepresentsSome};
 ghost use Rattle.account_rule.specs.declared.tap.TapIn.{TapIn};
 ghost use Rattle.shard_book.specs.inside.Accounts.{kept_at, counted, pairs_of, IsCounting, IsKept};
-ghost use Rattle.shard_book.specs.inside.Accounts.{HasPlaceFor, IsPlace, StandsOn};
+ghost use Rattle.shard_book.specs.inside.Accounts.{HasPositionFor, IsPosition, StillRepresents};
 ghost use Rattle.shard_book.specs.inside.Counting.{AreCounted, AreSummed};
-ghost use Rattle.shard_book.specs.inside.Packed.{HasToken, KeepPlaces, tokens_of};
+ghost use Rattle.shard_book.specs.inside.Packed.{HasToken, KeepPositions, tokens_of};
 ghost use Rattle.histories.specs.Counts.{token_counts};
 ghost use Rattle.histories.specs.declared.entry.Entry.{Entry};
 ghost use Rattle.histories.specs.Sums.{sums_of_replies, add_sums};
@@ -63,7 +63,7 @@ impl Accounts {
     pub(crate) fn account_of(&self, token: Token) -> Account
         ensures { (rules : TokenRules) (taps : List TapIn)
             → IsKept rules (kept_at self.now token) taps
-            → Stands rules result taps }
+            → Represents rules result taps }
     {
         match self.map.get(&token) {
             Some(kept) => kept.account,
@@ -75,11 +75,11 @@ impl Accounts {
     #[inline(always)]
     #[tactic(auto, unfolding(crate::specs::inside::Accounts::kept_at))]
     pub(crate) fn open(&mut self, token: Token) -> Result<u32, NoMemory>
-        ensures made { IfOk result (HasPlaceFor self.old self.new token) }
+        ensures made { IfOk result (HasPositionFor self.old self.new token) }
         ensures others { OnOk result ((other : Token) → token_eq token other ≡ false
             → kept_at self.new other ≡ kept_at self.old other) }
         ensures counting { self.new.counting ≡ self.old.counting }
-        ensures places { KeepPlaces (tokens_of self.old) (tokens_of self.new) }
+        ensures positions { KeepPositions (tokens_of self.old) (tokens_of self.new) }
         ensures err { OnErr result ((other : Token)
             → kept_at self.new other ≡ kept_at self.old other) }
     {
@@ -89,8 +89,8 @@ impl Accounts {
         }
         match self.map.entry(token)? {
             MapEntry::Occupied(kept) => Ok(kept.index() as u32),
-            MapEntry::Vacant(place) => {
-                place.insert(KeptAccount {
+            MapEntry::Vacant(position) => {
+                position.insert(KeptAccount {
                     account: Account::fresh(),
                     counts: Counts::new(),
                 });
@@ -101,10 +101,10 @@ impl Accounts {
 
     #[inline(always)]
     #[tactic(auto, unfolding(crate::specs::inside::Accounts::kept_at))]
-    pub(crate) fn is_at(&self, place: u32, token: Token) -> bool
-        ensures { IsTrue result → IsPlace self.now token place }
+    pub(crate) fn is_at(&self, position: u32, token: Token) -> bool
+        ensures { IsTrue result → IsPosition self.now token position }
     {
-        match self.map.get_index(place as usize) {
+        match self.map.get_index(position as usize) {
             Some((there, _)) => *there == token,
             None => false,
         }
@@ -114,11 +114,11 @@ impl Accounts {
     #[cold]
     #[inline(never)]
     fn open_again(&mut self, token: Token) -> Result<u32, NoMemory>
-        ensures made { IfOk result (HasPlaceFor self.old self.new token) }
+        ensures made { IfOk result (HasPositionFor self.old self.new token) }
         ensures others { OnOk result ((other : Token) → token_eq token other ≡ false
             → kept_at self.new other ≡ kept_at self.old other) }
         ensures counting { self.new.counting ≡ self.old.counting }
-        ensures places { KeepPlaces (tokens_of self.old) (tokens_of self.new) }
+        ensures positions { KeepPositions (tokens_of self.old) (tokens_of self.new) }
         ensures err { OnErr result ((other : Token)
             → kept_at self.new other ≡ kept_at self.old other) }
     {
@@ -126,12 +126,12 @@ impl Accounts {
     }
 
     #[inline(always)]
-    fn place(&mut self, token: Token, known: u32) -> Result<u32, NoMemory>
-        ensures made { IfOk result (HasPlaceFor self.old self.new token) }
+    fn position(&mut self, token: Token, known: u32) -> Result<u32, NoMemory>
+        ensures made { IfOk result (HasPositionFor self.old self.new token) }
         ensures others { OnOk result ((other : Token) → token_eq token other ≡ false
             → kept_at self.new other ≡ kept_at self.old other) }
         ensures counting { self.new.counting ≡ self.old.counting }
-        ensures places { KeepPlaces (tokens_of self.old) (tokens_of self.new) }
+        ensures positions { KeepPositions (tokens_of self.old) (tokens_of self.new) }
         ensures err { OnErr result ((other : Token)
             → kept_at self.new other ≡ kept_at self.old other) }
     {
@@ -156,7 +156,7 @@ impl Accounts {
     ) -> Result<(u32, Reply), NoMemory>
         requires bytes { bytes.now ≡ bytes_of token }
         requires clock { clock.now ≡ table.now.zone }
-        requires mode { ForSome tap.mode (λ mode. mode.place < length table.now.meaning.modes) }
+        requires mode { ForSome tap.mode (λ mode. mode.position < length table.now.meaning.modes) }
         requires early { tap.moment < 4_102_444_800_000 }
         requires kept { (taps : List TapIn)
             × IsKept (rules_of table.now (bytes_of token)) (kept_at self.old token) taps }
@@ -173,27 +173,27 @@ impl Accounts {
             ≡ add_sums (counted (kept_at self.old token)) (sums_of_replies (done.1 ∷ []))) }
         ensures counting { IsCounting self.new → IsCounting self.old }
         ensures few { IfOk result (λ done. done.1.cents ≤ 100_000) }
-        ensures place { IfOk result (λ done. slice_get (tokens_of self.new) done.0 ≡ Some token) }
-        ensures places { KeepPlaces (tokens_of self.old) (tokens_of self.new) }
+        ensures position { IfOk result (λ done. slice_get (tokens_of self.new) done.0 ≡ Some token) }
+        ensures positions { KeepPositions (tokens_of self.old) (tokens_of self.new) }
         ensures others { OnOk result ((other : Token) → token_eq token other ≡ false
             → kept_at self.new other ≡ kept_at self.old other) }
         ensures err { OnErr result ((other : Token)
             → kept_at self.new other ≡ kept_at self.old other) }
     {
-        let place = self.place(token, known)?;
-        let (_, kept) = self.map.pair_mut(place as usize);
+        let position = self.position(token, known)?;
+        let (_, kept) = self.map.pair_mut(position as usize);
         let reply = kept.account.step(table, clock, bytes, tap);
         let was_counted = kept.counts.add(reply);
         self.counting = self.counting & was_counted;
-        Ok((place, reply))
+        Ok((position, reply))
     }
 
     #[inline(always)]
-    pub(crate) fn token_at(&self, place: u32) -> Token
-        requires { HasToken (tokens_of self.now) place }
-        ensures { slice_get (tokens_of self.now) place ≡ Some result }
+    pub(crate) fn token_at(&self, position: u32) -> Token
+        requires { HasToken (tokens_of self.now) position }
+        ensures { slice_get (tokens_of self.now) position ≡ Some result }
     {
-        match self.map.get_index(place as usize) {
+        match self.map.get_index(position as usize) {
             Some((token, _)) => *token,
             None => unreachable!(),
         }

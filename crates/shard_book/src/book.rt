@@ -4,7 +4,7 @@ ghost use Rattle.std.specs.Prelude.{◌≡◌, ◌<◌, ◌≤◌, [], length, m
 ghost use Rattle.std.specs.Prelude.{IsTrue, Some};
 ghost use Rattle.tap_views.specs.Shards.{shard_of_token};
 ghost use Rattle.account_rule.specs.TokenRules.{rules_of};
-ghost use Rattle.account_rule.specs.Stands.{Stands};
+ghost use Rattle.account_rule.specs.Represents.{Represents};
 ghost use Rattle.shard_book.specs.inside.Counting.{AddsSums};
 ghost use Rattle.histories.specs.Counts.{token_counts};
 ghost use Rattle.histories.specs.Entry.{TokensFit, taps_of};
@@ -14,7 +14,7 @@ ghost use Rattle.histories.specs.History.{IsLegal};
 
 use crate::accounts::Accounts;
 use crate::packed::PackedEntry;
-use crate::prefetch::NO_PLACE;
+use crate::prefetch::NO_POSITION;
 use account_rule::{Account, Reply, TapIn};
 use histories::{Entry, HashSeed, TokenCounts};
 use std::alloc::Global;
@@ -82,7 +82,7 @@ impl ShardBook {
         ensures err { OnErr result (self.new ≡ self.old) }
         ensures legal { IsLegal self.new.table self.new.entries }
     {
-        self.post_at(clock, tap, NO_PLACE)
+        self.post_at(clock, tap, NO_POSITION)
     }
 
     /// If its token's account is at the known index, no look-up is needed.
@@ -106,10 +106,10 @@ impl ShardBook {
         let bytes = tap.token();
         let token = Token::of(bytes);
         let tap_in = TapIn { moment, mode };
-        let (place, reply) = self
+        let (position, reply) = self
             .accounts
             .step(&self.table, clock, token, bytes, tap_in, known)?;
-        let packed = PackedEntry::of(place, validator, moment, reply);
+        let packed = PackedEntry::of(position, validator, moment, reply);
         self.history.push_reserved(packed);
         Ok(reply)
     }
@@ -154,7 +154,7 @@ impl ShardBook {
         ensures { slice_get self.now.entries i ≡ Some result }
     {
         let packed = self.history[i as usize];
-        packed.entry(self.accounts.token_at(packed.place()))
+        packed.entry(self.accounts.token_at(packed.position()))
     }
 
     pub(crate) fn seed(&self) -> HashSeed {
@@ -163,7 +163,7 @@ impl ShardBook {
 
     /// `false`, and no counts, if one has grown too large to be stored.
     pub(crate) fn push_counts(&self, list: &mut Vec<TokenCounts>) -> Result<bool, NoMemory>
-        ensures sums { IfOk result (λ told. IsTrue told
+        ensures sums { IfOk result (λ reported. IsTrue reported
             → AddsSums self.now.entries (map token_counts list.old.items)
             (map token_counts list.new.items)) }
         ensures here { AreOfShard self.now.shard self.now.shards self.now.entries }
@@ -176,7 +176,7 @@ impl ShardBook {
     }
 
     pub(crate) fn account_of(&self, token: Token) -> Account
-        ensures { Stands (rules_of self.now.table (bytes_of token)) result
+        ensures { Represents (rules_of self.now.table (bytes_of token)) result
             (taps_of self.now.table token self.now.entries) }
     {
         self.accounts.account_of(token)

@@ -4,7 +4,7 @@ ghost use Rattle.tap_views.specs.declared.token.Token.{Token};
 ghost use Rattle.shard_book.specs.Windows.{WindowsKeepLimits};
 
 use crate::book::ShardBook;
-pub use histories::laws::{beginnings_are_legal, one_rising_list, sums_add_up};
+pub use histories::laws::{beginnings_are_legal, one_increasing_list, sums_add_up};
 
 /// Under one table no window has more paid rides than the limit or costs more than the ceiling.
 /// Under several, each ride keeps its window within what it was or within the ride's own limits.

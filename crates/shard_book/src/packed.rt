@@ -8,7 +8,7 @@ ghost use Rattle.shard_book.specs.inside.Packed.{answer_at, entry_of, entry_with
 ghost use Rattle.shard_book.specs.inside.Packed.{bits_answer, bits_cents, bits_moment};
 
 use account_rule::{Answer, Reply};
-use histories::{Entry, place_of};
+use histories::{Entry, position_of};
 use tap_views::Token;
 
 /// 2^42, above every moment.
@@ -20,7 +20,7 @@ const ANSWERS: u64 = 8;
 /// An entry of the history, with the index of its token's account in place of the token.
 #[derive(Clone, Copy, Debug, PartialEq, Eq)]
 pub(crate) struct PackedEntry {
-    place: u32,
+    position: u32,
     validator: u32,
     /// The moment in the lowest 42 bits, the answer's number in three, and the cents in 19.
     bits: u64,
@@ -34,7 +34,7 @@ fn bits_of(moment: u64, reply: Reply) -> u64
     ensures answer { bits_answer result ≡ reply.answer }
     ensures cents { bits_cents result ≡ reply.cents }
 {
-    let number = place_of(reply.answer) as u64;
+    let number = position_of(reply.answer) as u64;
     (u64::from(reply.cents) * ANSWERS + number) * MOMENTS + moment
 }
 
@@ -53,31 +53,31 @@ fn answer_of(number: u64) -> Answer
 
 impl PackedEntry {
     #[inline(always)]
-    pub(crate) fn of(place: u32, validator: u32, moment: u64, reply: Reply) -> Self
+    pub(crate) fn of(position: u32, validator: u32, moment: u64, reply: Reply) -> Self
         requires early { moment < 2 ^ 42 }
         requires few { reply.cents ≤ 100_000 }
-        ensures place { result.place ≡ place }
-        ensures stands { (tokens : List Token) (token : Token)
-            → slice_get tokens place ≡ Some token
+        ensures position { result.position ≡ position }
+        ensures holds { (tokens : List Token) (token : Token)
+            → slice_get tokens position ≡ Some token
             → entry_of tokens result ≡ entry_with token validator moment reply }
     {
         PackedEntry {
-            place,
+            position,
             validator,
             bits: bits_of(moment, reply),
         }
     }
 
     #[inline(always)]
-    pub(crate) fn place(&self) -> u32
-        ensures { result ≡ self.now.place }
+    pub(crate) fn position(&self) -> u32
+        ensures { result ≡ self.now.position }
     {
-        self.place
+        self.position
     }
 
     #[inline(always)]
     pub(crate) fn entry(&self, token: Token) -> Entry
-        ensures { (tokens : List Token) → slice_get tokens self.now.place ≡ Some token
+        ensures { (tokens : List Token) → slice_get tokens self.now.position ≡ Some token
             → result ≡ entry_of tokens self.now }
     {
         let upper = self.bits / MOMENTS;

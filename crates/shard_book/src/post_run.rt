@@ -6,7 +6,7 @@ ghost use Rattle.histories.specs.History.{IsLegal};
 ghost use Rattle.shard_book.specs.Visits.{PostsRun};
 
 use crate::book::ShardBook;
-use crate::prefetch::{AT_ONCE, NO_PLACE};
+use crate::prefetch::{AT_ONCE, NO_POSITION};
 use crate::run_end::RunEnd;
 use histories::Replies;
 use tap_views::Run;
@@ -44,16 +44,16 @@ impl ShardBook {
     {
         let mut posted = 0;
         let mut ahead = run.taps();
-        let mut places = [NO_PLACE; AT_ONCE];
+        let mut positions = [NO_POSITION; AT_ONCE];
         for tap in run.taps() {
             let slot = posted as usize % AT_ONCE;
             if self
-                .prefetch_every_sixteenth(slot, &mut ahead, &mut places)
+                .prefetch_every_sixteenth(slot, &mut ahead, &mut positions)
                 .is_err()
             {
                 return RunEnd::Cut { posted };
             }
-            match self.post_at(clock, &tap, places[slot]) {
+            match self.post_at(clock, &tap, positions[slot]) {
                 Ok(reply) => out.push(reply),
                 Err(_) => return RunEnd::Cut { posted },
             }

@@ -2,8 +2,8 @@
 //! No promise rests on what is found: a wrong index costs a second look-up.
 
 ghost use Rattle.std.specs.Prelude.{◌≡◌};
-ghost use Rattle.shard_book.specs.inside.Accounts.{kept_at, StandsOn};
-ghost use Rattle.shard_book.specs.inside.Packed.{KeepPlaces, tokens_of};
+ghost use Rattle.shard_book.specs.inside.Accounts.{kept_at, StillRepresents};
+ghost use Rattle.shard_book.specs.inside.Packed.{KeepPositions, tokens_of};
 
 use crate::accounts::{Accounts, KeptAccount};
 use crate::book::ShardBook;
@@ -12,7 +12,7 @@ use tap_views::{NoMemory, RunTaps, Token};
 pub(crate) const AT_ONCE: usize = 16;
 
 /// An index at which no account is.
-pub(crate) const NO_PLACE: u32 = u32::MAX;
+pub(crate) const NO_POSITION: u32 = u32::MAX;
 
 impl KeptAccount {
     /// Prefetch: reads the account and its counts, two cache lines. True unless no cent more can be
@@ -28,9 +28,9 @@ impl Accounts {
     #[inline(always)]
     pub(crate) fn open_early(&mut self, token: Token, known: u32) -> Result<u32, NoMemory>
         ensures stays { (other : Token)
-            → StandsOn (kept_at self.old other) (kept_at self.new other) }
+            → StillRepresents (kept_at self.old other) (kept_at self.new other) }
         ensures counting { self.new.counting ≡ self.old.counting }
-        ensures places { KeepPlaces (tokens_of self.old) (tokens_of self.new) }
+        ensures positions { KeepPositions (tokens_of self.old) (tokens_of self.new) }
     {
         if self.is_at(known, token) {
             Ok(known)
@@ -39,12 +39,12 @@ impl Accounts {
         }
     }
 
-    /// Prefetch: returns the index, or `NO_PLACE`.
+    /// Prefetch: returns the index, or `NO_POSITION`.
     #[inline(always)]
-    pub(crate) fn prefetch(&self, place: u32) -> u32 {
-        match self.map.get_index(place as usize) {
-            Some((_, kept)) if kept.prefetch() => place,
-            _ => NO_PLACE,
+    pub(crate) fn prefetch(&self, position: u32) -> u32 {
+        match self.map.get_index(position as usize) {
+            Some((_, kept)) if kept.prefetch() => position,
+            _ => NO_POSITION,
         }
     }
 }
@@ -63,12 +63,12 @@ impl ShardBook {
         &mut self,
         slot: usize,
         ahead: &mut RunTaps,
-        places: &mut [u32; AT_ONCE],
+        positions: &mut [u32; AT_ONCE],
     ) -> Result<(), NoMemory>
         ensures { self.new ≡ self.old }
     {
         if slot == 0 {
-            self.prefetch(ahead, places)
+            self.prefetch(ahead, positions)
         } else {
             Ok(())
         }
@@ -76,24 +76,28 @@ impl ShardBook {
 
     /// Kept out of the posting, so that the registers of either loop are its own.
     #[inline(never)]
-    fn prefetch(&mut self, ahead: &mut RunTaps, places: &mut [u32; AT_ONCE]) -> Result<(), NoMemory>
+    fn prefetch(
+        &mut self,
+        ahead: &mut RunTaps,
+        positions: &mut [u32; AT_ONCE],
+    ) -> Result<(), NoMemory>
         ensures { self.new ≡ self.old }
     {
         // Taps in canonical order mostly have the token of the tap before.
-        let mut before = places[AT_ONCE - 1];
-        for place in places.iter_mut() {
+        let mut before = positions[AT_ONCE - 1];
+        for position in positions.iter_mut() {
             let Some(tap) = ahead.next() else {
                 break;
             };
             before = self.open_early(Token::of(tap.token()), before)?;
-            *place = before;
+            *position = before;
         }
         // A loop of its own, so short that all its reads wait side by side.
-        for place in places.iter_mut() {
-            if *place == NO_PLACE {
+        for position in positions.iter_mut() {
+            if *position == NO_POSITION {
                 break;
             }
-            *place = self.accounts.prefetch(*place);
+            *position = self.accounts.prefetch(*position);
         }
         Ok(())
     }

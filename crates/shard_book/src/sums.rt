@@ -9,7 +9,7 @@ ghost use Rattle.histories.specs.Sums.{sums, sums_of};
 use crate::book::ShardBook;
 use crate::sums::by_key::sums_of_books;
 use crate::sums::by_threads::tallies_by_validator;
-use crate::sums::by_token::rising_counts;
+use crate::sums::by_token::increasing_counts;
 use histories::{Tally, TokenSum, TokenSums, Totals, ValidatorSum, listed, widened_sums};
 use std::alloc::Global;
 use std::marker::Sync;
@@ -46,7 +46,7 @@ fn sums_by_token(alloc: Global, books: &[ShardBook]) -> Result<Vec<TokenSum>, No
     ensures { IfOk result (λ list.
         map token_sum list.items ≡ sums_by_token (all_entries books.now)) }
 {
-    match rising_counts(alloc, books)? {
+    match increasing_counts(alloc, books)? {
         Some(list) => widened_sums(alloc, &list),
         None => added_by_token(alloc, books),
     }
@@ -57,7 +57,7 @@ pub fn token_sums_of_books(alloc: Global, books: &[ShardBook]) -> Result<TokenSu
     requires { length books.now ≤ 64 }
     ensures { IfOk result (λ sums. sums ≡ sums_by_token (all_entries books.now)) }
 {
-    match rising_counts(alloc, books)? {
+    match increasing_counts(alloc, books)? {
         Some(list) => Ok(TokenSums::of_counts(list)),
         None => Ok(TokenSums::of_totals(added_by_token(alloc, books)?)),
     }

@@ -433,9 +433,9 @@ lacks_claims home k held me word slot p c less = lt_of_not-le (λ whole. absurd 
     omega arith))
 
 -- the same, of a pass as contracts saw it before
-pub full_told : (home there : TableId) (old : PassView) (a b : Seat) → knows home a ≡ old
+pub full_reported : (home there : TableId) (old : PassView) (a b : Seat) → knows home a ≡ old
     → there ≡ home → FindsFull a b → HasSeenMore old (knows there b) × IsFull (knows there b)
-full_told home there old a b is same f =
+full_reported home there old a b is same f =
     let P : TableId → PassView → Type 0 = λ h k. HasSeenMore k (knows h b) × IsFull (knows h b) in
     subst (λ k. P there k) is
     (subst (λ h. P h (knows home a)) (sym same)
@@ -444,12 +444,12 @@ full_told home there old a b is same f =
 pub full_pass_is : (held : ℕ) (a b : Seat) → IsPass held a → FindsFull a b → IsPass held b
 full_pass_is held a b p f = pass_goes_on held a b p f.goes_on (omega (arith, f.count))
 
-pub visit_told : (home there : TableId) (old : PassView) (a b c : Seat) (number : ℕ) (book : Book)
+pub visit_reported : (home there : TableId) (old : PassView) (a b c : Seat) (number : ℕ) (book : Book)
     (visit : List Entry) → knows home a ≡ old → there ≡ home → HasBookOut a b number book
     → c ≡ gave_back b visit
     → IsLegal b.0.opened.book.value.table (history_of_visits (visits_of b.0.marks ++ visit ∷ []))
     → Visits old (knows there c) number visit
-visit_told home there old a b c number book visit is same h e legal =
+visit_reported home there old a b c number book visit is same h e legal =
     subst (λ k. Visits k (knows there c) number visit) is
     (subst (λ x. Visits (knows home a) (knows x c) number visit) (sym same)
     (visits_made home a b c number book visit h e legal))

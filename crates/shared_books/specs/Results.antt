@@ -22,7 +22,7 @@ pub record IsOpenedAs (first : ℕ) (handed : Book) (o : SharedBookView) : Type 
 pub record MakesVisit (run : ShardRun) (old new : PassView) (replies replied : RepliesView)
     (v : Visit) : Type 0 where
   pub visit : List Entry
-  pub stands : Visits old new v.number visit
+  pub holds : Visits old new v.number visit
   pub of_run : IsVisit (run_taps run) v.how visit
   pub items : replied.items ≡ replies.items ++ map reply_of visit
   pub spare : replied.spare + length visit ≡ replies.spare

@@ -14,7 +14,7 @@ use Rattle.tap_views.specs.declared.encoder.TapFields.{TapFields}
 use Rattle.tap_views.specs.UploadEnds.{ArePlainEnds, are_posted}
 use Rattle.tap_views.specs.declared.upload_end.UploadEnd.TheVariants.{Posted}
 use Rattle.sorted_taps.specs.Checked.{AreCountedFiles}
-use Rattle.sorted_taps.specs.Merges.{AreAtEnd, AreBegun, AreSortedFiles, AreTaken}
+use Rattle.sorted_taps.specs.Merges.{AreAtEnd, AreStarted, AreSortedFiles, AreTaken}
 use Rattle.sorted_taps.specs.declared.reader.TapReader.{TapReader}
 use Rattle.sorted_taps.proofs.Taking.{taken_merged}
 use Rattle.sorted_taps.specs.declared.fault.SortedFault.{SortedFault}
@@ -110,11 +110,11 @@ too_many files numbers counted many =
     }
 
 -- the numbers of taps that the readers have passed at the ends of the files
-pub passed_counts : (files : List (List ℕ)) (begun end : List TapReader) (taps : List TapFields)
-    (numbers : List ℕ) → AreBegun files begun → AreTaken files begun taps end → AreAtEnd end
+pub passed_counts : (files : List (List ℕ)) (started end : List TapReader) (taps : List TapFields)
+    (numbers : List ℕ) → AreStarted files started → AreTaken files started taps end → AreAtEnd end
     → numbers ≡ map (λ (reader : TapReader). reader.passed) end → AreCountedFiles files numbers
-passed_counts files begun end taps numbers is taken at_end are =
-    let merged = taken_merged files begun end taps is taken at_end in
+passed_counts files started end taps numbers is taken at_end are =
+    let merged = taken_merged files started end taps is taken at_end in
     record {
       lists = merged.lists;
       sorted = merged.sorted;

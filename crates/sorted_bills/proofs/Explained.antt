@@ -13,34 +13,34 @@ use Rattle.tap_views.specs.declared.token.Token.{Token}
 use Rattle.tap_views.proofs.TokenLemmas.{same_token}
 use Rattle.histories.specs.declared.entry.Entry.{Entry}
 use Rattle.fare_texts.specs.declared.explainer.Explainer.{Explainer}
-use Rattle.fare_texts.specs.Lines.{AreLinesAlong, HasCome}
+use Rattle.fare_texts.specs.Lines.{AreLinesAlong, HasConsumed}
 use Rattle.tap_views.specs.TokenOrder.{IsUpTo}
 use Rattle.fare_texts.specs.WrittenOut.{Begins, GoesOut}
 use Rattle.fare_texts.proofs.Beginnings.{goes_begins, goes_nothing, goes_on, goes_then}
 use Rattle.fare_texts.proofs.PieceWriting.{along_append}
-use Rattle.fare_texts.proofs.Rising.{none_below, up_weaker}
+use Rattle.fare_texts.proofs.Increasing.{none_below, up_weaker}
 use Rattle.tap_views.proofs.TokensUp.{up_chain, up_itself}
 use Rattle.settlement.specs.Posted.{HasName, posted_after, token_of_tap}
 use Rattle.settlement.proofs.Concats.{posted_append}
-use Rattle.settled_texts.specs.ExplainedTaps.{NoTapFallsFrom, last_token}
+use Rattle.settled_texts.specs.ExplainedTaps.{TapsNondecreasingFrom, last_token}
 use Rattle.settled_texts.proofs.TapsExplained.{last_append, none_reported, reported_append}
-use Rattle.sorted_taps.specs.Spans.{HaveCome}
+use Rattle.sorted_taps.specs.Spans.{HaveConsumed}
 use Rattle.sorted_taps.specs.declared.merge.Merge.{Merge}
 use Rattle.sorted_taps.specs.declared.reader.TapReader.{TapReader}
 use Rattle.sorted_taps.specs.declared.span.Span.{Span}
-use Rattle.sorted_taps.proofs.Spans.{stand_alone}
+use Rattle.sorted_taps.proofs.Spans.{are_self_aligned}
 use Rattle.sorted_bills.specs.declared.range.Range.{Range}
 use Rattle.sorted_bills.specs.inside.Following.{DoesFollow}
-use Rattle.sorted_bills.specs.inside.Ranges.{AreLinesAnywhere, AreLinesFrom, IsBehind, IsRange}
-use Rattle.sorted_bills.specs.inside.Explained.{AreExplainedSoFar, IsBegunSoFar}
+use Rattle.sorted_bills.specs.inside.Ranges.{AreLinesAnywhere, AreLinesFrom, IsAfter, IsRange}
+use Rattle.sorted_bills.specs.inside.Explained.{AreExplainedSoFar, IsStartedSoFar}
 use Rattle.sorted_bills.proofs.Parts.{less_is_up}
-use Rattle.sorted_bills.proofs.Takings.{fall_both}
+use Rattle.sorted_bills.proofs.Takings.{nondecreasing_both}
 
 -- taps that do not fall from a token do not fall from a lower one
-pub fall_lower : (low high : Token) (taps : List TapFields) → IsUpTo low high
-    → NoTapFallsFrom high taps → NoTapFallsFrom low taps
-fall_lower low high [] up no_fall = tt
-fall_lower low high (tap ∷ taps) up (first, rest) =
+pub nondecreasing_lower : (low high : Token) (taps : List TapFields) → IsUpTo low high
+    → TapsNondecreasingFrom high taps → TapsNondecreasingFrom low taps
+nondecreasing_lower low high [] up nondecreasing = tt
+nondecreasing_lower low high (tap ∷ taps) up (first, rest) =
     (up_chain low high (token_of_tap tap) up first, rest)
 
 -- the token of the last tap does not fall if the token before them rises
@@ -59,18 +59,18 @@ below_apart a b above = by (token_eq a b) refl
         (above (subst (λ (t : Token). IsUpTo t a) (same_token a b is) (up_itself a)))
 
 -- no tap is explained
-pub explained_begun : (fares : Fares) (known : List (Option (List ℕ))) (earlier : List Entry)
+pub explained_started : (fares : Fares) (known : List (Option (List ℕ))) (earlier : List Entry)
     (readers : List TapReader) (explainer : Explainer) (bytes : Option (List ℕ)) (waits : List ℕ)
-    → HasCome fares explainer earlier
+    → HasConsumed fares explainer earlier
     → AreExplainedSoFar fares known earlier readers explainer.token bytes waits readers explainer
     bytes waits
-explained_begun fares known earlier readers explainer bytes waits come = record {
+explained_started fares known earlier readers explainer bytes waits consumed = record {
   taps = [];
-  come = λ files are. record { to = readers; taken = refl; stand = stand_alone readers };
+  consumed = λ files are. record { to = readers; taken = refl; aligned = are_self_aligned readers };
   named = All-nil HasName;
-  no_fall = tt;
+  nondecreasing = tt;
   lines = [];
-  explained = none_reported fares earlier explainer come;
+  explained = none_reported fares earlier explainer consumed;
   gone = goes_nothing bytes waits;
   up = up_itself explainer.token;
 }
@@ -83,31 +83,31 @@ all_out old first new lines none empty is =
     ∙ ap (λ (bytes : List ℕ). bytes ++ lines) empty
 
 module _ (fares : Fares) (known : List (Option (List ℕ))) (earlier : List Entry)
-    (begun : List TapReader) (from : Token) (start : Option (List ℕ)) (waited : List ℕ) where
+    (started : List TapReader) (from : Token) (start : Option (List ℕ)) (waited : List ℕ) where
   -- more taps, from a token on that the explainer's is not above
   pub reported_more : (readers next : List TapReader) (explainer then : Explainer)
       (bytes more : Option (List ℕ)) (waits left : List ℕ)
-      (so_far : AreExplainedSoFar fares known earlier begun from start waited readers explainer
+      (so_far : AreExplainedSoFar fares known earlier started from start waited readers explainer
       bytes
       waits)
       (first : Token) (taps : List TapFields) (lines : List ℕ)
       → ((files : List (List ℕ)) → known ≡ map Some files
-      → HaveCome files begun (so_far.taps ++ taps) next)
+      → HaveConsumed files started (so_far.taps ++ taps) next)
       → IsUpTo explainer.token first
       → AreLinesFrom fares (earlier ++ posted_after fares earlier so_far.taps) first taps then lines
       → GoesOut bytes waits more left lines
-      → AreExplainedSoFar fares known earlier begun from start waited next then more left
-  reported_more readers next explainer then bytes more waits left so_far first taps lines come above
+      → AreExplainedSoFar fares known earlier started from start waited next then more left
+  reported_more readers next explainer then bytes more waits left so_far first taps lines consumed above
       are gone
       =
       let here : IsUpTo (last_token from so_far.taps) first =
       up_chain (last_token from so_far.taps) explainer.token first so_far.up above in
       record {
         taps = so_far.taps ++ taps;
-        come = come;
+        consumed = consumed;
         named = All-append HasName so_far.taps taps so_far.named are.named;
-        no_fall = fall_both from so_far.taps taps so_far.no_fall
-            (fall_lower (last_token from so_far.taps) first taps here are.no_fall);
+        nondecreasing = nondecreasing_both from so_far.taps taps so_far.nondecreasing
+            (nondecreasing_lower (last_token from so_far.taps) first taps here are.nondecreasing);
         lines = so_far.lines ++ lines;
         explained = reported_append fares earlier so_far.taps taps explainer then so_far.lines lines
             so_far.explained
@@ -123,20 +123,20 @@ module _ (fares : Fares) (known : List (Option (List ℕ))) (earlier : List Entr
   pub reported_still : (readers next : List TapReader) (explainer : Explainer)
       (bytes : Option (List ℕ))
       (waits : List ℕ) (taps : List TapFields)
-      (so_far : AreExplainedSoFar fares known earlier begun from start waited readers explainer
+      (so_far : AreExplainedSoFar fares known earlier started from start waited readers explainer
       bytes
       waits)
       → taps ≡ []
       → ((files : List (List ℕ)) → known ≡ map Some files
-      → HaveCome files begun (so_far.taps ++ taps) next)
-      → AreExplainedSoFar fares known earlier begun from start waited next explainer bytes waits
-  reported_still readers next explainer bytes waits taps so_far none come = record {
+      → HaveConsumed files started (so_far.taps ++ taps) next)
+      → AreExplainedSoFar fares known earlier started from start waited next explainer bytes waits
+  reported_still readers next explainer bytes waits taps so_far none consumed = record {
     taps = so_far.taps;
-    come = λ files are. subst (λ (ts : List TapFields). HaveCome files begun ts next)
+    consumed = λ files are. subst (λ (ts : List TapFields). HaveConsumed files started ts next)
         (ap (λ (ts : List TapFields). so_far.taps ++ ts) none ∙ append-nil so_far.taps)
-        (come files are);
+        (consumed files are);
     named = so_far.named;
-    no_fall = so_far.no_fall;
+    nondecreasing = so_far.nondecreasing;
     lines = so_far.lines;
     explained = so_far.explained;
     gone = so_far.gone;
@@ -146,29 +146,29 @@ module _ (fares : Fares) (known : List (Option (List ℕ))) (earlier : List Entr
   -- the taps of a range, and what was written behind them
   range_taps : (readers : List TapReader) (explainer : Explainer) (bytes : Option (List ℕ))
       (waits : List ℕ)
-      (so_far : AreExplainedSoFar fares known earlier begun from start waited readers explainer
+      (so_far : AreExplainedSoFar fares known earlier started from start waited readers explainer
       bytes
       waits) (left : ℕ) (range : Range) (next : Merge)
       → DoesFollow fares known readers explainer.token left range next
       → IsUpTo explainer.token range.first
       × ((taps : List TapFields)
       × ((files : List (List ℕ)) → known ≡ map Some files
-      → HaveCome files begun (so_far.taps ++ taps) next.readers.items)
+      → HaveConsumed files started (so_far.taps ++ taps) next.readers.items)
       × AreLinesFrom fares (earlier ++ posted_after fares earlier so_far.taps) range.first taps
       range.explainer range.lines.items)
   range_taps readers explainer bytes waits so_far left range next follows =
       let entries = earlier ++ posted_after fares earlier so_far.taps in
       let up = less_is_up explainer.token range.first follows.above in
-      let come = so_far.explained.come.up in
+      let consumed = so_far.explained.consumed.up in
       let made = follows.lines entries
-      (none_below entries explainer.token range.first come up
+      (none_below entries explainer.token range.first consumed up
       (below_apart explainer.token range.first
       (λ up. false≢true (sym up ∙ ap is_lt follows.above))))
-      (up_weaker entries explainer.token range.first come up) in (
+      (up_weaker entries explainer.token range.first consumed up) in (
         up,
         (
           made.taps,
-          λ files are. follows.behind files begun so_far.taps made.taps (so_far.come files are)
+          λ files are. follows.trailing files started so_far.taps made.taps (so_far.consumed files are)
               (made.spanned files are),
           made.lines_are,
         ),
@@ -177,32 +177,32 @@ module _ (fares : Fares) (known : List (Option (List ℕ))) (earlier : List Entr
   -- the taps of a range
   pub reported_range : (readers : List TapReader) (explainer : Explainer)
       (bytes more : Option (List ℕ)) (waits after : List ℕ)
-      (so_far : AreExplainedSoFar fares known earlier begun from start waited readers explainer
+      (so_far : AreExplainedSoFar fares known earlier started from start waited readers explainer
       bytes
       waits)
       (left : ℕ) (range : Range) (next : Merge)
       → DoesFollow fares known readers explainer.token left range next
       → GoesOut bytes waits more after range.lines.items
-      → AreExplainedSoFar fares known earlier begun from start waited next.readers.items
+      → AreExplainedSoFar fares known earlier started from start waited next.readers.items
       range.explainer more after
   reported_range readers explainer bytes more waits after so_far left range next follows gone =
-      let (up, (taps, come, lines_are)) =
+      let (up, (taps, consumed, lines_are)) =
       range_taps readers explainer bytes waits so_far left range next follows in
       reported_more readers next.readers.items explainer range.explainer bytes more waits after
       so_far
-      range.first taps range.lines.items come up lines_are gone
+      range.first taps range.lines.items consumed up lines_are gone
 
   -- ---- a beginning
   -- what was written is a beginning of the lines of the taps that were taken
-  pub begun_still : (readers : List TapReader) (explainer : Explainer) (bytes : Option (List ℕ))
+  pub started_still : (readers : List TapReader) (explainer : Explainer) (bytes : Option (List ℕ))
       (waits : List ℕ)
-      → AreExplainedSoFar fares known earlier begun from start waited readers explainer bytes waits
-      → IsBegunSoFar fares known earlier begun from start waited bytes
-  begun_still readers explainer bytes waits so_far = record {
+      → AreExplainedSoFar fares known earlier started from start waited readers explainer bytes waits
+      → IsStartedSoFar fares known earlier started from start waited bytes
+  started_still readers explainer bytes waits so_far = record {
     taps = so_far.taps;
-    come = λ files are. (readers, so_far.come files are);
+    consumed = λ files are. (readers, so_far.consumed files are);
     named = so_far.named;
-    no_fall = so_far.no_fall;
+    nondecreasing = so_far.nondecreasing;
     lines = so_far.lines;
     are = so_far.explained.are;
     written = record {
@@ -214,45 +214,45 @@ module _ (fares : Fares) (known : List (Option (List ℕ))) (earlier : List Entr
   }
 
   -- a beginning of what waits goes out, too
-  pub begun_waiting : (readers : List TapReader) (explainer : Explainer)
+  pub started_waiting : (readers : List TapReader) (explainer : Explainer)
       (bytes more : Option (List ℕ)) (waits : List ℕ)
-      → AreExplainedSoFar fares known earlier begun from start waited readers explainer bytes waits
-      → Begins bytes more waits → IsBegunSoFar fares known earlier begun from start waited more
-  begun_waiting readers explainer bytes more waits so_far then = record {
+      → AreExplainedSoFar fares known earlier started from start waited readers explainer bytes waits
+      → Begins bytes more waits → IsStartedSoFar fares known earlier started from start waited more
+  started_waiting readers explainer bytes more waits so_far then = record {
     taps = so_far.taps;
-    come = λ files are. (readers, so_far.come files are);
+    consumed = λ files are. (readers, so_far.consumed files are);
     named = so_far.named;
-    no_fall = so_far.no_fall;
+    nondecreasing = so_far.nondecreasing;
     lines = so_far.lines;
     are = so_far.explained.are;
     written = goes_then start bytes more waited waits so_far.lines so_far.gone then;
   }
 
   -- and of the lines of more taps
-  pub begun_more : (readers next : List TapReader) (explainer : Explainer)
+  pub started_more : (readers next : List TapReader) (explainer : Explainer)
       (bytes more : Option (List ℕ)) (waits : List ℕ)
-      (so_far : AreExplainedSoFar fares known earlier begun from start waited readers explainer
+      (so_far : AreExplainedSoFar fares known earlier started from start waited readers explainer
       bytes
       waits) (first : Token) (taps : List TapFields) (lines : List ℕ)
       → ((files : List (List ℕ)) → known ≡ map Some files
-      → HaveCome files begun (so_far.taps ++ taps) next)
-      → IsUpTo explainer.token first → All HasName taps → NoTapFallsFrom first taps
+      → HaveConsumed files started (so_far.taps ++ taps) next)
+      → IsUpTo explainer.token first → All HasName taps → TapsNondecreasingFrom first taps
       → AreLinesAlong fares (earlier ++ posted_after fares earlier so_far.taps)
       (posted_after fares (earlier ++ posted_after fares earlier so_far.taps) taps) lines
       → Begins bytes more (waits ++ lines)
-      → IsBegunSoFar fares known earlier begun from start waited more
-  begun_more readers next explainer bytes more waits so_far first taps lines come above named
-      no_fall along then
+      → IsStartedSoFar fares known earlier started from start waited more
+  started_more readers next explainer bytes more waits so_far first taps lines consumed above named
+      nondecreasing along then
       =
       let here : IsUpTo (last_token from so_far.taps) first =
       up_chain (last_token from so_far.taps) explainer.token first so_far.up above in
       let entries = posted_after fares earlier so_far.taps in
       record {
         taps = so_far.taps ++ taps;
-        come = λ files are. (next, come files are);
+        consumed = λ files are. (next, consumed files are);
         named = All-append HasName so_far.taps taps so_far.named named;
-        no_fall = fall_both from so_far.taps taps so_far.no_fall
-            (fall_lower (last_token from so_far.taps) first taps here no_fall);
+        nondecreasing = nondecreasing_both from so_far.taps taps so_far.nondecreasing
+            (nondecreasing_lower (last_token from so_far.taps) first taps here nondecreasing);
         lines = so_far.lines ++ lines;
         are = subst (λ (es : List Entry). AreLinesAlong fares earlier es (so_far.lines ++ lines))
             (sym (posted_append fares earlier so_far.taps taps))
@@ -262,26 +262,26 @@ module _ (fares : Fares) (known : List (Option (List ℕ))) (earlier : List Entr
       }
 
   -- and of the lines of a range
-  pub begun_range : (readers : List TapReader) (explainer : Explainer)
+  pub started_range : (readers : List TapReader) (explainer : Explainer)
       (bytes more : Option (List ℕ)) (waits : List ℕ)
-      (so_far : AreExplainedSoFar fares known earlier begun from start waited readers explainer
+      (so_far : AreExplainedSoFar fares known earlier started from start waited readers explainer
       bytes
       waits) (left : ℕ) (range : Range) (next : Merge)
       → DoesFollow fares known readers explainer.token left range next
       → Begins bytes more (waits ++ range.lines.items)
-      → IsBegunSoFar fares known earlier begun from start waited more
-  begun_range readers explainer bytes more waits so_far left range next follows then =
-      let (up, (taps, come, lines_are)) =
+      → IsStartedSoFar fares known earlier started from start waited more
+  started_range readers explainer bytes more waits so_far left range next follows then =
+      let (up, (taps, consumed, lines_are)) =
       range_taps readers explainer bytes waits so_far left range next follows in
-      begun_more readers next.readers.items explainer bytes more waits so_far range.first taps
-      range.lines.items come up lines_are.named lines_are.no_fall lines_are.explained.are then
+      started_more readers next.readers.items explainer bytes more waits so_far range.first taps
+      range.lines.items consumed up lines_are.named lines_are.nondecreasing lines_are.explained.are then
 
 -- a range that was made and is found to come next
 pub range_follows : (fares : Fares) (known : List (Option (List ℕ))) (readers : List TapReader)
     (token : Token) (left : ℕ) (range : Range) (span : Span) (next : Merge) → range.span ≡ Some span
-    → token_cmp token range.first ≡ Less → range.number ≤ left → IsBehind readers span next
+    → token_cmp token range.first ≡ Less → range.number ≤ left → IsAfter readers span next
     → IsRange fares known range → DoesFollow fares known readers token left range next
-range_follows fares known readers token left range span next is above fits behind range_is =
+range_follows fares known readers token left range span next is above fits trailing range_is =
     let (few, lines) = subst (λ (made : Option Span). IfSome made (λ s.
     (range.explainer.number ≤ range.number)
     × AreLinesAnywhere fares known range.first s range.explainer range.lines.items)) is range_is in
@@ -291,7 +291,7 @@ range_follows fares known readers token left range span next is above fits behin
       fits = fits;
       few = few;
       lines = lines;
-      behind = behind;
+      trailing = trailing;
     }
 
 -- ranges that were not made

@@ -28,15 +28,15 @@ use Rattle.settlement.proofs.Ranges.{posted_below, posted_each, to_taps}
 use Rattle.settlement.proofs.TokenRuns.{tokens_posted}
 use Rattle.sorted_taps.specs.Merged.{IsNotBefore}
 use Rattle.sorted_taps.specs.Merges.{AreSortedFiles}
-use Rattle.sorted_taps.specs.Places.{AreSpanned, AreWhole, DoJoin, IsLeftBehind, first_place}
+use Rattle.sorted_taps.specs.Positions.{AreSpanned, AreWhole, DoJoin, IsLeftAfter, first_position}
 use Rattle.sorted_taps.specs.Reading.{AreTapsBetween}
 use Rattle.sorted_taps.specs.Sorted.{IsSortedFile}
-use Rattle.sorted_taps.specs.declared.places.FileSpan.{FileSpan}
-use Rattle.sorted_taps.specs.declared.places.Place.{Place}
+use Rattle.sorted_taps.specs.declared.positions.FileSpan.{FileSpan}
+use Rattle.sorted_taps.specs.declared.positions.Position.{Position}
 use Rattle.sorted_taps.proofs.Joining.{inner_swap, sorted_across}
 use Rattle.sorted_taps.proofs.Placing.{sorted_glue}
 use Rattle.sorted_taps.proofs.Standing.{whole_file}
-use Rattle.sorted_bills.specs.Parts.{ArePartsOf, DoRise, IsPartOf, PartView, added}
+use Rattle.sorted_bills.specs.Parts.{ArePartsOf, AreIncreasing, IsPartOf, PartView, added}
 use Rattle.sorted_bills.specs.Parts.{numbers_of_parts}
 use Rattle.sorted_bills.proofs.Counted.{plain_ends}
 use Rattle.sorted_bills.proofs.Settled.{settled_list}
@@ -88,27 +88,27 @@ all_nothing [] = refl
 all_nothing (file ∷ files) = all_nothing files
 
 -- these taps lie behind the ends, and are in order
-abbrev AreLeft : List (List ℕ) → List (Option Place) → List (List TapFields) → Type 0
+abbrev AreLeft : List (List ℕ) → List (Option Position) → List (List TapFields) → Type 0
 AreLeft [] [] [] = Unit {0}
 AreLeft (file ∷ files) (end ∷ ends) (list ∷ lists) =
-    IsLeftBehind file end list × IsSorted tap_cmp list × AreLeft files ends lists
+    IsLeftAfter file end list × IsSorted tap_cmp list × AreLeft files ends lists
 AreLeft _ _ _ = ⊥
 
-nothing_left : (files : List (List ℕ)) (ends : List (Option Place)) → length ends ≡ length files
+nothing_left : (files : List (List ℕ)) (ends : List (Option Position)) → length ends ≡ length files
     → All (λ end. end ≡ None) ends → AreLeft files ends (nothing files)
 nothing_left [] [] number none = tt
 nothing_left [] (end ∷ ends) number none = absurd (omega (arith, number))
 nothing_left (file ∷ files) [] number none = absurd (omega (arith, number))
 nothing_left (file ∷ files) (end ∷ ends) number none = (
-  subst (λ e. IsLeftBehind file e []) (sym (All-head (λ e. e ≡ None) end ends none)) refl,
+  subst (λ e. IsLeftAfter file e []) (sym (All-head (λ e. e ≡ None) end ends none)) refl,
   λ k d low high. absurd (omega (arith, high)),
   nothing_left files ends (omega (arith, number)) (All-tail (λ e. e ≡ None) end ends none),
 )
 
-abbrev ends_of : List FileSpan → List (Option Place)
+abbrev ends_of : List FileSpan → List (Option Position)
 ends_of spans = map (λ (span : FileSpan). span.to) spans
 
-abbrev begins_of : List FileSpan → List (Option Place)
+abbrev begins_of : List FileSpan → List (Option Position)
 begins_of spans = map (λ (span : FileSpan). Some span.from) spans
 
 joined_left : (files : List (List ℕ)) (spans : List FileSpan) (lists others : List (List TapFields))
@@ -148,7 +148,7 @@ abbrev IsPart : Fares → List (List ℕ) → PartView → Type 0
 IsPart fares files part = IsPartOf fares files part.spans part.lists part.history
 
 -- what the files have in the parts lies behind where these begin
-parts_left : (fares : Fares) (files : List (List ℕ)) (ends : List (Option Place))
+parts_left : (fares : Fares) (files : List (List ℕ)) (ends : List (Option Position))
     (parts : List PartView) → length ends ≡ length files → ArePartsOf fares files parts
     → DoJoin ends (map (λ (part : PartView). part.spans) parts)
     → AreLeft files ends (rests files parts)
@@ -162,10 +162,10 @@ parts_left fares files ends (part ∷ parts) number are (begin, join) =
     (All-tail (IsPart fares files) part parts are) join))
 
 -- ---- from the files' begins
-abbrev at_begin : List FileSpan → List (Option Place)
-at_begin spans = map (λ (span : FileSpan). Some first_place) spans
+abbrev at_begin : List FileSpan → List (Option Position)
+at_begin spans = map (λ (span : FileSpan). Some first_position) spans
 
-left_file : (file : List ℕ) (list : List TapFields) → IsLeftBehind file (Some first_place) list
+left_file : (file : List ℕ) (list : List TapFields) → IsLeftAfter file (Some first_position) list
     → IsSorted tap_cmp list → IsSortedFile file list
 left_file file list left sorted = record {
   read = whole_file file (length file) list
@@ -300,9 +300,9 @@ all_histories [] = refl
 all_histories (part ∷ parts) = ap (λ es. part.history ++ es) (all_histories parts)
 
 all_taps : (fares : Fares) (files : List (List ℕ)) (parts : List PartView)
-    → ArePartsOf fares files parts → DoRise (map (λ (part : PartView). part.history) parts)
+    → ArePartsOf fares files parts → AreIncreasing (map (λ (part : PartView). part.history) parts)
     → AreAllTaps fares files parts
-all_taps fares files [] are rise = record {
+all_taps fares files [] are increase = record {
   taps = [];
   canonical = record {
     moved = subst (λ l. IsPermutation l []) (sym (all_nothing files)) (IsPermutation-refl []);
@@ -311,9 +311,9 @@ all_taps fares files [] are rise = record {
   named = All-nil HasName;
   are = sym (posted_each fares [] tt);
 }
-all_taps fares files (part ∷ parts) are (below, rise) =
+all_taps fares files (part ∷ parts) are (below, increase) =
     let first = All-head (IsPart fares files) part parts are in
-    let more = all_taps fares files parts (All-tail (IsPart fares files) part parts are) rise in
+    let more = all_taps fares files parts (All-tail (IsPart fares files) part parts are) increase in
     let taps = first.taps in
     let tokens : map token_of part.history ≡ map token_of_tap taps =
     ap (map token_of) first.posted_are ∙ tokens_posted fares [] taps in
@@ -351,9 +351,9 @@ pub record AreSettledParts (fares : Fares) (files : List (List ℕ)) (parts : Li
 
 pub settled_parts : (fares : Fares) (files : List (List ℕ)) (parts : List PartView)
     → ArePartsOf fares files parts → AreWhole (map (λ (part : PartView). part.spans) parts)
-    → DoRise (map (λ (part : PartView). part.history) parts) → AreSettledParts fares files parts
-settled_parts fares files parts are whole rise =
-    let all = all_taps fares files parts are rise in
+    → AreIncreasing (map (λ (part : PartView). part.history) parts) → AreSettledParts fares files parts
+settled_parts fares files parts are whole increase =
+    let all = all_taps fares files parts are increase in
     record {
       taps = all.taps;
       settled = settled_list files (rests files parts) all.taps

@@ -1,6 +1,6 @@
 pub mod Counted
 mod JoinedParts
-pub mod LedgerBegun
+pub mod LedgerStarted
 pub mod OpenBills
 pub mod OwnTaps
 mod Parts

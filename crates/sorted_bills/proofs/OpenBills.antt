@@ -168,7 +168,7 @@ pub gone_on : (fares : Fares) (taps : List TapFields) (old new : OpenBill)
     → HasPosted fares new.replay [] → sums_of_tally new.tally ≡ sums_of_replies []
     → new.has_taps ≡ false → IsOpenBill fares taps new
 unfolding posted_after
-gone_on fares taps old new is billed up apart stands tally none = record {
+gone_on fares taps old new is billed up apart holds tally none = record {
   lower = taps;
   last = [];
   both = sym (append-nil taps);
@@ -176,7 +176,7 @@ gone_on fares taps old new is billed up apart stands tally none = record {
       (sym is.both) (all_below fares old.replay.token is.lower is.last is.below is.its
       new.replay.token up apart);
   its = All-nil (λ (tap : TapFields). token_of_tap tap ≡ new.replay.token);
-  stands = stands;
+  holds = holds;
   tally = tally;
   some = λ some. absurd (let wrong : false ≡ true = sym none ∙ some in cc);
   none = λ _. refl;
@@ -198,7 +198,7 @@ pub one_more : (fares : Fares) (taps : List TapFields) (old new : OpenBill) (tap
     → AreByKey ◌==◌ validator_of ((posted fares is.lower ++ posted fares is.last) ++ entry ∷ [])
     new.bill.validators
     → IsOpenBill fares (taps ++ tap ∷ []) new
-one_more fares taps old new tap entry is its same answer stands tally some tokens totals
+one_more fares taps old new tap entry is its same answer holds tally some tokens totals
     validators =
     let P : TapFields → Type 0 = λ (t : TapFields). token_of_tap t ≡ new.replay.token in
     let done = posted fares is.last in
@@ -216,7 +216,7 @@ one_more fares taps old new tap entry is its same answer stands tally some token
           (subst (λ (t : Token). All (λ (x : TapFields). token_of_tap x ≡ t) is.last) (sym same)
           is.its)
           (All-cons P tap [] (its ∙ sym same) (All-nil P));
-      stands = subst (λ (es : List Entry). HasPosted fares new.replay es) (sym next) stands;
+      holds = subst (λ (es : List Entry). HasPosted fares new.replay es) (sym next) holds;
       tally = tally
           ∙ ap (λ (s : Sums). add_sums s (sums_of_replies (reply_of entry ∷ []))) is.tally
           ∙ sym (sums-append done (entry ∷ []))

@@ -19,11 +19,11 @@ use Rattle.settlement.specs.Posted.{HasName, only, token_of_tap}
 use Rattle.settlement.specs.SettledTaps.{AreSettledTapsOf}
 use Rattle.settlement.proofs.Ranges.{has_token_bytes}
 use Rattle.settlement.proofs.SettledOrders.{own_settled}
-use Rattle.sorted_taps.specs.Readers.{ahead, IsAdvanced, StandsIn}
+use Rattle.sorted_taps.specs.Readers.{ahead, IsAdvanced, IsPositionedIn}
 use Rattle.sorted_taps.specs.declared.reader.TapReader.{TapReader}
 use Rattle.sorted_taps.proofs.Checking.{AreCounted, counted_more, counted_none}
 use Rattle.sorted_taps.proofs.Files.{known_number}
-use Rattle.sorted_taps.proofs.Standing.{sorted_at_end, stands_on}
+use Rattle.sorted_taps.proofs.Standing.{sorted_at_end, holds_on}
 use Rattle.sorted_bills.specs.inside.OwnTaps.{AreOwnAdded, AreOwnOf, AreSound, IsOwnPushed}
 use Rattle.sorted_bills.proofs.Counted.{counted_ends}
 use Rattle.sorted_bills.proofs.Settled.{file_taps}
@@ -68,15 +68,15 @@ is_own token tap old new same named early more =
 pub record IsOwnRead (token : Token) (all : List ℕ) (old now : List TapFields) (reader : TapReader)
     : Type 0 where
   pub passed : List TapFields
-  pub stands : StandsIn all 0 passed reader
+  pub holds : IsPositionedIn all 0 passed reader
   pub named : All HasName passed
   pub added : now ≡ old ++ only token passed
 
 pub none_read : (token : Token) (all : List ℕ) (taps : List TapFields) (reader : TapReader)
-    → StandsIn all 0 [] reader → IsOwnRead token all taps taps reader
-none_read token all taps reader stands = record {
+    → IsPositionedIn all 0 [] reader → IsOwnRead token all taps taps reader
+none_read token all taps reader holds = record {
   passed = [];
-  stands = stands;
+  holds = holds;
   named = All-nil HasName;
   added = sym (append-nil taps);
 }
@@ -87,9 +87,9 @@ pub one_read : (token : Token) (all : List ℕ) (old now more : List TapFields) 
     → IsOwnPushed token tap now more)
     → IsAdvanced all was is → IsOwnRead token all old more is
 one_read token all old now more was is read pushed step =
-    let one = pushed step.tap step.behind step.stood in record {
+    let one = pushed step.tap step.trailing step.stood in record {
       passed = read.passed ++ step.tap ∷ [];
-      stands = stands_on all 0 read.passed was is read.stands step;
+      holds = holds_on all 0 read.passed was is read.holds step;
       named = All-append HasName read.passed (step.tap ∷ []) read.named
           (All-cons HasName step.tap [] one.named (All-nil HasName));
       added = one.pushed
@@ -104,10 +104,10 @@ pub whole_read : (token : Token) (all : List ℕ) (old now : List TapFields) (re
     → more ≡ numbers ++ reader.passed ∷ [] → AreOwnAdded token all old now numbers more
 whole_read token all old now reader numbers more read none counted = record {
   list = read.passed;
-  of_file = sorted_at_end all read.passed reader read.stands none;
+  of_file = sorted_at_end all read.passed reader read.holds none;
   named = read.named;
   added = read.added;
-  counted = counted ∙ ap (λ n. numbers ++ n ∷ []) read.stands.number;
+  counted = counted ∙ ap (λ n. numbers ++ n ∷ []) read.holds.number;
 }
 
 -- the token's taps of the first files
@@ -217,11 +217,11 @@ known_there known files k file bytes within is there =
     ∙ ap (option_map known) (slice_get-get_or files k file within ∙ ap Some (sym is))) ∙ there)
 
 -- the token's taps of one file, behind those of others
-pub own_behind : (token : Token) (all : List ℕ) (taps own : List TapFields)
+pub own_after : (token : Token) (all : List ℕ) (taps own : List TapFields)
     (numbers counts : List ℕ)
     → AreOwnAdded token all [] own [] counts
     → AreOwnAdded token all taps (taps ++ own) numbers (numbers ++ counts)
-own_behind token all taps own numbers counts added = record {
+own_after token all taps own numbers counts added = record {
   list = added.list;
   of_file = added.of_file;
   named = added.named;

@@ -20,7 +20,7 @@ use Rattle.tap_views.specs.TokenOrder.{AreBelow}
 use Rattle.settlement.specs.inside.Billing.{HaveBillRoom}
 use Rattle.settlement.proofs.Ranges.{posted_below}
 use Rattle.settlement.proofs.TokenRuns.{less_up, posted_length, tokens_posted, up_less}
-use Rattle.settled_texts.specs.ExplainedTaps.{NoTapFallsFrom, last_token}
+use Rattle.settled_texts.specs.ExplainedTaps.{TapsNondecreasingFrom, last_token}
 use Rattle.sorted_bills.specs.inside.Charged.{IsPart}
 use Rattle.sorted_bills.specs.declared.part.Part.{Part}
 
@@ -31,14 +31,14 @@ abbrev pub UpTo : Token → TapFields → Type 0
 UpTo last tap = IsUpTo (token_of_tap tap) last
 
 -- taps that do not fall from a token lie between it and the last one
-pub fall_between : (from : Token) (taps : List TapFields) → NoTapFallsFrom from taps
+pub nondecreasing_between : (from : Token) (taps : List TapFields) → TapsNondecreasingFrom from taps
     → All (From from) taps × All (UpTo (last_token from taps)) taps
     × IsUpTo from (last_token from taps)
-fall_between from [] no_fall = (All-nil (From from), All-nil (UpTo from), up_itself from)
-fall_between from (tap ∷ taps) (up, no_fall) =
+nondecreasing_between from [] nondecreasing = (All-nil (From from), All-nil (UpTo from), up_itself from)
+nondecreasing_between from (tap ∷ taps) (up, nondecreasing) =
     let token = token_of_tap tap in
     let last = last_token token taps in
-    let (least, most, end) = fall_between token taps no_fall in (
+    let (least, most, end) = nondecreasing_between token taps nondecreasing in (
       All-cons (From from) tap taps up
           (All-weaker (From token) (From from)
           (λ (t : TapFields) above. up_chain from token (token_of_tap t) up above) taps least),

@@ -17,11 +17,11 @@ use Rattle.tap_views.specs.declared.encoder.TapFields.{TapFields}
 use Rattle.tap_parts.specs.Canonical.{tap_cmp}
 use Rattle.tap_parts.proofs.Total.{tap_cmp_total}
 use Rattle.sorted_taps.specs.Merged.{BeginsNotBefore, IsLeastTaken, IsMerged}
-use Rattle.sorted_taps.specs.Merges.{AreBegun, AreSortedFiles, AreTaken, IsTapTaken}
-use Rattle.sorted_taps.specs.Readers.{IsAdvanced, StandsIn, ahead}
+use Rattle.sorted_taps.specs.Merges.{AreStarted, AreSortedFiles, AreTaken, IsTapTaken}
+use Rattle.sorted_taps.specs.Readers.{IsAdvanced, IsPositionedIn, ahead}
 use Rattle.sorted_taps.specs.Sorted.{IsSortedFile}
 use Rattle.sorted_taps.specs.declared.reader.TapReader.{TapReader}
-use Rattle.sorted_taps.proofs.Behind.{behind_read, none_of_nothing}
+use Rattle.sorted_taps.proofs.After.{after_read, none_of_nothing}
 use Rattle.sorted_taps.proofs.Taking.{same_head}
 
 -- ---- one file
@@ -45,7 +45,7 @@ begins_left : (all : List ℕ) (reader : TapReader) (list : List TapFields) (tap
     → IsLeftOf all reader list → BeginsNotBefore tap (ahead reader) → BeginsNotBefore tap list
 begins_left all reader list tap is from = by_list (ahead reader) refl from
   where
-    by_list : (stands : List TapFields) → ahead reader ≡ stands → BeginsNotBefore tap stands
+    by_list : (holds : List TapFields) → ahead reader ≡ holds → BeginsNotBefore tap holds
         → BeginsNotBefore tap list
     by_list [] e begin =
         subst (λ l. BeginsNotBefore tap l) (sym (none_left all reader list is e)) tt
@@ -55,29 +55,29 @@ begins_left all reader list tap is from = by_list (ahead reader) refl from
 
 -- at the begin of a sorted file all its taps are left
 left_at_begin : (all : List ℕ) (reader : TapReader) (list : List TapFields)
-    → StandsIn all 0 [] reader → IsSortedFile all list → IsLeftOf all reader list
-left_at_begin all reader list stands sorted =
-    let (more, last, joined) = behind_read all 0 reader.offset (ahead reader) sorted.read.batches
-    stands.between sorted.read.is_file in
+    → IsPositionedIn all 0 [] reader → IsSortedFile all list → IsLeftOf all reader list
+left_at_begin all reader list holds sorted =
+    let (more, last, joined) = after_read all 0 reader.offset (ahead reader) sorted.read.batches
+    holds.between sorted.read.is_file in
     record {
       batches = more;
       file = last;
       joined = sym sorted.read.read ∙ joined;
-      end = stands.end;
+      end = holds.end;
     }
 
 -- what is left behind the tap that a reader passes
-left_behind : (all : List ℕ) (old new : TapReader) (step : IsAdvanced all old new)
+left_after : (all : List ℕ) (old new : TapReader) (step : IsAdvanced all old new)
     (list : List TapFields) → IsLeftOf all old list
     → (rest : List TapFields) × (list ≡ step.tap ∷ rest) × IsLeftOf all new rest
-left_behind all old new step list is =
-    let (more, last, joined) = behind_read all old.offset new.offset step.read is.batches
+left_after all old new step list is =
+    let (more, last, joined) = after_read all old.offset new.offset step.read is.batches
     step.between is.file in
     let rest = ahead new ++ map fields_of (taps_of_batches more) in (
       rest,
       is.joined ∙ ap (λ l. l ++ map fields_of (taps_of_batches is.batches)) step.stood
-          ∙ ap (λ l. (step.tap ∷ step.behind) ++ l) joined
-          ∙ ap (λ l. step.tap ∷ l) (sym (append_assoc step.behind step.read
+          ∙ ap (λ l. (step.tap ∷ step.trailing) ++ l) joined
+          ∙ ap (λ l. step.tap ∷ l) (sym (append_assoc step.trailing step.read
           (map fields_of (taps_of_batches more)))
           ∙ ap (λ l. l ++ map fields_of (taps_of_batches more)) (sym step.goes_on)),
       record { batches = more; file = last; joined = refl; end = step.end },
@@ -91,14 +91,14 @@ record AreLeftOf (files : List (List ℕ)) (readers : List TapReader)
   each : (k : ℕ) (d : TapReader) → k < length readers
       → IsLeftOf (get_or files k []) (get_or readers k d) (get_or lists k [])
 
-left_begun : (files : List (List ℕ)) (lists : List (List TapFields)) (begun : List TapReader)
-    → AreSortedFiles files lists → AreBegun files begun → AreLeftOf files begun lists
-left_begun files lists begun sorted is =
+left_started : (files : List (List ℕ)) (lists : List (List TapFields)) (started : List TapReader)
+    → AreSortedFiles files lists → AreStarted files started → AreLeftOf files started lists
+left_started files lists started sorted is =
     let number = sorted.number in
     let count = is.number in
     record {
       number = omega (arith, number, count);
-      each = λ k d inside. left_at_begin (get_or files k []) (get_or begun k d) (get_or lists k [])
+      each = λ k d inside. left_at_begin (get_or files k []) (get_or started k d) (get_or lists k [])
           (is.each k d inside) (sorted.each k (omega (arith, inside, count)));
     }
 
@@ -116,12 +116,12 @@ tap_left files old mid tap taken lists are =
     let was : IsLeftOf file taken.was (get_or lists at []) =
     subst (λ reader. IsLeftOf file reader (get_or lists at [])) there (are.each at taken.was within)
     in
-    let (rest, list, left) = left_behind file taken.was taken.is taken.step (get_or lists at []) was
+    let (rest, list, left) = left_after file taken.was taken.is taken.step (get_or lists at []) was
     in
-    let (others, stands) = taken.least.head taken.was in
+    let (others, holds) = taken.least.head taken.was in
     let the_tap : taken.step.tap ≡ tap =
-    same_head (ahead taken.was) taken.step.tap tap taken.step.behind others taken.step.stood
-    (ap ahead (sym there) ∙ stands) in
+    same_head (ahead taken.was) taken.step.tap tap taken.step.trailing others taken.step.stood
+    (ap ahead (sym there) ∙ holds) in
     let here : get_or lists at [] ≡ tap ∷ rest = list ∙ ap (λ t. t ∷ rest) the_tap in
     let after = set lists at rest in
     let many : length mid ≡ length old =
@@ -319,12 +319,12 @@ merged_exist (suc size) lists is =
     ]
 
 -- taps that were taken of sorted files go on to a merged list of all taps
-pub goes_on : (files : List (List ℕ)) (lists : List (List TapFields)) (begun new : List TapReader)
-    (taps : List TapFields) → AreSortedFiles files lists → AreBegun files begun
-    → AreTaken files begun taps new
+pub goes_on : (files : List (List ℕ)) (lists : List (List TapFields)) (started new : List TapReader)
+    (taps : List TapFields) → AreSortedFiles files lists → AreStarted files started
+    → AreTaken files started taps new
     → (rest : List TapFields) × IsMerged lists (taps ++ rest)
-goes_on files lists begun new taps sorted is taken =
-    let (left, then_merged) = taken_then files taps begun new lists taken
-    (left_begun files lists begun sorted is) in
+goes_on files lists started new taps sorted is taken =
+    let (left, then_merged) = taken_then files taps started new lists taken
+    (left_started files lists started sorted is) in
     let (rest, merged) = merged_exist (size_of left) left refl in
     (rest, then_merged rest merged)

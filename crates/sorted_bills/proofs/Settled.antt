@@ -6,7 +6,7 @@ use Rattle.std.proofs.lemmas.List.{map-append}
 use Rattle.std.proofs.lemmas.List.Elements.{All-map}
 use Rattle.std.proofs.lemmas.List.Sorted.{All-permutation}
 use Rattle.tap_views.specs.Encoding.{fields_of}
-use Rattle.tap_views.specs.Files.{AreGoodTapsOfEach, taps_of_batches}
+use Rattle.tap_views.specs.Files.{AreValidTapsOfEach, taps_of_batches}
 use Rattle.tap_views.specs.Layout.{Tap, moment_limit}
 use Rattle.tap_views.specs.declared.encoder.TapFields.{TapFields}
 use Rattle.tap_parts.specs.Canonical.{IsCanonical}
@@ -19,7 +19,7 @@ use Rattle.sorted_taps.specs.Merges.{AreSortedFiles}
 -- the good taps of sorted files, file by file
 pub record AreFileTaps (files : List (List ℕ)) (lists : List (List TapFields)) : Type 0 where
   pub taps : List (List Tap)
-  pub each : AreGoodTapsOfEach files taps
+  pub each : AreValidTapsOfEach files taps
   pub fields : map fields_of (taps_of_uploads taps) ≡ flat_map (λ list. list) lists
 
 pub file_taps : (files : List (List ℕ)) (lists : List (List TapFields)) → AreSortedFiles files lists
@@ -53,17 +53,17 @@ pub settled_list : (files : List (List ℕ)) (lists : List (List TapFields)) (ta
     → All HasName taps → AreSettledTaps files taps
 settled_list files lists taps sorted canonical named =
     let of = file_taps files lists sorted in
-    let good = taps_of_uploads of.taps in
-    let ordered : IsCanonical (map fields_of good) taps =
+    let valid = taps_of_uploads of.taps in
+    let ordered : IsCanonical (map fields_of valid) taps =
     subst (λ (ts : List TapFields). IsCanonical ts taps) (sym of.fields) canonical in
     record {
       taps = of.taps;
       of_uploads = of.each;
       canonical = ordered;
-      early = All-permutation (λ (tap : TapFields). tap.moment < moment_limit) (map fields_of good)
+      early = All-permutation (λ (tap : TapFields). tap.moment < moment_limit) (map fields_of valid)
           taps
           ordered.moved
-          (All-map (λ (tap : TapFields). tap.moment < moment_limit) fields_of good
+          (All-map (λ (tap : TapFields). tap.moment < moment_limit) fields_of valid
           (uploads_early files of.taps of.each));
       named = named;
     }

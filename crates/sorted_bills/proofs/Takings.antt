@@ -12,7 +12,7 @@ use Rattle.tap_views.specs.declared.token.Token.{Token}
 use Rattle.tap_views.specs.TokenOrder.{IsUpTo}
 use Rattle.settlement.specs.Posted.{HasName, token_of_tap}
 use Rattle.settlement.proofs.TokenRuns.{named_token}
-use Rattle.settled_texts.specs.ExplainedTaps.{NoTapFallsFrom, last_token}
+use Rattle.settled_texts.specs.ExplainedTaps.{TapsNondecreasingFrom, last_token}
 use Rattle.settled_texts.proofs.TapsExplained.{last_append}
 use Rattle.sorted_taps.specs.Merges.{TakesTaps}
 use Rattle.sorted_taps.specs.declared.reader.TapReader.{TapReader}
@@ -41,16 +41,16 @@ both_taken known old mid new xs ys first rest = record {
 }
 
 -- one tap more, which is not below the last token
-pub fall_more : (from : Token) (xs : List TapFields) (tap : TapFields) → NoTapFallsFrom from xs
-    → IsUpTo (last_token from xs) (token_of_tap tap) → NoTapFallsFrom from (xs ++ tap ∷ [])
-fall_more from [] tap no_fall up = (up, tt)
-fall_more from (x ∷ xs) tap (first, no_fall) up =
-    (first, fall_more (token_of_tap x) xs tap no_fall up)
+pub nondecreasing_more : (from : Token) (xs : List TapFields) (tap : TapFields) → TapsNondecreasingFrom from xs
+    → IsUpTo (last_token from xs) (token_of_tap tap) → TapsNondecreasingFrom from (xs ++ tap ∷ [])
+nondecreasing_more from [] tap nondecreasing up = (up, tt)
+nondecreasing_more from (x ∷ xs) tap (first, nondecreasing) up =
+    (first, nondecreasing_more (token_of_tap x) xs tap nondecreasing up)
 
 -- no taps
 pub none_follow : (from : Token) → AreFollowing from [] from
 none_follow from =
-    record { early = All-nil Early; named = All-nil HasName; no_fall = tt; is_last = refl }
+    record { early = All-nil Early; named = All-nil HasName; nondecreasing = tt; is_last = refl }
 
 -- one tap more
 pub one_follows : (from : Token) (taps : List TapFields) (last : Token) (tap : TapFields)
@@ -60,17 +60,17 @@ one_follows from taps last tap token are early named is up = record {
   early = All-append Early taps (tap ∷ []) are.early (All-cons Early tap [] early (All-nil Early));
   named = All-append HasName taps (tap ∷ []) are.named
       (All-cons HasName tap [] named (All-nil HasName));
-  no_fall = fall_more from taps tap are.no_fall
+  nondecreasing = nondecreasing_more from taps tap are.nondecreasing
       (subst (λ (t : Token). IsUpTo (last_token from taps) t) is
       (subst (λ (t : Token). IsUpTo t token) are.is_last up));
   is_last = is ∙ sym (last_append from taps (tap ∷ []));
 }
 
 -- more taps, which do not fall from the last token
-pub fall_both : (from : Token) (xs ys : List TapFields) → NoTapFallsFrom from xs
-    → NoTapFallsFrom (last_token from xs) ys → NoTapFallsFrom from (xs ++ ys)
-fall_both from [] ys first rest = rest
-fall_both from (x ∷ xs) ys (up, first) rest = (up, fall_both (token_of_tap x) xs ys first rest)
+pub nondecreasing_both : (from : Token) (xs ys : List TapFields) → TapsNondecreasingFrom from xs
+    → TapsNondecreasingFrom (last_token from xs) ys → TapsNondecreasingFrom from (xs ++ ys)
+nondecreasing_both from [] ys first rest = rest
+nondecreasing_both from (x ∷ xs) ys (up, first) rest = (up, nondecreasing_both (token_of_tap x) xs ys first rest)
 
 -- 16 bytes that a token is made of name it
 pub has_name : (tap : TapFields) (token : Token) → bytes_of token ≡ tap.token → Fits token

@@ -7,8 +7,8 @@ use Rattle.tap_parts.specs.Canonical.{IsCanonical}
 use Rattle.histories.specs.SumsByKey.{token_of}
 use Rattle.histories.specs.declared.entry.Entry.{Entry}
 use Rattle.settlement.specs.Posted.{HasName, posted}
-use Rattle.sorted_taps.specs.Places.{AreSpanned}
-use Rattle.sorted_taps.specs.declared.places.FileSpan.{FileSpan}
+use Rattle.sorted_taps.specs.Positions.{AreSpanned}
+use Rattle.sorted_taps.specs.declared.positions.FileSpan.{FileSpan}
 
 -- The files have the taps of the lists between the places of the spans. The history is that of all
 -- these taps, posted in canonical order.
@@ -32,11 +32,11 @@ ArePartsOf fares files parts =
     All (λ part. IsPartOf fares files part.spans part.lists part.history) parts
 
 -- each history's tokens are below those of all later ones
-abbrev pub DoRise : List (List Entry) → Type 0
-DoRise [] = Unit {0}
-DoRise (history ∷ later) =
+abbrev pub AreIncreasing : List (List Entry) → Type 0
+AreIncreasing [] = Unit {0}
+AreIncreasing (history ∷ later) =
     AreBelow (map token_of history) (map token_of (flat_map (λ entries. entries) later))
-    × DoRise later
+    × AreIncreasing later
 
 -- numbers added up, one by one
 abbrev pub added : List ℕ → List ℕ → List ℕ

@@ -16,7 +16,7 @@ use crate::tap_numbers::{count, ends_of};
 use histories::HashSeed;
 use placed_files::Placed;
 use settlement::{Bill, Billed};
-use sorted_taps::{TapReader, WINDOW_BYTES, are_at_end, begun, bounds_of, joined, numbers_of};
+use sorted_taps::{TapReader, WINDOW_BYTES, are_at_end, bounds_of, joined, numbers_of, started};
 use std::alloc::{AllocError, Global};
 use std::marker::Sync;
 use std::thread;
@@ -62,7 +62,7 @@ fn parts_of<R: Threads + Sync, F: Placed + Sync>(
         rt,
         alloc,
         last + 1,
-        &|place: usize| -> Option<Part>
+        &|position: usize| -> Option<Part>
             ensures { IfSome result
                 (IsPart table.entry.now (map F.bytes files.entry.now) (2 ^ 73)) }
         {
@@ -72,7 +72,7 @@ fn parts_of<R: Threads + Sync, F: Placed + Sync>(
                 seed,
                 files,
                 bounds,
-                last.saturating_sub(place),
+                last.saturating_sub(position),
             )
         },
     )?;
@@ -149,7 +149,7 @@ fn billed<F: Placed>(
     // proof: taps that are taken to the ends of the files are their settled taps
     crate::laws::taken_taps_are_settled();
     settlement::laws::posted_taps();
-    let readers = begun(alloc, files, window)?;
+    let readers = started(alloc, files, window)?;
     let Part { span, bill, .. } = part;
     let Some(end) = joined(&readers, span) else {
         return Err(BillFault::Changed);

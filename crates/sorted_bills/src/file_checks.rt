@@ -14,14 +14,14 @@ use std::thread;
 use std::thread::Threads;
 
 /// None if there is no such file, if it is not sorted, or if an allocation fails.
-fn number_at<F: Placed>(alloc: Global, files: &[F], place: usize) -> Option<u64>
+fn number_at<F: Placed>(alloc: Global, files: &[F], position: usize) -> Option<u64>
     ensures { (known : Option (List ℕ))
-        → slice_get (map F.bytes files.now) place ≡ Some known → IfSome result (HasNumber known) }
+        → slice_get (map F.bytes files.now) position ≡ Some known → IfSome result (HasNumber known) }
 {
-    if place >= files.len() {
+    if position >= files.len() {
         return None;
     }
-    let file = &files[place];
+    let file = &files[position];
     let Ok(mut window) = vec![in alloc; 0u8; WINDOW_BYTES] else {
         return None;
     };
@@ -40,19 +40,19 @@ fn number_each<R: Threads + Sync, F: Placed + Sync>(
 )
     requires { 0 < workers }
     ensures len { length numbers.new ≡ length numbers.old }
-    ensures each { (place : ℕ) (number : Option ℕ) (known : Option (List ℕ))
-        → slice_get numbers.new place ≡ Some number
-        → slice_get (map F.bytes files.now) place ≡ Some known → IfSome number (HasNumber known) }
+    ensures each { (position : ℕ) (number : Option ℕ) (known : Option (List ℕ))
+        → slice_get numbers.new position ≡ Some number
+        → slice_get (map F.bytes files.now) position ≡ Some known → IfSome number (HasNumber known) }
 {
     thread::for_each_mut(
         rt,
         numbers,
         workers as usize,
-        &|place: usize, number: &mut Option<u64>|
+        &|position: usize, number: &mut Option<u64>|
             ensures { (known : Option (List ℕ))
-                → slice_get (map F.bytes files.entry.now) place ≡ Some known
+                → slice_get (map F.bytes files.entry.now) position ≡ Some known
                 → IfSome number.new (HasNumber known) }
-        { *number = number_at(alloc, files, place) },
+        { *number = number_at(alloc, files, position) },
     );
 }
 
@@ -63,15 +63,15 @@ fn all_of<F: Placed>(
     numbers: &[Option<u64>],
 ) -> Result<Option<Vec<u64>>, AllocError>
     requires len { length numbers.now ≡ length files.now }
-    requires each { (place : ℕ) (number : Option ℕ) (known : Option (List ℕ))
-        → slice_get numbers.now place ≡ Some number
-        → slice_get (map F.bytes files.now) place ≡ Some known → IfSome number (HasNumber known) }
+    requires each { (position : ℕ) (number : Option ℕ) (known : Option (List ℕ))
+        → slice_get numbers.now position ≡ Some number
+        → slice_get (map F.bytes files.now) position ≡ Some known → IfSome number (HasNumber known) }
     ensures { IfOk result (λ found. IfSome found (λ numbers. (all : List (List ℕ))
         → map F.bytes files.now ≡ map Some all → AreCountedFiles all numbers.items)) }
 {
     let mut all = Vec::with_capacity(alloc, numbers.len())?;
-    for place in 0..numbers.len() {
-        match numbers[place] {
+    for position in 0..numbers.len() {
+        match numbers[position] {
             Some(number) => all.push(number)?,
             None => return Ok(None),
         }

@@ -4,7 +4,7 @@ ghost use Rattle.std.specs.Prelude.{◌≡◌, ℕ, List, All, flat_map, map};
 ghost use Rattle.std.specs.List.Sorted.{IsSorted};
 ghost use Rattle.tariffs.specs.Fares.{Fares};
 ghost use Rattle.tap_views.specs.Encoding.{fields_of};
-ghost use Rattle.tap_views.specs.Files.{AreGoodTapsOfEach};
+ghost use Rattle.tap_views.specs.Files.{AreValidTapsOfEach};
 ghost use Rattle.tap_views.specs.Layout.{Tap};
 ghost use Rattle.tap_views.specs.declared.encoder.TapFields.{TapFields};
 ghost use Rattle.tap_parts.specs.Canonical.{tap_cmp};
@@ -14,10 +14,10 @@ ghost use Rattle.settlement.specs.Settled.{IsSettledHistory};
 ghost use Rattle.settlement.specs.SettledTaps.{AreSettledTaps};
 ghost use Rattle.tap_views.specs.UploadEnds.{ArePlainEnds};
 ghost use Rattle.tap_views.specs.declared.upload_end.UploadEnd.TheVariants.{Posted};
-ghost use Rattle.sorted_bills.specs.Parts.{ArePartsOf, DoRise, PartView, numbers_of_parts};
+ghost use Rattle.sorted_bills.specs.Parts.{ArePartsOf, AreIncreasing, PartView, numbers_of_parts};
 ghost use Rattle.sorted_taps.specs.Merged.{IsMerged};
-ghost use Rattle.sorted_taps.specs.Places.{AreWhole};
-ghost use Rattle.sorted_taps.specs.Merges.{AreAtEnd, AreBegun, AreTaken};
+ghost use Rattle.sorted_taps.specs.Positions.{AreWhole};
+ghost use Rattle.sorted_taps.specs.Merges.{AreAtEnd, AreStarted, AreTaken};
 ghost use Rattle.sorted_taps.specs.declared.reader.TapReader.{TapReader};
 
 use settlement::laws::one_canonical_list;
@@ -26,7 +26,7 @@ use sorted_taps::laws::{merged_is_canonical, taken_taps_are_canonical};
 /// If the valid taps of each file are in order, the merged list is that of the settled history.
 pub fn merged_files_are_settled()
     ensures { (fares : Fares) (files : List (List ℕ)) (taps : List (List Tap))
-        (merged : List TapFields) → AreGoodTapsOfEach files taps
+        (merged : List TapFields) → AreValidTapsOfEach files taps
         → All (IsSorted tap_cmp) (map (map fields_of) taps)
         → IsMerged (map (map fields_of) taps) merged
         → (order : List Tap) × (map fields_of order ≡ merged)
@@ -38,8 +38,8 @@ pub fn merged_files_are_settled()
 
 /// Taps that are taken from the begin of some files to their ends are the files' settled taps.
 pub fn taken_taps_are_settled()
-    ensures { (files : List (List ℕ)) (begun end : List TapReader) (taps : List TapFields)
-        → AreBegun files begun → AreTaken files begun taps end → AreAtEnd end → All HasName taps
+    ensures { (files : List (List ℕ)) (started end : List TapReader) (taps : List TapFields)
+        → AreStarted files started → AreTaken files started taps end → AreAtEnd end → All HasName taps
         → AreSettledTaps files taps }
 {
     taken_taps_are_canonical();
@@ -50,7 +50,7 @@ pub fn taken_taps_are_settled()
 pub fn joined_parts_are_settled()
     ensures settled { (fares : Fares) (files : List (List ℕ)) (parts : List PartView)
         → ArePartsOf fares files parts → AreWhole (map (λ part. part.spans) parts)
-        → DoRise (map (λ part. part.history) parts)
+        → AreIncreasing (map (λ part. part.history) parts)
         → IsSettledHistory fares files (flat_map (λ part. part.history) parts) }
     ensures ended { (fares : Fares) (files : List (List ℕ)) (parts : List PartView)
         → ArePartsOf fares files parts → AreWhole (map (λ part. part.spans) parts)

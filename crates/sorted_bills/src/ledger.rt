@@ -50,7 +50,7 @@ pub fn write_sorted_ledger<R: Threads + Sync, F: Placed + Sync, W: Write>(
     ensures posted { IfOk result (λ ends. are_posted ends.items ≡ true) }
     ensures kept { IfErr result (λ fault. IsBeforeText fault → out.new ≡ out.old) }
     // If a write failed, a prefix of the ledger was written.
-    ensures begun { IfErr result (λ fault. fault ≡ AFailedWrite → (text : List ℕ)
+    ensures started { IfErr result (λ fault. fault ≡ AFailedWrite → (text : List ℕ)
         × ((all : List (List ℕ)) → map F.bytes files.now ≡ map Some all → AreBytes all
         → IsLedgerOfFiles table.now all text)
         × Begins (W.contents out.old) (W.contents out.new) text) }

@@ -7,7 +7,7 @@ ghost use Rattle.histories.specs.declared.entry.Entry.{Entry};
 ghost use Rattle.sorted_taps.specs.declared.reader.TapReader.{TapReader};
 ghost use Rattle.sorted_bills.specs.Faults.{IsBeforeText, IsBillFault};
 ghost use Rattle.sorted_bills.specs.inside.Taken.{IsReady};
-ghost use Rattle.sorted_bills.specs.inside.Explained.{AreExplainedSoFar, IsBegunSoFar};
+ghost use Rattle.sorted_bills.specs.inside.Explained.{AreExplainedSoFar, IsStartedSoFar};
 
 use crate::fault::BillFault;
 use crate::taker::Taker;
@@ -33,26 +33,26 @@ pub(crate) fn explain_below<F: Placed, W: Write>(
     requires clock { clock.now ≡ table.now.zone }
     requires ready { IsReady (length files.now) taker.old }
     requires room { explainer.old.number + left.old < 2 ^ 64 }
-    requires explained { (earlier : List Entry) × (begun : List TapReader) × (from : Token)
+    requires explained { (earlier : List Entry) × (started : List TapReader) × (from : Token)
         × (start : Option (List ℕ)) × (waited : List ℕ)
-        × AreExplainedSoFar table.now (map F.bytes files.now) earlier begun from start waited
+        × AreExplainedSoFar table.now (map F.bytes files.now) earlier started from start waited
         taker.old.merge.readers.items explainer.old
         (W.contents out.old) (string_bytes text.old) }
     ensures ready { OnOk result (IsReady (length files.now) taker.new) }
     ensures few { OnOk result (explainer.new.number + left.new ≤ explainer.old.number + left.old) }
-    ensures explained { OnOk result ((earlier : List Entry) (begun : List TapReader) (from : Token)
+    ensures explained { OnOk result ((earlier : List Entry) (started : List TapReader) (from : Token)
         (start : Option (List ℕ)) (waited : List ℕ)
-        → AreExplainedSoFar table.now (map F.bytes files.now) earlier begun from start waited
+        → AreExplainedSoFar table.now (map F.bytes files.now) earlier started from start waited
         taker.old.merge.readers.items explainer.old
         (W.contents out.old) (string_bytes text.old)
-        → AreExplainedSoFar table.now (map F.bytes files.now) earlier begun from start waited
+        → AreExplainedSoFar table.now (map F.bytes files.now) earlier started from start waited
         taker.new.merge.readers.items explainer.new
         (W.contents out.new) (string_bytes text.new)) }
-    ensures begun { OnErr result ((earlier : List Entry) (begun : List TapReader) (from : Token)
+    ensures started { OnErr result ((earlier : List Entry) (started : List TapReader) (from : Token)
         (start : Option (List ℕ)) (waited : List ℕ)
-        → AreExplainedSoFar table.now (map F.bytes files.now) earlier begun from start waited
+        → AreExplainedSoFar table.now (map F.bytes files.now) earlier started from start waited
         taker.old.merge.readers.items explainer.old (W.contents out.old) (string_bytes text.old)
-        → IsBegunSoFar table.now (map F.bytes files.now) earlier begun from start waited
+        → IsStartedSoFar table.now (map F.bytes files.now) earlier started from start waited
         (W.contents out.new)) }
     ensures fault { IfErr result (λ fault. IsBeforeText fault → ⊥) }
     ensures of_files { IfErr result (λ fault. (all : List (List ℕ)) → IsBillFault all fault) }

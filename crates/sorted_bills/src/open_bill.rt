@@ -8,7 +8,7 @@ ghost use Rattle.tap_views.specs.declared.encoder.TapFields.{TapFields};
 ghost use Rattle.tap_views.specs.TokenOrder.{IsUpTo};
 ghost use Rattle.settlement.specs.Bills.{IsBillOf};
 ghost use Rattle.settlement.specs.Posted.{posted, token_of_tap};
-ghost use Rattle.settled_texts.specs.ExplainedTaps.{NoTapFallsFrom, last_token};
+ghost use Rattle.settled_texts.specs.ExplainedTaps.{TapsNondecreasingFrom, last_token};
 ghost use Rattle.sorted_bills.specs.inside.OpenBills.{HasRoomFor, IsOpenBill};
 
 use histories::{HashSeed, Tally, TokenSums, ValidatorTallies};
@@ -135,7 +135,7 @@ impl OpenBill {
     ) -> Result<(), NoMemory>
         requires clock { clock.now ≡ table.now.zone }
         requires early { AreEarly (λ tap. tap.moment) taps.now }
-        requires no_fall { NoTapFallsFrom self.old.replay.token taps.now }
+        requires nondecreasing { TapsNondecreasingFrom self.old.replay.token taps.now }
         requires bill { (before : List TapFields) × IsOpenBill table.now before self.old
             × (length before + length taps.now ≤ 2 ^ 94) }
         ensures bill { OnOk result ((before : List TapFields)

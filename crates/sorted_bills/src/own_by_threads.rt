@@ -23,13 +23,13 @@ pub(crate) struct OwnTaps {
 }
 
 /// None if there is no such file, if it is not sorted, or if an allocation fails.
-fn own_at<F: Placed>(alloc: Global, token: Token, files: &[F], place: usize) -> Option<OwnTaps>
-    ensures { IfSome result (IsOwnAt token (map F.bytes files.now) place) }
+fn own_at<F: Placed>(alloc: Global, token: Token, files: &[F], position: usize) -> Option<OwnTaps>
+    ensures { IfSome result (IsOwnAt token (map F.bytes files.now) position) }
 {
-    if place >= files.len() {
+    if position >= files.len() {
         return None;
     }
-    let file = &files[place];
+    let file = &files[position];
     let Ok(mut window) = vec![in alloc; 0u8; WINDOW_BYTES] else {
         return None;
     };
@@ -51,16 +51,16 @@ fn collect_each<R: Threads + Sync, F: Placed + Sync>(
 )
     requires { 0 < workers }
     ensures len { length owns.new ≡ length owns.old }
-    ensures each { (place : ℕ) (own : Option OwnTaps) → slice_get owns.new place ≡ Some own
-        → IfSome own (IsOwnAt token (map F.bytes files.now) place) }
+    ensures each { (position : ℕ) (own : Option OwnTaps) → slice_get owns.new position ≡ Some own
+        → IfSome own (IsOwnAt token (map F.bytes files.now) position) }
 {
     thread::for_each_mut(
         rt,
         owns,
         workers as usize,
-        &|place: usize, own: &mut Option<OwnTaps>|
-            ensures { IfSome own.new (IsOwnAt token (map F.bytes files.entry.now) place) }
-        { *own = own_at(alloc, token, files, place) },
+        &|position: usize, own: &mut Option<OwnTaps>|
+            ensures { IfSome own.new (IsOwnAt token (map F.bytes files.entry.now) position) }
+        { *own = own_at(alloc, token, files, position) },
     );
 }
 
@@ -72,8 +72,8 @@ fn join_all<F: Placed>(
     owns: &[Option<OwnTaps>],
 ) -> Result<Option<OwnTaps>, AllocError>
     requires len { length owns.now ≡ length files.now }
-    requires each { (place : ℕ) (own : Option OwnTaps) → slice_get owns.now place ≡ Some own
-        → IfSome own (IsOwnAt token (map F.bytes files.now) place) }
+    requires each { (position : ℕ) (own : Option OwnTaps) → slice_get owns.now position ≡ Some own
+        → IfSome own (IsOwnAt token (map F.bytes files.now) position) }
     ensures sound { IfOk result (λ found. IfSome found (λ own. AreSound token own.taps.items)) }
     ensures own { IfOk result (λ found. IfSome found (λ own. (all : List (List ℕ))
         → map F.bytes files.now ≡ map Some all
@@ -81,8 +81,8 @@ fn join_all<F: Placed>(
 {
     let mut taps = Vec::new(alloc);
     let mut numbers = Vec::new(alloc);
-    for place in 0..owns.len() {
-        match &owns[place] {
+    for position in 0..owns.len() {
+        match &owns[position] {
             Some(own) => {
                 taps.extend_from_slice(&own.taps)?;
                 numbers.extend_from_slice(&own.numbers)?;
@@ -93,7 +93,7 @@ fn join_all<F: Placed>(
     Ok(Some(OwnTaps { taps, numbers }))
 }
 
-fn places(alloc: Global, number: usize) -> Result<Vec<Option<OwnTaps>>, AllocError>
+fn positions(alloc: Global, number: usize) -> Result<Vec<Option<OwnTaps>>, AllocError>
     ensures { IfOk result (λ owns. length owns.items ≡ number) }
 {
     let mut owns = Vec::with_capacity(alloc, number)?;
@@ -117,7 +117,7 @@ pub(crate) fn own_by_threads<R: Threads + Sync, F: Placed + Sync>(
         → map F.bytes files.now ≡ map Some all
         → AreOwnOf token all own.taps.items own.numbers.items)) }
 {
-    let mut owns = places(alloc, files.len())?;
+    let mut owns = positions(alloc, files.len())?;
     collect_each(rt, alloc, token, files, &mut owns, workers);
     let found = join_all(alloc, token, files, &owns)?;
     Ok(found)

@@ -15,7 +15,7 @@ ghost use Rattle.sorted_bills.specs.declared.fault.BillFault.TheVariants.{Write 
 
 use crate::fault::BillFault;
 use crate::lines_below::explain_below;
-use crate::token_part::{BegunPart, begin_part, end_part};
+use crate::token_part::{StartedPart, begin_part, end_part};
 use fare_texts::{Explainer, head_with_room, pass_on};
 use placed_files::Placed;
 use settled_texts::{STRIDE_ROOM_BYTES, least_token};
@@ -59,7 +59,7 @@ pub fn write_part_ledger<F: Placed, W: Write>(
         × Appends (W.contents out.old) (W.contents out.new) text) }
     ensures kept { IfErr result (λ fault. IsBeforeText fault → out.new ≡ out.old) }
     // If a write failed, a prefix of the header line and of lines of taps was written.
-    ensures begun { IfErr result (λ fault. fault ≡ AFailedWrite → (taps : List TapFields)
+    ensures started { IfErr result (λ fault. fault ≡ AFailedWrite → (taps : List TapFields)
         × (lines : List ℕ) × AreLinesAlong table.now [] (posted table.now taps) lines
         × Begins (W.contents out.old) (W.contents out.new) (head_text ++ lines)) }
     ensures fault { IfErr result (λ fault. (all : List (List ℕ))
@@ -69,8 +69,11 @@ pub fn write_part_ledger<F: Placed, W: Write>(
     let mut window = vec![in alloc; 0u8; WINDOW_BYTES]?;
     let clock = table.clock(alloc)?;
     let mut text = head_with_room(alloc, STRIDE_ROOM_BYTES)?;
-    let begun = begin_part(alloc, files, from, &mut window)?;
-    let BegunPart { places, mut taker } = begun;
+    let started = begin_part(alloc, files, from, &mut window)?;
+    let StartedPart {
+        positions,
+        mut taker,
+    } = started;
     let mut explainer = Explainer::of(from.unwrap_or(least_token()));
     let mut left = u64::MAX;
     explain_below(
@@ -85,7 +88,7 @@ pub fn write_part_ledger<F: Placed, W: Write>(
         out,
     )?;
     let readers = taker.merge.readers();
-    let made = end_part(alloc, files, &places, readers, below, &mut window)?;
+    let made = end_part(alloc, files, &positions, readers, below, &mut window)?;
     if !are_spans(&made, spans) {
         return Err(BillFault::Changed);
     }

@@ -139,20 +139,27 @@ impl Range {
         clock: &Clock,
         files: &[F],
         bounds: &[Token],
-        place: usize,
+        position: usize,
     )
         requires clock { clock.now ≡ table.now.zone }
         ensures { IsRange table.now (map F.bytes files.now) self.new }
     {
-        if place > bounds.len() {
+        if position > bounds.len() {
             self.span = None;
             return;
         }
-        let from = match place.checked_sub(1) {
+        let from = match position.checked_sub(1) {
             Some(before) => bounds.get(before).copied(),
             None => None,
         };
-        self.make(alloc, table, clock, files, from, bounds.get(place).copied());
+        self.make(
+            alloc,
+            table,
+            clock,
+            files,
+            from,
+            bounds.get(position).copied(),
+        );
     }
 }
 
@@ -163,7 +170,7 @@ pub(crate) fn make_ranges<R: Threads + Sync, F: Placed + Sync>(
     clock: &Clock,
     files: &[F],
     bounds: &[Token],
-    place: usize,
+    position: usize,
     ranges: &mut [Range],
 )
     requires clock { clock.now ≡ table.now.zone }
@@ -185,7 +192,7 @@ pub(crate) fn make_ranges<R: Threads + Sync, F: Placed + Sync>(
                 clock,
                 files,
                 bounds,
-                place.saturating_add(index),
+                position.saturating_add(index),
             )
         },
     );

@@ -10,9 +10,9 @@ ghost use Rattle.sorted_taps.specs.Merges.{AreAtEnd};
 ghost use Rattle.sorted_taps.specs.declared.reader.TapReader.{TapReader};
 ghost use Rattle.sorted_bills.specs.Faults.{IsBeforeText, IsBillFault};
 ghost use Rattle.sorted_bills.specs.inside.Following.{DoesFollow};
-ghost use Rattle.sorted_bills.specs.inside.Ranges.{IsBehind, IsRange};
+ghost use Rattle.sorted_bills.specs.inside.Ranges.{IsAfter, IsRange};
 ghost use Rattle.sorted_bills.specs.inside.Taken.{IsReady};
-ghost use Rattle.sorted_bills.specs.inside.Explained.{AreExplainedSoFar, IsBegunSoFar};
+ghost use Rattle.sorted_bills.specs.inside.Explained.{AreExplainedSoFar, IsStartedSoFar};
 
 use crate::by_threads::MAX_WORKERS;
 use crate::fault::BillFault;
@@ -84,10 +84,10 @@ impl Rounds {
     }
 }
 
-fn merge_behind(alloc: Global, merge: &Merge, span: Span, files: usize) -> Option<Merge>
+fn merge_after(alloc: Global, merge: &Merge, span: Span, files: usize) -> Option<Merge>
     ensures ranked { IfSome result (λ next. IsRanked next.readers.items next.heads.items) }
     ensures number { IfSome result (λ next. length next.readers.items ≡ files) }
-    ensures behind { IfSome result (IsBehind merge.now.readers.items span) }
+    ensures trailing { IfSome result (IsAfter merge.now.readers.items span) }
 {
     let end = joined(merge.readers(), span)?;
     if end.len() != files {
@@ -122,7 +122,7 @@ fn next_merge(
     if range.number > left || !is_below(token, range.first) {
         return None;
     }
-    let next = merge_behind(alloc, merge, span, files)?;
+    let next = merge_after(alloc, merge, span, files)?;
     Some(next)
 }
 
@@ -143,28 +143,28 @@ fn write_range<F: Placed, W: Write>(
     requires clock { clock.now ≡ table.now.zone }
     requires ready { IsReady (length files.now) taker.old }
     requires room { explainer.old.number + left.old < 2 ^ 64 }
-    requires explained { (earlier : List Entry) × (begun : List TapReader) × (from : Token)
+    requires explained { (earlier : List Entry) × (started : List TapReader) × (from : Token)
         × (start : Option (List ℕ)) × (waited : List ℕ)
-        × AreExplainedSoFar table.now (map F.bytes files.now) earlier begun from start waited
+        × AreExplainedSoFar table.now (map F.bytes files.now) earlier started from start waited
         taker.old.merge.readers.items explainer.old
         (W.contents out.old) (string_bytes text.old) }
     requires range { IsRange table.now (map F.bytes files.now) range.old }
     ensures range { IsRange table.now (map F.bytes files.now) range.new }
     ensures ready { OnOk result (IsReady (length files.now) taker.new) }
     ensures few { OnOk result (explainer.new.number + left.new ≤ explainer.old.number + left.old) }
-    ensures explained { OnOk result ((earlier : List Entry) (begun : List TapReader) (from : Token)
+    ensures explained { OnOk result ((earlier : List Entry) (started : List TapReader) (from : Token)
         (start : Option (List ℕ)) (waited : List ℕ)
-        → AreExplainedSoFar table.now (map F.bytes files.now) earlier begun from start waited
+        → AreExplainedSoFar table.now (map F.bytes files.now) earlier started from start waited
         taker.old.merge.readers.items explainer.old
         (W.contents out.old) (string_bytes text.old)
-        → AreExplainedSoFar table.now (map F.bytes files.now) earlier begun from start waited
+        → AreExplainedSoFar table.now (map F.bytes files.now) earlier started from start waited
         taker.new.merge.readers.items explainer.new
         (W.contents out.new) (string_bytes text.new)) }
-    ensures begun { OnErr result ((earlier : List Entry) (begun : List TapReader) (from : Token)
+    ensures started { OnErr result ((earlier : List Entry) (started : List TapReader) (from : Token)
         (start : Option (List ℕ)) (waited : List ℕ)
-        → AreExplainedSoFar table.now (map F.bytes files.now) earlier begun from start waited
+        → AreExplainedSoFar table.now (map F.bytes files.now) earlier started from start waited
         taker.old.merge.readers.items explainer.old (W.contents out.old) (string_bytes text.old)
-        → IsBegunSoFar table.now (map F.bytes files.now) earlier begun from start waited
+        → IsStartedSoFar table.now (map F.bytes files.now) earlier started from start waited
         (W.contents out.new)) }
     ensures fault { IfErr result (λ fault. IsBeforeText fault → ⊥) }
     ensures of_files { IfErr result (λ fault. (all : List (List ℕ)) → IsBillFault all fault) }
@@ -200,7 +200,7 @@ fn index_at<R: Threads + Sync, F: Placed + Sync>(
     files: &[F],
     bounds: &[Token],
     ranges: &mut [Range],
-    place: usize,
+    position: usize,
 ) -> usize
     requires clock { clock.now ≡ table.now.zone }
     requires some { 0 < length ranges.old }
@@ -208,15 +208,15 @@ fn index_at<R: Threads + Sync, F: Placed + Sync>(
     ensures ranges { All (IsRange table.now (map F.bytes files.now)) ranges.new }
     ensures within { result < length ranges.new }
 {
-    let index = place % ranges.len();
+    let index = position % ranges.len();
     if index > 0 {
         return index;
     }
-    make_ranges(rt, alloc, table, clock, files, bounds, place, ranges);
+    make_ranges(rt, alloc, table, clock, files, bounds, position, ranges);
     index
 }
 
-fn write_place<R: Threads + Sync, F: Placed + Sync, W: Write>(
+fn write_position<R: Threads + Sync, F: Placed + Sync, W: Write>(
     rt: &R,
     alloc: Global,
     text: &mut String,
@@ -227,46 +227,46 @@ fn write_place<R: Threads + Sync, F: Placed + Sync, W: Write>(
     files: &[F],
     bounds: &[Token],
     ranges: &mut [Range],
-    place: usize,
+    position: usize,
     left: &mut u64,
     out: &mut W,
 ) -> Result<(), BillFault>
     requires clock { clock.now ≡ table.now.zone }
     requires ready { IsReady (length files.now) taker.old }
     requires room { explainer.old.number + left.old < 2 ^ 64 }
-    requires explained { (earlier : List Entry) × (begun : List TapReader) × (from : Token)
+    requires explained { (earlier : List Entry) × (started : List TapReader) × (from : Token)
         × (start : Option (List ℕ)) × (waited : List ℕ)
-        × AreExplainedSoFar table.now (map F.bytes files.now) earlier begun from start waited
+        × AreExplainedSoFar table.now (map F.bytes files.now) earlier started from start waited
         taker.old.merge.readers.items explainer.old
         (W.contents out.old) (string_bytes text.old) }
     requires ranges { All (IsRange table.now (map F.bytes files.now)) ranges.old }
     ensures ranges { OnOk result (All (IsRange table.now (map F.bytes files.now)) ranges.new) }
     ensures ready { OnOk result (IsReady (length files.now) taker.new) }
     ensures few { OnOk result (explainer.new.number + left.new ≤ explainer.old.number + left.old) }
-    ensures explained { OnOk result ((earlier : List Entry) (begun : List TapReader) (from : Token)
+    ensures explained { OnOk result ((earlier : List Entry) (started : List TapReader) (from : Token)
         (start : Option (List ℕ)) (waited : List ℕ)
-        → AreExplainedSoFar table.now (map F.bytes files.now) earlier begun from start waited
+        → AreExplainedSoFar table.now (map F.bytes files.now) earlier started from start waited
         taker.old.merge.readers.items explainer.old
         (W.contents out.old) (string_bytes text.old)
-        → AreExplainedSoFar table.now (map F.bytes files.now) earlier begun from start waited
+        → AreExplainedSoFar table.now (map F.bytes files.now) earlier started from start waited
         taker.new.merge.readers.items explainer.new
         (W.contents out.new) (string_bytes text.new)) }
-    ensures begun { OnErr result ((earlier : List Entry) (begun : List TapReader) (from : Token)
+    ensures started { OnErr result ((earlier : List Entry) (started : List TapReader) (from : Token)
         (start : Option (List ℕ)) (waited : List ℕ)
-        → AreExplainedSoFar table.now (map F.bytes files.now) earlier begun from start waited
+        → AreExplainedSoFar table.now (map F.bytes files.now) earlier started from start waited
         taker.old.merge.readers.items explainer.old (W.contents out.old) (string_bytes text.old)
-        → IsBegunSoFar table.now (map F.bytes files.now) earlier begun from start waited
+        → IsStartedSoFar table.now (map F.bytes files.now) earlier started from start waited
         (W.contents out.new)) }
     ensures fault { IfErr result (λ fault. IsBeforeText fault → ⊥) }
     ensures of_files { IfErr result (λ fault. (all : List (List ℕ)) → IsBillFault all fault) }
 {
-    let below = bounds.get(place).copied();
+    let below = bounds.get(position).copied();
     if ranges.is_empty() {
         return explain_below(
             text, table, clock, explainer, taker, files, below, left, out,
         );
     }
-    let index = index_at(rt, alloc, table, clock, files, bounds, ranges, place);
+    let index = index_at(rt, alloc, table, clock, files, bounds, ranges, position);
     let range = &mut ranges[index];
     write_range(
         alloc, text, table, clock, explainer, taker, files, range, below, left, out,
@@ -291,34 +291,34 @@ pub(crate) fn write_ranges<R: Threads + Sync, F: Placed + Sync, W: Write>(
     requires clock { clock.now ≡ table.now.zone }
     requires ready { IsReady (length files.now) taker.old }
     requires room { explainer.old.number + counted < 2 ^ 64 }
-    requires explained { (earlier : List Entry) × (begun : List TapReader) × (from : Token)
+    requires explained { (earlier : List Entry) × (started : List TapReader) × (from : Token)
         × (start : Option (List ℕ)) × (waited : List ℕ)
-        × AreExplainedSoFar table.now (map F.bytes files.now) earlier begun from start waited
+        × AreExplainedSoFar table.now (map F.bytes files.now) earlier started from start waited
         taker.old.merge.readers.items explainer.old
         (W.contents out.old) (string_bytes text.old) }
     requires ranges { All (IsRange table.now (map F.bytes files.now)) ranges.old }
     ensures end { OnOk result (AreAtEnd taker.new.merge.readers.items) }
-    ensures explained { OnOk result ((earlier : List Entry) (begun : List TapReader) (from : Token)
+    ensures explained { OnOk result ((earlier : List Entry) (started : List TapReader) (from : Token)
         (start : Option (List ℕ)) (waited : List ℕ)
-        → AreExplainedSoFar table.now (map F.bytes files.now) earlier begun from start waited
+        → AreExplainedSoFar table.now (map F.bytes files.now) earlier started from start waited
         taker.old.merge.readers.items explainer.old
         (W.contents out.old) (string_bytes text.old)
-        → AreExplainedSoFar table.now (map F.bytes files.now) earlier begun from start waited
+        → AreExplainedSoFar table.now (map F.bytes files.now) earlier started from start waited
         taker.new.merge.readers.items explainer.new
         (W.contents out.new) (string_bytes text.new)) }
-    ensures begun { OnErr result ((earlier : List Entry) (begun : List TapReader) (from : Token)
+    ensures started { OnErr result ((earlier : List Entry) (started : List TapReader) (from : Token)
         (start : Option (List ℕ)) (waited : List ℕ)
-        → AreExplainedSoFar table.now (map F.bytes files.now) earlier begun from start waited
+        → AreExplainedSoFar table.now (map F.bytes files.now) earlier started from start waited
         taker.old.merge.readers.items explainer.old (W.contents out.old) (string_bytes text.old)
-        → IsBegunSoFar table.now (map F.bytes files.now) earlier begun from start waited
+        → IsStartedSoFar table.now (map F.bytes files.now) earlier started from start waited
         (W.contents out.new)) }
     ensures fault { IfErr result (λ fault. IsBeforeText fault → ⊥) }
     ensures of_files { IfErr result (λ fault. (all : List (List ℕ)) → IsBillFault all fault) }
 {
     let mut left = counted;
-    for place in 0..bounds.len() + 1 {
-        write_place(
-            rt, alloc, text, table, clock, explainer, taker, files, bounds, ranges, place,
+    for position in 0..bounds.len() + 1 {
+        write_position(
+            rt, alloc, text, table, clock, explainer, taker, files, bounds, ranges, position,
             &mut left, out,
         )?;
     }

@@ -5,9 +5,9 @@ ghost use Rattle.std.specs.Prelude.{Some};
 ghost use Rattle.std.specs.Prelude.{length, map};
 ghost use Rattle.tap_views.specs.TokenOrder.{IsUpTo};
 ghost use Rattle.settlement.specs.Posted.{HasName, token_of_tap};
-ghost use Rattle.settled_texts.specs.ExplainedTaps.{NoTapFallsFrom};
+ghost use Rattle.settled_texts.specs.ExplainedTaps.{TapsNondecreasingFrom};
 ghost use Rattle.sorted_taps.specs.Heads.{IsRanked};
-ghost use Rattle.sorted_taps.specs.Merges.{AreAtEnd, AreBegun};
+ghost use Rattle.sorted_taps.specs.Merges.{AreAtEnd, AreStarted};
 ghost use Rattle.sorted_taps.specs.Reading.{window_bytes};
 ghost use Rattle.sorted_bills.specs.inside.Taken.{AreFollowing, AreTapsTaken, IsReady};
 
@@ -84,7 +84,7 @@ fn take_some<F: Placed>(
     ensures ranked { OnOk result (IsRanked merge.new.readers.items merge.new.heads.items) }
     ensures taken { OnOk result (AreTapsTaken (map F.bytes files.now) merge.old.readers.items
         taps.new.items merge.new.readers.items) }
-    ensures no_fall { OnOk result (NoTapFallsFrom from taps.new.items) }
+    ensures nondecreasing { OnOk result (TapsNondecreasingFrom from taps.new.items) }
     ensures end { OnOk result
         (below ≡ None → taps.new.items ≡ [] → AreAtEnd merge.new.readers.items) }
     ensures few { OnOk result (length taps.new.items ≤ 512) }
@@ -133,8 +133,8 @@ impl Taker {
     ) -> Result<Self, SortedFault>
         requires { window_bytes ≤ length window.items }
         ensures ready { IfOk result (IsReady (length files.now)) }
-        ensures begun { IfOk result (λ taker. (all : List (List ℕ))
-            → map F.bytes files.now ≡ map Some all → AreBegun all taker.merge.readers.items) }
+        ensures started { IfOk result (λ taker. (all : List (List ℕ))
+            → map F.bytes files.now ≡ map Some all → AreStarted all taker.merge.readers.items) }
     {
         let mut window = window;
         let merge = Merge::begin(alloc, files, &mut window)?;
@@ -205,7 +205,7 @@ impl Taker {
         ensures ready { OnOk result (IsReady (length files.now) self.new) }
         ensures taken { OnOk result (AreTapsTaken (map F.bytes files.now)
             self.old.merge.readers.items self.new.taps.items self.new.merge.readers.items) }
-        ensures no_fall { OnOk result (NoTapFallsFrom from self.new.taps.items) }
+        ensures nondecreasing { OnOk result (TapsNondecreasingFrom from self.new.taps.items) }
         ensures end { OnOk result (below ≡ None → self.new.taps.items ≡ []
             → AreAtEnd self.new.merge.readers.items) }
         ensures few { OnOk result (length self.new.taps.items ≤ 512) }

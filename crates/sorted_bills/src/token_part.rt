@@ -7,7 +7,7 @@ ghost use Rattle.tap_views.specs.declared.encoder.TapFields.{TapFields};
 ghost use Rattle.tap_views.specs.declared.upload_end.UploadEnd.TheVariants.{Posted};
 ghost use Rattle.histories.specs.declared.entry.Entry.{Entry};
 ghost use Rattle.settlement.specs.Bills.{IsBillOf};
-ghost use Rattle.sorted_taps.specs.Places.{ArePlaced, AreSpanned, DoSpan};
+ghost use Rattle.sorted_taps.specs.Positions.{ArePlaced, AreSpanned, DoSpan};
 ghost use Rattle.sorted_taps.specs.Reading.{window_bytes};
 ghost use Rattle.sorted_bills.specs.Faults.{IsBeforeText, IsBillFault};
 ghost use Rattle.sorted_bills.specs.Parts.{IsPartOf};
@@ -24,7 +24,7 @@ use placed_files::Placed;
 use settled_texts::least_token;
 use settlement::Billed;
 use sorted_taps::{
-    FileSpan, Place, PlacedReaders, SortedFault, TapReader, WINDOW_BYTES, have_stamps,
+    FileSpan, PlacedReaders, Position, SortedFault, TapReader, WINDOW_BYTES, have_stamps,
     readers_from, spans_to, stamps_of,
 };
 use std::alloc::Global;
@@ -40,8 +40,8 @@ pub struct PartBill {
 
 /// Merged files at the positions where a part begins.
 #[derive(Drop)]
-pub(crate) struct BegunPart {
-    pub(crate) places: Vec<Place>,
+pub(crate) struct StartedPart {
+    pub(crate) positions: Vec<Position>,
     pub(crate) taker: Taker,
 }
 
@@ -50,42 +50,42 @@ pub(crate) fn begin_part<F: Placed>(
     files: &[F],
     from: Option<Token>,
     window: &mut [u8],
-) -> Result<BegunPart, SortedFault>
+) -> Result<StartedPart, SortedFault>
     requires { window_bytes ≤ length window.old }
-    ensures ready { IfOk result (λ begun. IsReady (length files.now) begun.taker) }
-    ensures places { IfOk result (λ begun. length begun.places.items ≡ length files.now) }
-    ensures placed { IfOk result (λ begun. (all : List (List ℕ))
+    ensures ready { IfOk result (λ started. IsReady (length files.now) started.taker) }
+    ensures positions { IfOk result (λ started. length started.positions.items ≡ length files.now) }
+    ensures placed { IfOk result (λ started. (all : List (List ℕ))
         → map F.bytes files.now ≡ map Some all
-        → ArePlaced all begun.places.items begun.taker.merge.readers.items) }
+        → ArePlaced all started.positions.items started.taker.merge.readers.items) }
 {
     let placed = readers_from(alloc, files, from, window)?;
-    let PlacedReaders { places, readers } = placed;
+    let PlacedReaders { positions, readers } = placed;
     let room = vec![in alloc; 0u8; WINDOW_BYTES]?;
     let taker = Taker::over(alloc, readers, room)?;
-    Ok(BegunPart { places, taker })
+    Ok(StartedPart { positions, taker })
 }
 
 /// `Changed` if the readers are not where a part would begin that goes on from the bound.
 pub(crate) fn end_part<F: Placed>(
     alloc: Global,
     files: &[F],
-    places: &[Place],
+    positions: &[Position],
     readers: &[TapReader],
     below: Option<Token>,
     window: &mut [u8],
 ) -> Result<Vec<FileSpan>, BillFault>
     requires window { window_bytes ≤ length window.old }
-    requires places { length places.now ≡ length files.now }
+    requires positions { length positions.now ≡ length files.now }
     requires readers { length readers.now ≡ length files.now }
     ensures number { IfOk result (λ spans. length spans.items ≡ length files.now) }
     ensures spanned { IfOk result (λ spans. (all : List (List ℕ))
         → map F.bytes files.now ≡ map Some all
-        → DoSpan all places.now readers.now spans.items) }
+        → DoSpan all positions.now readers.now spans.items) }
     ensures fault { IfErr result (λ fault. (all : List (List ℕ)) → IsBillFault all fault) }
     ensures unwritten { IfErr result (λ fault. fault ≢ BillFault.Write) }
     ensures late { IfErr result (λ fault. IsBeforeText fault → ⊥) }
 {
-    match spans_to(alloc, files, places, readers, below, window)? {
+    match spans_to(alloc, files, positions, readers, below, window)? {
         Some(spans) => Ok(spans),
         None => Err(BillFault::Changed),
     }
@@ -111,15 +111,18 @@ fn bill_part<F: Placed>(
     ensures unwritten { IfErr result (λ fault. fault ≢ BillFault.Write) }
 {
     let mut window = vec![in alloc; 0u8; WINDOW_BYTES]?;
-    let begun = begin_part(alloc, files, from, &mut window)?;
-    let BegunPart { places, mut taker } = begun;
+    let started = begin_part(alloc, files, from, &mut window)?;
+    let StartedPart {
+        positions,
+        mut taker,
+    } = started;
     let mut so_far = OpenBill::new(alloc, seed, from.unwrap_or(least_token()));
     charge(alloc, table, files, below, &mut taker, &mut so_far)?;
     let numbers = taker.merge.numbers(alloc)?;
     let ends = ends_of(alloc, &numbers)?;
     let bill = so_far.into_bill(alloc)?;
     let readers = taker.merge.readers();
-    let spans = end_part(alloc, files, &places, readers, below, &mut window)?;
+    let spans = end_part(alloc, files, &positions, readers, below, &mut window)?;
     let billed = Billed { ends, bill };
     Ok(PartBill { spans, billed })
 }
@@ -197,11 +200,14 @@ fn spans_of_part<F: Placed>(
     ensures unwritten { IfErr result (λ fault. fault ≢ BillFault.Write) }
 {
     let mut window = vec![in alloc; 0u8; WINDOW_BYTES]?;
-    let begun = begin_part(alloc, files, from, &mut window)?;
-    let BegunPart { places, mut taker } = begun;
+    let started = begin_part(alloc, files, from, &mut window)?;
+    let StartedPart {
+        positions,
+        mut taker,
+    } = started;
     pass_taps(files, below, &mut taker)?;
     let readers = taker.merge.readers();
-    let spans = end_part(alloc, files, &places, readers, below, &mut window)?;
+    let spans = end_part(alloc, files, &positions, readers, below, &mut window)?;
     Ok(spans)
 }
 

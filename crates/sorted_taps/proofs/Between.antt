@@ -51,18 +51,18 @@ between_more all from at to taps more first then = record {
 }
 
 -- batches that follow batches of no taps
-pub read_behind : (all : List ℕ) (from at used : ℕ) (taps : List TapFields)
+pub read_after : (all : List ℕ) (from at used : ℕ) (taps : List TapFields)
     → AreTapsBetween all from at [] → IsReadOn all at taps used
     → AreTapsBetween all from (at + used) taps
-read_behind all from at used taps none on =
+read_after all from at used taps none on =
     between_more all from at (at + used) [] taps none on.between
 
 -- a reader whose taps are read on has none only at the file's end
-pub end_behind : (all : List ℕ) (at used : ℕ) (taps : List TapFields) → IsReadOn all at taps used
+pub end_after : (all : List ℕ) (at used : ℕ) (taps : List TapFields) → IsReadOn all at taps used
     → (used ≡ 0) ⊎ (0 < length taps) → taps ≡ [] → drop (at + used) all ≡ []
-end_behind all at used taps on (inl none) empty =
+end_after all at used taps on (inl none) empty =
     let here : at + used ≡ at = omega (arith, none) in
     ap (λ n. drop n all) here ∙ on.end none
-end_behind all at used taps on (inr some) empty =
+end_after all at used taps on (inr some) empty =
     let zero_taps = ap length empty in
     absurd (omega (arith, zero_taps, some))

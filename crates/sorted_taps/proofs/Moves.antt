@@ -59,7 +59,7 @@ pub advanced : (all : List ℕ) (old mid : TapReader) (number : ℕ) (tap : TapF
     → IsAdvanced all old (record mid { passed = number })
 advanced all old mid number tap head is order counted = record {
   tap = tap;
-  behind = drop 1 (ahead old);
+  trailing = drop 1 (ahead old);
   read = is.read;
   stood = head;
   between = is.between;
@@ -81,7 +81,7 @@ out_of_order all old mid number tap head is earlier counted = by_list (ahead mid
     by_list (next ∷ later) e before = record {
       to = mid.offset;
       tap = tap;
-      behind = drop 1 (ahead old);
+      trailing = drop 1 (ahead old);
       read = is.read;
       next = next;
       later = later;

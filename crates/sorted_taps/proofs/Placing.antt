@@ -12,21 +12,21 @@ use Rattle.tap_views.specs.Encoding.{fields_of}
 use Rattle.tap_views.specs.Files.{IsFile, taps_of_batches}
 use Rattle.tap_views.specs.Layout.{Tap}
 use Rattle.tap_views.specs.declared.encoder.TapFields.{TapFields}
-use Rattle.tap_views.proofs.ReadingLemmas.{no_bytes}
+use Rattle.tap_views.proofs.ParseLemmas.{no_bytes}
 use Rattle.tap_parts.specs.Canonical.{tap_cmp, IsCanonical}
 use Rattle.sorted_taps.specs.Fronts.{AreBatches}
 use Rattle.sorted_taps.specs.Merged.{BeginsNotBefore}
 use Rattle.sorted_taps.specs.Merges.{AreTaken}
-use Rattle.sorted_taps.specs.Places.{ArePlaced, AreSpanned, DoSpan, IsAt, IsLeftBehind}
-use Rattle.sorted_taps.specs.Places.{IsPlaced, IsPlacedAnew, IsSpanned, first_place}
-use Rattle.sorted_taps.specs.Readers.{ahead, StandsIn}
+use Rattle.sorted_taps.specs.Positions.{ArePlaced, AreSpanned, DoSpan, IsAt, IsLeftAfter}
+use Rattle.sorted_taps.specs.Positions.{IsPlaced, IsPlacedAnew, IsSpanned, first_position}
+use Rattle.sorted_taps.specs.Readers.{ahead, IsPositionedIn}
 use Rattle.sorted_taps.specs.Reading.{AreTapsBetween}
-use Rattle.sorted_taps.specs.Stands.{StandAs, StandsAs}
-use Rattle.sorted_taps.specs.declared.places.FileSpan.{FileSpan}
-use Rattle.sorted_taps.specs.declared.places.Place.{Place}
+use Rattle.sorted_taps.specs.Represents.{AreAlignedWith, IsAlignedWith}
+use Rattle.sorted_taps.specs.declared.positions.FileSpan.{FileSpan}
+use Rattle.sorted_taps.specs.declared.positions.Position.{Position}
 use Rattle.sorted_taps.specs.declared.reader.TapReader.{TapReader}
 use Rattle.sorted_taps.proofs.Batches.{batches_join}
-use Rattle.sorted_taps.proofs.Behind.{behind_read, none_of_nothing}
+use Rattle.sorted_taps.proofs.After.{after_read, none_of_nothing}
 use Rattle.sorted_taps.proofs.Between.{between_more}
 use Rattle.sorted_taps.proofs.Files.{each_more}
 use Rattle.sorted_taps.proofs.Merging.{merged_canonical, none_before, sorted_cons, tail}
@@ -98,9 +98,9 @@ record GoesOn (all : List ℕ) (reader : TapReader) (rest : List TapFields) : Ty
   between : AreTapsBetween all reader.offset (length all) more
   none : ahead reader ≡ [] → more ≡ []
 
-goes_on : (all : List ℕ) (to : Option Place) (reader : TapReader) (rest : List TapFields)
+goes_on : (all : List ℕ) (to : Option Position) (reader : TapReader) (rest : List TapFields)
     → IsAt all to reader → (ahead reader ≡ [] → drop reader.offset all ≡ [])
-    → IsLeftBehind all to rest → GoesOn all reader rest
+    → IsLeftAfter all to rest → GoesOn all reader rest
 goes_on all None reader rest at end left = record {
   more = [];
   is = left ∙ sym (ap (λ (l : List TapFields). l ++ []) at);
@@ -113,11 +113,11 @@ goes_on all None reader rest at end left = record {
   };
   none = λ _. refl;
 }
-goes_on all (Some place) reader rest at end left =
+goes_on all (Some position) reader rest at end left =
     let passed = at.passed in
-    let (batches, file, joined) = behind_read all place.offset reader.offset
-    (passed ++ ahead reader) left.between.batches at.stands.between
-    (left_file all place.offset left.taps left.between) in
+    let (batches, file, joined) = after_read all position.offset reader.offset
+    (passed ++ ahead reader) left.between.batches at.holds.between
+    (left_file all position.offset left.taps left.between) in
     let more = map fields_of (taps_of_batches batches) in
     record {
       more = more;
@@ -136,12 +136,12 @@ same_first : (all : List ℕ) (reader : TapReader) (rest : List TapFields)
     → GoesOn all reader rest → take 1 (ahead reader) ≡ take 1 rest
 same_first all reader rest goes = by_list (ahead reader) refl
   where
-    by_list : (stands : List TapFields) → ahead reader ≡ stands
+    by_list : (holds : List TapFields) → ahead reader ≡ holds
         → take 1 (ahead reader) ≡ take 1 rest
     by_list [] e =
         let none : rest ≡ [] = goes.is ∙ ap (λ l. l ++ goes.more) e ∙ goes.none e in
         ap (take 1) e ∙ sym (ap (take 1) none)
-    by_list (tap ∷ behind) e =
+    by_list (tap ∷ trailing) e =
         ap (take 1) e ∙ sym (ap (take 1) (goes.is ∙ ap (λ l. l ++ goes.more) e))
 
 -- the reader began at the first place and came to the other
@@ -150,7 +150,7 @@ spanned_one : (all : List ℕ) (span : FileSpan) (begin new : TapReader) (list :
     → IsSpanned all span list
 spanned_one all span begin new list placed passed at =
     let p = placed.passed in
-    let lies = passed.lies span.from.offset p placed.stands in
+    let lies = passed.lies span.from.offset p placed.holds in
     let here = ahead new in
     record {
       goes = λ rest left.
@@ -179,11 +179,11 @@ spanned_one all span begin new list placed passed at =
     }
 
 -- the taps that were passed since a place are in order
-passed_sorted : (all : List ℕ) (place : Place) (begin new : TapReader) (list : List TapFields)
-    → IsPlaced all place begin → HasPassed all begin list new → IsSorted tap_cmp list
-passed_sorted all place begin new list placed passed =
+passed_sorted : (all : List ℕ) (position : Position) (begin new : TapReader) (list : List TapFields)
+    → IsPlaced all position begin → HasPassed all begin list new → IsSorted tap_cmp list
+passed_sorted all position begin new list placed passed =
     let p = placed.passed in
-    let lies = passed.lies place.offset p placed.stands in
+    let lies = passed.lies position.offset p placed.holds in
     sorted_back p list (sorted_front (p ++ list) (take 1 (ahead new)) lies.sorted)
 
 -- ---- all files
@@ -213,14 +213,14 @@ pub record AreMergedBetween (files : List (List ℕ)) (spans : List FileSpan) (t
 
 -- anything, for where no file is
 abbrev no_span : FileSpan
-no_span = record { from = first_place; to = None }
+no_span = record { from = first_position; to = None }
 
 -- taps that were taken by readers that began at places and came to others
-pub taken_between : (files : List (List ℕ)) (places : List Place) (begin end : List TapReader)
+pub taken_between : (files : List (List ℕ)) (positions : List Position) (begin end : List TapReader)
     (spans : List FileSpan) (taps : List TapFields) → length begin ≡ length files
-    → length spans ≡ length files → ArePlaced files places begin → AreTaken files begin taps end
-    → DoSpan files places end spans → AreMergedBetween files spans taps end
-taken_between files places begin end spans taps begun many placed taken ends =
+    → length spans ≡ length files → ArePlaced files positions begin → AreTaken files begin taps end
+    → DoSpan files positions end spans → AreMergedBetween files spans taps end
+taken_between files positions begin end spans taps started many placed taken ends =
     let passed = taken_passed files taps begin end taken in
     let lists = passed.lists in
     let number = passed.number in
@@ -230,97 +230,97 @@ taken_between files places begin end spans taps begun many placed taken ends =
     × IsSorted tap_cmp (get_or lists k [])
     × ((get_or end k d).passed ≡ length (get_or lists k [])) =
     λ k s d inside.
-    let in_begin : k < length begin = omega (arith, inside, begun) in
-    let (at, none) = placed.each k first_place d in_begin in
-    let (from, to) = ends.each k first_place d s (omega (arith, inside, many)) in
+    let in_begin : k < length begin = omega (arith, inside, started) in
+    let (at, none) = placed.each k first_position d in_begin in
+    let (from, to) = ends.each k first_position d s (omega (arith, inside, many)) in
     let one = passed.each k d in_begin in
     let file = get_or files k [] in
     let more = one.number in (
       spanned_one file (get_or spans k s) (get_or begin k d) (get_or end k d)
           (get_or lists k [])
           (subst (λ p. IsPlaced file p (get_or begin k d)) (sym from) at) one to,
-      passed_sorted file (get_or places k first_place) (get_or begin k d) (get_or end k d)
+      passed_sorted file (get_or positions k first_position) (get_or begin k d) (get_or end k d)
           (get_or lists k []) at one,
       omega (arith, more, none),
     ) in
     record {
       lists = lists;
-      spanned = spanned_all files spans lists many (omega (arith, number, begun))
+      spanned = spanned_all files spans lists many (omega (arith, number, started))
           (λ k s inside.
-          (each k s (some_of begin k (omega (arith, inside, begun))) inside).0);
+          (each k s (some_of begin k (omega (arith, inside, started))) inside).0);
       canonical = merged_canonical lists taps (λ j d inside.
           subst (λ l. IsSorted tap_cmp l) (get_or_default lists j [] d inside)
           (each j no_span (some_of begin j (omega (arith, inside, number)))
-          (omega (arith, inside, number, begun))).1) passed.merged;
+          (omega (arith, inside, number, started))).1) passed.merged;
       counted = passed_lengths end lists (omega (arith, number, as_many))
-          (λ k d inside. (each k no_span d (omega (arith, inside, as_many, begun))).2);
+          (λ k d inside. (each k no_span d (omega (arith, inside, as_many, started))).2);
     }
 
 -- readers that stand for others are at the same places
-at_alike : (all : List ℕ) (to : Option Place) (one other : TapReader) → StandsAs 0 one other
+at_alike : (all : List ℕ) (to : Option Position) (one other : TapReader) → IsAlignedWith 0 one other
     → IsAt all to other → IsAt all to one
-at_alike all None one other stands at = stands.ahead ∙ at
-at_alike all (Some place) one other stands at = record {
+at_alike all None one other holds at = holds.ahead ∙ at
+at_alike all (Some position) one other holds at = record {
   passed = at.passed;
   skip = at.skip;
-  stands = record {
-    between = subst (λ n. AreTapsBetween all place.offset n (at.passed ++ ahead one))
-        (sym stands.offset)
-        (subst (λ l. AreTapsBetween all place.offset other.offset (at.passed ++ l))
-        (sym stands.ahead) at.stands.between);
-    sorted = subst (λ l. IsSorted tap_cmp (at.passed ++ take 1 l)) (sym stands.ahead)
-        at.stands.sorted;
-    end = λ none. ap (λ n. drop n all) stands.offset
-        ∙ at.stands.end (sym stands.ahead ∙ none);
+  holds = record {
+    between = subst (λ n. AreTapsBetween all position.offset n (at.passed ++ ahead one))
+        (sym holds.offset)
+        (subst (λ l. AreTapsBetween all position.offset other.offset (at.passed ++ l))
+        (sym holds.ahead) at.holds.between);
+    sorted = subst (λ l. IsSorted tap_cmp (at.passed ++ take 1 l)) (sym holds.ahead)
+        at.holds.sorted;
+    end = λ none. ap (λ n. drop n all) holds.offset
+        ∙ at.holds.end (sym holds.ahead ∙ none);
     number = refl;
   };
 }
 
-pub span_alike : (files : List (List ℕ)) (places : List Place) (ones others : List TapReader)
-    (spans : List FileSpan) → StandAs ones others → length ones ≡ length spans
-    → DoSpan files places others spans → DoSpan files places ones spans
-span_alike files places ones others spans stand many ends = record {
+pub span_alike : (files : List (List ℕ)) (positions : List Position) (ones others : List TapReader)
+    (spans : List FileSpan) → AreAlignedWith ones others → length ones ≡ length spans
+    → DoSpan files positions others spans → DoSpan files positions ones spans
+span_alike files positions ones others spans aligned many ends = record {
   each = λ k p d s inside.
       let (from, to) = ends.each k p d s inside in (
         from,
         at_alike (get_or files k []) (get_or spans k s).to (get_or ones k d) (get_or others k d)
-            (stand.each k d (omega (arith, inside, many))) to,
+            (aligned.each k d (omega (arith, inside, many))) to,
       );
 }
 
 -- ---- one file more
-pub placed_more : (files : List (List ℕ)) (places : List Place) (readers : List TapReader)
-    (place : Place) (reader : TapReader) → length places ≡ length readers
-    → ArePlaced files places readers → IsPlacedAnew (get_or files (length readers) []) place reader
-    → ArePlaced files (places ++ place ∷ []) (readers ++ reader ∷ [])
-placed_more files places readers place reader number placed at = record {
+pub placed_more : (files : List (List ℕ)) (positions : List Position) (readers : List TapReader)
+    (position : Position) (reader : TapReader) → length positions ≡ length readers
+    → ArePlaced files positions readers → IsPlacedAnew (get_or files (length readers) []) position reader
+    → ArePlaced files (positions ++ position ∷ []) (readers ++ reader ∷ [])
+placed_more files positions readers position reader number placed at = record {
   each = λ k p d inside. each_more
-      (λ k r. (p : Place)
-      → IsPlacedAnew (get_or files k []) (get_or (places ++ place ∷ []) k p) r)
+      (λ k r. (p : Position)
+      → IsPlacedAnew (get_or files k []) (get_or (positions ++ position ∷ []) k p) r)
       readers reader
       (λ k d low p. subst (λ q. IsPlacedAnew (get_or files k []) q (get_or readers k d))
-      (sym (get_or-append places (place ∷ []) p k (omega (arith, low, number))))
+      (sym (get_or-append positions (position ∷ []) p k (omega (arith, low, number))))
       (placed.each k p d low))
       (λ p. subst (λ q. IsPlacedAnew (get_or files (length readers) []) q reader)
-      (sym (ap (λ n. get_or (places ++ place ∷ []) n p) (sym number)
-      ∙ get_or-append_seam places place [] p)) at) k d inside p;
+      (sym (ap (λ n. get_or (positions ++ position ∷ []) n p) (sym number)
+      ∙ get_or-append_seam positions position [] p)) at) k d inside p;
 }
 
 -- at the begin of a file
-pub placed_first : (all : List ℕ) (reader : TapReader) → StandsIn all 0 [] reader
-    → IsPlacedAnew all first_place reader
-placed_first all reader stands =
-    (record { passed = []; skip = refl; stands = lies_of all 0 [] reader stands }, stands.number)
+pub placed_first : (all : List ℕ) (reader : TapReader) → IsPositionedIn all 0 [] reader
+    → IsPlacedAnew all first_position reader
+placed_first all reader holds =
+    (record { passed = []; skip = refl; holds = lies_of all 0 [] reader holds }, holds.number)
 
-pub span_more : (files : List (List ℕ)) (places : List Place) (readers : List TapReader)
-    (spans : List FileSpan) (span : FileSpan) → DoSpan files places readers spans
-    → ((p : Place) → span.from ≡ get_or places (length spans) p)
+pub span_more : (files : List (List ℕ)) (positions : List Position) (readers : List TapReader)
+    (spans : List FileSpan) (span : FileSpan) → DoSpan files positions readers spans
+    → ((p : Position) → span.from ≡ get_or positions (length spans) p)
     → ((d : TapReader) → IsAt (get_or files (length spans) []) span.to
     (get_or readers (length spans) d))
-    → DoSpan files places readers (spans ++ span ∷ [])
-span_more files places readers spans span are from to = record {
+    → DoSpan files positions readers (spans ++ span ∷ [])
+span_more files positions readers spans span are from to = record {
   each = λ k p d s inside. each_more
-      (λ k (one : FileSpan). (p : Place) (d : TapReader)
-      → (one.from ≡ get_or places k p) × IsAt (get_or files k []) one.to (get_or readers k d))
+      (λ k (one : FileSpan). (p : Position) (d : TapReader)
+      → (one.from ≡ get_or positions k p) × IsAt (get_or files k []) one.to (get_or readers k d))
       spans span (λ k s low p d. are.each k p d s low) (λ p d. (from p, to d)) k s inside p d;
 }

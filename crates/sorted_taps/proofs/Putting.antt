@@ -14,7 +14,7 @@ use Rattle.tap_views.specs.Layout.{moment_limit}
 use Rattle.tap_views.specs.declared.encoder.TapFields.{TapFields}
 use Rattle.tap_views.proofs.Texts.{more_text, no_text}
 use Rattle.tap_parts.proofs.FullBatches.{zip_more}
-use Rattle.sorted_taps.specs.Written.{AreBatchesOf, AreFilled, IsBegun, IsWritten}
+use Rattle.sorted_taps.specs.Written.{AreBatchesOf, AreFilled, IsPartlyWritten, IsWritten}
 use Rattle.sorted_taps.specs.inside.Waiting.{HasPut, IsBatchWritten, MayWait}
 
 abbrev IsFull : List TapFields → Type 0
@@ -159,9 +159,9 @@ put_same old here out taps waiting pending same is put =
     (subst (λ l. HasPut old here taps l) (sym is) put)
 
 -- what stands there are whole batches
-pub put_begun : (old new : Option (List ℕ)) (taps waiting : List TapFields)
-    → HasPut old new taps waiting → IsBegun old new
-put_begun old new taps waiting put = record {
+pub put_started : (old new : Option (List ℕ)) (taps waiting : List TapFields)
+    → HasPut old new taps waiting → IsPartlyWritten old new
+put_started old new taps waiting put = record {
   text = put.text;
   batches = put.batches;
   are = put.are;

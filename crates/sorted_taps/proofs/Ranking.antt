@@ -46,74 +46,74 @@ begins tap (head ∷ rest) is = is
 
 module _ (readers : List TapReader) (tree : List Head) (is : IsRanked readers tree) where
   -- the root is not after a place, if it is not after the place above
-  from_above : (place : ℕ) (d : Head) → 1 < place → place < 2 * length readers
-      → IsNotAfter (get_or tree 1 d).tap (get_or tree (place / 2) d).tap
-      → IsNotAfter (get_or tree 1 d).tap (get_or tree place d).tap
-  from_above place d more within above =
-      by_child (is.inner (place / 2) (omega (arith, more)) (omega (arith, within)) d)
-      (cases_eq place (2 * (place / 2)))
+  from_above : (position : ℕ) (d : Head) → 1 < position → position < 2 * length readers
+      → IsNotAfter (get_or tree 1 d).tap (get_or tree (position / 2) d).tap
+      → IsNotAfter (get_or tree 1 d).tap (get_or tree position d).tap
+  from_above position d more within above =
+      by_child (is.inner (position / 2) (omega (arith, more)) (omega (arith, within)) d)
+      (cases_eq position (2 * (position / 2)))
     where
-      by_child : IsChosen (get_or tree (2 * (place / 2)) d) (get_or tree (2 * (place / 2) + 1) d)
-          (get_or tree (place / 2) d)
-          → (place ≡ 2 * (place / 2)) ⊎ (place ≢ 2 * (place / 2))
-          → IsNotAfter (get_or tree 1 d).tap (get_or tree place d).tap
+      by_child : IsChosen (get_or tree (2 * (position / 2)) d) (get_or tree (2 * (position / 2) + 1) d)
+          (get_or tree (position / 2) d)
+          → (position ≡ 2 * (position / 2)) ⊎ (position ≢ 2 * (position / 2))
+          → IsNotAfter (get_or tree 1 d).tap (get_or tree position d).tap
       by_child chosen (inl left) =
           subst (λ p. IsNotAfter (get_or tree 1 d).tap (get_or tree p d).tap) (sym left)
           (not_after_far _ _ _ above chosen.left_not_before)
       by_child chosen (inr other) =
-          let right : place ≡ 2 * (place / 2) + 1 = omega (arith, other) in
+          let right : position ≡ 2 * (position / 2) + 1 = omega (arith, other) in
           subst (λ p. IsNotAfter (get_or tree 1 d).tap (get_or tree p d).tap) (sym right)
           (not_after_far _ _ _ above chosen.right_not_before)
 
   -- the root is not after any other
-  below_root : (fuel place : ℕ) (d : Head) → place ≤ fuel → 0 < place
-      → place < 2 * length readers → IsNotAfter (get_or tree 1 d).tap (get_or tree place d).tap
-  below_root zero place d most some within = absurd (omega (arith, most, some))
-  below_root (suc fuel) place d most some within =
-      by_case (cases_lt 1 place) (λ low up in_tree. below_root fuel (place / 2) d low up in_tree)
+  below_root : (fuel position : ℕ) (d : Head) → position ≤ fuel → 0 < position
+      → position < 2 * length readers → IsNotAfter (get_or tree 1 d).tap (get_or tree position d).tap
+  below_root zero position d most some within = absurd (omega (arith, most, some))
+  below_root (suc fuel) position d most some within =
+      by_case (cases_lt 1 position) (λ low up in_tree. below_root fuel (position / 2) d low up in_tree)
     where
-      by_case : (1 < place) ⊎ (place ≤ 1)
-          → (place / 2 ≤ fuel → 0 < place / 2 → place / 2 < 2 * length readers
-          → IsNotAfter (get_or tree 1 d).tap (get_or tree (place / 2) d).tap)
-          → IsNotAfter (get_or tree 1 d).tap (get_or tree place d).tap
+      by_case : (1 < position) ⊎ (position ≤ 1)
+          → (position / 2 ≤ fuel → 0 < position / 2 → position / 2 < 2 * length readers
+          → IsNotAfter (get_or tree 1 d).tap (get_or tree (position / 2) d).tap)
+          → IsNotAfter (get_or tree 1 d).tap (get_or tree position d).tap
       by_case (inr one) above =
-          let same : 1 ≡ place = omega (arith, one, some) in
+          let same : 1 ≡ position = omega (arith, one, some) in
           subst (λ p. IsNotAfter (get_or tree 1 d).tap (get_or tree p d).tap) same
           (not_after_self (get_or tree 1 d).tap)
       by_case (inl more) above =
-          from_above place d more within
+          from_above position d more within
           (above (omega (arith, most, more)) (omega (arith, more)) (omega (arith, within, more)))
 
   -- a place has the head of a reader
   abbrev IsOfReader : ℕ → Head → Type 0
-  IsOfReader place d =
-      (k : ℕ) × (k < length readers) × (get_or tree place d ≡ get_or tree (length readers + k) d)
+  IsOfReader position d =
+      (k : ℕ) × (k < length readers) × (get_or tree position d ≡ get_or tree (length readers + k) d)
 
-  of_reader : (fuel place : ℕ) (d : Head) → 2 * length readers ≤ place + fuel → 0 < place
-      → place < 2 * length readers → IsOfReader place d
-  of_reader zero place d enough some within = absurd (omega (arith, enough, within))
-  of_reader (suc fuel) place d enough some within =
-      by_case (cases_lt place (length readers))
-      (λ e. of_reader fuel (2 * place) d (omega (arith, enough, some)) (omega (arith, some)) e)
-      (λ e. of_reader fuel (2 * place + 1) d (omega (arith, enough, some)) (omega (arith, some)) e)
+  of_reader : (fuel position : ℕ) (d : Head) → 2 * length readers ≤ position + fuel → 0 < position
+      → position < 2 * length readers → IsOfReader position d
+  of_reader zero position d enough some within = absurd (omega (arith, enough, within))
+  of_reader (suc fuel) position d enough some within =
+      by_case (cases_lt position (length readers))
+      (λ e. of_reader fuel (2 * position) d (omega (arith, enough, some)) (omega (arith, some)) e)
+      (λ e. of_reader fuel (2 * position + 1) d (omega (arith, enough, some)) (omega (arith, some)) e)
     where
-      by_case : (place < length readers) ⊎ (length readers ≤ place)
-          → (2 * place < 2 * length readers → IsOfReader (2 * place) d)
-          → (2 * place + 1 < 2 * length readers → IsOfReader (2 * place + 1) d)
-          → IsOfReader place d
+      by_case : (position < length readers) ⊎ (length readers ≤ position)
+          → (2 * position < 2 * length readers → IsOfReader (2 * position) d)
+          → (2 * position + 1 < 2 * length readers → IsOfReader (2 * position + 1) d)
+          → IsOfReader position d
       by_case (inr leaf) left right =
-          let at : length readers + (place - length readers) ≡ place = omega (arith, leaf) in (
-            place - length readers,
+          let at : length readers + (position - length readers) ≡ position = omega (arith, leaf) in (
+            position - length readers,
             omega (arith, leaf, within),
             ap (λ p. get_or tree p d) (sym at),
           )
       by_case (inl inner) left right =
-          by_child (is.inner place some inner d).one (left (omega (arith, inner)))
+          by_child (is.inner position some inner d).one (left (omega (arith, inner)))
           (right (omega (arith, inner)))
         where
-          by_child : (get_or tree place d ≡ get_or tree (2 * place) d)
-              ⊎ (get_or tree place d ≡ get_or tree (2 * place + 1) d)
-              → IsOfReader (2 * place) d → IsOfReader (2 * place + 1) d → IsOfReader place d
+          by_child : (get_or tree position d ≡ get_or tree (2 * position) d)
+              ⊎ (get_or tree position d ≡ get_or tree (2 * position + 1) d)
+              → IsOfReader (2 * position) d → IsOfReader (2 * position + 1) d → IsOfReader position d
           by_child (inl same) (k, low, leaf) other = (k, low, same ∙ leaf)
           by_child (inr same) other (k, low, leaf) = (k, low, same ∙ leaf)
 
@@ -129,7 +129,7 @@ module _ (readers : List TapReader) (tree : List Head) (is : IsRanked readers tr
   -- at the root is a least head
   pub root_is_least : (root : Head) (tap : TapFields) → 0 < length readers
       → root ≡ get_or tree 1 root → root.tap ≡ Some tap → IsLeastHead readers root.at tap
-  root_is_least root tap some here stands =
+  root_is_least root tap some here holds =
       let (k, low, leaf) = of_reader (2 * length readers) 1 root (omega arith) (omega arith)
       (omega (arith, some)) in
       let same : root ≡ get_or tree (length readers + k) root = here ∙ leaf in
@@ -138,9 +138,9 @@ module _ (readers : List TapReader) (tree : List Head) (is : IsRanked readers tr
         within = omega (arith, at, low);
         head = λ e. is_first (ahead (get_or readers root.at e)) tap
             (subst (λ p. head_of (get_or readers p e) ≡ Some tap) (sym at)
-            (sym (is.leaves.tap k root e low) ∙ sym (ap (λ (h : Head). h.tap) same) ∙ stands));
+            (sym (is.leaves.tap k root e low) ∙ sym (ap (λ (h : Head). h.tap) same) ∙ holds));
         least = λ j e within. begins tap (ahead (get_or readers j e))
-            (subst (λ t. IsNotAfter t (head_of (get_or readers j e))) stands
+            (subst (λ t. IsNotAfter t (head_of (get_or readers j e))) holds
             (none_before root here j e within));
       }
 
@@ -160,23 +160,23 @@ pub record HasLeavesBelow (readers : List TapReader) (tree : List Head) (below :
 -- each place of the first half, from 1 on, has the one chosen of two, but for the place above this
 abbrev pub AreChosenBut : ℕ → List Head → ℕ → Type 0
 AreChosenBut n tree last =
-    (place : ℕ) → 0 < place → place < n → 2 * place ≢ last → 2 * place + 1 ≢ last
-    → IsChosenAt tree place
+    (position : ℕ) → 0 < position → position < n → 2 * position ≢ last → 2 * position + 1 ≢ last
+    → IsChosenAt tree position
 
 -- the places from this one on have the one chosen of two
 abbrev pub AreChosenFrom : ℕ → List Head → ℕ → Type 0
 AreChosenFrom n tree from =
-    (place : ℕ) → 0 < place → from ≤ place → place < n → IsChosenAt tree place
+    (position : ℕ) → 0 < position → from ≤ position → position < n → IsChosenAt tree position
 
 -- a place has what it had, if another is set
-kept_at : (tree : List Head) (at : ℕ) (head : Head) (place : ℕ) → place ≢ at
-    → 2 * place ≢ at → 2 * place + 1 ≢ at → IsChosenAt tree place
-    → IsChosenAt (set tree at head) place
-kept_at tree at head place not left right chosen d =
+kept_at : (tree : List Head) (at : ℕ) (head : Head) (position : ℕ) → position ≢ at
+    → 2 * position ≢ at → 2 * position + 1 ≢ at → IsChosenAt tree position
+    → IsChosenAt (set tree at head) position
+kept_at tree at head position not left right chosen d =
     rw (
-      get_or-set_other tree at place head d not,
-      get_or-set_other tree at (2 * place) head d left,
-      get_or-set_other tree at (2 * place + 1) head d right,
+      get_or-set_other tree at position head d not,
+      get_or-set_other tree at (2 * position) head d left,
+      get_or-set_other tree at (2 * position + 1) head d right,
     ) (chosen d)
 
 -- a place that is set to the one chosen of two
@@ -210,15 +210,15 @@ pub chosen_above : (n : ℕ) (tree : List Head) (last above : ℕ) (head : Head)
     → 1 < last → above < length tree → AreChosenBut n tree last
     → ((d : Head) → IsChosen (get_or tree (2 * above) d) (get_or tree (2 * above + 1) d) head)
     → AreChosenBut n (set tree above head) above
-chosen_above n tree last above head half more within but chosen place some low left right =
-    by_case (cases_eq place above)
+chosen_above n tree last above head half more within but chosen position some low left right =
+    by_case (cases_eq position above)
   where
-    by_case : (place ≡ above) ⊎ (place ≢ above) → IsChosenAt (set tree above head) place
+    by_case : (position ≡ above) ⊎ (position ≢ above) → IsChosenAt (set tree above head) position
     by_case (inl same) =
         subst (λ p. IsChosenAt (set tree above head) p) (sym same)
         (set_at tree above head (omega (arith, half, more)) within chosen)
-    by_case (inr other) = kept_at tree above head place other left right
-        (but place some low (λ e. other (omega (arith, e, half)))
+    by_case (inr other) = kept_at tree above head position other left right
+        (but position some low (λ e. other (omega (arith, e, half)))
         (λ e. other (omega (arith, e, half))))
 
 -- the place in front of the others is chosen
@@ -226,18 +226,18 @@ pub chosen_before : (n : ℕ) (tree : List Head) (last at : ℕ) (head : Head) �
     → 0 < at → at < length tree → AreChosenFrom n tree last
     → ((d : Head) → IsChosen (get_or tree (2 * at) d) (get_or tree (2 * at + 1) d) head)
     → AreChosenFrom n (set tree at head) at
-chosen_before n tree last at head before first within from chosen place some high low =
-    by_case (cases_eq place at)
+chosen_before n tree last at head before first within from chosen position some high low =
+    by_case (cases_eq position at)
   where
-    by_case : (place ≡ at) ⊎ (place ≢ at) → IsChosenAt (set tree at head) place
+    by_case : (position ≡ at) ⊎ (position ≢ at) → IsChosenAt (set tree at head) position
     by_case (inl same) =
         subst (λ p. IsChosenAt (set tree at head) p) (sym same)
         (set_at tree at head first within chosen)
-    by_case (inr other) = kept_at tree at head place other
+    by_case (inr other) = kept_at tree at head position other
         (λ e. absurd (omega (arith, e, high, some))) (λ e. absurd (omega (arith, e, high, some)))
-        (from place some (by_less (cases_lt place last)) low)
+        (from position some (by_less (cases_lt position last)) low)
       where
-        by_less : (place < last) ⊎ (last ≤ place) → last ≤ place
+        by_less : (position < last) ⊎ (last ≤ position) → last ≤ position
         by_less (inr high) = high
         by_less (inl less) = absurd (other (omega (arith, less, before, high)))
 
@@ -245,10 +245,10 @@ chosen_before n tree last at head before first within from chosen place some hig
 pub put_chosen : (readers : List TapReader) (tree : List Head) (at : ℕ) (was : TapReader)
     (head : Head) → IsRanked (set readers at was) tree
     → AreChosenBut (length readers) (set tree (length readers + at) head) (length readers + at)
-put_chosen readers tree at was head is place some within left right =
-    kept_at tree (length readers + at) head place (λ e. absurd (omega (arith, e, within))) left
+put_chosen readers tree at was head is position some within left right =
+    kept_at tree (length readers + at) head position (λ e. absurd (omega (arith, e, within))) left
     right
-    (is.inner place some (let l = length-set readers at was in omega (arith, l, within)))
+    (is.inner position some (let l = length-set readers at was in omega (arith, l, within)))
 
 -- the head of one reader is put anew
 module _ (readers : List TapReader) (tree : List Head) (at : ℕ) (was reader : TapReader)
@@ -304,20 +304,20 @@ pub set_back : (readers : List TapReader) (at : ℕ) (is was : TapReader)
     → was ≡ get_or readers at was → set (set readers at is) at was ≡ readers
 set_back readers at is was there =
     same_lists (set (set readers at is) at was) readers long
-    (λ k d within. at_place k d (let l = long in omega (arith, l, within)) (cases_eq k at))
+    (λ k d within. at_position k d (let l = long in omega (arith, l, within)) (cases_eq k at))
   where
     long : length (set (set readers at is) at was) ≡ length readers
     long = length-set (set readers at is) at was ∙ length-set readers at is
 
-    at_place : (k : ℕ) (d : TapReader) → k < length readers → (k ≡ at) ⊎ (k ≢ at)
+    at_position : (k : ℕ) (d : TapReader) → k < length readers → (k ≡ at) ⊎ (k ≢ at)
         → get_or (set (set readers at is) at was) k d ≡ get_or readers k d
-    at_place k d within (inl same) =
+    at_position k d within (inl same) =
         let low : at < length readers = omega (arith, same, within) in
         let more = length-set readers at is in
         subst (λ j. get_or (set (set readers at is) at was) j d ≡ get_or readers j d) (sym same)
         (get_or-set_same (set readers at is) at was d (omega (arith, low, more)) ∙ there
         ∙ sym (get_or_default readers at d was low))
-    at_place k d within (inr other) =
+    at_position k d within (inr other) =
         get_or-set_other (set readers at is) at k was d other
         ∙ get_or-set_other readers at k is d other
 

@@ -70,11 +70,11 @@ module _ (all : List ℕ) (offset room : ℕ) (taps : List TapFields) (decoded :
       sym (take-append-drop at.count left)
       ∙ ap (λ l. l ++ drop at.count left) d.front_taps.cut
       ∙ append_assoc f d.rest (drop at.count left) in
-      let behind : drop (offset + decoded.used) all ≡ more =
+      let trailing : drop (offset + decoded.used) all ≡ more =
       sym (drop-drop decoded.used offset all)
       ∙ ap (λ n. drop n left) used_front
       ∙ ap (drop (length f)) whole ∙ drop_front f more in
-      whole ∙ ap (λ l. f ++ l) (sym behind)
+      whole ∙ ap (λ l. f ++ l) (sym trailing)
     where
       drop_front : (xs ys : List ℕ) → drop (length xs) (xs ++ ys) ≡ ys
       drop_front [] ys = refl

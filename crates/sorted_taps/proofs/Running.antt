@@ -38,19 +38,19 @@ pub takes_more : (bytes : Option (List ℕ)) (other : Option TapFields) (old mid
     → TakesRun bytes other old before after mid → ahead mid ≡ tap ∷ rest
     → IfSome bytes (λ all. IsAdvanced all mid new) → IsNotAfter (Some tap) other
     → TakesRun bytes other old before (after ++ tap ∷ []) new
-takes_more None other old mid new before after tap rest taken stands step least =
+takes_more None other old mid new before after tap rest taken holds step least =
     record {
       run = taken.run ++ tap ∷ [];
       items = ap (λ l. l ++ tap ∷ []) taken.items ∙ append_assoc before taken.run (tap ∷ []);
       passed = tt;
     }
-takes_more (Some all) other old mid new before after tap rest taken stands step least =
+takes_more (Some all) other old mid new before after tap rest taken holds step least =
     record {
       run = taken.run ++ tap ∷ [];
       items = ap (λ l. l ++ tap ∷ []) taken.items ∙ append_assoc before taken.run (tap ∷ []);
       passed = run_more all other taken.run old mid new tap taken.passed (record {
         step = step;
-        is = same_head (ahead mid) step.tap tap step.behind rest step.stood stands;
+        is = same_head (ahead mid) step.tap tap step.trailing rest step.stood holds;
         not_after = least;
       });
     }
@@ -67,20 +67,20 @@ module _ (files : List (List ℕ)) (at : ℕ) (other : Option TapFields) where
       → IsStepOf (get_or files at []) other old tap new → IsLeastHead readers at tap
   least_step readers old new tap within others there step = record {
     within = within;
-    head = λ d. (step.step.behind, stands d);
-    least = λ k d low. by_place k d low (cases_eq k at);
+    head = λ d. (step.step.trailing, holds d);
+    least = λ k d low. by_position k d low (cases_eq k at);
   }
     where
-      stands : (d : TapReader) → ahead (get_or readers at d) ≡ tap ∷ step.step.behind
-      stands d =
-          ap ahead (there d) ∙ step.step.stood ∙ ap (λ t. t ∷ step.step.behind) step.is
+      holds : (d : TapReader) → ahead (get_or readers at d) ≡ tap ∷ step.step.trailing
+      holds d =
+          ap ahead (there d) ∙ step.step.stood ∙ ap (λ t. t ∷ step.step.trailing) step.is
 
-      by_place : (k : ℕ) (d : TapReader) → k < length readers → (k ≡ at) ⊎ (k ≢ at)
+      by_position : (k : ℕ) (d : TapReader) → k < length readers → (k ≡ at) ⊎ (k ≢ at)
           → BeginsNotBefore tap (ahead (get_or readers k d))
-      by_place k d low (inl same) =
+      by_position k d low (inl same) =
           subst (λ n. BeginsNotBefore tap (ahead (get_or readers n d))) (sym same)
-          (subst (λ l. BeginsNotBefore tap l) (sym (stands d)) (not_after_self (Some tap)))
-      by_place k d low (inr apart) =
+          (subst (λ l. BeginsNotBefore tap l) (sym (holds d)) (not_after_self (Some tap)))
+      by_position k d low (inr apart) =
           begins tap (ahead (get_or readers k d))
           (not_after_far (Some tap) other (head_of (get_or readers k d)) step.not_after
           (others k d low apart))

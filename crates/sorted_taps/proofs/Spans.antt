@@ -10,8 +10,8 @@ use Rattle.sorted_taps.specs.Merged.{BeginsNotBefore}
 use Rattle.sorted_taps.specs.Merges.{AreAtEnd, AreTaken, IsTapTaken}
 use Rattle.sorted_taps.specs.Reading.{AreTapsBetween}
 use Rattle.sorted_taps.specs.Readers.{IsAdvanced}
-use Rattle.sorted_taps.specs.Spans.{HaveCome, IsSpanOf}
-use Rattle.sorted_taps.specs.Stands.{StandAs, StandsAs}
+use Rattle.sorted_taps.specs.Spans.{HaveConsumed, IsSpanOf}
+use Rattle.sorted_taps.specs.Represents.{AreAlignedWith, IsAlignedWith}
 use Rattle.sorted_taps.specs.declared.reader.TapReader.{TapReader}
 use Rattle.sorted_taps.specs.declared.span.Span.{Span}
 
@@ -23,19 +23,19 @@ taken_append files old mid new [] ys first rest =
 taken_append files old mid new (x ∷ xs) ys (next, one, first) rest =
     (next, one, taken_append files next mid new xs ys first rest)
 
-pub stands_alone : (reader : TapReader) → StandsAs 0 reader reader
-stands_alone reader = record { offset = refl; ahead = refl; number = omega arith }
+pub is_self_aligned : (reader : TapReader) → IsAlignedWith 0 reader reader
+is_self_aligned reader = record { offset = refl; ahead = refl; number = omega arith }
 
 -- readers stand as themselves
-pub stand_alone : (readers : List TapReader) → StandAs readers readers
-stand_alone readers =
-    record { number = refl; each = λ k d within. stands_alone (get_or readers k d) }
+pub are_self_aligned : (readers : List TapReader) → AreAlignedWith readers readers
+are_self_aligned readers =
+    record { number = refl; each = λ k d within. is_self_aligned (get_or readers k d) }
 
 -- pair by pair, the first have passed this number of taps more
 record AreShifted (more : ℕ → ℕ) (ones others : List TapReader) : Type 0 where
   number : length ones ≡ length others
   each : (k : ℕ) (d : TapReader) → k < length ones
-      → StandsAs (more k) (get_or ones k d) (get_or others k d)
+      → IsAlignedWith (more k) (get_or ones k d) (get_or others k d)
 
 -- a reader that stands for one that goes on
 abbrev gone_on : ℕ → TapReader → TapReader
@@ -46,19 +46,19 @@ gone_on more is = record {
   passed = more + is.passed;
 }
 
-advanced : (all : List ℕ) (more : ℕ) (one other is : TapReader) → StandsAs more one other
+advanced : (all : List ℕ) (more : ℕ) (one other is : TapReader) → IsAlignedWith more one other
     → IsAdvanced all other is → IsAdvanced all one (gone_on more is)
-advanced all more one other is stands step = record {
+advanced all more one other is holds step = record {
   tap = step.tap;
-  behind = step.behind;
+  trailing = step.trailing;
   read = step.read;
-  stood = stands.ahead ∙ step.stood;
-  between = subst (λ from. AreTapsBetween all from is.offset step.read) (sym stands.offset)
+  stood = holds.ahead ∙ step.stood;
+  between = subst (λ from. AreTapsBetween all from is.offset step.read) (sym holds.offset)
       step.between;
   goes_on = step.goes_on;
   order = step.order;
   end = step.end;
-  number = let here = stands.number in let there = step.number in omega (arith, here, there);
+  number = let here = holds.number in let there = step.number in omega (arith, here, there);
 }
 
 module _ (files : List (List ℕ)) (more : ℕ → ℕ) where
@@ -73,8 +73,8 @@ module _ (files : List (List ℕ)) (more : ℕ → ℕ) where
       let here : at < length ones = omega (arith, number, within) in
       let was = get_or ones at step.was in
       let is = gone_on (more at) step.is in
-      let stands : StandsAs (more at) was step.was =
-      subst (StandsAs (more at) was) (sym step.there) (shifted.each at step.was here) in
+      let holds : IsAlignedWith (more at) was step.was =
+      subst (IsAlignedWith (more at) was) (sym step.there) (shifted.each at step.was here) in
       let long = length-set ones at is in
       let wide = length-set others at step.is in (
         set ones at is,
@@ -93,25 +93,25 @@ module _ (files : List (List ℕ)) (more : ℕ → ℕ) where
                 (step.least.least k d (omega (arith, number, inside)));
           };
           there = get_or_default ones at step.was was here;
-          step = advanced (get_or files at []) (more at) was step.was step.is stands step.step;
+          step = advanced (get_or files at []) (more at) was step.was step.is holds step.step;
           moved = refl;
         },
         record {
           number = long ∙ number ∙ sym wide ∙ ap length (sym step.moved);
           each = λ k d inside. subst
-              (λ l. StandsAs (more k) (get_or (set ones at is) k d) (get_or l k d))
+              (λ l. IsAlignedWith (more k) (get_or (set ones at is) k d) (get_or l k d))
               (sym step.moved)
               (by_case k d (omega (arith, inside, long)) (cases_eq k at));
         },
       )
     where
       by_case : (k : ℕ) (d : TapReader) → k < length ones → (k ≡ step.at) ⊎ (k ≢ step.at)
-          → StandsAs (more k) (get_or (set ones step.at (gone_on (more step.at) step.is)) k d)
+          → IsAlignedWith (more k) (get_or (set ones step.at (gone_on (more step.at) step.is)) k d)
           (get_or (set others step.at step.is) k d)
       by_case k d inside (inl same) =
           let number = shifted.number in
           let within = step.least.within in
-          subst (λ j. StandsAs (more j)
+          subst (λ j. IsAlignedWith (more j)
           (get_or (set ones step.at (gone_on (more step.at) step.is)) j d)
           (get_or (set others step.at step.is) j d)) (sym same)
           (rw (
@@ -137,27 +137,27 @@ module _ (files : List (List ℕ)) (more : ℕ → ℕ) where
       (last, (first, one, rest), end)
 
 -- a span that begins where readers stand
-pub come_on : (files : List (List ℕ)) (from readers end : List TapReader)
-    (before taps : List TapFields) (span : Span) → HaveCome files from before readers
+pub consumed_on : (files : List (List ℕ)) (from readers end : List TapReader)
+    (before taps : List TapFields) (span : Span) → HaveConsumed files from before readers
     → IsSpanOf files taps span → length span.begin.items ≡ length readers
     → ((k : ℕ) (d : TapReader) → k < length readers
-    → StandsAs (get_or readers k d).passed (get_or readers k d) (get_or span.begin.items k d))
+    → IsAlignedWith (get_or readers k d).passed (get_or readers k d) (get_or span.begin.items k d))
     → length span.end.items ≡ length readers → length end ≡ length span.end.items
     → ((k : ℕ) (d : TapReader) → k < length readers
-    → StandsAs (get_or readers k d).passed (get_or end k d) (get_or span.end.items k d))
-    → HaveCome files from (before ++ taps) end
-come_on files from readers end before taps span come is begun at_begin sized ended at_end =
+    → IsAlignedWith (get_or readers k d).passed (get_or end k d) (get_or span.end.items k d))
+    → HaveConsumed files from (before ++ taps) end
+consumed_on files from readers end before taps span consumed is started at_begin sized ended at_end =
     let more : ℕ → ℕ = λ k. get_or (map (λ (r : TapReader). r.passed) readers) k 0 in
-    let number = come.stand.number in
+    let number = consumed.aligned.number in
     let begins = is.begins.number in
-    let ends = is.come.stand.number in
-    let shifted : AreShifted more come.to is.from = record {
-      number = number ∙ sym begun ∙ sym begins;
+    let ends = is.consumed.aligned.number in
+    let shifted : AreShifted more consumed.to is.from = record {
+      number = number ∙ sym started ∙ sym begins;
       each = λ k d inside.
           let within : k < length readers = omega (arith, number, inside) in
-          let one = come.stand.each k d inside in
+          let one = consumed.aligned.each k d inside in
           let two = at_begin k d within in
-          let three = is.begins.each k d (omega (arith, number, begins, begun, inside)) in
+          let three = is.begins.each k d (omega (arith, number, begins, started, inside)) in
           let base = get_or-map (λ (r : TapReader). r.passed) readers k d 0 within in
           let a = one.number in
           let b = two.number in
@@ -168,18 +168,18 @@ come_on files from readers end before taps span come is begun at_begin sized end
             number = omega (arith, a, b, e, base);
           };
     } in
-    let (last, taken, stands) = all_shifted files more come.to is.from taps is.come.to shifted
-    is.come.taken in
-    let as_long = stands.number in
+    let (last, taken, holds) = all_shifted files more consumed.to is.from taps is.consumed.to shifted
+    is.consumed.taken in
+    let as_long = holds.number in
     record {
       to = last;
-      taken = taken_append files from come.to last before taps come.taken taken;
-      stand = record {
+      taken = taken_append files from consumed.to last before taps consumed.taken taken;
+      aligned = record {
         number = as_long ∙ ends ∙ sym ended;
         each = λ k d inside.
             let within : k < length readers = omega (arith, as_long, ends, sized, inside) in
-            let one = stands.each k d inside in
-            let two = is.come.stand.each k d (omega (arith, as_long, inside)) in
+            let one = holds.each k d inside in
+            let two = is.consumed.aligned.each k d (omega (arith, as_long, inside)) in
             let three = at_end k d within in
             let base = get_or-map (λ (r : TapReader). r.passed) readers k d 0 within in
             let a = one.number in
@@ -194,38 +194,38 @@ come_on files from readers end before taps span come is begun at_begin sized end
     }
 
 -- taps that were taken from where readers stand
-pub come_further : (files : List (List ℕ)) (from readers next : List TapReader)
-    (before taps : List TapFields) → HaveCome files from before readers
-    → AreTaken files readers taps next → HaveCome files from (before ++ taps) next
-come_further files from readers next before taps come further =
-    let (last, taken, stands) = all_shifted files (λ k. 0) come.to readers taps next
-    (record { number = come.stand.number; each = come.stand.each }) further in
+pub consumed_further : (files : List (List ℕ)) (from readers next : List TapReader)
+    (before taps : List TapFields) → HaveConsumed files from before readers
+    → AreTaken files readers taps next → HaveConsumed files from (before ++ taps) next
+consumed_further files from readers next before taps consumed further =
+    let (last, taken, holds) = all_shifted files (λ k. 0) consumed.to readers taps next
+    (record { number = consumed.aligned.number; each = consumed.aligned.each }) further in
     record {
       to = last;
-      taken = taken_append files from come.to last before taps come.taken taken;
-      stand = record { number = stands.number; each = stands.each };
+      taken = taken_append files from consumed.to last before taps consumed.taken taken;
+      aligned = record { number = holds.number; each = holds.each };
     }
 
 -- readers that stand for others at the ends of their files
-pub at_end_too : (ones others : List TapReader) → StandAs ones others → AreAtEnd others
+pub at_end_too : (ones others : List TapReader) → AreAlignedWith ones others → AreAtEnd others
     → AreAtEnd ones
-at_end_too ones others stand at_end k d inside =
-    let number = stand.number in
-    (stand.each k d inside).ahead ∙ at_end k d (omega (arith, number, inside))
+at_end_too ones others aligned at_end k d inside =
+    let number = aligned.number in
+    (aligned.each k d inside).ahead ∙ at_end k d (omega (arith, number, inside))
 
 -- and they have passed as many taps
-pub as_many : (ones others : List TapReader) → StandAs ones others
+pub as_many : (ones others : List TapReader) → AreAlignedWith ones others
     → map (λ (r : TapReader). r.passed) ones ≡ map (λ (r : TapReader). r.passed) others
-as_many [] [] stand = refl
-as_many [] (other ∷ others) stand = absurd (let number = stand.number in omega (arith, number))
-as_many (one ∷ ones) [] stand = absurd (let number = stand.number in omega (arith, number))
-as_many (one ∷ ones) (other ∷ others) stand =
-    let number = stand.number in
-    let is : one.passed ≡ 0 + other.passed = (stand.each 0 one (omega arith)).number in
+as_many [] [] aligned = refl
+as_many [] (other ∷ others) aligned = absurd (let number = aligned.number in omega (arith, number))
+as_many (one ∷ ones) [] aligned = absurd (let number = aligned.number in omega (arith, number))
+as_many (one ∷ ones) (other ∷ others) aligned =
+    let number = aligned.number in
+    let is : one.passed ≡ 0 + other.passed = (aligned.each 0 one (omega arith)).number in
     let first : one.passed ≡ other.passed = omega (arith, is) in
     let rest = as_many ones others (record {
       number = omega (arith, number);
-      each = λ k d inside. stand.each (suc k) d (omega (arith, inside));
+      each = λ k d inside. aligned.each (suc k) d (omega (arith, inside));
     }) in
     ap (λ n. n ∷ map (λ (r : TapReader). r.passed) ones) first
     ∙ ap (λ ns. other.passed ∷ ns) rest
@@ -234,9 +234,9 @@ as_many (one ∷ ones) (other ∷ others) stand =
 pub record AreJoinedTo (readers begin ends now : List TapReader) (at : ℕ) : Type 0 where
   pub number : length now ≡ length ends
   pub begins : (k : ℕ) (d : TapReader) → k < at
-      → StandsAs (get_or readers k d).passed (get_or readers k d) (get_or begin k d)
+      → IsAlignedWith (get_or readers k d).passed (get_or readers k d) (get_or begin k d)
   pub counted : (k : ℕ) (d : TapReader) → k < at
-      → StandsAs (get_or readers k d).passed (get_or now k d) (get_or ends k d)
+      → IsAlignedWith (get_or readers k d).passed (get_or now k d) (get_or ends k d)
   pub rest : (k : ℕ) (d : TapReader) → at ≤ k → get_or now k d ≡ get_or ends k d
 
 pub joined_none : (readers begin ends : List TapReader) → AreJoinedTo readers begin ends ends 0

@@ -12,12 +12,12 @@ use Rattle.tap_views.specs.Files.{IsFile, IsFileOf, taps_of_batches}
 use Rattle.tap_views.specs.declared.encoder.TapFields.{TapFields}
 use Rattle.tap_views.specs.declared.fault.LayoutFault.{LayoutFault}
 use Rattle.tap_views.proofs.Reading.{no_batch}
-use Rattle.tap_views.proofs.ReadingLemmas.{no_bytes}
+use Rattle.tap_views.proofs.ParseLemmas.{no_bytes}
 use Rattle.tap_parts.specs.Canonical.{tap_cmp}
 use Rattle.sorted_taps.specs.Merged.{BeginsNotBefore}
 use Rattle.sorted_taps.specs.Reading.{AreTapsBetween}
-use Rattle.sorted_taps.specs.Readers.{ahead, StandsIn, IsAdvanced, IsStepFault}
-use Rattle.sorted_taps.specs.Readers.{IsBehindFault}
+use Rattle.sorted_taps.specs.Readers.{ahead, IsPositionedIn, IsAdvanced, IsStepFault}
+use Rattle.sorted_taps.specs.Readers.{IsAfterFault}
 use Rattle.sorted_taps.specs.Sorted.{IsSortedFile, IsDamagedAt, IsSortedFault}
 use Rattle.sorted_taps.specs.declared.fault.SortedFault.{SortedFault}
 use Rattle.sorted_taps.specs.declared.fault.SortedFault.TheVariants.{Layout, OutOfOrder, Unread}
@@ -31,11 +31,11 @@ last_of : (xs : List TapFields) (tap d : TapFields)
 last_of xs tap d =
     let long = length-append xs (tap ∷ []) in
     let at : length (xs ++ tap ∷ []) - 1 ≡ length xs = omega (arith, long) in
-    ap (λ n. get_or (xs ++ tap ∷ []) n d) at ∙ behind xs
+    ap (λ n. get_or (xs ++ tap ∷ []) n d) at ∙ trailing xs
   where
-    behind : (xs : List TapFields) → get_or (xs ++ tap ∷ []) (length xs) d ≡ tap
-    behind [] = refl
-    behind (x ∷ xs) = behind xs
+    trailing : (xs : List TapFields) → get_or (xs ++ tap ∷ []) (length xs) d ≡ tap
+    trailing [] = refl
+    trailing (x ∷ xs) = trailing xs
 
 -- one more tap, which is not before the last
 sorted_more : (xs : List TapFields) (tap : TapFields) (rest : List TapFields)
@@ -48,30 +48,30 @@ sorted_more xs tap (next ∷ rest) sorted order =
     (λ d some. subst (λ t. is_lt (tap_cmp next t) ≡ false) (sym (last_of xs tap d)) order)
 
 -- what was passed, what stands in memory and what was read behind it, in another grouping
-regroup : (passed behind read next : List TapFields) (tap : TapFields) → next ≡ behind ++ read
-    → (passed ++ (tap ∷ behind)) ++ read ≡ (passed ++ tap ∷ []) ++ next
-regroup passed behind read next tap goes_on =
-    append_assoc passed (tap ∷ behind) read
+regroup : (passed trailing read next : List TapFields) (tap : TapFields) → next ≡ trailing ++ read
+    → (passed ++ (tap ∷ trailing)) ++ read ≡ (passed ++ tap ∷ []) ++ next
+regroup passed trailing read next tap goes_on =
+    append_assoc passed (tap ∷ trailing) read
     ∙ ap (λ l. passed ++ tap ∷ l) (sym goes_on)
     ∙ sym (append_assoc passed (tap ∷ []) next)
 
 -- a reader that goes on stands in its file
-pub stands_on : (all : List ℕ) (from : ℕ) (passed : List TapFields) (old new : TapReader)
-    → StandsIn all from passed old → (is : IsAdvanced all old new)
-    → StandsIn all from (passed ++ is.tap ∷ []) new
-stands_on all from passed old new stands is =
-    let whole : AreTapsBetween all from new.offset ((passed ++ is.tap ∷ is.behind) ++ is.read) =
-    between_more all from old.offset new.offset (passed ++ is.tap ∷ is.behind) is.read
-    (subst (λ l. AreTapsBetween all from old.offset (passed ++ l)) is.stood stands.between)
+pub holds_on : (all : List ℕ) (from : ℕ) (passed : List TapFields) (old new : TapReader)
+    → IsPositionedIn all from passed old → (is : IsAdvanced all old new)
+    → IsPositionedIn all from (passed ++ is.tap ∷ []) new
+holds_on all from passed old new holds is =
+    let whole : AreTapsBetween all from new.offset ((passed ++ is.tap ∷ is.trailing) ++ is.read) =
+    between_more all from old.offset new.offset (passed ++ is.tap ∷ is.trailing) is.read
+    (subst (λ l. AreTapsBetween all from old.offset (passed ++ l)) is.stood holds.between)
     is.between in
     let up : IsSorted tap_cmp (passed ++ is.tap ∷ []) =
-    subst (λ l. IsSorted tap_cmp (passed ++ take 1 l)) is.stood stands.sorted in
+    subst (λ l. IsSorted tap_cmp (passed ++ take 1 l)) is.stood holds.sorted in
     let long = length-append passed (is.tap ∷ []) in
-    let before = stands.number in
+    let before = holds.number in
     let after = is.number in
     record {
       between = subst (λ l. AreTapsBetween all from new.offset l)
-          (regroup passed is.behind is.read (ahead new) is.tap is.goes_on) whole;
+          (regroup passed is.trailing is.read (ahead new) is.tap is.goes_on) whole;
       sorted = sorted_more passed is.tap (ahead new) up is.order;
       end = is.end;
       number = omega (arith, long, before, after);
@@ -92,13 +92,13 @@ whole_file all to taps between end =
 
 -- a reader that came to the end of its file has passed all taps
 pub sorted_at_end : (all : List ℕ) (passed : List TapFields) (reader : TapReader)
-    → StandsIn all 0 passed reader → ahead reader ≡ [] → IsSortedFile all passed
-sorted_at_end all passed reader stands none = record {
+    → IsPositionedIn all 0 passed reader → ahead reader ≡ [] → IsSortedFile all passed
+sorted_at_end all passed reader holds none = record {
   read = whole_file all reader.offset passed
       (subst (λ l. AreTapsBetween all 0 reader.offset l)
-      (ap (λ l. passed ++ l) none ∙ append-nil passed) stands.between) (stands.end none);
+      (ap (λ l. passed ++ l) none ∙ append-nil passed) holds.between) (holds.end none);
   sorted = subst (λ l. IsSorted tap_cmp l)
-      (ap (λ l. passed ++ take 1 l) none ∙ append-nil passed) stands.sorted;
+      (ap (λ l. passed ++ take 1 l) none ∙ append-nil passed) holds.sorted;
 }
 
 -- taps in order, and then a layout fault
@@ -118,7 +118,7 @@ damaged all at taps fault between sorted some is =
         is_end = record {
           some_byte = some;
           is_fault = is;
-          stands_at = omega (arith, left, some);
+          holds_at = omega (arith, left, some);
         };
       };
       sorted = subst (λ l. IsSorted tap_cmp l)
@@ -127,7 +127,7 @@ damaged all at taps fault between sorted some is =
     }
 
 -- the fault of a reader that does not begin is the file's
-pub opening_fault : (all : List ℕ) (fault : SortedFault) → IsBehindFault all 0 fault
+pub opening_fault : (all : List ℕ) (fault : SortedFault) → IsAfterFault all 0 fault
     → IsSortedFault all fault
 opening_fault all (OutOfOrder tap) is = absurd is
 opening_fault all (Layout at fault) is =
@@ -143,13 +143,13 @@ one_tap (tap ∷ next ∷ rest) one = absurd (omega (arith, one))
 
 -- the fault of a reader that does not go on is the file's
 pub step_fault : (all : List ℕ) (passed : List TapFields) (old : TapReader) (fault : SortedFault)
-    → StandsIn all 0 passed old → IsStepFault all old fault → IsSortedFault all fault
-step_fault all passed old (OutOfOrder number) stands is =
-    let whole : AreTapsBetween all 0 is.to ((passed ++ is.tap ∷ is.behind) ++ is.read) =
-    between_more all 0 old.offset is.to (passed ++ is.tap ∷ is.behind) is.read
-    (subst (λ l. AreTapsBetween all 0 old.offset (passed ++ l)) is.stood stands.between)
+    → IsPositionedIn all 0 passed old → IsStepFault all old fault → IsSortedFault all fault
+step_fault all passed old (OutOfOrder number) holds is =
+    let whole : AreTapsBetween all 0 is.to ((passed ++ is.tap ∷ is.trailing) ++ is.read) =
+    between_more all 0 old.offset is.to (passed ++ is.tap ∷ is.trailing) is.read
+    (subst (λ l. AreTapsBetween all 0 old.offset (passed ++ l)) is.stood holds.between)
     is.between in
-    let before = stands.number in
+    let before = holds.number in
     let counted = is.counted in
     record {
       to = is.to;
@@ -158,17 +158,17 @@ step_fault all passed old (OutOfOrder number) stands is =
       next = is.next;
       later = is.later;
       between = subst (λ l. AreTapsBetween all 0 is.to l)
-          (append_assoc passed (is.tap ∷ is.behind) is.read
+          (append_assoc passed (is.tap ∷ is.trailing) is.read
           ∙ ap (λ l. passed ++ is.tap ∷ l) is.goes_on) whole;
-      sorted = subst (λ l. IsSorted tap_cmp (passed ++ take 1 l)) is.stood stands.sorted;
+      sorted = subst (λ l. IsSorted tap_cmp (passed ++ take 1 l)) is.stood holds.sorted;
       before = is.before;
       number = omega (arith, before, counted);
     }
-step_fault all passed old (Layout at fault) stands (one, is) =
+step_fault all passed old (Layout at fault) holds (one, is) =
     damaged all at ((passed ++ ahead old) ++ []) fault
-    (between_more all 0 old.offset at (passed ++ ahead old) [] stands.between is.between)
+    (between_more all 0 old.offset at (passed ++ ahead old) [] holds.between is.between)
     (subst (λ l. IsSorted tap_cmp l)
     (ap (λ l. passed ++ l) (one_tap (ahead old) one) ∙ sym (append-nil (passed ++ ahead old)))
-    stands.sorted) is.some is.is_fault
-step_fault all passed old Unread stands is = tt
-step_fault all passed old NoMemory stands is = tt
+    holds.sorted) is.some is.is_fault
+step_fault all passed old Unread holds is = tt
+step_fault all passed old NoMemory holds is = tt

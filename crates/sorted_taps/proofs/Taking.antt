@@ -11,24 +11,24 @@ use Rattle.std.proofs.lemmas.List.Elements.{All-nil, All-cons}
 use Rattle.tap_views.specs.declared.encoder.TapFields.{TapFields}
 use Rattle.tap_parts.specs.Canonical.{tap_cmp, IsCanonical}
 use Rattle.sorted_taps.specs.Merged.{BeginsNotBefore, IsMerged, IsLeastTaken}
-use Rattle.sorted_taps.specs.Merges.{AreAtEnd, AreBegun, AreSortedFiles, AreTaken, IsTapTaken}
-use Rattle.sorted_taps.specs.Readers.{ahead, StandsIn, IsAdvanced}
+use Rattle.sorted_taps.specs.Merges.{AreAtEnd, AreStarted, AreSortedFiles, AreTaken, IsTapTaken}
+use Rattle.sorted_taps.specs.Readers.{ahead, IsPositionedIn, IsAdvanced}
 use Rattle.sorted_taps.specs.Sorted.{IsSortedFile}
 use Rattle.sorted_taps.specs.declared.reader.TapReader.{TapReader}
 use Rattle.sorted_taps.proofs.Merging.{merged_canonical}
-use Rattle.sorted_taps.proofs.Standing.{sorted_at_end, stands_on}
+use Rattle.sorted_taps.proofs.Standing.{sorted_at_end, holds_on}
 
 -- the reader has passed these taps since an offset, whatever it has counted
 abbrev pub LiesIn : List ℕ → ℕ → List TapFields → TapReader → Type 0
 LiesIn all from passed reader =
-    StandsIn all from passed (record reader { passed = length passed })
+    IsPositionedIn all from passed (record reader { passed = length passed })
 
 pub lies_of : (all : List ℕ) (from : ℕ) (passed : List TapFields) (reader : TapReader)
-    → StandsIn all from passed reader → LiesIn all from passed reader
-lies_of all from passed reader stands = record {
-  between = stands.between;
-  sorted = stands.sorted;
-  end = stands.end;
+    → IsPositionedIn all from passed reader → LiesIn all from passed reader
+lies_of all from passed reader holds = record {
+  between = holds.between;
+  sorted = holds.sorted;
+  end = holds.end;
   number = refl;
 }
 
@@ -38,11 +38,11 @@ pub lies_on : (all : List ℕ) (from : ℕ) (passed : List TapFields) (old new :
     → LiesIn all from (passed ++ is.tap ∷ []) new
 lies_on all from passed old new lies is =
     let long = length-append passed (is.tap ∷ []) in
-    stands_on all from passed (record old { passed = length passed })
+    holds_on all from passed (record old { passed = length passed })
     (record new { passed = length (passed ++ is.tap ∷ []) }) lies
     (record {
       tap = is.tap;
-      behind = is.behind;
+      trailing = is.trailing;
       read = is.read;
       stood = is.stood;
       between = is.between;
@@ -136,9 +136,9 @@ module _ (files : List (List ℕ)) (old mid : List TapReader) (tap : TapFields)
 
   the_tap : taken.step.tap ≡ tap
   the_tap =
-      let (rest, stands) = taken.least.head taken.was in
-      same_head (ahead taken.was) taken.step.tap tap taken.step.behind rest taken.step.stood
-      (ap ahead (sym (there taken.was)) ∙ stands)
+      let (rest, holds) = taken.least.head taken.was in
+      same_head (ahead taken.was) taken.step.tap tap taken.step.trailing rest taken.step.stood
+      (ap ahead (sym (there taken.was)) ∙ holds)
 
   module _ (lists : List (List TapFields)) (end : List TapReader)
       (number : length lists ≡ length mid)
@@ -165,11 +165,11 @@ module _ (files : List (List ℕ)) (old mid : List TapReader) (tap : TapFields)
 
     each_before : (k : ℕ) (d : TapReader) → k < length old
         → HasPassed (get_or files k []) (get_or old k d) (get_or before k []) (get_or end k d)
-    each_before k d inside = by_place (cases_eq k taken.at)
+    each_before k d inside = by_position (cases_eq k taken.at)
       where
-        by_place : (k ≡ taken.at) ⊎ (k ≢ taken.at)
+        by_position : (k ≡ taken.at) ⊎ (k ≢ taken.at)
             → HasPassed (get_or files k []) (get_or old k d) (get_or before k []) (get_or end k d)
-        by_place (inl same) =
+        by_position (inl same) =
             subst
             (λ n. HasPassed (get_or files n []) (get_or old n d) (get_or before n [])
             (get_or end n d))
@@ -179,7 +179,7 @@ module _ (files : List (List ℕ)) (old mid : List TapReader) (tap : TapFields)
             (subst (λ l. HasPassed file taken.was l (get_or end taken.at d))
             (sym (get_or-set_same lists taken.at (tap ∷ rest) [] inside_lists))
             (passed_before d)))
-        by_place (inr apart) =
+        by_position (inr apart) =
             let m = as_many in
             subst (λ r. HasPassed (get_or files k []) r (get_or before k []) (get_or end k d))
             (other k d apart)
@@ -268,21 +268,21 @@ pub record AreMerged (files : List (List ℕ)) (end : List TapReader) (taps : Li
   pub canonical : IsCanonical (flat_map (λ list. list) lists) taps
 
 -- from the begin to the end they are the canonical list of sorted files
-pub taken_merged : (files : List (List ℕ)) (begun end : List TapReader) (taps : List TapFields)
-    → AreBegun files begun → AreTaken files begun taps end → AreAtEnd end
+pub taken_merged : (files : List (List ℕ)) (started end : List TapReader) (taps : List TapFields)
+    → AreStarted files started → AreTaken files started taps end → AreAtEnd end
     → AreMerged files end taps
-taken_merged files begun end taps is taken at_end =
-    let passed = taken_passed files taps begun end taken in
+taken_merged files started end taps is taken at_end =
+    let passed = taken_passed files taps started end taken in
     let number = is.number in
     let lists = passed.lists in
     let many = passed.number in
     let end_many = passed.as_many in
-    let each : (k : ℕ) → k < length begun → IsSortedFile (get_or files k []) (get_or lists k []) =
-    λ k inside. let d = some_of begun k inside in
+    let each : (k : ℕ) → k < length started → IsSortedFile (get_or files k []) (get_or lists k []) =
+    λ k inside. let d = some_of started k inside in
     sorted_at_end (get_or files k []) (get_or lists k [])
     (record (get_or end k d) { passed = length (get_or lists k []) })
     ((passed.each k d inside).lies 0 []
-    (lies_of (get_or files k []) 0 [] (get_or begun k d) (is.each k d inside)))
+    (lies_of (get_or files k []) 0 [] (get_or started k d) (is.each k d inside)))
     (at_end k d (omega (arith, inside, end_many))) in
     record {
       lists = lists;
@@ -291,21 +291,21 @@ taken_merged files begun end taps is taken at_end =
         each = λ k inside. each k (omega (arith, inside, number));
       };
       counted = passed_lengths end lists (omega (arith, many, end_many)) (λ k d inside.
-          let in_begun : k < length begun = omega (arith, inside, end_many) in
-          let all = (passed.each k d in_begun).number in
-          let none : (get_or begun k d).passed ≡ 0 = (is.each k d in_begun).number in
+          let in_started : k < length started = omega (arith, inside, end_many) in
+          let all = (passed.each k d in_started).number in
+          let none : (get_or started k d).passed ≡ 0 = (is.each k d in_started).number in
           omega (arith, all, none));
       canonical = merged_canonical lists taps ((λ j d inside.
           subst (λ l. IsSorted tap_cmp l) (get_or_default lists j [] d inside)
           (each j (omega (arith, inside, many))).sorted)) passed.merged;
     }
 
-pub taken_canonical : (files : List (List ℕ)) (begun end : List TapReader) (taps : List TapFields)
-    → AreBegun files begun → AreTaken files begun taps end → AreAtEnd end
+pub taken_canonical : (files : List (List ℕ)) (started end : List TapReader) (taps : List TapFields)
+    → AreStarted files started → AreTaken files started taps end → AreAtEnd end
     → (lists : List (List TapFields)) × AreSortedFiles files lists
     × IsCanonical (flat_map (λ list. list) lists) taps
-taken_canonical files begun end taps is taken at_end =
-    let merged = taken_merged files begun end taps is taken at_end in
+taken_canonical files started end taps is taken at_end =
+    let merged = taken_merged files started end taps is taken at_end in
     (merged.lists, merged.sorted, merged.canonical)
 
 -- one more tap is taken

@@ -20,9 +20,9 @@ pub record IsChosen (left right chosen : Head) : Type 0 where
 
 -- at this place of the tree is the one chosen of those at twice the place and after that
 abbrev pub IsChosenAt : List Head → ℕ → Type 0
-IsChosenAt tree place =
-    (d : Head) → IsChosen (get_or tree (2 * place) d) (get_or tree (2 * place + 1) d)
-    (get_or tree place d)
+IsChosenAt tree position =
+    (d : Head) → IsChosen (get_or tree (2 * position) d) (get_or tree (2 * position + 1) d)
+    (get_or tree position d)
 
 -- the second half of the tree has the heads of the readers
 pub record HasLeaves (readers : List TapReader) (tree : List Head) : Type 0 where
@@ -35,4 +35,4 @@ pub record HasLeaves (readers : List TapReader) (tree : List Head) : Type 0 wher
 -- chosen of two: so that at 1 is one before which there is none
 pub record IsRanked (readers : List TapReader) (tree : List Head) : Type 0 where
   pub leaves : HasLeaves readers tree
-  pub inner : (place : ℕ) → 0 < place → place < length readers → IsChosenAt tree place
+  pub inner : (position : ℕ) → 0 < position → position < length readers → IsChosenAt tree position

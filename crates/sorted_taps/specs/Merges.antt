@@ -3,7 +3,7 @@ use Rattle.std.specs.Prelude.{◌≡◌, ℕ, ◌<◌, List, [], ◌∷◌, ◌+
 use Rattle.std.specs.Prelude.{Option, Some}
 use Rattle.tap_views.specs.declared.encoder.TapFields.{TapFields}
 use Rattle.sorted_taps.specs.Merged.{BeginsNotBefore}
-use Rattle.sorted_taps.specs.Readers.{ahead, StandsIn, IsAdvanced}
+use Rattle.sorted_taps.specs.Readers.{ahead, IsPositionedIn, IsAdvanced}
 use Rattle.sorted_taps.specs.Sorted.{IsSortedFile}
 use Rattle.sorted_taps.specs.declared.reader.TapReader.{TapReader}
 
@@ -19,10 +19,10 @@ abbrev pub AreAtEnd : List TapReader → Type 0
 AreAtEnd readers = (k : ℕ) (d : TapReader) → k < length readers → ahead (get_or readers k d) ≡ []
 
 -- each file has a reader, which is at the file's first tap, or at its end if it has none
-pub record AreBegun (files : List (List ℕ)) (readers : List TapReader) : Type 0 where
+pub record AreStarted (files : List (List ℕ)) (readers : List TapReader) : Type 0 where
   pub number : length readers ≡ length files
   pub each : (k : ℕ) (d : TapReader) → k < length readers
-      → StandsIn (get_or files k []) 0 [] (get_or readers k d)
+      → IsPositionedIn (get_or files k []) 0 [] (get_or readers k d)
 
 -- a least tap was taken, and its reader alone has gone on in its file
 pub record IsTapTaken (files : List (List ℕ)) (old : List TapReader) (tap : TapFields)

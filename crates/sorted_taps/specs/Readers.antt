@@ -30,7 +30,7 @@ head_of reader = first_of (ahead reader)
 -- the reader began at an offset and has passed these taps: they and those in memory are the taps of
 -- the file up to the reader's offset, and none is before its predecessor up to the one at which it
 -- is; it is at none only at the file's end
-pub record StandsIn (all : List ℕ) (from : ℕ) (passed : List TapFields) (reader : TapReader)
+pub record IsPositionedIn (all : List ℕ) (from : ℕ) (passed : List TapFields) (reader : TapReader)
     : Type 0 where
   pub between : AreTapsBetween all from reader.offset (passed ++ ahead reader)
   pub sorted : IsSorted tap_cmp (passed ++ take 1 (ahead reader))
@@ -41,11 +41,11 @@ pub record StandsIn (all : List ℕ) (from : ℕ) (passed : List TapFields) (rea
 -- taps in memory come those of the file
 pub record IsAdvanced (all : List ℕ) (old new : TapReader) : Type 0 where
   pub tap : TapFields
-  pub behind : List TapFields
+  pub trailing : List TapFields
   pub read : List TapFields
-  pub stood : ahead old ≡ tap ∷ behind
+  pub stood : ahead old ≡ tap ∷ trailing
   pub between : AreTapsBetween all old.offset new.offset read
-  pub goes_on : ahead new ≡ behind ++ read
+  pub goes_on : ahead new ≡ trailing ++ read
   pub order : BeginsNotBefore tap (ahead new)
   pub end : ahead new ≡ [] → drop new.offset all ≡ []
   pub number : new.passed ≡ old.passed + 1
@@ -55,32 +55,32 @@ pub record IsAdvanced (all : List ℕ) (old new : TapReader) : Type 0 where
 pub record IsNextBefore (all : List ℕ) (old : TapReader) (number : ℕ) : Type 0 where
   pub to : ℕ
   pub tap : TapFields
-  pub behind : List TapFields
+  pub trailing : List TapFields
   pub read : List TapFields
   pub next : TapFields
   pub later : List TapFields
-  pub stood : ahead old ≡ tap ∷ behind
+  pub stood : ahead old ≡ tap ∷ trailing
   pub between : AreTapsBetween all old.offset to read
-  pub goes_on : behind ++ read ≡ next ∷ later
+  pub goes_on : trailing ++ read ≡ next ∷ later
   pub before : is_lt (tap_cmp next tap) ≡ true
   pub counted : number ≡ old.passed + 1
 
 -- after the offset are batches of no taps, and then bytes with this layout fault
-pub record IsDamagedBehind (all : List ℕ) (from at : ℕ) (fault : LayoutFault) : Type 0 where
+pub record IsDamagedAfter (all : List ℕ) (from at : ℕ) (fault : LayoutFault) : Type 0 where
   pub between : AreTapsBetween all from at []
   pub some : 0 < length (drop at all)
   pub is_fault : IsFault (drop at all) fault
 
 -- why a reader does not come to a tap after this offset
-abbrev pub IsBehindFault : List ℕ → ℕ → SortedFault → Type 0
-IsBehindFault all from (OutOfOrder tap) = ⊥
-IsBehindFault all from (Layout at fault) = IsDamagedBehind all from at fault
-IsBehindFault all from fault = Unit {0}
+abbrev pub IsAfterFault : List ℕ → ℕ → SortedFault → Type 0
+IsAfterFault all from (OutOfOrder tap) = ⊥
+IsAfterFault all from (Layout at fault) = IsDamagedAfter all from at fault
+IsAfterFault all from fault = Unit {0}
 
 -- why a reader does not go on: the next tap is before the one at which it is, or it is at
 -- the last tap in front of a layout fault
 abbrev pub IsStepFault : List ℕ → TapReader → SortedFault → Type 0
 IsStepFault all old (OutOfOrder number) = IsNextBefore all old number
 IsStepFault all old (Layout at fault) =
-    (length (ahead old) ≡ 1) × IsDamagedBehind all old.offset at fault
+    (length (ahead old) ≡ 1) × IsDamagedAfter all old.offset at fault
 IsStepFault all old fault = Unit {0}

@@ -37,7 +37,7 @@ pub record IsWritten (old new : Option (List ℕ)) (taps : List TapFields) : Typ
   pub appended : Appends old new file
 
 -- after the old bytes are whole batches of 512 taps
-pub record IsBegun (old new : Option (List ℕ)) : Type 0 where
+pub record IsPartlyWritten (old new : Option (List ℕ)) : Type 0 where
   pub text : List ℕ
   pub batches : List (List TapFields)
   pub are : AreBatchesOf text batches

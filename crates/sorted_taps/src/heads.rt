@@ -60,31 +60,31 @@ fn lesser(tree: &[Head], left: usize, right: usize) -> Head
 }
 
 #[inline(always)]
-fn head_at(tree: &[Head], place: usize) -> Head
-    requires { place < length tree.now }
-    ensures { result ≡ get_or tree.now place result }
+fn head_at(tree: &[Head], position: usize) -> Head
+    requires { position < length tree.now }
+    ensures { result ≡ get_or tree.now position result }
 {
-    let head = &tree[place];
+    let head = &tree[position];
     *head
 }
 
 #[inline(always)]
-fn choose(tree: &mut [Head], place: usize)
-    requires { 2 * place + 1 < length tree.old }
-    ensures { IsChosenAnew tree.old place tree.new }
+fn choose(tree: &mut [Head], position: usize)
+    requires { 2 * position + 1 < length tree.old }
+    ensures { IsChosenAnew tree.old position tree.new }
 {
-    let chosen = lesser(tree, 2 * place, 2 * place + 1);
-    tree[place] = chosen;
+    let chosen = lesser(tree, 2 * position, 2 * position + 1);
+    tree[position] = chosen;
 }
 
 fn choose_all(tree: &mut [Head], readers: &[TapReader])
     requires { HasLeaves readers.now tree.old }
     ensures { IsRanked readers.now tree.new }
 {
-    let mut place = readers.len();
-    while place > 1 {
-        place -= 1;
-        choose(tree, place);
+    let mut position = readers.len();
+    while position > 1 {
+        position -= 1;
+        choose(tree, position);
     }
 }
 
@@ -109,11 +109,11 @@ fn put(tree: &mut [Head], readers: &[TapReader], head: Head)
     ensures { (is : TapReader) → head.tap ≡ head_of is
         → IsRanked (set readers.now head.at is) tree.new }
 {
-    let mut place = readers.len() + head.at;
-    tree[place] = head;
-    while place > 1 {
-        place /= 2;
-        choose(tree, place);
+    let mut position = readers.len() + head.at;
+    tree[position] = head;
+    while position > 1 {
+        position /= 2;
+        choose(tree, position);
     }
 }
 

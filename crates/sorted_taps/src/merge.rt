@@ -3,7 +3,7 @@
 ghost use Rattle.std.specs.Prelude.{◌≡◌, ◌<◌, ◌≤◌, ℕ, List, length, map, set, IfOk, IfSome};
 ghost use Rattle.std.specs.Prelude.{None, Some, OnOk};
 ghost use Rattle.sorted_taps.specs.Heads.{IsRanked};
-ghost use Rattle.sorted_taps.specs.Merges.{AreAtEnd, AreBegun, IsTapTaken};
+ghost use Rattle.sorted_taps.specs.Merges.{AreAtEnd, AreStarted, IsTapTaken};
 ghost use Rattle.sorted_taps.specs.Merges.{TakesTaps};
 ghost use Rattle.sorted_taps.specs.declared.reader.TapReader.{TapReader};
 ghost use Rattle.sorted_taps.specs.Reading.{window_bytes};
@@ -13,7 +13,7 @@ use crate::heads::{Head, least_of, least_tap, put_end, put_head, tree_of};
 use crate::ranges::reader_near;
 use crate::reader::TapReader;
 use crate::run::{is_below, take_run};
-use crate::span::{begun, numbers_of};
+use crate::span::{numbers_of, started};
 use placed_files::Placed;
 use std::alloc::{AllocError, Global};
 use tap_views::{TapFields, Token};
@@ -45,10 +45,10 @@ impl Merge {
         requires { window_bytes ≤ length window.old }
         ensures number { IfOk result (λ merge. length merge.readers.items ≡ length files.now) }
         ensures ranked { IfOk result (λ merge. IsRanked merge.readers.items merge.heads.items) }
-        ensures begun { IfOk result (λ merge. (all : List (List ℕ))
-            → map F.bytes files.now ≡ map Some all → AreBegun all merge.readers.items) }
+        ensures started { IfOk result (λ merge. (all : List (List ℕ))
+            → map F.bytes files.now ≡ map Some all → AreStarted all merge.readers.items) }
     {
-        let readers = begun(alloc, files, window)?;
+        let readers = started(alloc, files, window)?;
         Ok(Merge::of(alloc, readers)?)
     }
 

@@ -3,7 +3,7 @@
 ghost use Rattle.std.specs.Prelude.{◌≡◌, ◌≢◌, ◌≤◌, List, ℕ, IfErr, IfOk, Some, length, map};
 ghost use Rattle.sorted_taps.specs.Checked.{IsMergeFault};
 ghost use Rattle.sorted_taps.specs.Reading.{window_bytes};
-ghost use Rattle.sorted_taps.specs.Written.{IsBegun, IsMergedFile};
+ghost use Rattle.sorted_taps.specs.Written.{IsPartlyWritten, IsMergedFile};
 
 use crate::check::check_files;
 use crate::fault::{MergeFault, SortedFault, WriteFault};
@@ -67,8 +67,8 @@ fn write_merged<F: Placed, W: Write>(
     ensures merged { IfOk result (λ numbers. (all : List (List ℕ))
         → map F.bytes files.now ≡ map Some all
         → IsMergedFile all numbers.items (W.contents out.old) (W.contents out.new)) }
-    ensures begun { IfErr result (λ stop. stop ≢ MergeStop.Write
-        → IsBegun (W.contents out.old) (W.contents out.new)) }
+    ensures started { IfErr result (λ stop. stop ≢ MergeStop.Write
+        → IsPartlyWritten (W.contents out.old) (W.contents out.new)) }
 {
     let stamps = stamps_of(alloc, files)?;
     let mut waiting = Vec::with_capacity(alloc, BATCH_TAPS)?;
@@ -111,8 +111,8 @@ pub fn merge_sorted<F: Placed, W: Write>(
         → IsMergedFile all numbers.items (W.contents out.old) (W.contents out.new)) }
     ensures refused { IfErr result (λ fault. (all : List (List ℕ))
         → map F.bytes files.now ≡ map Some all → IsMergeFault all fault) }
-    ensures begun { IfErr result (λ fault. fault ≢ MergeFault.Write
-        → IsBegun (W.contents out.old) (W.contents out.new)) }
+    ensures started { IfErr result (λ fault. fault ≢ MergeFault.Write
+        → IsPartlyWritten (W.contents out.old) (W.contents out.new)) }
 {
     let mut window = vec![in alloc; 0u8; WINDOW_BYTES]?;
     match write_merged(alloc, files, &mut window, out) {

@@ -2,12 +2,12 @@
 //! them: whether ranges join is checked later.
 
 ghost use Rattle.std.specs.Prelude.{◌≤◌, IfOk, IfSome, length};
-ghost use Rattle.sorted_taps.specs.Places.{IsPlacedAnew};
+ghost use Rattle.sorted_taps.specs.Positions.{IsPlacedAnew};
 ghost use Rattle.sorted_taps.specs.Reading.{window_bytes};
 
 use crate::fault::SortedFault;
 use crate::file_batches::{FIRST_READ_BYTES, fill_at};
-use crate::places::{Place, PlacedReader};
+use crate::positions::{PlacedReader, Position};
 use crate::reader::TapReader;
 use placed_files::Placed;
 use std::alloc::Global;
@@ -38,12 +38,12 @@ fn batches_in<F: Placed>(file: &F) -> Result<u64, SortedFault> {
 
 /// Counted from 0; none if the file ends before it.
 pub(crate) fn token_at<F: Placed>(file: &F, tap: u64) -> Result<Option<Token>, SortedFault> {
-    let place = TAP1_HEADER_BYTES as u64 + tap % BATCH_TAPS * TAP1_TAP_BYTES as u64;
+    let position = TAP1_HEADER_BYTES as u64 + tap % BATCH_TAPS * TAP1_TAP_BYTES as u64;
     let Some(batch) = (tap / BATCH_TAPS).checked_mul(BATCH_BYTES) else {
         return Ok(None);
     };
     let mut bytes = [0u8; TOKEN_BYTES];
-    let count = fill_at(file, &mut bytes, batch.saturating_add(place))?;
+    let count = fill_at(file, &mut bytes, batch.saturating_add(position))?;
     if count < TOKEN_BYTES {
         return Ok(None);
     }
@@ -88,7 +88,7 @@ pub(crate) fn reader_from<F: Placed>(
 ) -> Result<PlacedReader, SortedFault>
     requires { window_bytes ≤ length window.old }
     ensures { IfOk result (λ made. IfSome (F.bytes file.now)
-        (λ all. IsPlacedAnew all made.place made.reader)) }
+        (λ all. IsPlacedAnew all made.position made.reader)) }
 {
     let offset = offset_below(file, token)?;
     let mut reader = TapReader::at(alloc, file, offset, window)?;
@@ -98,8 +98,8 @@ pub(crate) fn reader_from<F: Placed>(
             _ => {
                 let skip = reader.passed();
                 reader.count_anew();
-                let place = Place { offset, skip };
-                return Ok(PlacedReader { place, reader });
+                let position = Position { offset, skip };
+                return Ok(PlacedReader { position, reader });
             }
         }
         reader.advance(file, window)?;
@@ -116,7 +116,10 @@ pub(crate) fn reader_near<F: Placed>(
 ) -> Result<TapReader, SortedFault>
     requires { window_bytes ≤ length window.old }
 {
-    let PlacedReader { place: _, reader } = reader_from(alloc, file, token, PASSED_TAPS, window)?;
+    let PlacedReader {
+        position: _,
+        reader,
+    } = reader_from(alloc, file, token, PASSED_TAPS, window)?;
     Ok(reader)
 }
 

@@ -5,9 +5,9 @@ ghost use Rattle.std.specs.Prelude.{IfSome, IsTrue, MatchOption, true, false};
 ghost use Rattle.tap_views.specs.declared.encoder.TapFields.{TapFields};
 ghost use Rattle.sorted_taps.specs.Reading.{window_bytes};
 ghost use Rattle.sorted_taps.specs.Merged.{BeginsNotBefore};
-ghost use Rattle.sorted_taps.specs.Readers.{ahead, StandsIn, IsAdvanced, IsBehindFault};
+ghost use Rattle.sorted_taps.specs.Readers.{ahead, IsPositionedIn, IsAdvanced, IsAfterFault};
 ghost use Rattle.sorted_taps.specs.Readers.{IsStepFault};
-ghost use Rattle.sorted_taps.specs.Stands.{StandsAs};
+ghost use Rattle.sorted_taps.specs.Represents.{IsAlignedWith};
 ghost use Rattle.sorted_taps.specs.inside.Steps.{BeginsBefore, IsMovedOn, IsRefilled};
 
 use crate::fault::SortedFault;
@@ -56,10 +56,10 @@ impl TapReader {
         window: &mut [u8],
     ) -> Result<Self, SortedFault>
         requires { window_bytes ≤ length window.old }
-        ensures stands { IfOk result (λ reader. IfSome (F.bytes file.now)
-            (λ all. StandsIn all offset [] reader)) }
+        ensures holds { IfOk result (λ reader. IfSome (F.bytes file.now)
+            (λ all. IsPositionedIn all offset [] reader)) }
         ensures fault { IfErr result (λ fault. IfSome (F.bytes file.now)
-            (λ all. IsBehindFault all offset fault)) }
+            (λ all. IsAfterFault all offset fault)) }
     {
         let mut reader = TapReader {
             offset,
@@ -87,7 +87,7 @@ impl TapReader {
     }
 
     pub(crate) fn copy(&self, alloc: Global) -> Result<TapReader, AllocError>
-        ensures { IfOk result (λ copy. StandsAs 0 self.now copy) }
+        ensures { IfOk result (λ copy. IsAlignedWith 0 self.now copy) }
     {
         let mut taps = Vec::new(alloc);
         taps.extend_from_slice(self.ahead())?;
@@ -112,7 +112,7 @@ impl TapReader {
     }
 
     pub(crate) fn count_on(&mut self, other: &TapReader) -> bool
-        ensures { IsTrue result → StandsAs other.now.passed self.new self.old }
+        ensures { IsTrue result → IsAlignedWith other.now.passed self.new self.old }
     {
         match self.passed.checked_add(other.passed) {
             Some(passed) => {
@@ -124,7 +124,7 @@ impl TapReader {
     }
 
     pub(crate) fn is_at(&self, other: &TapReader) -> bool
-        ensures { IsTrue result → StandsAs self.now.passed self.now other.now }
+        ensures { IsTrue result → IsAlignedWith self.now.passed self.now other.now }
     {
         if self.offset != other.offset || other.passed != 0 {
             return false;
@@ -162,7 +162,7 @@ impl TapReader {
         ensures kept { OnOk result (IfSome (F.bytes file.now)
             (λ all. IsMovedOn all self.old self.new)) }
         ensures fault { IfErr result (λ fault. IfSome (F.bytes file.now)
-            (λ all. (length (ahead self.old) ≡ 1) × IsBehindFault all self.old.offset fault)) }
+            (λ all. (length (ahead self.old) ≡ 1) × IsAfterFault all self.old.offset fault)) }
     {
         self.next += 1;
         if self.next < self.taps.len() {
@@ -186,7 +186,7 @@ impl TapReader {
         ensures kept { OnOk result (IfSome (F.bytes file.now)
             (λ all. IsRefilled all self.old self.new)) }
         ensures fault { IfErr result (λ fault. IfSome (F.bytes file.now)
-            (λ all. IsBehindFault all self.old.offset fault)) }
+            (λ all. IsAfterFault all self.old.offset fault)) }
     {
         self.next = 0;
         for _ in 0..u64::MAX {

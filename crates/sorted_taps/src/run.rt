@@ -35,7 +35,7 @@ pub(crate) fn take_run<F: Placed>(
         taps.new.items reader.new) }
     ensures few { OnOk result (length taps.new.items ≤ most) }
 {
-    for _place in taps.len()..most {
+    for _position in taps.len()..most {
         let Some(head) = reader.head() else {
             return Ok(());
         };

@@ -5,7 +5,7 @@ ghost use Rattle.std.specs.Prelude.{◌≡◌, ◌+◌, ◌-◌, ◌<◌, ◌≤
 ghost use Rattle.std.specs.declared.cmp.Ordering.TheVariants.{Less};
 ghost use Rattle.tap_views.specs.Token.{token_cmp};
 ghost use Rattle.tap_views.specs.declared.token.Token.{Token as AToken};
-ghost use Rattle.sorted_taps.specs.Ranges.{DoTokensRise};
+ghost use Rattle.sorted_taps.specs.Ranges.{AreTokensIncreasing};
 
 use crate::fault::SortedFault;
 use crate::file_batches::FIRST_READ_BYTES;
@@ -81,9 +81,9 @@ fn is_above(bounds: &[Token], least: Token, token: Token) -> bool
 }
 
 fn push_above(bounds: &mut Vec<Token>, least: Token, token: Token) -> Result<(), AllocError>
-    requires { DoTokensRise bounds.old.items }
+    requires { AreTokensIncreasing bounds.old.items }
     ensures few { OnOk result (length bounds.new.items ≤ length bounds.old.items + 1) }
-    ensures rise { OnOk result (DoTokensRise bounds.new.items) }
+    ensures increase { OnOk result (AreTokensIncreasing bounds.new.items) }
 {
     if is_above(bounds, least, token) {
         bounds.push(token)?;
@@ -94,7 +94,7 @@ fn push_above(bounds: &mut Vec<Token>, least: Token, token: Token) -> Result<(),
 /// At equal distances: each once, and not the first one.
 fn picked(alloc: Global, tokens: &[Token], most: u32) -> Result<Vec<Token>, AllocError>
     ensures few { IfOk result (λ bounds. length bounds.items ≤ most) }
-    ensures rise { IfOk result (λ bounds. DoTokensRise bounds.items) }
+    ensures increase { IfOk result (λ bounds. AreTokensIncreasing bounds.items) }
 {
     let mut bounds = Vec::new(alloc);
     let Some(least) = tokens.first() else {
@@ -117,7 +117,7 @@ pub fn bounds_of_parts<F: Placed>(
     most: u32,
 ) -> Result<Vec<Token>, SortedFault>
     ensures few { IfOk result (λ bounds. length bounds.items ≤ most) }
-    ensures rise { IfOk result (λ bounds. DoTokensRise bounds.items) }
+    ensures increase { IfOk result (λ bounds. AreTokensIncreasing bounds.items) }
 {
     let wanted = (most as u64 + 1) * PART_TOKENS;
     let tokens = sample_of(alloc, files, wanted.min(MOST_TOKENS))?;

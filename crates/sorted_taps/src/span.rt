@@ -4,10 +4,10 @@ ghost use Rattle.std.specs.Prelude.{◌≡◌, ◌<◌, ◌≤◌, ◌++◌, ℕ
 ghost use Rattle.std.specs.Prelude.{IsTrue};
 ghost use Rattle.std.specs.Prelude.{Some};
 ghost use Rattle.tap_views.specs.declared.encoder.TapFields.{TapFields};
-ghost use Rattle.sorted_taps.specs.Merges.{AreAtEnd, AreBegun};
+ghost use Rattle.sorted_taps.specs.Merges.{AreAtEnd, AreStarted};
 ghost use Rattle.sorted_taps.specs.Reading.{window_bytes};
-ghost use Rattle.sorted_taps.specs.Spans.{HaveCome, IsSpanOf};
-ghost use Rattle.sorted_taps.specs.Stands.{StandAs};
+ghost use Rattle.sorted_taps.specs.Spans.{HaveConsumed, IsSpanOf};
+ghost use Rattle.sorted_taps.specs.Represents.{AreAlignedWith};
 ghost use Rattle.sorted_taps.specs.declared.reader.TapReader.{TapReader};
 
 use crate::fault::SortedFault;
@@ -25,15 +25,15 @@ pub struct Span {
 }
 
 /// A reader of each file, at its first tap. The window has `WINDOW_BYTES` at least.
-pub fn begun<F: Placed>(
+pub fn started<F: Placed>(
     alloc: Global,
     files: &[F],
     window: &mut [u8],
 ) -> Result<Vec<TapReader>, SortedFault>
     requires { window_bytes ≤ length window.old }
     ensures number { IfOk result (λ readers. length readers.items ≡ length files.now) }
-    ensures begun { IfOk result (λ readers. (all : List (List ℕ))
-        → map F.bytes files.now ≡ map Some all → AreBegun all readers.items) }
+    ensures started { IfOk result (λ readers. (all : List (List ℕ))
+        → map F.bytes files.now ≡ map Some all → AreStarted all readers.items) }
 {
     let mut readers = Vec::new(alloc);
     for file in files {
@@ -44,7 +44,7 @@ pub fn begun<F: Placed>(
 
 /// Readers that are where these are.
 pub fn copies_of(alloc: Global, readers: &[TapReader]) -> Result<Vec<TapReader>, AllocError>
-    ensures { IfOk result (λ copies. StandAs readers.now copies.items) }
+    ensures { IfOk result (λ copies. AreAlignedWith readers.now copies.items) }
 {
     let mut copies = Vec::new(alloc);
     for reader in readers {
@@ -56,8 +56,8 @@ pub fn copies_of(alloc: Global, readers: &[TapReader]) -> Result<Vec<TapReader>,
 /// The readers after the taps of a span that begins where they are; none if it begins elsewhere.
 pub fn joined(readers: &[TapReader], span: Span) -> Option<Vec<TapReader>>
     ensures { IfSome result (λ end. (files : List (List ℕ)) (from : List TapReader)
-        (before taps : List TapFields) → HaveCome files from before readers.now
-        → IsSpanOf files taps span → HaveCome files from (before ++ taps) end.items) }
+        (before taps : List TapFields) → HaveConsumed files from before readers.now
+        → IsSpanOf files taps span → HaveConsumed files from (before ++ taps) end.items) }
 {
     let Span { begin, mut end } = span;
     if begin.len() != readers.len() || end.len() != readers.len() {
@@ -65,8 +65,8 @@ pub fn joined(readers: &[TapReader], span: Span) -> Option<Vec<TapReader>>
     }
     for at in 0..readers.len() {
         let reader = &readers[at];
-        let behind = &mut end[at];
-        if !reader.is_at(&begin[at]) || !behind.count_on(reader) {
+        let trailing = &mut end[at];
+        if !reader.is_at(&begin[at]) || !trailing.count_on(reader) {
             return None;
         }
     }

@@ -5,7 +5,7 @@ ghost use Rattle.std.specs.Prelude.{flat_map};
 ghost use Rattle.tap_views.specs.Encoding.{AreEarly};
 ghost use Rattle.tap_views.specs.Layout.{moment_limit};
 ghost use Rattle.tap_views.specs.declared.encoder.TapFields.{TapFields};
-ghost use Rattle.sorted_taps.specs.Written.{IsBegun, IsWritten};
+ghost use Rattle.sorted_taps.specs.Written.{IsPartlyWritten, IsWritten};
 ghost use Rattle.sorted_taps.specs.inside.Waiting.{HasPut, IsBatchWritten, MayWait};
 
 use crate::fault::WriteFault;
@@ -44,10 +44,10 @@ pub(crate) fn put<W: Write>(
     ensures put { OnOk result ((begin : Option (List ℕ)) (taps : List TapFields)
         → HasPut begin (W.contents out.old) taps waiting.old.items
         → HasPut begin (W.contents out.new) (taps ++ tap.now ∷ []) waiting.new.items) }
-    ensures begun { IfErr result (λ fault. fault ≡ WriteFault.NoMemory
+    ensures started { IfErr result (λ fault. fault ≡ WriteFault.NoMemory
         → (begin : Option (List ℕ)) (taps : List TapFields)
         → HasPut begin (W.contents out.old) taps waiting.old.items
-        → IsBegun begin (W.contents out.new)) }
+        → IsPartlyWritten begin (W.contents out.new)) }
 {
     if waiting.len() == BATCH_TAPS {
         write_batch(alloc, waiting, out)?;
@@ -86,10 +86,10 @@ fn put_all<W: Write>(
     ensures put { OnOk result ((begin : Option (List ℕ)) (earlier : List TapFields)
         → HasPut begin (W.contents out.old) earlier waiting.old.items
         → HasPut begin (W.contents out.new) (earlier ++ taps.now) waiting.new.items) }
-    ensures begun { IfErr result (λ fault. fault ≡ WriteFault.NoMemory
+    ensures started { IfErr result (λ fault. fault ≡ WriteFault.NoMemory
         → (begin : Option (List ℕ)) (earlier : List TapFields)
         → HasPut begin (W.contents out.old) earlier waiting.old.items
-        → IsBegun begin (W.contents out.new)) }
+        → IsPartlyWritten begin (W.contents out.new)) }
 {
     for tap in taps {
         put(alloc, tap, waiting, out)?;
@@ -108,8 +108,8 @@ pub fn write_taps<W: Write>(
     requires { AreEarly (λ tap. tap.moment) (flat_map (λ list. list.items) lists.now) }
     ensures written { OnOk result (IsWritten (W.contents out.old) (W.contents out.new)
         (flat_map (λ list. list.items) lists.now)) }
-    ensures begun { IfErr result (λ fault. fault ≡ WriteFault.NoMemory
-        → IsBegun (W.contents out.old) (W.contents out.new)) }
+    ensures started { IfErr result (λ fault. fault ≡ WriteFault.NoMemory
+        → IsPartlyWritten (W.contents out.old) (W.contents out.new)) }
 {
     let mut waiting = Vec::with_capacity(alloc, BATCH_TAPS)?;
     for list in lists {

@@ -4,7 +4,7 @@
 ghost use Rattle.std.specs.Prelude.{◌≡◌, IfErr, IfOk, flat_map, map};
 ghost use Rattle.tap_views.specs.UploadEnds.{ArePlainEnds};
 ghost use Rattle.settlement.specs.SettledTaps.{AreSettledTaps};
-ghost use Rattle.sorted_taps.specs.Written.{IsBegun};
+ghost use Rattle.sorted_taps.specs.Written.{IsPartlyWritten};
 ghost use Rattle.sorted_uploads.specs.SortedUploads.{IsSortedFileOf};
 
 use settlement::{LoadedUploads, SettledTaps, settled_taps};
@@ -20,7 +20,7 @@ use world::Trace;
 /// the last of fewer, and returns how each upload ends. All taps are in memory. `workers` threads,
 /// 64 at most, order them with the same result. After an allocation failure whole batches may have
 /// been written, and after a failed write anything.
-#[tactic(auto, using(crate::proofs::Unwritten::nothing_begun))]
+#[tactic(auto, using(crate::proofs::Unwritten::nothing_started))]
 pub fn sort_uploads<R: Threads + Sync, W: Write>(
     rt: &R,
     alloc: Global,
@@ -33,8 +33,8 @@ pub fn sort_uploads<R: Threads + Sync, W: Write>(
     ensures sorted { IfOk result (λ ends.
         IsSortedFileOf (map (λ upload. upload.items) uploads.items)
         (W.contents out.old) (W.contents out.new)) }
-    ensures begun { IfErr result (λ fault. fault ≡ WriteFault.NoMemory
-        → IsBegun (W.contents out.old) (W.contents out.new)) }
+    ensures started { IfErr result (λ fault. fault ≡ WriteFault.NoMemory
+        → IsPartlyWritten (W.contents out.old) (W.contents out.new)) }
 {
     let SettledTaps { ends, lists } = match settled_loaded(rt, alloc, &uploads, workers) {
         Ok(settled) => settled,

@@ -27,16 +27,16 @@ pub(crate) fn ignored_keys(
     let mut found = Vec::new(alloc);
     add_ignored(&mut found, KeyHolder::Top, table)?;
     if let Some(Value::Table(classes)) = table.get("classes") {
-        for (place, (_name, value)) in classes.iter().enumerate() {
+        for (position, (_name, value)) in classes.iter().enumerate() {
             if let Value::Table(keys) = value {
-                add_ignored(&mut found, KeyHolder::Class(place), keys)?;
+                add_ignored(&mut found, KeyHolder::Class(position), keys)?;
             }
         }
     }
     if let Some(Value::Array(elements)) = table.get("validators") {
-        for (place, value) in elements.iter().enumerate() {
+        for (position, value) in elements.iter().enumerate() {
             if let Value::Table(keys) = value {
-                add_ignored(&mut found, KeyHolder::Range(place), keys)?;
+                add_ignored(&mut found, KeyHolder::Range(position), keys)?;
             }
         }
     }

@@ -9,7 +9,7 @@ mod known;
 mod lines;
 mod names;
 mod paths;
-mod places;
+mod positions;
 mod prices;
 mod ranges;
 mod report;

@@ -28,25 +28,25 @@ fn push_zone(text: &mut String, fares: &FareTable, from: Timestamp) -> Result<()
     }
 }
 
-fn push_mode(text: &mut String, fares: &FareTable, place: usize) -> Result<(), AllocError> {
+fn push_mode(text: &mut String, fares: &FareTable, position: usize) -> Result<(), AllocError> {
     let mut count = 0u64;
     let mut validators = 0u64;
     for (first, rest) in fares.ranges() {
-        if rest.mode as usize == place {
+        if rest.mode as usize == position {
             count = count.saturating_add(1);
             let more = u64::from(rest.last.saturating_sub(*first)).saturating_add(1);
             validators = validators.saturating_add(more);
         }
     }
-    let name = mode_name(fares, place);
+    let name = mode_name(fares, position);
     write!(text, "mode {name} ranges {count} validators {validators}\n")
 }
 
 fn push_modes(text: &mut String, fares: &FareTable) -> Result<(), AllocError> {
     let count = fares.mode_names().len();
     write!(text, "modes {count}\n")?;
-    for place in 0..count {
-        push_mode(text, fares, place)?;
+    for position in 0..count {
+        push_mode(text, fares, position)?;
     }
     Ok(())
 }
@@ -121,10 +121,10 @@ fn push_classes(
     let classes = fares.classes();
     let count = classes.len();
     write!(text, "classes {count}\n")?;
-    for place in 0..count {
-        let class = &classes[place];
-        let name = class_name(fares, place);
-        let riders = match counts.get(place) {
+    for position in 0..count {
+        let class = &classes[position];
+        let name = class_name(fares, position);
+        let riders = match counts.get(position) {
             Some(count) => *count,
             None => 0,
         };

@@ -51,6 +51,6 @@ pub(crate) fn key_path(alloc: Global, holder: &str, key: &str) -> Result<String,
     }
 }
 
-pub(crate) fn item_path(alloc: Global, array: &str, place: usize) -> Result<String, AllocError> {
-    format!(in alloc; "{array}[{place}]")
+pub(crate) fn item_path(alloc: Global, array: &str, position: usize) -> Result<String, AllocError> {
+    format!(in alloc; "{array}[{position}]")
 }

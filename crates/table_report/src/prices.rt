@@ -11,8 +11,8 @@ use toml::Table;
 const MINUTE_MS: u32 = 60_000;
 
 fn fare_on(fares: &FareTable, class: &Class, name: &str) -> u32 {
-    for (place, cents) in class.fares.iter().enumerate() {
-        if mode_name(fares, place) == name {
+    for (position, cents) in class.fares.iter().enumerate() {
+        if mode_name(fares, position) == name {
             return *cents;
         }
     }
@@ -57,10 +57,10 @@ pub(crate) fn push_prices(text: &mut String, name: &str, terms: Terms) -> Result
     requires { AreBoundedTerms terms }
 {
     let mut last = None;
-    for place in 0..terms.rides + 1 {
-        let cents = cents_at(terms, place);
+    for position in 0..terms.rides + 1 {
+        let cents = cents_at(terms, position);
         if last != Some(cents) {
-            let ride = place + 1;
+            let ride = position + 1;
             write!(text, "price {name} from {ride} cents {cents}\n")?;
         }
         last = Some(cents);

@@ -26,10 +26,10 @@ pub(crate) fn unused_ranges(
     let Some(Value::Array(elements)) = table.get("validators") else {
         return Ok(found);
     };
-    for (place, value) in elements.iter().enumerate() {
+    for (position, value) in elements.iter().enumerate() {
         if let Some((first, last)) = bounds_of(value) {
             if !seen.has_between(first, last) {
-                found.push(place)?;
+                found.push(position)?;
             }
         }
     }

@@ -1,7 +1,7 @@
 //! A fare table's text as it was understood, or why it is none.
 
 use crate::lines::lines_of;
-use crate::places::Places;
+use crate::positions::Positions;
 use crate::seen::SeenValidators;
 use crate::sql::{ReportFault, write_sql};
 use crate::warnings::{ReadText, warnings_of};
@@ -122,8 +122,8 @@ fn not_toml(alloc: Global, text: &str, error: TomlError) -> Result<Refusal, Allo
         Some(span) => span.start,
         None => 0,
     };
-    let places = Places::of_lines(alloc, text)?;
-    let (line, column) = places.line_and_column(text, start);
+    let positions = Positions::of_lines(alloc, text)?;
+    let (line, column) = positions.line_and_column(text, start);
     Ok(Refusal::NotToml(line, column, error))
 }
 

@@ -3,7 +3,7 @@
 use fare_table::FareTable;
 use std::alloc::{AllocError, Global};
 use std::collections::BTreeSet;
-use tap_views::{MomentSpan, NoMemory, good_batches};
+use tap_views::{MomentSpan, NoMemory, valid_batches};
 
 /// The validators of some uploads, each once, increasing.
 #[derive(Drop)]
@@ -21,7 +21,7 @@ impl SeenValidators {
 
     /// Adds those of an upload's taps within the span, before its first layout fault.
     pub fn add(&mut self, upload: &[u8], span: MomentSpan) -> Result<(), NoMemory> {
-        for batch in good_batches(upload) {
+        for batch in valid_batches(upload) {
             for tap in batch.taps() {
                 let moment = tap.moment_ms();
                 if span.first <= moment && moment <= span.last {

@@ -110,14 +110,14 @@ fn sql_of(alloc: Global, fares: &FareTable) -> Result<String, AllocError> {
 }
 
 fn put_classes(text: &mut String, fares: &FareTable) -> Result<(), AllocError> {
-    for (place, class) in fares.classes().iter().enumerate() {
-        let name = Quoted(class_name(fares, place));
+    for (position, class) in fares.classes().iter().enumerate() {
+        let name = Quoted(class_name(fares, position));
         let Terms {
             fare,
             rides,
             ceiling,
         } = class.terms;
-        let is_default = u32::from(place == fares.default_class() as usize);
+        let is_default = u32::from(position == fares.default_class() as usize);
         let TransferTerms { taps, time } = class.transfers;
         write!(
             text,
@@ -128,8 +128,8 @@ fn put_classes(text: &mut String, fares: &FareTable) -> Result<(), AllocError> {
 }
 
 fn put_fares(text: &mut String, fares: &FareTable) -> Result<(), AllocError> {
-    for (place, class) in fares.classes().iter().enumerate() {
-        let name = Quoted(class_name(fares, place));
+    for (position, class) in fares.classes().iter().enumerate() {
+        let name = Quoted(class_name(fares, position));
         for (mode, fare) in fares.mode_names().iter().zip(class.fares.iter()) {
             let mode = Quoted(mode.as_str());
             write!(text, "INSERT INTO fares VALUES ({name}, {mode}, {fare});\n")?;
@@ -140,9 +140,9 @@ fn put_fares(text: &mut String, fares: &FareTable) -> Result<(), AllocError> {
 
 fn put_pairs(text: &mut String, fares: &FareTable) -> Result<(), AllocError> {
     let pairs = fares.pairs();
-    for (from_place, from) in fares.mode_names().iter().enumerate() {
-        for (to_place, to) in fares.mode_names().iter().enumerate() {
-            if has_pair(pairs, from_place, to_place) {
+    for (from_position, from) in fares.mode_names().iter().enumerate() {
+        for (to_position, to) in fares.mode_names().iter().enumerate() {
+            if has_pair(pairs, from_position, to_position) {
                 let from = Quoted(from.as_str());
                 let to = Quoted(to.as_str());
                 write!(text, "INSERT INTO pairs VALUES ({from}, {to});\n")?;

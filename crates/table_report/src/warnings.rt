@@ -4,7 +4,7 @@ use crate::holder::KeyHolder;
 use crate::ignored::ignored_keys;
 use crate::known::nearest;
 use crate::paths::{item_path, key_path};
-use crate::places::Places;
+use crate::positions::Positions;
 use crate::ranges::unused_ranges;
 use crate::seen::SeenValidators;
 use fare_table::FareTable;
@@ -23,14 +23,14 @@ pub(crate) struct ReadText<'a, 't> {
 fn holder_path(alloc: Global, classes: &[String], holder: KeyHolder) -> Result<String, AllocError> {
     match holder {
         KeyHolder::Top => Ok(String::new(alloc)),
-        KeyHolder::Class(place) => {
-            let name = match classes.get(place) {
+        KeyHolder::Class(position) => {
+            let name = match classes.get(position) {
                 Some(name) => name.as_str(),
                 None => "",
             };
             key_path(alloc, "classes", name)
         }
-        KeyHolder::Range(place) => item_path(alloc, "validators", place),
+        KeyHolder::Range(position) => item_path(alloc, "validators", position),
     }
 }
 
@@ -38,11 +38,11 @@ fn holder_path(alloc: Global, classes: &[String], holder: KeyHolder) -> Result<S
 fn begin(
     alloc: Global,
     read: &ReadText<'_, '_>,
-    places: &Places,
+    positions: &Positions,
     path: &str,
 ) -> Result<String, AllocError> {
-    let (line, column) = match places.of_key(path) {
-        Some(offset) => places.line_and_column(read.text, offset),
+    let (line, column) = match positions.of_key(path) {
+        Some(offset) => positions.line_and_column(read.text, offset),
         None => (1, 1),
     };
     let name = read.name;
@@ -53,13 +53,13 @@ fn begin(
 fn ignored_line(
     alloc: Global,
     read: &ReadText<'_, '_>,
-    places: &Places,
+    positions: &Positions,
     classes: &[String],
     ignored: (KeyHolder, &str),
 ) -> Result<String, AllocError> {
     let (holder, key) = ignored;
     let path = key_path(alloc, holder_path(alloc, classes, holder)?.as_str(), key)?;
-    let mut line = begin(alloc, read, places, path.as_str())?;
+    let mut line = begin(alloc, read, positions, path.as_str())?;
     let path = path.as_str();
     write!(line, "{path} is ignored")?;
     if let Some(word) = nearest(alloc, holder, key)? {
@@ -73,11 +73,11 @@ fn ignored_line(
 fn unused_line(
     alloc: Global,
     read: &ReadText<'_, '_>,
-    places: &Places,
-    place: usize,
+    positions: &Positions,
+    position: usize,
 ) -> Result<String, AllocError> {
-    let path = item_path(alloc, "validators", place)?;
-    let mut line = begin(alloc, read, places, path.as_str())?;
+    let path = item_path(alloc, "validators", position)?;
+    let mut line = begin(alloc, read, positions, path.as_str())?;
     let path = path.as_str();
     write!(line, "{path} has no validator of the uploads\n")?;
     Ok(line)
@@ -100,14 +100,14 @@ pub(crate) fn warnings_of(
     };
     let mut lines = String::new(alloc);
     if !keys.is_empty() || !ranges.is_empty() {
-        let places = Places::of(alloc, read.text)?;
+        let positions = Positions::of(alloc, read.text)?;
         let classes = read.fares.class_names();
         for (holder, key) in &keys {
-            let line = ignored_line(alloc, read, &places, classes, (*holder, key))?;
+            let line = ignored_line(alloc, read, &positions, classes, (*holder, key))?;
             lines.push_str(line.as_str())?;
         }
-        for place in &ranges {
-            lines.push_str(unused_line(alloc, read, &places, *place)?.as_str())?;
+        for position in &ranges {
+            lines.push_str(unused_line(alloc, read, &positions, *position)?.as_str())?;
         }
     }
     let name = read.name;

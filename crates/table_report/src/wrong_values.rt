@@ -6,7 +6,7 @@ mod people;
 mod ranges;
 mod wrong;
 
-use crate::places::Places;
+use crate::positions::Positions;
 use checks::wrongs_of;
 use std::alloc::{AllocError, Global};
 use toml::Table;
@@ -24,9 +24,9 @@ pub(crate) fn wrong_lines(
     if wrongs.is_empty() {
         return Ok(lines);
     }
-    let places = Places::of(alloc, text)?;
+    let positions = Positions::of(alloc, text)?;
     for wrong in &wrongs {
-        let line = wrong.line(alloc, name, text, &places)?;
+        let line = wrong.line(alloc, name, text, &positions)?;
         lines.push_str(line.as_str())?;
     }
     Ok(lines)

@@ -3,7 +3,7 @@ pub mod Buckets
 pub mod Early
 pub mod FullBatches
 pub mod Pieces
-pub mod Places
+pub mod Positions
 pub mod RangeLemmas
 pub mod TokenOrder
 pub mod Total

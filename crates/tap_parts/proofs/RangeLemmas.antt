@@ -13,7 +13,7 @@ use Rattle.std.proofs.lemmas.Map.Keys.{ge_from_not_lt}
 use Rattle.tap_views.specs.Layout.{num}
 use Rattle.tap_parts.specs.Canonical.{tap_cmp}
 use Rattle.tap_parts.specs.Ranges.{range_of_token}
-use Rattle.tap_parts.specs.inside.Places.{ArePlacesInOrder}
+use Rattle.tap_parts.specs.inside.Positions.{ArePositionsInOrder}
 use Rattle.tap_parts.proofs.TokenOrder.{lower_number}
 
 -- up to a place none is above the number, and all others are
@@ -32,9 +32,9 @@ counted (x ∷ xs) (suc k) n within low high =
     (λ i least below. high (suc i) (omega (arith, least)) (omega (arith, below)))))
 
 -- of two bounds the later is not below the earlier
-pub rising_far : (xs : List ℕ) → IsSorted nat_cmp xs → (i j : ℕ) → i ≤ j → j < length xs
+pub ascending_far : (xs : List ℕ) → IsSorted nat_cmp xs → (i j : ℕ) → i ≤ j → j < length xs
     → get_or xs i 0 ≤ get_or xs j 0
-rising_far xs sorted i j order inside =
+ascending_far xs sorted i j order inside =
     ge_from_not_lt (get_or xs j 0) (get_or xs i 0)
     (sorted_far (λ a b. is_lt (nat_cmp a b)) (ranks_by nat_cmp_total (λ (x : ℕ). x)) xs sorted i j 0
     order inside)
@@ -46,18 +46,18 @@ pub counted_at : (xs : List ℕ) → IsSorted nat_cmp xs → (k n : ℕ) → k �
 counted_at xs sorted k n within low high =
     counted xs k n within
     (λ i below.
-    let rise = rising_far xs sorted i (k - 1) (omega (arith, below))
+    let increase = ascending_far xs sorted i (k - 1) (omega (arith, below))
     (omega (arith, below, within)) in
-    let last = low (omega (arith, below)) in omega (arith, rise, last))
+    let last = low (omega (arith, below)) in omega (arith, increase, last))
     (λ i least inside.
-    let rise = rising_far xs sorted k i least inside in
-    let first = high (omega (arith, least, inside)) in omega (arith, rise, first))
+    let increase = ascending_far xs sorted k i least inside in
+    let first = high (omega (arith, least, inside)) in omega (arith, increase, first))
 
 -- fewer bounds are not above a lesser number
-pub counts_rise : (xs : List ℕ) (n m : ℕ) → n ≤ m
+pub counts_ascend : (xs : List ℕ) (n m : ℕ) → n ≤ m
     → length (filter (λ x. nat_le x n) xs) ≤ length (filter (λ x. nat_le x m) xs)
-counts_rise [] n m least = omega arith
-counts_rise (x ∷ xs) n m least = by_bound (cases_lt n x) (counts_rise xs n m least)
+counts_ascend [] n m least = omega arith
+counts_ascend (x ∷ xs) n m least = by_bound (cases_lt n x) (counts_ascend xs n m least)
   where
     by_bound : (n < x) ⊎ (x ≤ n)
         → length (filter (λ x. nat_le x n) xs) ≤ length (filter (λ x. nat_le x m) xs)
@@ -82,12 +82,12 @@ range_below bounds token =
 
 -- ranges are places in order
 pub ranges_in_order : (bounds : List ℕ)
-    → ArePlacesInOrder (λ tap. range_of_token bounds tap.token)
+    → ArePositionsInOrder (λ tap. range_of_token bounds tap.token)
 ranges_in_order bounds a b one other less = by_number (cases_lt (num a.token) (num b.token))
   where
     by_number : (num a.token < num b.token) ⊎ (num b.token ≤ num a.token)
         → is_lt (tap_cmp b a) ≡ false
     by_number (inl below) = lower_number a b one other below
     by_number (inr most) =
-        let rise = counts_rise bounds (num b.token) (num a.token) most in
-        absurd (omega (arith, rise, less))
+        let increase = counts_ascend bounds (num b.token) (num a.token) most in
+        absurd (omega (arith, increase, less))

@@ -8,9 +8,9 @@ use Rattle.tap_parts.specs.declared.upload.UploadTaps.{UploadTaps}
 
 -- the upload's taps before its first layout fault were added, each at its place; the upload's end
 -- has their number, and the fault after them
-pub record IsUploadAddedBy (place_of : List ℕ → ℕ) (upload : List ℕ)
+pub record IsUploadAddedBy (position_of : List ℕ → ℕ) (upload : List ℕ)
     (old new : List (List TapFields)) (end : UploadTaps) : Type 0 where
   pub batches : List (List Tap)
   pub read : IsReadAs upload batches end.fault
   pub number : end.taps ≡ length (taps_of_batches batches)
-  pub added : AreAddedBy place_of (taps_of_batches batches) old new
+  pub added : AreAddedBy position_of (taps_of_batches batches) old new

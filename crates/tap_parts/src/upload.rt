@@ -6,7 +6,7 @@ ghost use Rattle.tap_parts.specs.Uploads.{IsUploadAddedBy};
 use crate::part::PartRule;
 use crate::parts::Parts;
 use std::alloc::AllocError;
-use tap_views::{LayoutFault, good_batches};
+use tap_views::{LayoutFault, valid_batches};
 
 /// How many taps an upload has before its first layout fault, and the fault.
 #[derive(Clone, Copy, Debug, PartialEq, Eq)]
@@ -29,14 +29,14 @@ impl Parts {
             IsUploadAddedBy (P.part_of rule.now) upload.now self.old self.new added) }
     {
         let mut taps = 0;
-        let mut good = good_batches(upload);
-        while let Some(batch) = good.next() {
+        let mut valid = valid_batches(upload);
+        while let Some(batch) = valid.next() {
             self.add(rule, &batch)?;
             taps += u64::from(batch.len());
         }
         Ok(UploadTaps {
             taps,
-            fault: good.fault(),
+            fault: valid.fault(),
         })
     }
 }

@@ -13,7 +13,7 @@ use Rattle.tap_views.specs.declared.span.MomentSpan.{MomentSpan}
 use Rattle.tap_rows.specs.Agencies.{IsSummary, Refusal, first_refusal, left_out_in, left_out_of}
 use Rattle.tap_rows.specs.Agencies.{refusal_of, refusals, refusals_from, refusals_text}
 use Rattle.tap_rows.specs.Agencies.{refusal_text, refusals_head, tap_of, taps_in}
-use Rattle.tap_rows.specs.AgencyRows.{IsReadingOf}
+use Rattle.tap_rows.specs.AgencyRows.{IsParseOf}
 use Rattle.tap_rows.specs.declared.agency.choice.Choice.{Choice}
 use Rattle.tap_rows.specs.declared.agency.choice.Separator.{Separator}
 use Rattle.tap_rows.specs.declared.agency.reading.Reading.{Reading}
@@ -24,15 +24,15 @@ use Rattle.tap_rows.specs.declared.agency.summary.Summary.{Summary}
 -- ---- faults
 
 -- ---- one row more
-pub readings_more : (choice : Choice) (head : List (List ℕ)) (rows : List (List (List ℕ)))
+pub parses_more : (choice : Choice) (head : List (List ℕ)) (rows : List (List (List ℕ)))
     (readings : List Reading) (row : List (List ℕ)) (reading : Reading)
-    → AllZip (IsReadingOf choice head) rows readings → IsReadingOf choice head row reading
-    → AllZip (IsReadingOf choice head) (rows ++ row ∷ []) (readings ++ reading ∷ [])
-readings_more choice head [] [] row reading each is = (is, tt)
-readings_more choice head [] (first ∷ readings) row reading each is = absurd each
-readings_more choice head (first ∷ rows) [] row reading each is = absurd each
-readings_more choice head (first ∷ rows) (other ∷ readings) row reading each is =
-    (each.0, readings_more choice head rows readings row reading each.1 is)
+    → AllZip (IsParseOf choice head) rows readings → IsParseOf choice head row reading
+    → AllZip (IsParseOf choice head) (rows ++ row ∷ []) (readings ++ reading ∷ [])
+parses_more choice head [] [] row reading each is = (is, tt)
+parses_more choice head [] (first ∷ readings) row reading each is = absurd each
+parses_more choice head (first ∷ rows) [] row reading each is = absurd each
+parses_more choice head (first ∷ rows) (other ∷ readings) row reading each is =
+    (each.0, parses_more choice head rows readings row reading each.1 is)
 
 pub taps_more : (readings : List Reading) (reading : Reading)
     → taps_in (readings ++ reading ∷ []) ≡ taps_in readings ++ tap_of reading
@@ -56,9 +56,9 @@ refusals_from_more number (first ∷ rows) [] row reading same = absurd (omega (
 refusals_from_more number (first ∷ rows) (other ∷ readings) row reading same =
     let n : ℕ = number + 1 in
     let rest = refusals_from_more n rows readings row reading (omega (arith, same)) in
-    let place : n + length rows ≡ number + length (first ∷ rows) = omega arith in
+    let position : n + length rows ≡ number + length (first ∷ rows) = omega arith in
     ap (λ rs. refusal_of number first other ++ rs)
-    (rest ∙ ap (λ k. refusals_from n rows readings ++ refusal_of k row reading) place)
+    (rest ∙ ap (λ k. refusals_from n rows readings ++ refusal_of k row reading) position)
     ∙ sym (append_assoc (refusal_of number first other) (refusals_from n rows readings)
     (refusal_of (number + length (first ∷ rows)) row reading))
 
@@ -155,10 +155,10 @@ pub summary_more : (rows : List (List (List ℕ))) (readings : List Reading) (ro
     → number ≡ length rows + 2 → length readings ≡ length rows → IsSummary rows readings old
     → IsCounted number reading old new
     → IsSummary (rows ++ row ∷ []) (readings ++ reading ∷ []) new
-summary_more rows readings row (read.Tap tap) number old new place same is counted =
+summary_more rows readings row (read.Tap tap) number old new position same is counted =
     let taps = taps_more readings (read.Tap tap) in
     let left = left_out_more readings (read.Tap tap) in
-    let refused = refusals_more rows readings row (read.Tap tap) number same place
+    let refused = refusals_more rows readings row (read.Tap tap) number same position
     ∙ append-nil (refusals rows readings) in
     let moments : map (λ t. t.moment) (taps_in (readings ++ read.Tap tap ∷ []))
     ≡ map (λ t. t.moment) (taps_in readings) ++ tap.moment ∷ [] =
@@ -173,10 +173,10 @@ summary_more rows readings row (read.Tap tap) number old new place same is count
       moments = subst (λ ms. IsSpan ms new.span) (sym moments)
           (counted.4 (map (λ t. t.moment) (taps_in readings)) is.moments);
     }
-summary_more rows readings row read.LeftOut number old new place same is counted =
+summary_more rows readings row read.LeftOut number old new position same is counted =
     let taps = taps_more readings read.LeftOut ∙ append-nil (taps_in readings) in
     let left = left_out_more readings read.LeftOut in
-    let refused = refusals_more rows readings row read.LeftOut number same place
+    let refused = refusals_more rows readings row read.LeftOut number same position
     ∙ append-nil (refusals rows readings) in
     record {
       taps = omega (arith, counted.0, is.taps, ap length taps);
@@ -189,11 +189,11 @@ summary_more rows readings row read.LeftOut number old new place same is counted
           (sym counted.4)
           (subst (λ ts. IsSpan (map (λ t. t.moment) ts) old.span) (sym taps) is.moments);
     }
-summary_more rows readings row (read.Refused reason) number old new place same is counted =
+summary_more rows readings row (read.Refused reason) number old new position same is counted =
     let taps = taps_more readings (read.Refused reason) ∙ append-nil (taps_in readings) in
     let left = left_out_more readings (read.Refused reason) in
     let one = refusal_of number row (read.Refused reason) in
-    let refused = refusals_more rows readings row (read.Refused reason) number same place in
+    let refused = refusals_more rows readings row (read.Refused reason) number same position in
     record {
       taps = omega (arith, counted.0, is.taps, ap length taps);
       left_out = omega (arith, counted.1, is.left_out, left);
@@ -219,6 +219,6 @@ pub summary_of : (rows : List (List (List ℕ))) (readings : List Reading) (row 
     → now ≡ reading → number ≡ length rows + 2 → length readings ≡ length rows
     → IsSummary rows readings old → IsCounted number reading old new
     → IsSummary (rows ++ row ∷ []) (readings ++ now ∷ []) new
-summary_of rows readings row now reading number old new same place long is counted =
+summary_of rows readings row now reading number old new same position long is counted =
     subst (λ r. IsSummary (rows ++ row ∷ []) (readings ++ r ∷ []) new) (sym same)
-    (summary_more rows readings row reading number old new place long is counted)
+    (summary_more rows readings row reading number old new position long is counted)

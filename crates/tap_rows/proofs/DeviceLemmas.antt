@@ -21,7 +21,7 @@ use Rattle.tap_rows.specs.declared.agency.choice.Separator.{Separator}
 use Rattle.tap_rows.specs.declared.devices.fault.DevicesFault.{DevicesFault}
 use Rattle.tap_rows.specs.declared.devices.fault.DevicesFault.TheVariants as fault
 use Rattle.tap_rows.specs.inside.DeviceRows.{HasDevices, IsFaultBy, IsHeadRow, IsRowFault}
-use Rattle.tap_rows.specs.inside.RecordReaders.{HasCome}
+use Rattle.tap_rows.specs.inside.RecordReaders.{HasConsumed}
 use Rattle.tap_rows.proofs.AgencyRowLemmas.{zip_more}
 use Rattle.tap_rows.proofs.GoingLemmas.{head_is}
 
@@ -111,10 +111,10 @@ no_record separator text (s, left, (same, all), none) head =
 -- a first record that is another has it not either
 pub other_head : {R : Type 0} (remaining : R → Option (List ℕ)) (separator : Separator)
     (text : List ℕ) (head : List (List ℕ)) (reader : Reader R)
-    → HasCome remaining separator text (head ∷ []) reader → ¬ (head ≡ device_head)
+    → HasConsumed remaining separator text (head ∷ []) reader → ¬ (head ≡ device_head)
     → ¬ (HasDeviceHead separator text)
-other_head remaining separator text head reader come other is =
-    other (head_is separator text head [] reader.state come.left come.reached ∙ is)
+other_head remaining separator text head reader consumed other is =
+    other (head_is separator text head [] reader.state consumed.left consumed.reached ∙ is)
 
 pub has_head : (separator : Separator) (text : List ℕ) (devices : List Device)
     → AreDevicesBy separator text devices → HasDeviceHead separator text
@@ -124,13 +124,13 @@ has_head separator text devices are = let (s, left, reached, none) = are.records
 -- ---- from row to row
 pub devices_first : {R : Type 0} (remaining : R → Option (List ℕ)) (separator : Separator)
     (text : List ℕ) (head : List (List ℕ)) (reader : Reader R) (devices : List Device)
-    → HasCome remaining separator text (head ∷ []) reader → head ≡ device_head → devices ≡ []
+    → HasConsumed remaining separator text (head ∷ []) reader → head ≡ device_head → devices ≡ []
     → HasDevices remaining separator text 0 reader devices
 unfolding IsDistinct
-devices_first remaining separator text head reader devices come is none =
+devices_first remaining separator text head reader devices consumed is none =
     subst (HasDevices remaining separator text 0 reader) (sym none) (record {
       rows = [];
-      come = subst (λ h. HasCome remaining separator text (h ∷ []) reader) is come;
+      consumed = subst (λ h. HasConsumed remaining separator text (h ∷ []) reader) is consumed;
       each = tt;
       once = tt;
       number = refl;
@@ -140,14 +140,14 @@ pub devices_more : {R : Type 0} (remaining : R → Option (List ℕ)) (separator
     (text : List ℕ) (count : ℕ) (reader after : Reader R) (old new : List Device)
     (row : List (List ℕ)) (device : Device)
     → HasDevices remaining separator text count reader old
-    → ((rows : List (List (List ℕ))) → HasCome remaining separator text rows reader
-    → HasCome remaining separator text (rows ++ row ∷ []) after)
+    → ((rows : List (List (List ℕ))) → HasConsumed remaining separator text rows reader
+    → HasConsumed remaining separator text (rows ++ row ∷ []) after)
     → IsDeviceRow row device → validator_of old device.0 ≡ None → new ≡ old ++ device ∷ []
     → HasDevices remaining separator text (count + 1) after new
-devices_more remaining separator text count reader after old new row device has come is none more =
+devices_more remaining separator text count reader after old new row device has consumed is none more =
     subst (HasDevices remaining separator text (count + 1) after) (sym more) (record {
       rows = has.rows ++ row ∷ [];
-      come = come (device_head ∷ has.rows) has.come;
+      consumed = consumed (device_head ∷ has.rows) has.consumed;
       each = zip_more IsDeviceRow has.rows old row device has.each is;
       once = subst (IsDistinct bytes_eq) (sym (map-append (λ (d : Device). d.0) old (device ∷ [])))
           (IsDistinct-push nat_list_eq_equiv (keys_of old) device.0 has.once
@@ -160,14 +160,14 @@ pub row_fault : {R : Type 0} (remaining : R → Option (List ℕ)) (separator : 
     (text : List ℕ) (count number : ℕ) (reader after : Reader R) (devices : List Device)
     (row : List (List ℕ)) (f : DevicesFault)
     → HasDevices remaining separator text count reader devices
-    → ((rows : List (List (List ℕ))) → HasCome remaining separator text rows reader
-    → HasCome remaining separator text (rows ++ row ∷ []) after)
+    → ((rows : List (List (List ℕ))) → HasConsumed remaining separator text rows reader
+    → HasConsumed remaining separator text (rows ++ row ∷ []) after)
     → number ≡ count + 2 → IsRowFault devices number row f → IsFaultBy separator text f
-row_fault remaining separator text count number reader after devices row fault.Head has come place
+row_fault remaining separator text count number reader after devices row fault.Head has consumed position
     is = absurd is
-row_fault remaining separator text count number reader after devices row (fault.Row at why) has come
-    place is =
-    let there = come (device_head ∷ has.rows) has.come in
+row_fault remaining separator text count number reader after devices row (fault.Row at why) has consumed
+    position is =
+    let there = consumed (device_head ∷ has.rows) has.consumed in
     record {
       before = has.rows;
       devices = devices;
@@ -175,11 +175,11 @@ row_fault remaining separator text count number reader after devices row (fault.
       records = record { state = after.state; left = there.left; reached = there.reached };
       each = has.each;
       once = has.once;
-      number_is = omega (arith, is.0, place, has.number);
+      number_is = omega (arith, is.0, position, has.number);
       is_wrong = is.1;
     }
-row_fault remaining separator text count number reader after devices row fault.NoMemory has come
-    place is = tt
+row_fault remaining separator text count number reader after devices row fault.NoMemory has consumed
+    position is = tt
 
 -- ---- the separator
 pub own_devices : (separator : Separator) (text : List ℕ) (devices : List Device)

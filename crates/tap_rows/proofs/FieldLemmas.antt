@@ -3,17 +3,17 @@ use Rattle.std.proofs.Common.{◌≡◌, ℕ, suc, ◌+◌, ◌-◌, ◌<◌, Li
 use Rattle.std.proofs.Common.{ap, subst, ◌∙◌, arith, length-append, inl, inr}
 use Rattle.std.specs.Prelude.{codes, slice_index, MatchOption, None, Option, Some}
 use Rattle.std.proofs.Math.Seq.{get_or-append_seam}
-use Rattle.tap_rows.specs.Fields.{HasNoComma, AreFields, FieldStandsFor, FieldStandsForSome}
+use Rattle.tap_rows.specs.Fields.{HasNoComma, AreFields, FieldRepresents, FieldRepresentsSome}
 use Rattle.tap_rows.specs.TapTables.{IsHead}
 
 -- no comma in what follows the first byte
-behind : (x : ℕ) (xs : List ℕ) → HasNoComma (x ∷ xs) → HasNoComma xs
-behind x xs none = λ k d h. none (suc k) d (omega arith)
+trailing : (x : ℕ) (xs : List ℕ) → HasNoComma (x ∷ xs) → HasNoComma xs
+trailing x xs none = λ k d h. none (suc k) d (omega arith)
 
 -- a text with a comma has one
 pub has_comma : (a b : List ℕ) → ¬ (HasNoComma (a ++ 44 ∷ b))
 has_comma [] b none = none 0 0 (omega arith) refl
-has_comma (x ∷ a) b none = has_comma a b (behind x (a ++ 44 ∷ b) none)
+has_comma (x ∷ a) b none = has_comma a b (trailing x (a ++ 44 ∷ b) none)
 
 -- the first comma stands at one place
 pub split_once : (a b c d : List ℕ) → HasNoComma a → HasNoComma c → a ++ 44 ∷ b ≡ c ++ 44 ∷ d
@@ -23,7 +23,7 @@ split_once [] b (y ∷ c) d none none' e = absurd (none' 0 0 (omega arith) (cc))
 split_once (x ∷ a) b [] d none none' e = absurd (none 0 0 (omega arith) (cc))
 split_once (x ∷ a) b (y ∷ c) d none none' e =
     let tails : a ++ 44 ∷ b ≡ c ++ 44 ∷ d = cc in
-    let (front, back) = split_once a b c d (behind x a none) (behind y c none') tails in
+    let (front, back) = split_once a b c d (trailing x a none) (trailing y c none') tails in
     let first : x ≡ y = cc in
     (ap (λ z. z ∷ a) first ∙ ap (λ zs. y ∷ zs) front, back)
 
@@ -69,7 +69,7 @@ before_last (x ∷ v) (y ∷ w) e =
     ap (λ z. z ∷ v) first ∙ ap (λ zs. y ∷ zs) (before_last v w tails)
 
 -- a field's text stands for one value at most
-pub one_value : (text value other : List ℕ) → FieldStandsFor text value → FieldStandsFor text other
+pub one_value : (text value other : List ℕ) → FieldRepresents text value → FieldRepresents text other
     → value ≡ other
 one_value text value other (inl is) (inl also) = sym is.same ∙ also.same
 one_value text value other (inl is) (inr also) = absurd (is.unquoted (other ++ 34 ∷ []) also)
@@ -80,9 +80,9 @@ one_value text value other (inr is) (inr also) =
 
 -- a text that begins with a quote and stands for a value ends with another quote
 pub ends_quoted : (text value : List ℕ) → 0 < length text → slice_index text 0 ≡ 34
-    → FieldStandsFor text value
+    → FieldRepresents text value
     → (0 < length text - 1) × (slice_index text (length text - 1) ≡ 34)
-ends_quoted [] value some quote stands = absurd (omega (arith, some))
+ends_quoted [] value some quote holds = absurd (omega (arith, some))
 ends_quoted (x ∷ text) value some quote (inl is) =
     absurd (is.unquoted text (ap (λ z. z ∷ text) quote))
 ends_quoted (x ∷ text) value some quote (inr is) =
@@ -98,46 +98,46 @@ ends_quoted (x ∷ text) value some quote (inr is) =
 
 -- what is found in the value is determined by the text
 reported : {A : Type 0} (P : List ℕ → A → Type 0) (text value : List ℕ) (found : Option A)
-    → FieldStandsFor text value
+    → FieldRepresents text value
     → MatchOption found ((one : A) → ¬ (P value one)) (λ one. P value one)
-    → MatchOption found ((one : A) → ¬ (FieldStandsForSome (λ v. P v one) text))
-    (λ one. FieldStandsForSome (λ v. P v one) text)
-reported {A = A} P text value None stands none = nothing_reported
+    → MatchOption found ((one : A) → ¬ (FieldRepresentsSome (λ v. P v one) text))
+    (λ one. FieldRepresentsSome (λ v. P v one) text)
+reported {A = A} P text value None holds none = nothing_reported
   where
-    nothing_reported : (one : A) → ¬ (FieldStandsForSome (λ v. P v one) text)
+    nothing_reported : (one : A) → ¬ (FieldRepresentsSome (λ v. P v one) text)
     nothing_reported one (other, also, is) =
-        none one (subst (λ v. P v one) (one_value text other value also stands) is)
-reported P text value (Some one) stands is = (value, stands, is)
+        none one (subst (λ v. P v one) (one_value text other value also holds) is)
+reported P text value (Some one) holds is = (value, holds, is)
 
 -- nothing is found in a text that stands for no value
 unreported : {A : Type 0} (P : List ℕ → A → Type 0) (text : List ℕ)
-    → ((value : List ℕ) → ¬ (FieldStandsFor text value)) → (one : A)
-    → ¬ (FieldStandsForSome (λ v. P v one) text)
-unreported P text none one (value, stands, is) = none value stands
+    → ((value : List ℕ) → ¬ (FieldRepresents text value)) → (one : A)
+    → ¬ (FieldRepresentsSome (λ v. P v one) text)
+unreported P text none one (value, holds, is) = none value holds
 
 -- what is found in the value of a field, if it has one, is determined by its text
 pub reported_of : {A V : Type 0} (P : List ℕ → A → Type 0) (now : V → List ℕ) (text : List ℕ)
     (value : Option V) (found : Option A)
-    → MatchOption value ((v : List ℕ) → ¬ (FieldStandsFor text v))
-    (λ v. FieldStandsFor text (now v))
+    → MatchOption value ((v : List ℕ) → ¬ (FieldRepresents text v))
+    (λ v. FieldRepresents text (now v))
     → MatchOption value (found ≡ None)
     (λ v. MatchOption found ((one : A) → ¬ (P (now v) one)) (λ one. P (now v) one))
-    → MatchOption found ((one : A) → ¬ (FieldStandsForSome (λ v. P v one) text))
-    (λ one. FieldStandsForSome (λ v. P v one) text)
+    → MatchOption found ((one : A) → ¬ (FieldRepresentsSome (λ v. P v one) text))
+    (λ one. FieldRepresentsSome (λ v. P v one) text)
 reported_of P now text None found none is =
-    subst (λ o. MatchOption o ((one : _) → ¬ (FieldStandsForSome (λ v. P v one) text))
-    (λ one. FieldStandsForSome (λ v. P v one) text)) (sym is) (unreported P text none)
-reported_of P now text (Some value) found stands is = reported P text (now value) found stands is
+    subst (λ o. MatchOption o ((one : _) → ¬ (FieldRepresentsSome (λ v. P v one) text))
+    (λ one. FieldRepresentsSome (λ v. P v one) text)) (sym is) (unreported P text none)
+reported_of P now text (Some value) found holds is = reported P text (now value) found holds is
 
 -- the names that stand in the fields of a head line
 pub names_of : (line token validator moment : List ℕ) → AreFields line token validator moment
     → IsHead line
-    → FieldStandsFor token (codes "token") × FieldStandsFor validator (codes "validator")
-    × FieldStandsFor moment (codes "moment")
+    → FieldRepresents token (codes "token") × FieldRepresents validator (codes "validator")
+    × FieldRepresents moment (codes "moment")
 names_of line token validator moment fields is =
     let (t, v, m) = one_fields line is.token_text is.validator_text is.moment_text token validator
     moment is.fields fields in (
-      subst (λ text. FieldStandsFor text (codes "token")) t is.token,
-      subst (λ text. FieldStandsFor text (codes "validator")) v is.validator,
-      subst (λ text. FieldStandsFor text (codes "moment")) m is.moment,
+      subst (λ text. FieldRepresents text (codes "token")) t is.token,
+      subst (λ text. FieldRepresents text (codes "validator")) v is.validator,
+      subst (λ text. FieldRepresents text (codes "moment")) m is.moment,
     )

@@ -18,21 +18,21 @@ use Rattle.tap_views.specs.declared.encoder.TapFields.{TapFields}
 use Rattle.tap_rows.specs.Agencies.{HasNoColumn, IsAgencyFault, IsRowsEncoded, IsWanting, IsSummary}
 use Rattle.tap_rows.specs.Agencies.{refusal_of, refusals, refusals_head, refusals_text}
 use Rattle.tap_rows.specs.Agencies.{refusal_text, tap_of, taps_in}
-use Rattle.tap_rows.specs.AgencyRows.{IsReadingOf}
+use Rattle.tap_rows.specs.AgencyRows.{IsParseOf}
 use Rattle.tap_rows.specs.AgencyTexts.{HasRecords, config_of, fields_read, first_record}
 use Rattle.tap_rows.specs.declared.agency.choice.Choice.{Choice}
 use Rattle.tap_rows.specs.declared.agency.choice.Separator.{Separator}
-use Rattle.tap_rows.specs.declared.agency.places.Places.{Places}
+use Rattle.tap_rows.specs.declared.agency.positions.Positions.{Positions}
 use Rattle.tap_rows.specs.declared.agency.reading.Reading.{Reading}
 use Rattle.tap_rows.specs.declared.agency.summary.Summary.{Summary}
 use Rattle.tap_rows.specs.inside.Goings.{IsGoing}
 use Rattle.tap_rows.specs.declared.agency.fault.AgencyFault.{AgencyFault}
 use Rattle.tap_rows.specs.declared.agency.fault.AgencyFault.TheVariants as fault
-use Rattle.tap_rows.specs.inside.Places.{ArePlaces, IsHeadFault}
-use Rattle.tap_rows.specs.inside.RecordReaders.{HasCome}
+use Rattle.tap_rows.specs.inside.Positions.{ArePositions, IsHeadFault}
+use Rattle.tap_rows.specs.inside.RecordReaders.{HasConsumed}
 use Rattle.tap_rows.specs.inside.TapTables.{IsEncodedAs}
 use Rattle.tap_rows.specs.inside.WaitingTaps.{AreWritten}
-use Rattle.tap_rows.proofs.AgencyLemmas.{readings_more, refusals_more, refusals_text_more}
+use Rattle.tap_rows.proofs.AgencyLemmas.{parses_more, refusals_more, refusals_text_more}
 use Rattle.tap_rows.proofs.AgencyLemmas.{taps_more}
 use Rattle.tap_rows.proofs.AgencyRowLemmas.{no_wanting}
 use Rattle.tap_rows.proofs.TableLemmas.{two_files}
@@ -62,22 +62,22 @@ one_waits old new waiting taps tap is = record {
 }
 
 -- ---- from row to row
-pub going_first : {R : Type 0} (remaining : R → Option (List ℕ)) (choice : Choice) (places : Places)
+pub going_first : {R : Type 0} (remaining : R → Option (List ℕ)) (choice : Choice) (positions : Positions)
     (text : Option (List ℕ)) (reader : Reader R) (waiting : List TapFields) (summary : Summary)
     (out old_refused new_refused : Option (List ℕ)) (head : List (List ℕ))
-    → ArePlaces choice head places
+    → ArePositions choice head positions
     → ((bytes : List ℕ) → text ≡ Some bytes
-    → HasCome remaining choice.separator bytes (head ∷ []) reader) → waiting ≡ []
+    → HasConsumed remaining choice.separator bytes (head ∷ []) reader) → waiting ≡ []
     → IsSummary [] [] summary
     → Appends old_refused new_refused (refusals_head choice.separator head)
-    → IsGoing remaining choice places text 0 reader waiting summary out out old_refused new_refused
-going_first remaining choice places text reader waiting summary out old_refused new_refused head
-    columns come none summary_is appended = record {
+    → IsGoing remaining choice positions text 0 reader waiting summary out out old_refused new_refused
+going_first remaining choice positions text reader waiting summary out old_refused new_refused head
+    columns consumed none summary_is appended = record {
       head = head;
       rows = [];
       readings = [];
       columns = columns;
-      come = come;
+      consumed = consumed;
       each = tt;
       number = refl;
       room = subst (λ taps. AreEncodable (λ tap. tap.moment) taps) (sym none)
@@ -95,19 +95,19 @@ going_first remaining choice places text reader waiting summary out old_refused 
       summary_is = summary_is;
     }
 
-pub going_more : {R : Type 0} (remaining : R → Option (List ℕ)) (choice : Choice) (places : Places)
+pub going_more : {R : Type 0} (remaining : R → Option (List ℕ)) (choice : Choice) (positions : Positions)
     (text : Option (List ℕ)) (count number : ℕ) (reader after : Reader R)
     (waiting more : List TapFields)
     (summary next : Summary)
     (old here there old_refused here_refused there_refused : Option (List ℕ)) (row : List (List ℕ))
     (reading : Reading)
-    → IsGoing remaining choice places text count reader waiting summary old here old_refused
+    → IsGoing remaining choice positions text count reader waiting summary old here old_refused
     here_refused
     → number ≡ count + 2
     → ((bytes : List ℕ) (rows : List (List (List ℕ)))
-    → HasCome remaining choice.separator bytes rows reader
-    → HasCome remaining choice.separator bytes (rows ++ row ∷ []) after)
-    → ((head : List (List ℕ)) → ArePlaces choice head places → IsReadingOf choice head row reading)
+    → HasConsumed remaining choice.separator bytes rows reader
+    → HasConsumed remaining choice.separator bytes (rows ++ row ∷ []) after)
+    → ((head : List (List ℕ)) → ArePositions choice head positions → IsParseOf choice head row reading)
     → AreEncodable (λ tap. tap.moment) more
     → ((taps : List TapFields) → AreWritten old here waiting taps
     → AreWritten old there more (taps ++ tap_of reading))
@@ -117,14 +117,14 @@ pub going_more : {R : Type 0} (remaining : R → Option (List ℕ)) (choice : Ch
     → ((rows : List (List (List ℕ))) (readings : List Reading) → number ≡ length rows + 2
     → length readings ≡ length rows → IsSummary rows readings summary
     → IsSummary (rows ++ row ∷ []) (readings ++ reading ∷ []) next)
-    → IsGoing remaining choice places text (count + 1) after more next old there old_refused
+    → IsGoing remaining choice positions text (count + 1) after more next old there old_refused
     there_refused
-going_more remaining choice places text count number reader after waiting more summary next old here
-    there old_refused here_refused there_refused row reading going place come is_reading room
+going_more remaining choice positions text count number reader after waiting more summary next old here
+    there old_refused here_refused there_refused row reading going position consumed is_parse room
     written appended counted =
     let long : length going.readings ≡ length going.rows =
-    AllZip-long (IsReadingOf choice going.head) going.rows going.readings going.each in
-    let numbered : number ≡ length going.rows + 2 = omega (arith, place, going.number) in
+    AllZip-long (IsParseOf choice going.head) going.rows going.readings going.each in
+    let numbered : number ≡ length going.rows + 2 = omega (arith, position, going.number) in
     let refused = refusals_more going.rows going.readings row reading number long numbered in
     let text_is = ap (refusals_text choice.separator going.head) refused
     ∙ refusals_text_more choice.separator going.head (refusals going.rows going.readings)
@@ -134,9 +134,9 @@ going_more remaining choice places text count number reader after waiting more s
       rows = going.rows ++ row ∷ [];
       readings = going.readings ++ reading ∷ [];
       columns = going.columns;
-      come = λ bytes known. come bytes (going.head ∷ going.rows) (going.come bytes known);
-      each = readings_more choice going.head going.rows going.readings row reading going.each
-          (is_reading going.head going.columns);
+      consumed = λ bytes known. consumed bytes (going.head ∷ going.rows) (going.consumed bytes known);
+      each = parses_more choice going.head going.rows going.readings row reading going.each
+          (is_parse going.head going.columns);
       number = omega (arith, going.number, length-append going.rows (row ∷ []));
       room = room;
       written = subst (λ taps. AreWritten old there more taps)
@@ -148,19 +148,19 @@ going_more remaining choice places text count number reader after waiting more s
     }
 
 -- at the end of the text
-pub going_end : {R : Type 0} (remaining : R → Option (List ℕ)) (choice : Choice) (places : Places)
+pub going_end : {R : Type 0} (remaining : R → Option (List ℕ)) (choice : Choice) (positions : Positions)
     (text : Option (List ℕ)) (count : ℕ) (reader : Reader R) (waiting : List TapFields)
     (summary : Summary)
     (old here there old_refused new_refused : Option (List ℕ))
-    → IsGoing remaining choice places text count reader waiting summary old here old_refused
+    → IsGoing remaining choice positions text count reader waiting summary old here old_refused
     new_refused
     → ((bytes : List ℕ) (rows : List (List (List ℕ)))
-    → HasCome remaining choice.separator bytes rows reader → HasRecords choice.separator bytes rows)
+    → HasConsumed remaining choice.separator bytes rows reader → HasRecords choice.separator bytes rows)
     → ((taps : List TapFields) → AreWritten old here waiting taps → AreWritten old there [] taps)
     → IfSome text (λ bytes. IsRowsEncoded choice bytes old there old_refused new_refused summary)
-going_end remaining choice places None count reader waiting summary old here there old_refused
+going_end remaining choice positions None count reader waiting summary old here there old_refused
     new_refused going end written = tt
-going_end remaining choice places (Some bytes) count reader waiting summary old here there
+going_end remaining choice positions (Some bytes) count reader waiting summary old here there
     old_refused new_refused going end written =
     let all = written (taps_in going.readings) going.written in
     record {
@@ -168,9 +168,9 @@ going_end remaining choice places (Some bytes) count reader waiting summary old 
       rows = going.rows;
       readings = going.readings;
       is_read = record {
-        records = end bytes (going.head ∷ going.rows) (going.come bytes refl);
+        records = end bytes (going.head ∷ going.rows) (going.consumed bytes refl);
         columns =
-            no_wanting choice going.head places going.columns;
+            no_wanting choice going.head positions going.columns;
         each = going.each;
       };
       file = all.file;
@@ -188,7 +188,7 @@ unfolding Reached field_at
 no_head separator bytes name (s, left, (same, all), none) =
     let first : next_record (config_of separator) StartRecord [] [] (strip_bom bytes) ≡ None =
     rw (same, all) none in
-    subst (λ o. HasNoColumn (fields_read o) name) (sym first) (λ place is. cc (is.named))
+    subst (λ o. HasNoColumn (fields_read o) name) (sym first) (λ position is. cc (is.named))
 
 -- the head that was read is the first record
 pub head_is : (separator : Separator) (bytes : List ℕ) (head : List (List ℕ))
@@ -220,6 +220,6 @@ head_fault choice bytes head fault.NoMemory same is = tt
 -- the same, under other names
 pub moved : (old here there : Option (List ℕ)) (waiting after taps : List TapFields) → there ≡ here
     → after ≡ waiting → AreWritten old here waiting taps → AreWritten old there after taps
-moved old here there waiting after taps place same is =
-    subst (λ o. AreWritten old o after taps) (sym place)
+moved old here there waiting after taps position same is =
+    subst (λ o. AreWritten old o after taps) (sym position)
     (subst (λ ts. AreWritten old here ts taps) (sym same) is)

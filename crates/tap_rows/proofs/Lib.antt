@@ -1,14 +1,14 @@
-pub mod AgencyBegunLemmas
+pub mod AgencyStartedLemmas
 mod AgencyLemmas
 mod AgencyMomentLemmas
 mod AgencyRowLemmas
-pub mod BegunLemmas
+pub mod StartedLemmas
 mod DeviceLemmas
 mod FieldLemmas
 mod GoingLemmas
 pub mod MomentLemmas
 mod OneDeviceTable
-mod OneReading
+mod UniqueParse
 mod OneSummary
 mod RowLemmas
 mod TableLemmas

@@ -19,7 +19,7 @@ use Rattle.tap_rows.specs.declared.devices.fault.DevicesFault.TheVariants as fau
 use Rattle.tap_rows.specs.declared.devices.fault.WrongDevice.{WrongDevice}
 use Rattle.tap_rows.specs.declared.devices.fault.WrongDevice.TheVariants as wrong
 use Rattle.tap_rows.proofs.DeviceLemmas.{has_head}
-use Rattle.tap_rows.proofs.OneReading.{head_same, one_list_of_records, one_read}
+use Rattle.tap_rows.proofs.UniqueParse.{head_same, one_list_of_records, one_read}
 
 -- ---- the separator
 one_separator : (separator : Separator) (text : List ℕ) (a b : Separator)
@@ -83,19 +83,19 @@ begins cfg s xs (r ∷ rows) (b ∷ begin) s2 ys (s3, zs, (p, found, is, rest), 
     (others, ap (λ x. x ∷ rows) first ∙ ap (λ xs. b ∷ xs) all)
 
 -- a row behind some has its device behind theirs
-good_row : (before : List (List (List ℕ))) (row : List (List ℕ)) (more : List (List (List ℕ)))
+valid_row : (before : List (List (List ℕ))) (row : List (List ℕ)) (more : List (List (List ℕ)))
     (devices found : List Device) → AllZip IsDeviceRow (before ++ row ∷ more) devices
     → AllZip IsDeviceRow before found
     → (device : Device) × (rest : List Device) × (devices ≡ found ++ device ∷ rest)
     × IsDeviceRow row device
-good_row [] row more [] found each have = absurd each
-good_row [] row more (d ∷ devices) [] each have = (d, devices, refl, each.0)
-good_row [] row more (d ∷ devices) (f ∷ found) each have = absurd have
-good_row (b ∷ before) row more [] found each have = absurd each
-good_row (b ∷ before) row more (d ∷ devices) [] each have = absurd have
-good_row (b ∷ before) row more (d ∷ devices) (f ∷ found) each have =
+valid_row [] row more [] found each have = absurd each
+valid_row [] row more (d ∷ devices) [] each have = (d, devices, refl, each.0)
+valid_row [] row more (d ∷ devices) (f ∷ found) each have = absurd have
+valid_row (b ∷ before) row more [] found each have = absurd each
+valid_row (b ∷ before) row more (d ∷ devices) [] each have = absurd have
+valid_row (b ∷ before) row more (d ∷ devices) (f ∷ found) each have =
     let first = one_device b d f each.0 have.0 in
-    let (device, rest, all, is) = good_row before row more devices found each.1 have.1 in
+    let (device, rest, all, is) = valid_row before row more devices found each.1 have.1 in
     (device, rest, ap (λ x. x ∷ devices) first ∙ ap (λ ds. f ∷ ds) all, is)
 
 apart_at : (name : List ℕ) (found : List Device) (device : Device) (rest : List Device)
@@ -153,7 +153,7 @@ no_fault separator text devices number why is (its, is_its, bad) =
     let split : there.rows ≡ bad.before ++ bad.row ∷ more =
     rows ∙ append_assoc bad.before (bad.row ∷ []) more in
     let (device, rest, found, row) =
-    good_row bad.before bad.row more devices bad.devices
+    valid_row bad.before bad.row more devices bad.devices
     (subst (λ rs. AllZip IsDeviceRow rs devices) split there.each) bad.each in
     not_wrong bad.devices bad.row device rest why row
     (subst (λ ds. IsDistinct bytes_eq (keys_of ds)) found there.once) bad.is_wrong

@@ -14,7 +14,7 @@ use Rattle.tap_rows.specs.declared.agency.reading.Reading.{Reading}
 use Rattle.tap_rows.specs.declared.agency.reading.Reason.{Reason}
 use Rattle.tap_rows.specs.declared.agency.summary.Summary.{Summary}
 use Rattle.tap_rows.proofs.GoingLemmas.{head_is}
-use Rattle.tap_rows.proofs.OneReading.{one_way}
+use Rattle.tap_rows.proofs.UniqueParse.{one_way}
 
 -- ---- the span
 within_of : (span : MomentSpan) (moments : List ℕ) (k x : ℕ)

@@ -13,22 +13,22 @@ use Rattle.tap_rows.specs.declared.column.Column.TheVariants.{Fields, Token, Val
 -- what a field contains
 one_token : (text token other : List ℕ) → IsTokenField text token → IsTokenField text other
     → token ≡ other
-one_token text token other (value, stands, is) (again, also_stands, also) =
-    let same = one_value text value again stands also_stands in
+one_token text token other (value, holds, is) (again, also_represents, also) =
+    let same = one_value text value again holds also_represents in
     let both : Ok token ≡ Ok other = sym is ∙ subst (λ v. IsToken v other) (sym same) also in
     cc
 
 one_validator : (text : List ℕ) (number other : ℕ) → IsValidatorField text number
     → IsValidatorField text other → number ≡ other
-one_validator text number other (value, stands, is) (again, also_stands, also) =
-    let same = one_value text value again stands also_stands in
+one_validator text number other (value, holds, is) (again, also_represents, also) =
+    let same = one_value text value again holds also_represents in
     cc (is.0.value, also.0.value, same)
 
 one_moment : (text : List ℕ) (number other : ℕ) → IsMomentField text number
     → IsMomentField text other
     → number ≡ other
-one_moment text number other (value, stands, is) (again, also_stands, also) =
-    let same = one_value text value again stands also_stands in
+one_moment text number other (value, holds, is) (again, also_represents, also) =
+    let same = one_value text value again holds also_represents in
     one_time value number other is.0 (subst (λ v. IsTime v other) (sym same) also.0)
 
 -- a tap, by its fields

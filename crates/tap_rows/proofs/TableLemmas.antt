@@ -109,7 +109,7 @@ reached_end text now new number taps reached next =
 pub reached_fault : (text : List ℕ) (now new : Option (List ℕ)) (number : ℕ) (taps : List TapFields)
     (fault : RowsFault) → Reached text now taps → number ≡ length taps + 2
     → IfSome now (λ left. IsNextRow left number new (Err fault)) → IsRowsFault text fault
-reached_fault text now new number taps fault reached place next =
+reached_fault text now new number taps fault reached position next =
     by_fault fault
     (MatchOption-at_some (Unit {0}) (λ left. IsNextRow left number new (Err fault)) reached.left
     reached.now_is next)
@@ -123,7 +123,7 @@ reached_fault text now new number taps fault reached place next =
       rest = reached.left;
       rows = reached.rows;
       some = is.1;
-      number_is = is.0 ∙ place;
+      number_is = is.0 ∙ position;
       wrong = is.2;
     }
     by_fault Unread is = tt

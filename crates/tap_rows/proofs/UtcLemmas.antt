@@ -57,20 +57,20 @@ no_fraction = refl
 digit_is : (d : ℕ) → d < 10 → is_ascii_digit (48 + d) ≡ true
 digit_is d small = grind (arith, nat_tests)
 
-places_value : (ms : ℕ) → ms < 1_000
+positions_value : (ms : ℕ) → ms < 1_000
     → (48 + ms / 100 - 48) * 10 ^ 8
     + ((48 + ms % 100 / 10 - 48) * 10 ^ 7 + ((48 + ms % 100 % 10 - 48) * 10 ^ 6 + 0))
     ≡ ms * 1_000_000
-places_value ms small = omega arith
+positions_value ms small = omega arith
 
-three_places : (ms : ℕ) → ms < 1_000
+three_positions : (ms : ℕ) → ms < 1_000
     → temporal_fraction (46 ∷ (pad3 ms ++ 90 ∷ [])) ≡ Ok (Some (ms * 1_000_000), 90 ∷ [])
 unfolding temporal_fraction nanoseconds fraction_value
-three_places ms small =
+three_positions ms small =
     let a = digit_is (ms / 100) (omega arith) in
     let b = digit_is (ms % 100 / 10) (omega arith) in
     let c = digit_is (ms % 100 % 10) (omega arith) in
-    rw (a, b, c, places_value ms small)
+    rw (a, b, c, positions_value ms small)
 
 -- ---- the instant
 instant_read : (date : Date) (moment hour minute second : ℕ) (o : Option ℕ) (fraction : List ℕ)
@@ -124,7 +124,7 @@ civil_moment moment text early is =
     let minute = ms / 60_000 % 60 in
     let second = ms / 1_000 % 60 in
     let fraction = 46 ∷ (pad3 (ms % 1_000) ++ 90 ∷ []) in
-    let read = three_places (ms % 1_000) (omega arith) in
+    let read = three_positions (ms % 1_000) (omega arith) in
     let value : (hour * 3_600 + minute * 60 + second) * 1_000_000_000 + ms % 1_000 * 1_000_000
     ≡ ms * 1_000_000 = omega arith in
     let instant = instant_read is.date moment hour minute second (Some (ms % 1_000 * 1_000_000))

@@ -16,7 +16,7 @@ use Rattle.std.proofs.Math.Bool.{and-false}
 use Rattle.hex.specs.Hex.{encode_lower, decode_sized, is_hex_digit}
 use Rattle.hex.proofs.HexLemmas.{decode_sized-encode_lower, IsOk-decode_sized}
 use Rattle.tap_views.specs.declared.encoder.TapFields.{TapFields}
-use Rattle.tap_rows.specs.Fields.{AreFields, FieldStandsFor}
+use Rattle.tap_rows.specs.Fields.{AreFields, FieldRepresents}
 use Rattle.tap_rows.specs.Moments.{IsDecimal}
 use Rattle.tap_rows.specs.Rows.{IsTapRow, IsTapFields, row_text, rows_text}
 use Rattle.tap_rows.specs.TapTables.{head, IsHead, BeginsWithRows, IsTapTable, tap_table_text}
@@ -153,7 +153,7 @@ no_quote [] high rest e = absurd (omega (arith, ap length e))
 no_quote (x ∷ text) high rest e = let first : x ≡ 34 = cc in absurd (omega (arith, first, high.0))
 
 -- high bytes stand for themselves
-bare : (text : List ℕ) → AreHigh text → FieldStandsFor text text
+bare : (text : List ℕ) → AreHigh text → FieldRepresents text text
 bare text high = inl (record { same = refl; unquoted = no_quote text high })
 
 high_fields : (first second third : List ℕ) → AreHigh first → AreHigh second → AreHigh third

@@ -9,7 +9,7 @@ use Rattle.fare_texts.specs.WrittenOut.{Begins}
 use Rattle.tap_views.specs.declared.encoder.TapFields.{TapFields}
 use Rattle.tap_views.specs.Facts.{IsSpan}
 use Rattle.tap_views.specs.Files.{IsFileOf}
-use Rattle.tap_rows.specs.AgencyRows.{IsColumn, IsReadingOf}
+use Rattle.tap_rows.specs.AgencyRows.{IsColumn, IsParseOf}
 use Rattle.tap_rows.specs.AgencyTexts.{BeginsWith, HasRecords, first_record, record_text}
 use Rattle.tap_rows.specs.AgencyTexts.{separator_byte}
 use Rattle.tap_rows.specs.declared.agency.choice.Choice.{Choice}
@@ -26,15 +26,15 @@ use Rattle.tap_rows.specs.declared.agency.summary.Summary.{Summary}
 
 -- the head has no column of this name, or more than one
 abbrev pub HasNoColumn : List (List ℕ) → List ℕ → Type 0
-HasNoColumn head name = (place : ℕ) → ¬ (IsColumn head name place)
+HasNoColumn head name = (position : ℕ) → ¬ (IsColumn head name position)
 
 -- the head lacks this column of the choice
 abbrev pub IsWanting : Choice → List (List ℕ) → Wanted → Type 0
 IsWanting choice head wanted.Token = HasNoColumn head choice.token.now
 IsWanting choice head wanted.Validator = HasNoColumn head choice.validator.now
 IsWanting choice head wanted.Moment = HasNoColumn head choice.moment.now
-IsWanting choice head (wanted.Only place) =
-    IsSomeAnd (slice_get choice.only.now place) (λ condition. HasNoColumn head condition.column.now)
+IsWanting choice head (wanted.Only position) =
+    IsSomeAnd (slice_get choice.only.now position) (λ condition. HasNoColumn head condition.column.now)
 
 -- the text has a head and these rows, the head lacks no column of the choice, and each row is read
 -- as the reading at its place
@@ -42,7 +42,7 @@ pub record IsRead (choice : Choice) (text : List ℕ) (head : List (List ℕ))
     (rows : List (List (List ℕ))) (readings : List Reading) : Type 0 where
   pub records : HasRecords choice.separator text (head ∷ rows)
   pub columns : (column : Wanted) → ¬ (IsWanting choice head column)
-  pub each : AllZip (IsReadingOf choice head) rows readings
+  pub each : AllZip (IsParseOf choice head) rows readings
 
 -- the tap of a reading, if it is one
 abbrev pub tap_of : Reading → List TapFields
@@ -147,13 +147,13 @@ pub record IsRowsEncoded (choice : Choice) (text : List ℕ)
 
 -- what was written after the old bytes is a prefix of an upload with no fault, of the first of
 -- these taps
-pub record AreBegun (taps : List TapFields) (old new : Option (List ℕ)) : Type 0 where
+pub record AreStarted (taps : List TapFields) (old new : Option (List ℕ)) : Type 0 where
   pub done : List TapFields
   pub later : List TapFields
   pub all : taps ≡ done ++ later
   pub file : List ℕ
   pub upload : IsFileOf file done
-  pub begun : Begins old new file
+  pub started : Begins old new file
 
 -- the text begins with a head and these rows, and a prefix of an upload was written, of the
 -- first taps of the rows that are kept
@@ -163,12 +163,12 @@ pub record BeginsUpload (choice : Choice) (text : List ℕ) (old new : Option (L
   pub rows : List (List (List ℕ))
   pub readings : List Reading
   pub records : BeginsWith choice.separator text (head ∷ rows)
-  pub each : AllZip (IsReadingOf choice head) rows readings
-  pub begun : AreBegun (taps_in readings) old new
+  pub each : AllZip (IsParseOf choice head) rows readings
+  pub started : AreStarted (taps_in readings) old new
 
 -- after the old bytes nothing was written, or a prefix of an upload of the text's first taps
-abbrev pub IsUploadBegun : Choice → List ℕ → Option (List ℕ) → Option (List ℕ) → Type 0
-IsUploadBegun choice text old new = Keeps old new ⊎ BeginsUpload choice text old new
+abbrev pub IsUploadStarted : Choice → List ℕ → Option (List ℕ) → Option (List ℕ) → Type 0
+IsUploadStarted choice text old new = Keeps old new ⊎ BeginsUpload choice text old new
 
 -- the row of this number is the first that is refused, for this reason
 pub record IsFirstRefused (choice : Choice) (text : List ℕ) (number : ℕ) (reason : Reason)

@@ -18,15 +18,15 @@ use Rattle.tap_rows.specs.declared.agency.reading.Reason.TheVariants as why
 use Rattle.tap_rows.specs.declared.devices.table.DeviceTable.{DeviceTable}
 
 -- of the fields of the head this one, and no other, is the name
-pub record IsColumn (head : List (List ℕ)) (name : List ℕ) (place : ℕ) : Type 0 where
-  pub named : field_at head place ≡ Some name
-  pub once : (other : ℕ) → field_at head other ≡ Some name → other ≡ place
+pub record IsColumn (head : List (List ℕ)) (name : List ℕ) (position : ℕ) : Type 0 where
+  pub named : field_at head position ≡ Some name
+  pub once : (other : ℕ) → field_at head other ≡ Some name → other ≡ position
 
 -- in the column of this name the row has this value
 pub record HasValue (head row : List (List ℕ)) (name value : List ℕ) : Type 0 where
-  pub place : ℕ
-  pub column : IsColumn head name place
-  pub field : field_at row place ≡ Some value
+  pub position : ℕ
+  pub column : IsColumn head name position
+  pub field : field_at row position ≡ Some value
 
 -- the row meets the condition
 abbrev pub IsMet : List (List ℕ) → List (List ℕ) → Condition → Type 0
@@ -46,16 +46,16 @@ HasSome head row name IsOne = (value : List ℕ) × HasValue head row name value
 
 -- the text represents this validator: it writes the number or, if there are devices, is the name of
 -- the device to which the table gives it
-abbrev pub StandsForValidator : Option (Bor DeviceTable) → List ℕ → ℕ → Type 0
-StandsForValidator None text number = IsValidator text number
-StandsForValidator (Some devices) text number =
+abbrev pub RepresentsValidator : Option (Bor DeviceTable) → List ℕ → ℕ → Type 0
+RepresentsValidator None text number = IsValidator text number
+RepresentsValidator (Some devices) text number =
     validator_of (devices_of devices.now) text ≡ Some number
 
 -- the row's fields in the columns of the choice give this tap
 pub record IsTapOf (choice : Choice) (head row : List (List ℕ)) (tap : TapFields) : Type 0 where
   pub token : HasSome head row choice.token.now (λ text. IsTokenText text tap.token)
   pub validator : HasSome head row choice.validator.now
-      (λ text. StandsForValidator choice.devices text tap.validator)
+      (λ text. RepresentsValidator choice.devices text tap.validator)
   pub moment : HasSome head row choice.moment.now
       (λ text. IsAgencyMoment choice.unit text tap.moment)
 
@@ -105,7 +105,7 @@ pub record HasNoMoment (choice : Choice) (head row : List (List ℕ)) (IsWrong :
   pub number : ℕ
   pub token : HasSome head row choice.token.now (λ text. IsTokenText text bytes)
   pub validator : HasSome head row choice.validator.now
-      (λ text. StandsForValidator choice.devices text number)
+      (λ text. RepresentsValidator choice.devices text number)
   pub wrong : HasSome head row choice.moment.now
       (λ text. IsNoMoment choice.unit text × IsWrong text)
 
@@ -144,8 +144,8 @@ IsRefused choice head row why.Moment =
 
 -- what a row is read as, under this head: a tap that is kept, a row that is not, or one that is not
 -- a tap
-abbrev pub IsReadingOf : Choice → List (List ℕ) → List (List ℕ) → Reading → Type 0
-IsReadingOf choice head row (read.Tap tap) =
+abbrev pub IsParseOf : Choice → List (List ℕ) → List (List ℕ) → Reading → Type 0
+IsParseOf choice head row (read.Tap tap) =
     IsAsLong head row × IsKept choice head row × IsTapOf choice head row tap
-IsReadingOf choice head row read.LeftOut = IsAsLong head row × ¬ (IsKept choice head row)
-IsReadingOf choice head row (read.Refused reason) = IsRefused choice head row reason
+IsParseOf choice head row read.LeftOut = IsAsLong head row × ¬ (IsKept choice head row)
+IsParseOf choice head row (read.Refused reason) = IsRefused choice head row reason

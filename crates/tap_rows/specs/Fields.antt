@@ -23,9 +23,9 @@ abbrev pub IsQuoted : List ℕ → List ℕ → Type 0
 IsQuoted text value = text ≡ 34 ∷ (value ++ 34 ∷ [])
 
 -- the text of a field represents the value in one of the two ways
-abbrev pub FieldStandsFor : List ℕ → List ℕ → Type 0
-FieldStandsFor text value = IsBare text value ⊎ IsQuoted text value
+abbrev pub FieldRepresents : List ℕ → List ℕ → Type 0
+FieldRepresents text value = IsBare text value ⊎ IsQuoted text value
 
 -- the text of a field represents a value of this kind
-abbrev pub FieldStandsForSome : (List ℕ → Type 0) → List ℕ → Type 0
-FieldStandsForSome IsOne text = (value : List ℕ) × FieldStandsFor text value × IsOne value
+abbrev pub FieldRepresentsSome : (List ℕ → Type 0) → List ℕ → Type 0
+FieldRepresentsSome IsOne text = (value : List ℕ) × FieldRepresents text value × IsOne value

@@ -4,7 +4,7 @@ use Rattle.std.specs.Fmt.{decimal}
 use Rattle.hex.specs.Hex.{decode_sized, encode_lower, IsBytes}
 use Rattle.tap_views.specs.Layout.{moment_limit}
 use Rattle.tap_views.specs.declared.encoder.TapFields.{TapFields}
-use Rattle.tap_rows.specs.Fields.{AreFields, FieldStandsForSome}
+use Rattle.tap_rows.specs.Fields.{AreFields, FieldRepresentsSome}
 use Rattle.tap_rows.specs.Moments.{IsDecimal, IsMoment}
 use Rattle.tap_rows.specs.declared.column.Column.{Column}
 use Rattle.tap_rows.specs.declared.column.Column.TheVariants.{Fields, Token, Validator, Moment}
@@ -23,15 +23,15 @@ IsNoValidator text = (number : ℕ) → ¬ (IsValidator text number)
 
 -- the text of a field represents such a value, as it is or in quotes
 abbrev pub IsTokenField : List ℕ → List ℕ → Type 0
-IsTokenField text token = FieldStandsForSome (λ value. IsToken value token) text
+IsTokenField text token = FieldRepresentsSome (λ value. IsToken value token) text
 
 -- it represents a validator's number
 abbrev pub IsValidatorField : List ℕ → ℕ → Type 0
-IsValidatorField text number = FieldStandsForSome (λ value. IsValidator value number) text
+IsValidatorField text number = FieldRepresentsSome (λ value. IsValidator value number) text
 
 -- it represents a moment
 abbrev pub IsMomentField : List ℕ → ℕ → Type 0
-IsMomentField text number = FieldStandsForSome (λ value. IsMoment value number) text
+IsMomentField text number = FieldRepresentsSome (λ value. IsMoment value number) text
 
 -- the line is a row of this tap
 pub record IsTapRow (line : List ℕ) (tap : TapFields) : Type 0 where

@@ -6,7 +6,7 @@ use Rattle.std.specs.Io.KnownBytes.{Appends}
 use Rattle.fare_texts.specs.WrittenOut.{Begins}
 use Rattle.tap_views.specs.declared.encoder.TapFields.{TapFields}
 use Rattle.tap_views.specs.Files.{IsFileOf}
-use Rattle.tap_rows.specs.Fields.{AreFields, FieldStandsFor}
+use Rattle.tap_rows.specs.Fields.{AreFields, FieldRepresents}
 use Rattle.tap_rows.specs.Rows.{IsTapRow, IsNoTapRow, rows_text}
 use Rattle.tap_rows.specs.declared.column.Column.{Column}
 use Rattle.tap_rows.specs.declared.fault.RowsFault.{RowsFault}
@@ -19,9 +19,9 @@ pub record IsHead (line : List ℕ) : Type 0 where
   pub validator_text : List ℕ
   pub moment_text : List ℕ
   pub fields : AreFields line token_text validator_text moment_text
-  pub token : FieldStandsFor token_text (codes "token")
-  pub validator : FieldStandsFor validator_text (codes "validator")
-  pub moment : FieldStandsFor moment_text (codes "moment")
+  pub token : FieldRepresents token_text (codes "token")
+  pub validator : FieldRepresents validator_text (codes "validator")
+  pub moment : FieldRepresents moment_text (codes "moment")
 
 -- the header line as it is written
 abbrev pub head : List ℕ
@@ -88,13 +88,13 @@ pub record IsEncoded (text : List ℕ) (old new : Option (List ℕ)) (count : �
 
 -- what was written after the old bytes is a prefix of an upload with no fault, of the taps of
 -- the first rows of the text, in their order
-pub record IsBegun (text : List ℕ) (old new : Option (List ℕ)) : Type 0 where
+pub record IsPartlyWritten (text : List ℕ) (old new : Option (List ℕ)) : Type 0 where
   pub taps : List TapFields
   pub rest : List ℕ
   pub rows : BeginsWithRows (drop_through 10 text) taps rest
   pub file : List ℕ
   pub upload : IsFileOf file taps
-  pub begun : Begins old new file
+  pub started : Begins old new file
 
 -- the tap table that is written for these taps
 abbrev pub tap_table_text : List TapFields → List ℕ

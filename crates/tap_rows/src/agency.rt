@@ -4,7 +4,7 @@
 mod choice;
 mod fault;
 mod instant;
-mod places;
+mod positions;
 mod reading;
 mod records;
 mod refusals;
@@ -14,7 +14,7 @@ mod writing;
 
 pub use choice::{Choice, Condition, Separator, Unit};
 pub use fault::{AgencyFault, Wanted};
-pub(crate) use places::has_at;
+pub(crate) use positions::has_at;
 pub(crate) use reading::field_in;
 pub use reading::{Reading, Reason};
 pub(crate) use records::{next_record, records_of};

@@ -2,7 +2,7 @@
 
 ghost use Rattle.std.specs.Prelude.{◌≡◌, ◌++◌, ◌∷◌, ◌↔◌, ℕ, List};
 ghost use Rattle.std.specs.Prelude.{IsTrue, MatchOption};
-ghost use Rattle.tap_rows.specs.Fields.{AreFields, HasNoComma, FieldStandsFor};
+ghost use Rattle.tap_rows.specs.Fields.{AreFields, HasNoComma, FieldRepresents};
 
 fn split_at_comma(line: &[u8]) -> Option<(&[u8], &[u8])>
     ensures { MatchOption result (HasNoComma line.now)
@@ -31,7 +31,7 @@ pub(crate) fn three_fields(line: &[u8]) -> Option<(&[u8], &[u8], &[u8])>
 
 pub(crate) fn value_of(field: &[u8]) -> Option<&[u8]>
     ensures { MatchOption result ((value : List ℕ)
-        → ¬ (FieldStandsFor field.now value)) (λ value. FieldStandsFor field.now value.now) }
+        → ¬ (FieldRepresents field.now value)) (λ value. FieldRepresents field.now value.now) }
 {
     if field.is_empty() || field[0] != b'"' {
         return Some(field);
@@ -44,8 +44,8 @@ pub(crate) fn value_of(field: &[u8]) -> Option<&[u8]>
     }
 }
 
-pub(crate) fn stands_for(field: &[u8], value: &[u8]) -> bool
-    ensures { IsTrue result ↔ FieldStandsFor field.now value.now }
+pub(crate) fn represents(field: &[u8], value: &[u8]) -> bool
+    ensures { IsTrue result ↔ FieldRepresents field.now value.now }
 {
     match value_of(field) {
         Some(found) => found == value,

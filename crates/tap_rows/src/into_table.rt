@@ -15,11 +15,11 @@ use fare_texts::write_bytes;
 use itoa::Buffer;
 use std::alloc::Global;
 use std::io::Write;
-use tap_views::{Batch, LayoutFault, TapView, good_batches};
+use tap_views::{Batch, LayoutFault, TapView, valid_batches};
 
 fn put<W: Write>(out: &mut W, bytes: &[u8]) -> Result<(), RowsFault>
     ensures bytes { OnOk result (Appends (W.contents out.old) (W.contents out.new) bytes.now) }
-    ensures begun { OnErr result (Begins (W.contents out.old) (W.contents out.new) bytes.now) }
+    ensures started { OnErr result (Begins (W.contents out.old) (W.contents out.new) bytes.now) }
     ensures fault { IfErr result (λ fault. fault ≡ RowsFault.Write) }
 {
     match write_bytes(bytes, out) {
@@ -60,7 +60,7 @@ fn fill(text: &mut Vec<u8>, batch: &Batch) -> Result<(), RowsFault>
 pub fn write_head<W: Write>(out: &mut W) -> Result<(), RowsFault>
     ensures head { OnOk result
         (Appends (W.contents out.old) (W.contents out.new) (head ++ 10 ∷ [])) }
-    ensures begun { OnErr result
+    ensures started { OnErr result
         (Begins (W.contents out.old) (W.contents out.new) (head ++ 10 ∷ [])) }
     ensures fault { IfErr result (λ fault. fault ≡ RowsFault.Write) }
 {
@@ -76,15 +76,15 @@ pub fn decode<W: Write>(
 ) -> Result<Option<(u64, LayoutFault)>, RowsFault>
     ensures rows { IfOk result (λ fault. (text : List ℕ) × IsDecoded file.now text fault
         × Appends (W.contents out.old) (W.contents out.new) text) }
-    ensures begun { OnErr result ((text : List ℕ) × (at : Option (ℕ × ALayoutFault))
+    ensures started { OnErr result ((text : List ℕ) × (at : Option (ℕ × ALayoutFault))
         × IsDecoded file.now text at × Begins (W.contents out.old) (W.contents out.new) text) }
     ensures fault { IfErr result IsOfOutput }
 {
     let mut text = Vec::new(alloc);
-    let mut good = good_batches(file);
-    while let Some(batch) = good.next() {
+    let mut valid = valid_batches(file);
+    while let Some(batch) = valid.next() {
         fill(&mut text, &batch)?;
         put(out, &text)?;
     }
-    Ok(good.fault())
+    Ok(valid.fault())
 }

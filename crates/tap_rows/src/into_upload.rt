@@ -5,9 +5,9 @@ ghost use Rattle.std.specs.Prelude.{IfSome, IsSome};
 ghost use Rattle.std.specs.Prelude.{IsErrOf, OnErr, OnOk, length};
 ghost use Rattle.std.specs.Io.KnownBytes.{Appends};
 ghost use Rattle.tap_views.specs.Files.{IsFileOf};
-ghost use Rattle.tap_rows.specs.TapTables.{IsBegun, IsEncoded, IsOfOutput, IsOfTapTable};
+ghost use Rattle.tap_rows.specs.TapTables.{IsPartlyWritten, IsEncoded, IsOfOutput, IsOfTapTable};
 ghost use Rattle.tap_rows.specs.TapTables.{IsRowsFault};
-ghost use Rattle.tap_rows.specs.inside.TapTables.{IsBegunAs, IsEncodedAs};
+ghost use Rattle.tap_rows.specs.inside.TapTables.{IsStartedAs, IsEncodedAs};
 ghost use Rattle.tap_views.specs.Encoding.{AreEncodable};
 
 use crate::fault::RowsFault;
@@ -34,7 +34,7 @@ pub(crate) fn write_batch<W: Write>(
 ) -> Result<(), RowsFault>
     requires { AreEncodable (λ tap. tap.moment) taps.now }
     ensures upload { OnOk result (IsEncodedAs taps.now (W.contents out.old) (W.contents out.new)) }
-    ensures begun { OnErr result (IsBegunAs taps.now (W.contents out.old) (W.contents out.new)) }
+    ensures started { OnErr result (IsStartedAs taps.now (W.contents out.old) (W.contents out.new)) }
     ensures fault { IfErr result IsOfOutput }
 {
     if taps.is_empty() {
@@ -57,8 +57,8 @@ fn write_taps<R: BufRead, W: Write>(
     ensures upload { IfOk result
         (λ count. IfSome (R.remaining table.old)
         (λ text. IsEncoded text (W.contents out.old) (W.contents out.new) count)) }
-    ensures begun { OnErr result (IfSome (R.remaining table.old)
-        (λ text. IsBegun text (W.contents out.old) (W.contents out.new))) }
+    ensures started { OnErr result (IfSome (R.remaining table.old)
+        (λ text. IsPartlyWritten text (W.contents out.old) (W.contents out.new))) }
     ensures refused { IfErr result
         (λ fault. IfSome (R.remaining table.old) (λ text. IsRowsFault text fault)) }
 {
@@ -109,8 +109,8 @@ pub fn encode<R: BufRead, S: BufRead, W: Write>(
     ensures refused { IfErr result (λ fault. IsOfTapTable fault
         → IfSome (R.remaining table.old) (λ text. IsRowsFault text fault)) }
     ensures nothing { IfErr result (λ fault. IsOfTapTable fault → out.new ≡ out.old) }
-    ensures begun { OnErr result (IfSome (S.remaining again.old)
-        (λ text. IsBegun text (W.contents out.old) (W.contents out.new))) }
+    ensures started { OnErr result (IfSome (S.remaining again.old)
+        (λ text. IsPartlyWritten text (W.contents out.old) (W.contents out.new))) }
     ensures same { IsErrOf result RowsFault.Changed → IsSome (R.remaining table.old)
         → R.remaining table.old ≡ S.remaining again.old → ⊥ }
 {

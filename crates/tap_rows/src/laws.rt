@@ -23,7 +23,7 @@ ghost use Rattle.tap_views.specs.declared.fault.LayoutFault.{LayoutFault};
 pub fn one_row()
     ensures tap { (line : List ℕ) (tap other : TapFields) → IsTapRow line tap → IsTapRow line other
         → tap ≡ other }
-    ensures good { (line : List ℕ) (tap : TapFields) (column : Column) → IsTapRow line tap
+    ensures valid { (line : List ℕ) (tap : TapFields) (column : Column) → IsTapRow line tap
         → ¬ (IsNoTapRow line column) }
 {}
 
@@ -31,7 +31,7 @@ pub fn one_row()
 pub fn one_tap_table()
     ensures taps { (text : List ℕ) (taps others : List TapFields) → IsTapTable text taps
         → IsTapTable text others → taps ≡ others }
-    ensures good { (text : List ℕ) (taps : List TapFields) (number : ℕ) (column : Column)
+    ensures valid { (text : List ℕ) (taps : List TapFields) (number : ℕ) (column : Column)
         → IsTapTable text taps → ¬ (IsBadRow text number column) }
 {}
 
@@ -50,7 +50,7 @@ pub fn reads_utc()
 {}
 
 /// An agency's CSV is read in at most one way: one head, one list of rows, a reading for each row.
-pub fn one_reading_of_rows()
+pub fn unique_parse_of_rows()
     ensures { (choice : Choice) (text : List ℕ) (head other : List (List ℕ))
         (rows others : List (List (List ℕ))) (readings again : List Reading)
         → IsRead choice text head rows readings → IsRead choice text other others again
@@ -61,7 +61,7 @@ pub fn one_reading_of_rows()
 pub fn one_device_table()
     ensures devices { (separator : Separator) (text : List ℕ) (devices others : List Device)
         → AreDevices separator text devices → AreDevices separator text others → devices ≡ others }
-    ensures good { (separator : Separator) (text : List ℕ) (devices : List Device)
+    ensures valid { (separator : Separator) (text : List ℕ) (devices : List Device)
         (fault : DevicesFault) → AreDevices separator text devices
         → IsDevicesFault separator text fault → fault ≡ DevicesFault.NoMemory }
 {}
@@ -72,5 +72,5 @@ pub fn decodes_back(upload: &[u8])
         → IsFileOf upload.now taps → IsReadAs upload.now batches fault → (fields_in batches ≡ taps)
         × (fault ≡ None) }
 {
-    tap_views::laws::one_reading(upload)
+    tap_views::laws::unique_parse(upload)
 }

@@ -10,7 +10,7 @@ ghost use Rattle.tap_rows.specs.inside.TapTables.{IsHeadFault, IsNextRow, IsTapT
 ghost use Rattle.tap_views.specs.Layout.{moment_limit};
 
 use crate::fault::RowsFault;
-use crate::field::{stands_for, three_fields};
+use crate::field::{represents, three_fields};
 use crate::row::tap_of;
 use std::alloc::Global;
 use std::io::{BufRead, ErrorKind};
@@ -60,9 +60,9 @@ fn is_head(line: &[u8]) -> bool
 {
     match three_fields(line) {
         Some((token, validator, moment)) => {
-            stands_for(token, b"token")
-                && stands_for(validator, b"validator")
-                && stands_for(moment, b"moment")
+            represents(token, b"token")
+                && represents(validator, b"validator")
+                && represents(moment, b"moment")
         }
         None => false,
     }

@@ -38,9 +38,9 @@ module _ (w : ℕ) (tap_of : List ℕ → Tap) where
       let start : w * zero ≡ 0 = omega arith in
       subst (λ (at : ℕ). P (tap_of (take w (drop at bytes)))) (sym start) all.0
   all-cut P (suc n) (suc i) bytes below all =
-      let place : w + w * i ≡ w * suc i = omega (arith, mul-suc w i) in
+      let position : w + w * i ≡ w * suc i = omega (arith, mul-suc w i) in
       let moved : drop (w * i) (drop w bytes) ≡ drop (w * suc i) bytes =
-      drop-drop (w * i) w bytes ∙ ap (λ (at : ℕ). drop at bytes) place in
+      drop-drop (w * i) w bytes ∙ ap (λ (at : ℕ). drop at bytes) position in
       subst (λ (part : List ℕ). P (tap_of (take w part))) moved
       (all-cut P n i (drop w bytes) (omega arith) all.1)
 
@@ -51,9 +51,9 @@ module _ (w : ℕ) (tap_of : List ℕ → Tap) where
   slice_get-cut (suc n) zero bytes below =
       let start : w * zero ≡ 0 = omega arith in rw start refl
   slice_get-cut (suc n) (suc i) bytes below =
-      let place : w + w * i ≡ w * suc i = omega (arith, mul-suc w i) in
+      let position : w + w * i ≡ w * suc i = omega (arith, mul-suc w i) in
       let moved : drop (w * i) (drop w bytes) ≡ drop (w * suc i) bytes =
-      drop-drop (w * i) w bytes ∙ ap (λ (at : ℕ). drop at bytes) place in
+      drop-drop (w * i) w bytes ∙ ap (λ (at : ℕ). drop at bytes) position in
       slice_get-cut n i (drop w bytes) (omega arith)
       ∙ ap (λ (part : List ℕ). Some (tap_of (take w part))) moved
 
@@ -66,16 +66,16 @@ module _ (w : ℕ) (tap_of : List ℕ → Tap) where
       let all : take w bytes ≡ bytes = take_all w bytes (omega (arith, mul-suc w 0)) in
       rw (start, all) refl
   cut-last (suc n) bytes whole =
-      let place : w + w * n ≡ w * suc n = omega (arith, mul-suc w n) in
+      let position : w + w * n ≡ w * suc n = omega (arith, mul-suc w n) in
       let left : length (drop w bytes) ≡ w * suc n =
       omega (arith, mul-suc w (suc n), length-drop w bytes) in
       let first : take w (take (w * suc n) bytes) ≡ take w bytes =
       take-take w (w * suc n) bytes (omega arith) in
-      let behind : take (w * n) (drop w bytes) ≡ drop w (take (w * suc n) bytes) =
-      sym (drop-take w (w * n) bytes) ∙ ap (λ (at : ℕ). drop w (take at bytes)) place in
+      let trailing : take (w * n) (drop w bytes) ≡ drop w (take (w * suc n) bytes) =
+      sym (drop-take w (w * n) bytes) ∙ ap (λ (at : ℕ). drop w (take at bytes)) position in
       let last : drop (w * n) (drop w bytes) ≡ drop (w * suc n) bytes =
-      drop-drop (w * n) w bytes ∙ ap (λ (at : ℕ). drop at bytes) place in
-      rw (cut-last n (drop w bytes) left, behind, last, first) refl
+      drop-drop (w * n) w bytes ∙ ap (λ (at : ℕ). drop at bytes) position in
+      rw (cut-last n (drop w bytes) left, trailing, last, first) refl
 
 -- ---- records in a layout
 pub first_tap : (layout : Layout) (n : ℕ) (bytes : List ℕ) → 0 < n → AreRecords layout n bytes

@@ -16,29 +16,29 @@ use Rattle.tap_views.specs.inside.Records.{taps_in}
 use Rattle.tap_views.proofs.Grammar.{found}
 
 -- ---- one fault
-same_place : (bytes : List ℕ) (f g : LayoutFault) → fault_order f ≡ fault_order g → Row f bytes
+same_position : (bytes : List ℕ) (f g : LayoutFault) → fault_order f ≡ fault_order g → Row f bytes
     → Row g bytes
     → f ≡ g
-same_place bytes (Short a) (Short b) same r s = ap Short (r.0 ∙ sym s.0)
-same_place bytes Magic Magic same r s = refl
-same_place bytes Flags Flags same r s = refl
-same_place bytes (TooMany a) (TooMany b) same r s = ap TooMany (r.0 ∙ sym s.0)
-same_place bytes (Length a b) (Length c d) same r s =
+same_position bytes (Short a) (Short b) same r s = ap Short (r.0 ∙ sym s.0)
+same_position bytes Magic Magic same r s = refl
+same_position bytes Flags Flags same r s = refl
+same_position bytes (TooMany a) (TooMany b) same r s = ap TooMany (r.0 ∙ sym s.0)
+same_position bytes (Length a b) (Length c d) same r s =
     let want : a ≡ c = r.0 ∙ sym s.0 in
     let have : b ≡ d = r.1 ∙ sym s.1 in
     rw (want, have) refl
-same_place bytes (Moment i) (Moment j) same r s =
+same_position bytes (Moment i) (Moment j) same r s =
     let no_less : ¬ (i < j) = λ less. omega (arith, s.2 i less, r.1) in
     let no_more : ¬ (j < i) = λ more. omega (arith, r.2 j more, s.1) in
     ap Moment (omega (arith, no_less, no_more))
-same_place bytes f g same r s = absurd (omega (arith, same))
+same_position bytes f g same r s = absurd (omega (arith, same))
 
 -- bytes have one first fault
 pub same_fault : (bytes : List ℕ) (f g : LayoutFault) → IsFault bytes f → IsFault bytes g → f ≡ g
 same_fault bytes f g one other =
     let no_less : ¬ (fault_order f < fault_order g) = λ less. other.first f less one.holds in
     let no_more : ¬ (fault_order g < fault_order f) = λ more. one.first g more other.holds in
-    same_place bytes f g (omega (arith, no_less, no_more)) one.holds other.holds
+    same_position bytes f g (omega (arith, no_less, no_more)) one.holds other.holds
 
 -- ---- a batch or a fault
 module _ (bytes : List ℕ) where

@@ -4,8 +4,8 @@ use Rattle.std.proofs.Common.{◌∙◌, arith, append-nil, append_assoc, length
 use Rattle.std.specs.Prelude.{take}
 use Rattle.tap_views.specs.Layout.{Tap}
 use Rattle.tap_views.specs.Files.{IsFile}
-use Rattle.tap_views.specs.Facts.{IsGoodPart}
-use Rattle.tap_views.proofs.ReadingLemmas.{no_bytes}
+use Rattle.tap_views.specs.Facts.{IsValidPrefix}
+use Rattle.tap_views.proofs.ParseLemmas.{no_bytes}
 
 -- the front of an upload: its batches
 front_of : (upload : List ℕ) (batches : List (List Tap)) (rest : List ℕ)
@@ -22,11 +22,11 @@ front_of upload (batch ∷ batches) rest (first, back, is_batch, joined, is) =
 -- the bytes up to an offset are the front if the rest begins there
 pub is_front : (upload : List ℕ) (batches : List (List Tap)) (rest : List ℕ) (offset : ℕ)
     → IsFile upload batches rest → offset + length rest ≡ length upload
-    → IsGoodPart upload (take offset upload)
-is_front upload batches rest offset is place =
+    → IsValidPrefix upload (take offset upload)
+is_front upload batches rest offset is position =
     let (front, is_front, joined) = front_of upload batches rest is in
     let sizes : offset ≡ length front =
-    omega (arith, place, ap length joined, length-append front rest) in
+    omega (arith, position, ap length joined, length-append front rest) in
     let same : take offset upload ≡ front =
     ap (λ n. take n upload) sizes
     ∙ (ap (λ bytes. take (length front) bytes) joined ∙ take_front front rest) in
@@ -44,7 +44,7 @@ is_front upload batches rest offset is place =
 
 -- an upload without a fault is its own front
 pub whole_front : (upload : List ℕ) (batches : List (List Tap)) (rest : List ℕ)
-    → IsFile upload batches rest → rest ≡ [] → IsGoodPart upload upload
+    → IsFile upload batches rest → rest ≡ [] → IsValidPrefix upload upload
 whole_front upload batches rest is none = record {
   batches = batches;
   rest = rest;

@@ -24,24 +24,24 @@ pub read_back : (layout : Layout) (tap : Tap) → IsTapOf layout tap
 read_back Tap1 tap is =
     let token : take 16 (tap.token ++ (tap.validator ++ tap.moment)) ≡ tap.token =
     take_at tap.token (tap.validator ++ tap.moment) 16 is.token in
-    let behind : drop 16 (tap.token ++ (tap.validator ++ tap.moment)) ≡ tap.validator
+    let trailing : drop 16 (tap.token ++ (tap.validator ++ tap.moment)) ≡ tap.validator
     ++ tap.moment = drop_at tap.token (tap.validator ++ tap.moment) 16 is.token in
     let validator : take 4 (tap.validator ++ tap.moment) ≡ tap.validator =
     take_at tap.validator tap.moment 4 is.validator in
     let last : drop 20 (tap.token ++ (tap.validator ++ tap.moment)) ≡ tap.moment =
-    sym (drop-drop 4 16 (tap.token ++ (tap.validator ++ tap.moment))) ∙ ap (drop 4) behind
+    sym (drop-drop 4 16 (tap.token ++ (tap.validator ++ tap.moment))) ∙ ap (drop 4) trailing
     ∙ drop_at tap.validator tap.moment 4 is.validator in
     let moment : take 8 tap.moment ≡ tap.moment =
     take_all 8 tap.moment (omega (arith, is.moment)) in
-    rw (token, behind, validator, last, moment) refl
+    rw (token, trailing, validator, last, moment) refl
 read_back (Tap2 all) tap is =
     let token : take 16 (tap.token ++ tap.moment) ≡ tap.token =
     take_at tap.token tap.moment 16 is.0.token in
-    let behind : drop 16 (tap.token ++ tap.moment) ≡ tap.moment =
+    let trailing : drop 16 (tap.token ++ tap.moment) ≡ tap.moment =
     drop_at tap.token tap.moment 16 is.0.token in
     let moment : take 8 tap.moment ≡ tap.moment =
     take_all 8 tap.moment (omega (arith, is.0.moment)) in
-    rw (token, behind, moment, ← is.1) refl
+    rw (token, trailing, moment, ← is.1) refl
 
 -- a tap is written in a record's bytes
 pub length-spelling : (layout : Layout) (tap : Tap) → IsTapOf layout tap
@@ -148,13 +148,13 @@ spelt-cut layout (suc n) bytes whole =
     ≡ take (width layout) bytes =
     write_back layout (take (width layout) bytes)
     (length-take-le (width layout) bytes (omega arith)) in
-    let behind : drop (width layout * suc n) bytes
+    let trailing : drop (width layout * suc n) bytes
     ≡ drop (width layout * n) (drop (width layout) bytes) =
     ap (λ (at : ℕ). drop at bytes) (sym step)
     ∙ sym (drop-drop (width layout * n) (width layout) bytes) in
     let more = spelt-cut layout n (drop (width layout) bytes)
     (omega (arith, length-drop (width layout) bytes)) in
-    rw (first, behind, append_assoc, more) (take-append-drop (width layout) bytes)
+    rw (first, trailing, append_assoc, more) (take-append-drop (width layout) bytes)
 
 -- what is true of the record at each place is true of all taps that are cut
 pub cut-all : (layout : Layout) (P : Tap → Type 0) (n : ℕ) (bytes : List ℕ)
@@ -177,24 +177,24 @@ cut-all layout P (suc n) bytes each =
     )
 
 -- where the table finds the moment of a tap
-pub moment-place : (layout : Layout) (i : ℕ) (bytes : List ℕ)
+pub moment-position : (layout : Layout) (i : ℕ) (bytes : List ℕ)
     → (tap_at layout (take (width layout)
     (drop (width layout * i) (drop (header layout) bytes)))).moment
     ≡ take 8 (drop (28 + width layout * i) bytes)
-moment-place Tap1 i bytes =
+moment-position Tap1 i bytes =
     let part = drop (28 * i) (drop 8 bytes) in
-    let place : 8 + (28 * i + 20) ≡ 28 + 28 * i = omega arith in
+    let position : 8 + (28 * i + 20) ≡ 28 + 28 * i = omega arith in
     let moved : drop 20 part ≡ drop (28 + 28 * i) bytes =
     drop-drop 20 (28 * i) (drop 8 bytes) ∙ drop-drop (28 * i + 20) 8 bytes
-    ∙ ap (λ (at : ℕ). drop at bytes) place in
+    ∙ ap (λ (at : ℕ). drop at bytes) position in
     ap (take 8) (drop-take 20 8 part) ∙ take-take 8 8 (drop 20 part) (omega arith)
     ∙ ap (take 8) moved
-moment-place (Tap2 all) i bytes =
+moment-position (Tap2 all) i bytes =
     let part = drop (24 * i) (drop 12 bytes) in
-    let place : 12 + (24 * i + 16) ≡ 28 + 24 * i = omega arith in
+    let position : 12 + (24 * i + 16) ≡ 28 + 24 * i = omega arith in
     let moved : drop 16 part ≡ drop (28 + 24 * i) bytes =
     drop-drop 16 (24 * i) (drop 12 bytes) ∙ drop-drop (24 * i + 16) 12 bytes
-    ∙ ap (λ (at : ℕ). drop at bytes) place in
+    ∙ ap (λ (at : ℕ). drop at bytes) position in
     ap (take 8) (drop-take 16 8 part) ∙ take-take 8 8 (drop 16 part) (omega arith)
     ∙ ap (take 8) moved
 
@@ -230,7 +230,7 @@ record Heads (layout : Layout) (count more bytes : List ℕ) : Type 0 where
   pub number : count_in bytes ≡ num count
   pub flags : flags_in bytes ≡ 0
   pub whole : length bytes ≡ header layout + length more
-  pub behind : drop (header layout) bytes ≡ more
+  pub trailing : drop (header layout) bytes ≡ more
 
 heads-spelt : (layout : Layout) (a b : ℕ) (more : List ℕ) → IsLayout layout
     → Heads layout (a ∷ b ∷ []) more (magic layout ++ (a ∷ b ∷ 0 ∷ 0 ∷ (shared layout ++ more)))
@@ -241,7 +241,7 @@ heads-spelt Tap1 a b more fits =
       number = refl;
       flags = refl;
       whole = omega arith;
-      behind = refl;
+      trailing = refl;
     }
 heads-spelt (Tap2 all) a b more fits = let (v, w, x, y, is) = four all fits in
     let P : List ℕ → Type 0 =
@@ -253,7 +253,7 @@ heads-spelt (Tap2 all) a b more fits = let (v, w, x, y, is) = four all fits in
       number = refl;
       flags = refl;
       whole = omega arith;
-      behind = refl;
+      trailing = refl;
     })
 
 -- what the table finds in bytes that begin with a batch
@@ -285,9 +285,9 @@ begins-heads layout count taps rest bytes are counts most heads =
     omega (arith, wide, length-append (flat_map (spelling layout) taps) rest) in
     let number : count_in bytes ≡ length taps = heads.number ∙ counts in
     let cut : taps_in layout (length taps) (drop (header layout) bytes) ≡ taps =
-    rw heads.behind (cut-spelt layout taps rest are) in
+    rw heads.trailing (cut-spelt layout taps rest are) in
     let left : drop (width layout * length taps) (drop (header layout) bytes) ≡ rest =
-    rw heads.behind (drop_at (flat_map (spelling layout) taps) rest (width layout * length taps)
+    rw heads.trailing (drop_at (flat_map (spelling layout) taps) rest (width layout * length taps)
     wide) in
     let early : (i : ℕ) → i < length taps
     → num (take 8 (drop (28 + width layout * i) bytes)) < moment_limit = λ i below.
@@ -295,7 +295,7 @@ begins-heads layout count taps rest bytes are counts most heads =
     let R : List Tap → Type 0 = AllByRecursion IsTap in
     let is = all-cut (width layout) (tap_at layout) IsTap (length taps) i
     (drop (header layout) bytes) below (subst R (sym cut) (are_taps layout taps are)) in
-    subst Q (moment-place layout i bytes) is.early in
+    subst Q (moment-position layout i bytes) is.early in
     let S : Layout → Type 0 =
     λ l. (header l ≤ length bytes) × (header l + width l * count_in bytes ≤ length bytes)
     × ((i : ℕ) → i < length taps → num (take 8 (drop (28 + width l * i) bytes)) < moment_limit)
@@ -345,7 +345,7 @@ record IsHeaded (bytes : List ℕ) (layout : Layout) (count more : List ℕ) : T
   pub fits : IsLayout layout
   pub wide : length count ≡ 2
   pub number : count_in bytes ≡ num count
-  pub behind : drop (header layout) bytes ≡ more
+  pub trailing : drop (header layout) bytes ≡ more
   pub spelt : bytes ≡ magic layout ++ (count ++ (0 ∷ 0 ∷ (shared layout ++ more)))
 
 abbrev Headed : List ℕ → Type 0
@@ -371,7 +371,7 @@ headed_1 e f g h more n sound =
         fits = tt;
         wide = refl;
         number = refl;
-        behind = refl;
+        trailing = refl;
         spelt = rw (g0, h0) refl;
       },
     )
@@ -393,7 +393,7 @@ headed_2 e f g h more n sound =
         fits = length-take-le 4 more (omega arith);
         wide = refl;
         number = refl;
-        behind = refl;
+        trailing = refl;
         spelt = rw (g0, h0, parts) refl;
       },
     )
@@ -447,14 +447,14 @@ found_in layout count more bytes n head measured =
     tap_of layout (take (width layout) (drop (width layout * i) records)) head.fits
     (length-take-le (width layout) (drop (width layout * i) records)
     (omega (arith, mul-suc (width layout) i, length-drop (width layout * i) records)))
-    (subst R (sym (moment-place layout i bytes)) (early i below))) in
+    (subst R (sym (moment-position layout i bytes)) (early i below))) in
     let front = magic layout
     ++ (count ++ (0 ∷ 0 ∷ (shared layout
     ++ flat_map (spelling layout) (taps_in layout n records)))) in
     let number : length (taps_in layout n records) ≡ n =
     length-cut (width layout) (tap_at layout) n records in
     let again : flat_map (spelling layout) (taps_in layout n records)
-    ++ drop (width layout * n) records ≡ more = spelt-cut layout n records long ∙ head.behind in
+    ++ drop (width layout * n) records ≡ more = spelt-cut layout n records long ∙ head.trailing in
     let whole : front ++ drop (width layout * n) records ≡ magic layout
     ++ (count ++ (0 ∷ 0 ∷ (shared layout ++ more))) = simp (append_assoc, again) in (
       front,

@@ -10,7 +10,7 @@ pub mod Lists
 mod Numbers
 pub mod Orderings
 pub mod Reading
-pub mod ReadingLemmas
+pub mod ParseLemmas
 mod RunLemmas
 mod Sorted
 mod Spans

@@ -15,8 +15,8 @@ pub number_read : (n : ℕ) (bytes : List ℕ) → length bytes ≡ n → big_nu
 number_read n bytes wide = rw (← wide) (all_read bytes)
 
 -- the last n bytes of some
-pub number_behind : (n at : ℕ) (bytes : List ℕ) → length bytes ≡ at + n
+pub number_after : (n at : ℕ) (bytes : List ℕ) → length bytes ≡ at + n
     → big_number n (take (length bytes - at) (drop at bytes)) ≡ num (drop at bytes)
-number_behind n at bytes wide =
+number_after n at bytes wide =
     rw (take_rest bytes at)
     (number_read n (drop at bytes) (omega (arith, length-drop {A = ℕ}, wide)))

@@ -9,12 +9,12 @@ use Rattle.tap_views.specs.Layout.{Tap, Layout, Tap1, Tap2, magic, IsBatch}
 use Rattle.tap_views.specs.Faults.{header, width, layout_in, count_in, size_in, IsFault}
 use Rattle.tap_views.specs.inside.Faults.{AllEarly}
 use Rattle.tap_views.specs.declared.fault.LayoutFault.{LayoutFault}
-use Rattle.tap_views.specs.Files.{HasNoBatch, IsFile, Item, IsEnd, IsReading, IsReadAs}
+use Rattle.tap_views.specs.Files.{HasNoBatch, IsFile, Item, IsEnd, IsParse, IsReadAs}
 use Rattle.tap_views.specs.Files.{IsEndAfterBatches}
-use Rattle.tap_views.proofs.ReadingLemmas.{no_bytes, rest_short}
+use Rattle.tap_views.proofs.ParseLemmas.{no_bytes, rest_short}
 use Rattle.tap_views.proofs.Grammar.{begins, no_row}
 use Rattle.tap_views.specs.inside.Readings.{found_fault, first_taps, items_within, items_from}
-use Rattle.tap_views.specs.inside.Readings.{batches_among, fault_among, good_among, good_from}
+use Rattle.tap_views.specs.inside.Readings.{batches_among, fault_among, valid_among, valid_from}
 use Rattle.tap_views.proofs.Finding.{first_fault-none, first_fault-some}
 use Rattle.tap_views.proofs.Deciding.{same_fault, decided, Found}
 
@@ -62,10 +62,10 @@ Gives offset bytes (Err stop ∷ items) =
     (stop.0 ≡ offset) × ¬ (bytes ≡ []) × IsFault bytes stop.1 × (items ≡ [])
 
 -- there is one such list at most
-pub one_reading : (offset : ℕ) (bytes : List ℕ) (xs ys : List Item) → Gives offset bytes xs
+pub unique_parse : (offset : ℕ) (bytes : List ℕ) (xs ys : List Item) → Gives offset bytes xs
     → Gives offset bytes ys → xs ≡ ys
-one_reading offset bytes [] [] gives gives' = refl
-one_reading offset bytes [] (Ok taps ∷ ys) gives gives' =
+unique_parse offset bytes [] [] gives gives' = refl
+unique_parse offset bytes [] (Ok taps ∷ ys) gives gives' =
     absurd (omega (
       arith,
       batch_some gives'.0 taps gives'.2,
@@ -73,8 +73,8 @@ one_reading offset bytes [] (Ok taps ∷ ys) gives gives' =
       ap length gives'.3,
       length-append gives'.0 gives'.1,
     ))
-one_reading offset bytes [] (Err stop ∷ ys) gives gives' = absurd (gives'.1 gives)
-one_reading offset bytes (Ok taps ∷ xs) [] gives gives' =
+unique_parse offset bytes [] (Err stop ∷ ys) gives gives' = absurd (gives'.1 gives)
+unique_parse offset bytes (Ok taps ∷ xs) [] gives gives' =
     absurd (omega (
       arith,
       batch_some gives.0 taps gives.2,
@@ -82,23 +82,23 @@ one_reading offset bytes (Ok taps ∷ xs) [] gives gives' =
       ap length gives.3,
       length-append gives.0 gives.1,
     ))
-one_reading offset bytes (Ok taps ∷ xs) (Ok taps' ∷ ys) gives gives' =
+unique_parse offset bytes (Ok taps ∷ xs) (Ok taps' ∷ ys) gives gives' =
     let same = one_batch bytes gives.0 gives'.0 gives.1 gives'.1 taps taps' gives.2 gives.3 gives'.2
     gives'.3 in
     let P : List ℕ → Type 0 = λ front. Gives (offset + length front) gives.1 ys in
     let Q : List ℕ → Type 0 = λ back. Gives (offset + length gives'.0) back ys in
-    let more : xs ≡ ys = one_reading (offset + length gives.0) gives.1 xs ys gives.4
+    let more : xs ≡ ys = unique_parse (offset + length gives.0) gives.1 xs ys gives.4
     (subst P (sym same.2) (subst Q (sym same.1) gives'.4)) in
     rw (same.0, more) refl
-one_reading offset bytes (Ok taps ∷ xs) (Err stop ∷ ys) gives gives' =
+unique_parse offset bytes (Ok taps ∷ xs) (Err stop ∷ ys) gives gives' =
     absurd (no_batch bytes stop.1 gives'.2 gives.0 gives.1 taps gives.2 gives.3)
-one_reading offset bytes (Err stop ∷ xs) [] gives gives' = absurd (gives.1 gives')
-one_reading offset bytes (Err stop ∷ xs) (Ok taps ∷ ys) gives gives' =
+unique_parse offset bytes (Err stop ∷ xs) [] gives gives' = absurd (gives.1 gives')
+unique_parse offset bytes (Err stop ∷ xs) (Ok taps ∷ ys) gives gives' =
     absurd (no_batch bytes stop.1 gives.2 gives'.0 gives'.1 taps gives'.2 gives'.3)
-one_reading offset bytes (Err stop ∷ xs) (Err stop' ∷ ys) gives gives' =
-    let place : stop.0 ≡ stop'.0 = gives.0 ∙ sym gives'.0 in
+unique_parse offset bytes (Err stop ∷ xs) (Err stop' ∷ ys) gives gives' =
+    let position : stop.0 ≡ stop'.0 = gives.0 ∙ sym gives'.0 in
     let fault : stop.1 ≡ stop'.1 = same_fault bytes stop.1 stop'.1 gives.2 gives'.2 in
-    rw (gives.3, gives'.3, place, fault) refl
+    rw (gives.3, gives'.3, position, fault) refl
 
 -- and there is one
 sound_taps : (bytes front rest : List ℕ) (taps : List Tap) → IsBatch front taps
@@ -109,18 +109,18 @@ sound_taps bytes front rest taps batch is =
     let begin = begins batch.0 front taps rest bytes batch.1 is in
     let P : ℕ → Type 0 = λ n. AllEarly bytes n in
     let number : count_in bytes ≡ length taps = begin.count in
-    let behind : drop (size_in bytes) bytes ≡ rest =
+    let trailing : drop (size_in bytes) bytes ≡ rest =
     sym (drop-drop (width (layout_in bytes) * count_in bytes) (header (layout_in bytes)) bytes)
     ∙ rw number begin.left in (
       first_fault-none bytes (λ fault. no_row bytes taps rest fault begin)
           (subst P (sym number) begin.early),
       rw number begin.cut_again,
-      behind,
+      trailing,
       omega (
         arith,
         ap length is,
         length-append front rest,
-        ap length behind,
+        ap length trailing,
         length-drop (size_in bytes) bytes,
         begin.long,
       ),
@@ -161,7 +161,7 @@ items-batch : (offset : ℕ) (bytes front rest : List ℕ) (taps : List Tap) →
     → bytes ≡ front ++ rest
     → items_from offset bytes ≡ Ok taps ∷ items_from (offset + length front) rest
 items-batch offset bytes front rest taps batch is =
-    one_reading offset bytes _ _ (gives_items offset bytes)
+    unique_parse offset bytes _ _ (gives_items offset bytes)
     (front, rest, batch, is, gives_items (offset + length front) rest)
 
 -- the offset goes on by the bytes that were taken
@@ -175,13 +175,13 @@ step-batch offset bytes front rest taps batch is =
     ∙ ap (λ (n : ℕ). Ok taps ∷ items_from (offset + n) rest) taken
 
 pub step-none : (offset : ℕ) → items_from offset [] ≡ []
-step-none offset = one_reading offset [] _ _ (gives_items offset []) refl
+step-none offset = unique_parse offset [] _ _ (gives_items offset []) refl
 
 pub step-fault : (offset : ℕ) (bytes : List ℕ) (fault : LayoutFault) → ¬ (bytes ≡ [])
     → IsFault bytes fault
     → items_from offset bytes ≡ Err (offset, fault) ∷ items_from offset []
 step-fault offset bytes fault some is =
-    one_reading offset bytes _ _ (gives_items offset bytes) (refl, some, is, refl)
+    unique_parse offset bytes _ _ (gives_items offset bytes) (refl, some, is, refl)
     ∙ ap (λ (xs : List Item). Err (offset, fault) ∷ xs) (sym (step-none offset))
 
 -- ---- the items are the file's batches and its end
@@ -196,10 +196,10 @@ record IsReadFrom (offset : ℕ) (file : List ℕ) (items : List Item) : Type 0 
 end_of : (offset : ℕ) (bytes : List ℕ) (stop : ℕ × LayoutFault) → stop.0 ≡ offset → ¬ (bytes ≡ [])
     → IsFault bytes stop.1
     → IsEnd (offset + (length bytes - length bytes)) bytes (Err stop ∷ [])
-end_of offset [] stop place some is = absurd (some refl)
-end_of offset (byte ∷ bytes) stop place some is =
+end_of offset [] stop position some is = absurd (some refl)
+end_of offset (byte ∷ bytes) stop position some is =
     let here : stop.0 ≡ offset + (length (byte ∷ bytes) - length (byte ∷ bytes)) =
-    omega (arith, place) in
+    omega (arith, position) in
     (stop.1, is, ap (λ (n : ℕ). Err (n, stop.1) ∷ []) here)
 
 read_from : (offset : ℕ) (bytes : List ℕ) (items : List Item) → Gives offset bytes items
@@ -214,7 +214,7 @@ read_from offset bytes [] gives = record {
 }
 read_from offset bytes (Ok taps ∷ items) gives =
     let more = read_from (offset + length gives.0) gives.1 items gives.4 in
-    let place : offset + length gives.0 + (length gives.1 - length more.rest)
+    let position : offset + length gives.0 + (length gives.1 - length more.rest)
     ≡ offset + (length bytes - length more.rest) =
     omega (
       arith,
@@ -228,7 +228,7 @@ read_from offset bytes (Ok taps ∷ items) gives =
       rest = more.rest;
       last = more.last;
       is_file = (gives.0, gives.1, gives.2, gives.3, more.is_file);
-      is_end = subst P place more.is_end;
+      is_end = subst P position more.is_end;
       given = ap (λ (xs : List Item). Ok taps ∷ xs) more.given;
     }
 read_from offset bytes (Err stop ∷ items) gives = record {
@@ -240,8 +240,8 @@ read_from offset bytes (Err stop ∷ items) gives = record {
   given = ap (λ (xs : List Item). Err stop ∷ xs) gives.3;
 }
 
-pub is_reading : (file : List ℕ) → IsReading file (items_from 0 file)
-is_reading file =
+pub is_parse : (file : List ℕ) → IsParse file (items_from 0 file)
+is_parse file =
     let is = read_from 0 file (items_from 0 file) (gives_items 0 file) in
     let start : 0 + (length file - length is.rest) ≡ length file - length is.rest = omega arith in
     let P : ℕ → Type 0 = λ n. IsEnd n is.rest is.last in
@@ -285,20 +285,20 @@ end_among file (byte ∷ bytes) last short (fault, is, given) = rw given (
   record {
     some_byte = omega arith;
     is_fault = is;
-    stands_at = omega (arith, short);
+    holds_at = omega (arith, short);
   },
 )
 
 pub is_read_as : (file : List ℕ)
-    → IsReadAs file (good_from 0 file).batches (good_from 0 file).fault
+    → IsReadAs file (valid_from 0 file).batches (valid_from 0 file).fault
 is_read_as file =
-    let r = is_reading file in
+    let r = is_parse file in
     let all = among r.batches r.last in
     let end = end_among file r.rest r.last (rest_short file r.batches r.rest r.is_file) r.is_end in
-    let batches : (good_from 0 file).batches ≡ r.batches =
+    let batches : (valid_from 0 file).batches ≡ r.batches =
     ap batches_among r.given ∙ (all.0
     ∙ (ap (λ bs. r.batches ++ bs) end.0 ∙ append-nil r.batches)) in
-    let fault : (good_from 0 file).fault ≡ fault_among r.last =
+    let fault : (valid_from 0 file).fault ≡ fault_among r.last =
     ap fault_among r.given ∙ all.1 in
     record {
       rest = r.rest;
@@ -307,21 +307,21 @@ is_read_as file =
     }
 
 -- a batch that the bytes begin with is the first of those that are left
-pub good-batch : (offset : ℕ) (bytes front rest : List ℕ) (taps : List Tap) → IsBatch front taps
-    → bytes ≡ front ++ rest → good_from offset bytes
-    ≡ (let now = good_from (offset + (length bytes - length rest)) rest in
+pub valid-batch : (offset : ℕ) (bytes front rest : List ℕ) (taps : List Tap) → IsBatch front taps
+    → bytes ≡ front ++ rest → valid_from offset bytes
+    ≡ (let now = valid_from (offset + (length bytes - length rest)) rest in
     record now { batches = taps ∷ now.batches })
-good-batch offset bytes front rest taps batch is =
-    ap good_among (step-batch offset bytes front rest taps batch is)
+valid-batch offset bytes front rest taps batch is =
+    ap valid_among (step-batch offset bytes front rest taps batch is)
 
 -- bytes with a fault have no batch left, and that fault if there are any bytes
-pub good-fault : (offset : ℕ) (bytes : List ℕ) (fault : LayoutFault) → ¬ (bytes ≡ [])
-    → IsFault bytes fault → (good_from offset bytes).fault ≡ Some (offset, fault)
-good-fault offset bytes fault some is =
+pub valid-fault : (offset : ℕ) (bytes : List ℕ) (fault : LayoutFault) → ¬ (bytes ≡ [])
+    → IsFault bytes fault → (valid_from offset bytes).fault ≡ Some (offset, fault)
+valid-fault offset bytes fault some is =
     ap fault_among (step-fault offset bytes fault some is)
 
-pub good-none : (offset : ℕ) (bytes : List ℕ) (fault : LayoutFault) → IsFault bytes fault
-    → (good_from offset bytes).batches ≡ []
-good-none offset [] fault is = ap batches_among (step-none offset)
-good-none offset (byte ∷ bytes) fault is =
+pub valid-none : (offset : ℕ) (bytes : List ℕ) (fault : LayoutFault) → IsFault bytes fault
+    → (valid_from offset bytes).batches ≡ []
+valid-none offset [] fault is = ap batches_among (step-none offset)
+valid-none offset (byte ∷ bytes) fault is =
     ap batches_among (step-fault offset (byte ∷ bytes) fault (λ none. cc) is)

@@ -7,7 +7,7 @@ use Rattle.tap_views.specs.Encoding.{fields_of, Encodes}
 use Rattle.tap_views.specs.Files.{IsFile, IsFileOf}
 use Rattle.tap_views.specs.Layout.{Tap, Tap1, IsBatch}
 use Rattle.tap_views.specs.declared.encoder.TapFields.{TapFields}
-use Rattle.tap_views.proofs.ReadingLemmas.{no_bytes}
+use Rattle.tap_views.proofs.ParseLemmas.{no_bytes}
 
 file_more : (text more : List ℕ) (batches : List (List Tap)) (taps : List Tap)
     → IsFile text batches [] → IsBatch more taps → IsFile (text ++ more) (batches ++ taps ∷ []) []

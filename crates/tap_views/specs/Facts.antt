@@ -33,7 +33,7 @@ pub record AreFacts (upload : List ℕ) (facts : Facts) : Type 0 where
 
 -- the upload begins with these bytes, which are its batches without a fault, and what follows
 -- begins with no batch
-pub record IsGoodPart (upload front : List ℕ) : Type 0 where
+pub record IsValidPrefix (upload front : List ℕ) : Type 0 where
   pub batches : List (List Tap)
   pub rest : List ℕ
   pub of_upload : IsFile upload batches rest

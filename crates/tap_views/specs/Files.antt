@@ -25,7 +25,7 @@ IsFile file (batch ∷ batches) rest =
 pub record IsFaultAt (file rest : List ℕ) (offset : ℕ) (fault : LayoutFault) : Type 0 where
   pub some_byte : 0 < length rest
   pub is_fault : IsFault rest fault
-  pub stands_at : offset + length rest ≡ length file
+  pub holds_at : offset + length rest ≡ length file
 
 -- how the file ends after its batches: with nothing, or with a layout fault
 abbrev pub IsEndAfterBatches : List ℕ → List ℕ → Option (ℕ × LayoutFault) → Type 0
@@ -44,15 +44,15 @@ abbrev pub taps_of_batches : List (List Tap) → List Tap
 taps_of_batches batches = flat_map (λ batch. batch) batches
 
 -- the valid taps of a file: those of all its batches before its first layout fault, in order
-pub record AreGoodTaps (file : List ℕ) (taps : List Tap) : Type 0 where
+pub record AreValidTaps (file : List ℕ) (taps : List Tap) : Type 0 where
   pub batches : List (List Tap)
   pub rest : List ℕ
   pub is_file : IsFile file batches rest
   pub all : taps ≡ taps_of_batches batches
 
 -- the valid taps of each file
-abbrev pub AreGoodTapsOfEach : List (List ℕ) → List (List Tap) → Type 0
-AreGoodTapsOfEach files taps = AllZip AreGoodTaps files taps
+abbrev pub AreValidTapsOfEach : List (List ℕ) → List (List Tap) → Type 0
+AreValidTapsOfEach files taps = AllZip AreValidTaps files taps
 
 -- a reader of the file is given these taps, and no fault
 pub record IsFileOf (file : List ℕ) (fields : List TapFields) : Type 0 where
@@ -61,8 +61,8 @@ pub record IsFileOf (file : List ℕ) (fields : List TapFields) : Type 0 where
   pub read : map fields_of (taps_of_batches batches) ≡ fields
 
 -- the file is read as batches in one way at most
-abbrev pub HasOneReading : List ℕ → Type 0
-HasOneReading file =
+abbrev pub HasUniqueParse : List ℕ → Type 0
+HasUniqueParse file =
     (batches others : List (List Tap)) (rest left : List ℕ) → IsFile file batches rest
     → IsFile file others left → (batches ≡ others) × (rest ≡ left)
 
@@ -77,7 +77,7 @@ IsEnd offset (byte ∷ bytes) last =
     (fault : LayoutFault) × IsFault (byte ∷ bytes) fault × (last ≡ Err (offset, fault) ∷ [])
 
 -- a reader of the file is given each batch, and then what its rest calls for
-pub record IsReading (file : List ℕ) (items : List Item) : Type 0 where
+pub record IsParse (file : List ℕ) (items : List Item) : Type 0 where
   pub batches : List (List Tap)
   pub rest : List ℕ
   pub last : List Item
@@ -86,11 +86,11 @@ pub record IsReading (file : List ℕ) (items : List Item) : Type 0 where
   pub given : items ≡ map Ok batches ++ last
 
 -- what is left to read of a file: valid batches, and how it ends after them
-pub record GoodBatchesView : Type 0 where
+pub record ValidBatchesView : Type 0 where
   pub batches : List (List Tap)
   pub fault : Option (ℕ × LayoutFault)
 
 -- a reader was given the first of the batches that were left, or nothing if none was
-abbrev pub GivesBatch : GoodBatchesView → Option (List Tap) → GoodBatchesView → Type 0
+abbrev pub GivesBatch : ValidBatchesView → Option (List Tap) → ValidBatchesView → Type 0
 GivesBatch left None now = (left.batches ≡ []) × (now ≡ left)
 GivesBatch left (Some batch) now = left ≡ record now { batches = batch ∷ now.batches }

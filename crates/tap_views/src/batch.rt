@@ -3,7 +3,7 @@
 ghost use Rattle.std.specs.Prelude.{◌≡◌, ◌+◌, ◌*◌, ◌<◌, ◌≤◌, ◌++◌, ℕ, List, length, slice_get};
 ghost use Rattle.std.specs.Prelude.{Some, IfOk, IfErr, IsErrOf, MatchResult, MatchOption};
 ghost use Rattle.tap_views.specs.Layout.{num, moment_limit, Tap, IsBatch};
-ghost use Rattle.tap_views.specs.Runs.{places_from};
+ghost use Rattle.tap_views.specs.Runs.{positions_from};
 ghost use Rattle.tap_views.specs.inside.Records.{layout_of};
 ghost use Rattle.tap_views.specs.declared.fault.LayoutFault.{LayoutFault};
 ghost use Rattle.tap_views.specs.Faults.{header, width, layout_in, count_in, size_in, moment_in};
@@ -111,14 +111,14 @@ impl<'a> Batch<'a> {
             count: self.count,
             shard,
             shards,
-            places: None,
+            positions: None,
         }
     }
 
-    pub(crate) fn run_at<'b>(&'b self, places: &'b [u16], of_shard: u32, shards: u32) -> Run<'b>
+    pub(crate) fn run_at<'b>(&'b self, positions: &'b [u16], of_shard: u32, shards: u32) -> Run<'b>
         requires below { of_shard < shards }
         requires most { shards ≤ 64 }
-        requires places { places.now ≡ places_from of_shard shards 0 self.now }
+        requires positions { positions.now ≡ positions_from of_shard shards 0 self.now }
         ensures { result ≡ record { batch = self.now; shard = of_shard; shards = shards } }
     {
         let shared = match self.shared {
@@ -131,7 +131,7 @@ impl<'a> Batch<'a> {
             count: self.count,
             shard: of_shard,
             shards,
-            places: Some(places),
+            positions: Some(positions),
         }
     }
 }

@@ -4,7 +4,7 @@ ghost use Rattle.tap_views.specs.Facts.{AreFacts};
 
 use crate::fault::LayoutFault;
 use crate::span::{MomentSpan, over_batch};
-use crate::upload::good_batches;
+use crate::upload::valid_batches;
 
 /// What an upload has before its first layout fault, and the fault.
 #[derive(Clone, Copy, Debug, PartialEq, Eq)]
@@ -26,8 +26,8 @@ pub fn facts_of(upload: &[u8]) -> Facts
     let mut count = 0;
     let mut taps = 0;
     let mut span = None;
-    let mut good = good_batches(upload);
-    while let Some(batch) = good.next() {
+    let mut valid = valid_batches(upload);
+    while let Some(batch) = valid.next() {
         span = over_batch(span, &batch);
         taps += u64::from(batch.len());
         count += 1;
@@ -36,6 +36,6 @@ pub fn facts_of(upload: &[u8]) -> Facts
         batches: count,
         taps,
         span,
-        fault: good.fault(),
+        fault: valid.fault(),
     }
 }

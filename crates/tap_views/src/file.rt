@@ -1,7 +1,7 @@
 //! A file of many batches.
 
 ghost use Rattle.std.specs.Iterator.{YieldsFirst, item_count};
-ghost use Rattle.tap_views.specs.Files.{IsReading};
+ghost use Rattle.tap_views.specs.Files.{IsParse};
 
 use crate::batch::Batch;
 use crate::fault::LayoutFault;
@@ -9,7 +9,7 @@ use std::marker::Model;
 
 /// The batches of a file, and its first layout fault with the offset of its batch.
 pub fn batches(file: &[u8]) -> FileBatches<'_>
-    ensures { IsReading file.now result }
+    ensures { IsParse file.now result }
 {
     FileBatches { rest: file, at: 0 }
 }

@@ -7,7 +7,7 @@ ghost use Rattle.std.specs.Ordering.{nat_cmp};
 ghost use Rattle.tap_views.specs.Layout.{Tap, IsBatch};
 ghost use Rattle.tap_views.specs.Faults.{IsFault};
 ghost use Rattle.tap_views.specs.declared.fault.LayoutFault.{LayoutFault};
-ghost use Rattle.tap_views.specs.Files.{HasOneReading, IsFile};
+ghost use Rattle.tap_views.specs.Files.{HasUniqueParse, IsFile};
 ghost use Rattle.tap_views.specs.Encoding.{Encodes, Encodes2, fields_of, with_validator};
 ghost use Rattle.tap_views.specs.declared.encoder.TapFields.{TapFields};
 ghost use Rattle.tap_views.specs.declared.encoder.Tap2Fields.{Tap2Fields};
@@ -33,33 +33,33 @@ pub fn one_fault(bytes: &[u8])
 {}
 
 /// A file is read in at most one way: as batches, and a rest that begins with none.
-pub fn one_reading(file: &[u8])
+pub fn unique_parse(file: &[u8])
     ensures { (batches batches' : List (List Tap)) (rest rest' : List ℕ)
         → IsFile file.now batches rest → IsFile file.now batches' rest' → (batches ≡ batches')
         × (rest ≡ rest') }
 {}
 
 /// Each upload is read as batches in at most one way.
-pub fn one_reading_each(uploads: &[Vec<u8>])
-    ensures { All HasOneReading (map (λ upload. upload.items) uploads.now) }
+pub fn unique_parse_each(uploads: &[Vec<u8>])
+    ensures { All HasUniqueParse (map (λ upload. upload.items) uploads.now) }
 {
     for upload in uploads {
-        one_reading(upload.as_slice());
+        unique_parse(upload.as_slice());
     }
 }
 
 /// The round trip: of the bytes that `encode` or `encode_tap2` gave for some taps, and any bytes
 /// after them, the first batch is these taps, and those bytes are left. It calls `Batch::first`.
 pub fn round_trip<'a>(bytes: &'a [u8]) -> Result<(Batch<'a>, &'a [u8]), LayoutFault>
-    ensures tap1 { (encoded behind : List ℕ) (taps : List TapFields) → Encodes encoded taps
-        → bytes.now ≡ encoded ++ behind
+    ensures tap1 { (encoded trailing : List ℕ) (taps : List TapFields) → Encodes encoded taps
+        → bytes.now ≡ encoded ++ trailing
         → MatchResult result (λ (batch, rest). (map fields_of batch ≡ taps)
-        × (rest.now ≡ behind)) (λ _. ⊥) }
-    ensures tap2 { (encoded behind : List ℕ) (validator : ℕ) (taps : List Tap2Fields)
-        → Encodes2 encoded validator taps → bytes.now ≡ encoded ++ behind
+        × (rest.now ≡ trailing)) (λ _. ⊥) }
+    ensures tap2 { (encoded trailing : List ℕ) (validator : ℕ) (taps : List Tap2Fields)
+        → Encodes2 encoded validator taps → bytes.now ≡ encoded ++ trailing
         → MatchResult result (λ (batch, rest).
         (map fields_of batch ≡ map (with_validator validator) taps)
-        × (rest.now ≡ behind)) (λ _. ⊥) }
+        × (rest.now ≡ trailing)) (λ _. ⊥) }
 {
     Batch::first(bytes)
 }

@@ -29,7 +29,7 @@ pub use encoder::{EncodeFault, Tap2Fields, TapFields, encode, encode_tap2, put_b
 pub use facts::{Facts, facts_of};
 pub use fault::LayoutFault;
 pub use file::{FileBatches as Batches, batches};
-pub use front::good_part;
+pub use front::valid_prefix;
 pub use layout::{MAX_TAPS, MOMENT_LIMIT_MS, TAP1_HEADER_BYTES, TAP1_TAP_BYTES, TAP2_TAP_BYTES};
 pub use memory::NoMemory;
 pub use run::{Run, RunTaps};
@@ -39,6 +39,6 @@ pub use shard::shard_of;
 pub use span::MomentSpan;
 pub use taps::Taps;
 pub use token::Token;
-pub use upload::{GoodBatches, good_batches};
+pub use upload::{ValidBatches, valid_batches};
 pub use upload_end::UploadEnd;
 pub use view::TapView;

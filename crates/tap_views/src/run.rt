@@ -20,15 +20,15 @@ pub struct Run<'a> {
     pub(crate) shard: u32,
     pub(crate) shards: u32,
     /// The indices of the shard's taps in the batch, if `Runs` has them.
-    pub(crate) places: Option<&'a [u16]>,
+    pub(crate) positions: Option<&'a [u16]>,
 }
 
 impl<'a> Model for Run<'a> {
     ghost use Rattle.std.specs.Prelude.{◌<◌, ◌≤◌};
     ghost use Rattle.tap_views.specs.inside.Records.{layout_of, taps_in, AreRecords};
     ghost use Rattle.tap_views.specs.Shards.{ShardRun};
-    ghost use Rattle.tap_views.specs.Runs.{places_from};
-    ghost use Rattle.tap_views.specs.inside.Runs.{ArePlacesKept};
+    ghost use Rattle.tap_views.specs.Runs.{positions_from};
+    ghost use Rattle.tap_views.specs.inside.Runs.{ArePositionsKept};
 
     ghost Value = { ShardRun };
 
@@ -40,7 +40,7 @@ impl<'a> Model for Run<'a> {
 
     ghost invariant = { λ run. AreRecords (layout_of run.shared) run.count run.records.now
         × (run.shard < run.shards) × (run.shards ≤ 64)
-        × ArePlacesKept run.places (places_from run.shard run.shards 0
+        × ArePositionsKept run.positions (positions_from run.shard run.shards 0
         (taps_in (layout_of run.shared) run.count run.records.now)) };
 }
 
@@ -50,8 +50,8 @@ impl<'a> Run<'a> {
         ensures number { result ≡ length (run_taps self.now) }
         ensures most { result ≤ 4096 }
     {
-        match self.places {
-            Some(places) => places.len() as u32,
+        match self.positions {
+            Some(positions) => positions.len() as u32,
             None => self.taps().count() as u32,
         }
     }
@@ -92,7 +92,7 @@ impl<'a> Run<'a> {
                 records: self.records,
                 left: self.count,
             },
-            places: self.places,
+            positions: self.positions,
             shard: self.shard,
             shards: self.shards,
         }
@@ -105,7 +105,7 @@ pub struct RunTaps<'a> {
     /// What is left of the batch, or the whole batch if the indices of the taps are known.
     taps: Taps<'a>,
     /// The indices that are left, if `Runs` has them.
-    places: Option<&'a [u16]>,
+    positions: Option<&'a [u16]>,
     shard: u32,
     shards: u32,
 }
@@ -113,14 +113,14 @@ pub struct RunTaps<'a> {
 impl<'a> Model for RunTaps<'a> {
     ghost use Rattle.std.specs.Prelude.{List, ◌<◌, ◌≤◌, length};
     ghost use Rattle.tap_views.specs.Layout.{Tap};
-    ghost use Rattle.tap_views.specs.inside.Runs.{left_of, ArePlacesBelow};
+    ghost use Rattle.tap_views.specs.inside.Runs.{left_of, ArePositionsBelow};
 
     ghost Value = { List Tap };
 
-    ghost view = { λ left. left_of left.places left.shard left.shards left.taps };
+    ghost view = { λ left. left_of left.positions left.shard left.shards left.taps };
 
     ghost invariant = { λ left. (left.shard < left.shards) × (left.shards ≤ 64)
-        × ArePlacesBelow left.places (length left.taps) };
+        × ArePositionsBelow left.positions (length left.taps) };
 }
 
 impl<'a> Iterator for RunTaps<'a> {
@@ -132,10 +132,10 @@ impl<'a> Iterator for RunTaps<'a> {
 
     #[inline(always)]
     fn next(&mut self) -> Option<TapView<'a>> {
-        match self.places {
-            Some(places) => {
-                let (first, rest) = places.split_first()?;
-                self.places = Some(rest);
+        match self.positions {
+            Some(positions) => {
+                let (first, rest) = positions.split_first()?;
+                self.positions = Some(rest);
                 Some(self.taps.at(u32::from(*first)))
             }
             None => next_of(&mut self.taps, self.shard, self.shards),

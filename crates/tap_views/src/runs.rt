@@ -14,25 +14,25 @@ use std::marker::Model;
 
 /// The indices of one shard's taps, with room for those of any batch.
 #[derive(Drop)]
-pub(crate) struct Places {
+pub(crate) struct Positions {
     list: Vec<u16>,
 }
 
-impl Model for Places {
+impl Model for Positions {
     ghost use Rattle.std.specs.Prelude.{ℕ, List, ◌≤◌, vec_capacity};
 
     ghost Value = { List ℕ };
 
-    ghost view = { λ places. places.list.items };
+    ghost view = { λ positions. positions.list.items };
 
-    ghost invariant = { λ places. 4096 ≤ vec_capacity places.list };
+    ghost invariant = { λ positions. 4096 ≤ vec_capacity positions.list };
 }
 
-impl Places {
+impl Positions {
     fn new(alloc: Global) -> Result<Self, AllocError>
-        ensures { IfOk result (λ places. places ≡ []) }
+        ensures { IfOk result (λ positions. positions ≡ []) }
     {
-        Ok(Places {
+        Ok(Positions {
             list: Vec::with_capacity(alloc, MAX_TAPS)?,
         })
     }
@@ -43,11 +43,11 @@ impl Places {
         self.list.clear();
     }
 
-    fn push(&mut self, place: u16)
+    fn push(&mut self, position: u16)
         requires { length self.old < 4096 }
-        ensures { self.new ≡ self.old ++ place ∷ [] }
+        ensures { self.new ≡ self.old ++ position ∷ [] }
     {
-        self.list.push_reserved(place);
+        self.list.push_reserved(position);
     }
 
     fn as_slice(&self) -> &[u16]
@@ -57,17 +57,17 @@ impl Places {
     }
 }
 
-fn clear_all(lists: &mut [Places])
+fn clear_all(lists: &mut [Positions])
     ensures empty { (shard : ℕ) → shard < length lists.new
         → slice_index_or lists.new shard [] ≡ [] }
     ensures number { length lists.new ≡ length lists.old }
 {
-    for places in lists.iter_mut() {
-        places.clear();
+    for positions in lists.iter_mut() {
+        positions.clear();
     }
 }
 
-fn sort_in(lists: &mut [Places], batch: &Batch<'_>)
+fn sort_in(lists: &mut [Positions], batch: &Batch<'_>)
     requires least { 1 ≤ length lists.old }
     requires most { length lists.old ≤ 64 }
     requires empty { (shard : ℕ) → shard < length lists.old
@@ -78,11 +78,11 @@ fn sort_in(lists: &mut [Places], batch: &Batch<'_>)
     let shards = lists.len() as u32;
     // proof: at most 4,096 taps, so each list has room for all indices
     let _count = batch.len();
-    let mut place = 0u16;
+    let mut position = 0u16;
     for tap in batch.taps() {
         let shard = shard_of(tap.token(), shards);
-        lists[shard as usize].push(place);
-        place += 1;
+        lists[shard as usize].push(position);
+        position += 1;
     }
 }
 
@@ -90,7 +90,7 @@ fn sort_in(lists: &mut [Places], batch: &Batch<'_>)
 /// `Runs`, with room for any batch (8 KiB a shard), and fills it again for each batch.
 #[derive(Drop)]
 pub struct Runs {
-    lists: Vec<Places>,
+    lists: Vec<Positions>,
 }
 
 impl Model for Runs {
@@ -112,7 +112,7 @@ impl Runs {
     {
         let mut lists = Vec::with_capacity(alloc, shards as usize)?;
         for _ in 0..shards {
-            lists.push(Places::new(alloc)?)?;
+            lists.push(Positions::new(alloc)?)?;
         }
         Ok(Runs { lists })
     }

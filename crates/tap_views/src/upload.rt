@@ -8,10 +8,10 @@ use crate::fault::LayoutFault;
 use std::marker::Model;
 
 /// The valid batches of an upload, before its first layout fault, which `fault` has at the end.
-pub fn good_batches(upload: &[u8]) -> GoodBatches<'_>
+pub fn valid_batches(upload: &[u8]) -> ValidBatches<'_>
     ensures { IsReadAs upload.now result.batches result.fault }
 {
-    GoodBatches {
+    ValidBatches {
         rest: upload,
         at: 0,
     }
@@ -19,24 +19,24 @@ pub fn good_batches(upload: &[u8]) -> GoodBatches<'_>
 
 /// What is left to read of an upload: valid batches, then its layout fault. It takes no memory.
 #[derive(Drop)]
-pub struct GoodBatches<'a> {
+pub struct ValidBatches<'a> {
     rest: &'a [u8],
     at: u64,
 }
 
-impl<'a> Model for GoodBatches<'a> {
+impl<'a> Model for ValidBatches<'a> {
     ghost use Rattle.std.specs.Prelude.{◌+◌, ◌^◌, ◌<◌, length};
-    ghost use Rattle.tap_views.specs.Files.{GoodBatchesView};
-    ghost use Rattle.tap_views.specs.inside.Readings.{good_from};
+    ghost use Rattle.tap_views.specs.Files.{ValidBatchesView};
+    ghost use Rattle.tap_views.specs.inside.Readings.{valid_from};
 
-    ghost Value = { GoodBatchesView };
+    ghost Value = { ValidBatchesView };
 
-    ghost view = { λ left. good_from left.at left.rest.now };
+    ghost view = { λ left. valid_from left.at left.rest.now };
 
     ghost invariant = { λ left. left.at + length left.rest.now < 2 ^ 64 };
 }
 
-impl<'a> GoodBatches<'a> {
+impl<'a> ValidBatches<'a> {
     ghost use Rattle.std.specs.Prelude.{◌≡◌, []};
 
     /// The layout fault after the batches, with its batch's offset in bytes, once no batch is left.
@@ -54,7 +54,7 @@ impl<'a> GoodBatches<'a> {
     }
 }
 
-impl<'a> Iterator for GoodBatches<'a> {
+impl<'a> Iterator for ValidBatches<'a> {
     type Item = Batch<'a>;
 
     ghost next_gives = { GivesBatch };

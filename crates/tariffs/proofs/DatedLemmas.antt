@@ -11,7 +11,7 @@ use Rattle.tariffs.specs.Fares.{Fares, meaning_at, valid_at}
 use Rattle.tariffs.specs.Names.{same_name}
 use Rattle.tariffs.specs.TableMeaning.{TableMeaning}
 use Rattle.tariffs.specs.declared.table.DatedTariff.{DatedTariff}
-use Rattle.tariffs.specs.inside.Table.{HasModes, begun, dated_meaning, first_from, same_names}
+use Rattle.tariffs.specs.inside.Table.{HasModes, started, dated_meaning, first_from, same_names}
 use Rattle.tariffs.specs.inside.Table.{same_zone}
 
 -- before the first date the first table is valid
@@ -30,49 +30,49 @@ valid-before meaning (next ∷ later) moment before =
 -- the table behind some of those that follow
 abbrev pub nth_valid : TableMeaning → List (ℕ × TableMeaning) → ℕ → TableMeaning
 nth_valid meaning later zero = meaning
-nth_valid meaning [] (suc place) = meaning
-nth_valid meaning (next ∷ later) (suc place) = nth_valid next.1 later place
+nth_valid meaning [] (suc position) = meaning
+nth_valid meaning (next ∷ later) (suc position) = nth_valid next.1 later position
 
-begun_one : (meaning : TableMeaning) (next : ℕ × TableMeaning) (later : List (ℕ × TableMeaning))
+started_one : (meaning : TableMeaning) (next : ℕ × TableMeaning) (later : List (ℕ × TableMeaning))
     (moment : ℕ) (b : Bool)
-    → valid_at next.1 later moment ≡ nth_valid next.1 later (begun moment later)
+    → valid_at next.1 later moment ≡ nth_valid next.1 later (started moment later)
     → cond b (valid_at next.1 later moment) meaning
-    ≡ nth_valid meaning (next ∷ later) (cond b (suc (begun moment later)) 0)
-begun_one meaning next later moment true is = is
-begun_one meaning next later moment false is = refl
+    ≡ nth_valid meaning (next ∷ later) (cond b (suc (started moment later)) 0)
+started_one meaning next later moment true is = is
+started_one meaning next later moment false is = refl
 
-pub valid-begun : (meaning : TableMeaning) (later : List (ℕ × TableMeaning)) (moment : ℕ)
-    → valid_at meaning later moment ≡ nth_valid meaning later (begun moment later)
+pub valid-started : (meaning : TableMeaning) (later : List (ℕ × TableMeaning)) (moment : ℕ)
+    → valid_at meaning later moment ≡ nth_valid meaning later (started moment later)
 unfolding valid_at
-valid-begun meaning [] moment = refl
-valid-begun meaning (next ∷ later) moment =
-    begun_one meaning next later moment (nat_le next.0 moment) (valid-begun next.1 later moment)
+valid-started meaning [] moment = refl
+valid-started meaning (next ∷ later) moment =
+    started_one meaning next later moment (nat_le next.0 moment) (valid-started next.1 later moment)
 
 -- the table at a place is the one behind it
-pub nth-get : (meaning : TableMeaning) (later : List (ℕ × TableMeaning)) (place : ℕ)
+pub nth-get : (meaning : TableMeaning) (later : List (ℕ × TableMeaning)) (position : ℕ)
     (next : ℕ × TableMeaning)
-    → slice_get later place ≡ Some next → nth_valid meaning later (suc place) ≡ next.1
-nth-get meaning [] place next is = absurd (cc)
+    → slice_get later position ≡ Some next → nth_valid meaning later (suc position) ≡ next.1
+nth-get meaning [] position next is = absurd (cc)
 nth-get meaning (one ∷ later) zero next is = let same : one ≡ next = cc in ap (λ n. n.1) same
-nth-get meaning (one ∷ later) (suc place) next is = nth-get one.1 later place next is
+nth-get meaning (one ∷ later) (suc position) next is = nth-get one.1 later position next is
 
 -- what a tariff says that stands at a place stands there among what all say
-pub got : (items : List DatedTariff) (place : ℕ) (item : DatedTariff) → place < length items
-    → item ≡ get_or items place item
-    → slice_get (map dated_meaning items) place ≡ Some (dated_meaning item)
-got [] place item below is = absurd (omega arith)
+pub got : (items : List DatedTariff) (position : ℕ) (item : DatedTariff) → position < length items
+    → item ≡ get_or items position item
+    → slice_get (map dated_meaning items) position ≡ Some (dated_meaning item)
+got [] position item below is = absurd (omega arith)
 got (one ∷ items) zero item below is = ap (λ d. Some (dated_meaning d)) (sym is)
-got (one ∷ items) (suc place) item below is = got items place item (omega arith) is
+got (one ∷ items) (suc position) item below is = got items position item (omega arith) is
 
 -- if the same number of those that follow have begun, one table is valid
 pub valid-same : (fares : Fares) (earlier moment : ℕ)
-    → begun earlier fares.later ≡ begun moment fares.later
+    → started earlier fares.later ≡ started moment fares.later
     → meaning_at fares earlier ≡ meaning_at fares moment
 unfolding meaning_at
 valid-same fares earlier moment same =
-    valid-begun fares.meaning fares.later earlier
+    valid-started fares.meaning fares.later earlier
     ∙ ap (nth_valid fares.meaning fares.later) same
-    ∙ sym (valid-begun fares.meaning fares.later moment)
+    ∙ sym (valid-started fares.meaning fares.later moment)
 
 -- before the first date the first table is valid, also at each earlier moment
 pub first_valid : (fares : Fares) (earlier moment : ℕ) → earlier ≤ moment

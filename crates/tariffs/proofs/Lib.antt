@@ -3,5 +3,5 @@ pub mod ByteLemmas
 pub mod DatedLemmas
 pub mod MaskLemmas
 pub mod RiderBytes
-pub mod TokenMarks
+pub mod TokenFilter
 pub mod UntilLemmas

@@ -31,7 +31,7 @@ pub found-by_bytes : (token : Token) (entries : List (Token × ℕ)) (bytes : Li
     → lookup (is_at (token_cmp token)) entries ≡ lookup (is_at (slice_cmp nat_cmp bytes)) riders
 found-by_bytes token entries bytes riders fits all same_bytes same_riders =
     lookup-by_bytes token entries fits all
-    ∙ ap (λ asked. lookup (is_at (slice_cmp nat_cmp asked)) (by_bytes entries)) same_bytes
+    ∙ ap (λ request. lookup (is_at (slice_cmp nat_cmp request)) (by_bytes entries)) same_bytes
     ∙ ap (λ known. lookup (is_at (slice_cmp nat_cmp bytes)) known) same_riders
 
 -- what is put at its place by numbers stands at its place by bytes

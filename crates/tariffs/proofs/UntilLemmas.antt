@@ -127,13 +127,13 @@ next_month-found : (day year : ℤ) (month more found : ℕ) → month ≤ found
     → ((k : ℕ) → month ≤ k → k < found → days_from_civil year k 1 ≤ℤ day)
     → day <ℤ days_from_civil year found 1
     → next_month day year month more ≡ days_from_civil year found 1
-next_month-found day year month zero found above below begun later = absurd (omega arith)
-next_month-found day year month (suc more) found above below begun later =
+next_month-found day year month zero found above below started later = absurd (omega arith)
+next_month-found day year month (suc more) found above below started later =
     elim (lt_decides day (days_from_civil year month 1)) [
       | inl before ↦
           let same : month ≡ found = elim (cases_lt month found) [
             | inl less ↦
-                let here = begun month (omega arith) less in absurd (omega (arith, ints, before.1))
+                let here = started month (omega arith) less in absurd (omega (arith, ints, before.1))
             | inr not_less ↦ omega arith
           ] in
           rw before.0 (ap (λ m. days_from_civil year m 1) same)
@@ -146,27 +146,27 @@ next_month-found day year month (suc more) found above below begun later =
                 absurd (omega (arith, ints, after.1))
           ] in
           rw after.0 (next_month-found day year (suc month) more found (omega arith) (omega arith)
-          (λ k low high. begun k (omega arith) high) later)
+          (λ k low high. started k (omega arith) high) later)
     ]
 
 -- all months that are left have begun
 next_month-none : (day year : ℤ) (month more : ℕ)
     → ((k : ℕ) → month ≤ k → k < month + more → days_from_civil year k 1 ≤ℤ day)
     → next_month day year month more ≡ days_from_civil (year +ℤ pos 1) 1 1
-next_month-none day year month zero begun = refl
-next_month-none day year month (suc more) begun =
+next_month-none day year month zero started = refl
+next_month-none day year month (suc more) started =
     elim (lt_decides day (days_from_civil year month 1)) [
       | inl before ↦
-          let here = begun month (omega arith) (omega arith) in
+          let here = started month (omega arith) (omega arith) in
           absurd (omega (arith, ints, before.1))
       | inr after ↦ rw after.0 (next_month-none day year (suc month) more (λ k low high.
-          begun k (omega arith) (omega arith)))
+          started k (omega arith) (omega arith)))
     ]
 
 -- each month of the year up to the date's has begun
-begun_months : (date : Date) (k : ℕ) → 1 ≤ k → k ≤ date.month
+started_months : (date : Date) (k : ℕ) → 1 ≤ k → k ≤ date.month
     → days_from_civil date.year k 1 ≤ℤ epoch_day date
-begun_months date k low high = elim (cases_lt k date.month) [
+started_months date k low high = elim (cases_lt k date.month) [
   | inl less ↦
       let long = days_in_month_bounds date.year k in
       let first : IsCivilDate date.year k 1 =
@@ -202,7 +202,7 @@ month-is date later is =
           omega (arith, signed_arith, month_after date) in
           rw year (is ∙ sym next ∙ sym (next_month-found (epoch_day date) date.year 2 11
           (date.month + 1) (omega arith) (omega arith)
-          (λ k low high. begun_months date k (omega arith) (omega arith)) after))
+          (λ k low high. started_months date k (omega arith) (omega arith)) after))
       | inr not_less ↦
           let december : date.month ≡ 12 = omega arith in
           let next = days_from_civil-next_year date.year (date.year +ℤ pos 1)
@@ -211,7 +211,7 @@ month-is date later is =
           ≡ days_from_civil date.year 12 31 = rw december refl in
           rw year (is ∙ ap (λ d. d +ℤ pos 1) at ∙ sym next
           ∙ sym (next_month-none (epoch_day date) date.year 2 11
-          (λ k low high. begun_months date k (omega arith) (omega arith))))
+          (λ k low high. started_months date k (omega arith) (omega arith))))
     ]
 
 -- the end date's day number

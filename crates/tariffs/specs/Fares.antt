@@ -66,7 +66,7 @@ no_class = record {
 
 -- the class at a place
 abbrev pub class_at : TableMeaning → ℕ → Class
-class_at meaning place = slice_index_or meaning.classes place no_class
+class_at meaning position = slice_index_or meaning.classes position no_class
 
 -- what a class pays for a ride on a mode: the mode's fare, under the limits of the class
 abbrev pub terms_on : Class → ℕ → Terms
@@ -74,11 +74,11 @@ terms_on class mode = record class.terms { fare = slice_index class.fares mode }
 
 -- what the class at the place pays for a ride on the mode
 abbrev pub ride_terms : TableMeaning → ℕ → ℕ → Terms
-ride_terms meaning place mode = terms_on (class_at meaning place) mode
+ride_terms meaning position mode = terms_on (class_at meaning position) mode
 
 -- what the rides of the class at the place give
 abbrev pub transfer_terms : TableMeaning → ℕ → TransferTerms
-transfer_terms meaning place = (class_at meaning place).transfers
+transfer_terms meaning position = (class_at meaning position).transfers
 
 -- what the rider's class pays on a mode of which it names no fare
 abbrev pub terms_at : TableMeaning → List ℕ → Terms

@@ -3,7 +3,7 @@ pub mod Fares
 pub mod Following
 pub mod Names
 pub mod PosixRule
-pub mod RiderMarks
+pub mod RiderFilter
 pub mod Riders
 pub mod TableMeaning
 pub mod TariffParts

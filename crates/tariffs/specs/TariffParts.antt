@@ -34,4 +34,4 @@ pub record AreSound (parts : TariffParts) : Type 0 where
   pub named : length parts.names.items ≡ length parts.classes.items
   pub standard : parts.standard < length parts.classes.items
   pub window : IsBoundedSpan parts.window
-  pub riders : All (λ place. place < length parts.classes.items) (values_of parts.riders)
+  pub riders : All (λ position. position < length parts.classes.items) (values_of parts.riders)

@@ -7,5 +7,5 @@ pub const MAX_MODES: usize = 32;
 #[derive(Clone, Copy, Debug, PartialEq, Eq)]
 pub struct Mode {
     /// The index, at most 31.
-    pub place: u8,
+    pub position: u8,
 }

@@ -4,7 +4,7 @@ ghost use Rattle.std.specs.Map.{keys_of};
 ghost use Rattle.tap_views.specs.Token.{Fits};
 ghost use Rattle.tariffs.specs.Riders.{by_bytes};
 
-use crate::riders::marks::RiderMarks;
+use crate::riders::marks::RiderFilter;
 use std::alloc::Global;
 use std::collections::BTreeMap;
 use std::marker::Model;
@@ -17,19 +17,19 @@ mod marks;
 pub struct Riders {
     classes: BTreeMap<Token, u32>,
     /// A filter: most tokens are no rider's, and it says so without a search.
-    marks: RiderMarks,
+    marks: RiderFilter,
 }
 
 impl Model for Riders {
     ghost use Rattle.std.specs.Prelude.{ℕ, List};
-    ghost use Rattle.tariffs.specs.inside.RiderMarks.{AreMarked};
+    ghost use Rattle.tariffs.specs.inside.RiderFilter.{MayContainAll};
     ghost use Rattle.tariffs.specs.Riders.{by_bytes};
 
     ghost Value = { List (List ℕ × ℕ) };
 
     ghost view = { λ r. by_bytes r.classes.entries };
 
-    ghost invariant = { λ r. AreMarked r.classes.entries r.marks };
+    ghost invariant = { λ r. MayContainAll r.classes.entries r.marks };
 }
 
 impl Riders {
@@ -46,7 +46,7 @@ impl Riders {
         requires { All Fits (keys_of classes.entries) }
         ensures { IfOk result (λ r. r ≡ by_bytes classes.entries) }
     {
-        let marks = RiderMarks::new(alloc, &classes)?;
+        let marks = RiderFilter::new(alloc, &classes)?;
         Ok(Riders { classes, marks })
     }
 

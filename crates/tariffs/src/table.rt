@@ -4,7 +4,7 @@ ghost use Rattle.std.specs.Prelude.{IsTrue, IsOk, None, Some, All, map, slice_ge
 ghost use Rattle.tariffs.specs.Fares.{meaning_at, mode_at, terms_at};
 ghost use Rattle.tariffs.specs.Following.{CanFollow, IsFollowFault, with_next};
 ghost use Rattle.tariffs.specs.Following as spec;
-ghost use Rattle.tariffs.specs.inside.Table.{begun, dated_meaning, same_names, same_zone};
+ghost use Rattle.tariffs.specs.inside.Table.{started, dated_meaning, same_names, same_zone};
 ghost use Rattle.std.specs.Arc.{arc_value};
 ghost use Rattle.tariffs.specs.Riders.{by_bytes};
 ghost use Rattle.tariffs.specs.Terms.{AreBoundedTerms, IsBoundedClass};
@@ -147,11 +147,11 @@ impl FareTable {
     }
 
     /// The tariff at the index among those that follow, after the moment from which it is valid.
-    pub fn later(&self, place: usize) -> (u64, &Tariff)
-        requires { place < length self.now.later }
-        ensures { slice_get self.now.later place ≡ Some (result.0, result.1.now.meaning) }
+    pub fn later(&self, position: usize) -> (u64, &Tariff)
+        requires { position < length self.now.later }
+        ensures { slice_get self.now.later position ≡ Some (result.0, result.1.now.meaning) }
     {
-        let dated = &self.later[place];
+        let dated = &self.later[position];
         (dated.from, &dated.tariff)
     }
 
@@ -167,8 +167,8 @@ impl FareTable {
     /// The mode of a validator at the moment, or `None` if no range of that tariff has it.
     #[inline(always)]
     pub fn mode_of(&self, moment: u64, validator: u32) -> Option<Mode>
-        ensures mode { option_map (λ m. m.place) result ≡ mode_at self.now moment validator }
-        ensures within { IfSome result (λ m. m.place < length self.now.meaning.modes) }
+        ensures mode { option_map (λ m. m.position) result ≡ mode_at self.now moment validator }
+        ensures within { IfSome result (λ m. m.position < length self.now.meaning.modes) }
         ensures few { length self.now.meaning.modes ≤ 32 }
     {
         if self.is_first_at(moment) {
@@ -179,8 +179,8 @@ impl FareTable {
 
     /// The mode's name. All tariffs have the same modes.
     pub fn mode_name(&self, mode: Mode) -> &str
-        requires { mode.place < length self.now.meaning.modes }
-        ensures { slice_get self.now.meaning.modes mode.place ≡ Some result.now }
+        requires { mode.position < length self.now.meaning.modes }
+        ensures { slice_get self.now.meaning.modes mode.position ≡ Some result.now }
     {
         self.first.mode_name(mode)
     }
@@ -266,8 +266,8 @@ impl FareTable {
     #[cold]
     #[inline(never)]
     fn later_mode_of(&self, moment: u64, validator: u32) -> Option<Mode>
-        ensures mode { option_map (λ m. m.place) result ≡ mode_at self.now moment validator }
-        ensures within { IfSome result (λ m. m.place < length self.now.meaning.modes) }
+        ensures mode { option_map (λ m. m.position) result ≡ mode_at self.now moment validator }
+        ensures within { IfSome result (λ m. m.position < length self.now.meaning.modes) }
         ensures few { length self.now.meaning.modes ≤ 32 }
     {
         let tariff = self.later_at(moment);
@@ -281,11 +281,11 @@ impl FareTable {
         ensures meaning { result.now.meaning ≡ meaning_at self.now moment }
         ensures modes { result.now.meaning.modes ≡ self.now.meaning.modes }
     {
-        let begun = begun(&self.later, moment);
-        if begun == 0 {
+        let started = started(&self.later, moment);
+        if started == 0 {
             &self.first
         } else {
-            &self.later[begun - 1].tariff
+            &self.later[started - 1].tariff
         }
     }
 
@@ -295,7 +295,7 @@ impl FareTable {
         requires { earlier ≤ moment }
         ensures { IsTrue result → meaning_at self.now earlier ≡ meaning_at self.now moment }
     {
-        begun(&self.later, earlier) == begun(&self.later, moment)
+        started(&self.later, earlier) == started(&self.later, moment)
     }
 
     fn follow_fault(&self, from: u64, next: &FareTable) -> Option<FollowFault>
@@ -327,8 +327,8 @@ impl FareTable {
     }
 }
 
-fn begun(later: &[DatedTariff], moment: u64) -> usize
-    ensures count { result ≡ begun moment (map dated_meaning later.now) }
+fn started(later: &[DatedTariff], moment: u64) -> usize
+    ensures count { result ≡ started moment (map dated_meaning later.now) }
     ensures bound { result ≤ length later.now }
 {
     let mut count = 0;

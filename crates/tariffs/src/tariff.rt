@@ -84,29 +84,31 @@ impl Tariff {
 
     /// The mode of a validator, or `None` if no range has it.
     pub fn mode_of(&self, validator: u32) -> Option<Mode>
-        ensures mode { option_map (λ m. m.place) result ≡ mode_in self.now.meaning validator }
-        ensures within { IfSome result (λ m. m.place < length self.now.meaning.modes) }
+        ensures mode { option_map (λ m. m.position) result ≡ mode_in self.now.meaning validator }
+        ensures within { IfSome result (λ m. m.position < length self.now.meaning.modes) }
         ensures few { length self.now.meaning.modes ≤ 32 }
     {
         let rest = self.parts.ranges.at(validator)?;
-        Some(Mode { place: rest.mode })
+        Some(Mode {
+            position: rest.mode,
+        })
     }
 
     /// Whether a ride of the first mode includes a transfer to the second. It reads one bit.
     pub fn permits(&self, from: Mode, to: Mode) -> bool
-        requires from { from.place < length self.now.meaning.modes }
-        requires to { to.place < length self.now.meaning.modes }
-        ensures { result ≡ is_permitted self.now.meaning from.place to.place }
+        requires from { from.position < length self.now.meaning.modes }
+        requires to { to.position < length self.now.meaning.modes }
+        ensures { result ≡ is_permitted self.now.meaning from.position to.position }
     {
-        self.parts.transfers.permits(from.place, to.place)
+        self.parts.transfers.permits(from.position, to.position)
     }
 
     /// The mode's name.
     pub fn mode_name(&self, mode: Mode) -> &str
-        requires { mode.place < length self.now.meaning.modes }
-        ensures { slice_get self.now.meaning.modes mode.place ≡ Some result.now }
+        requires { mode.position < length self.now.meaning.modes }
+        ensures { slice_get self.now.meaning.modes mode.position ≡ Some result.now }
     {
-        self.parts.modes[mode.place as usize].as_str()
+        self.parts.modes[mode.position as usize].as_str()
     }
 
     /// The index of the token's own class, else of the default one, for the look-ups below.
@@ -124,13 +126,13 @@ impl Tariff {
     /// What the class at the index pays for a ride on the mode, in cents.
     pub fn ride_terms(&self, class: u32, mode: Mode) -> Terms
         requires class { class < length self.now.meaning.classes }
-        requires mode { mode.place < length self.now.meaning.modes }
-        ensures terms { result ≡ ride_terms self.now.meaning class mode.place }
+        requires mode { mode.position < length self.now.meaning.modes }
+        ensures terms { result ≡ ride_terms self.now.meaning class mode.position }
         ensures bounds { AreRideTerms result }
     {
         let class = &self.parts.classes[class as usize];
         Terms {
-            fare: class.fares[mode.place as usize],
+            fare: class.fares[mode.position as usize],
             rides: class.terms.rides,
             ceiling: class.terms.ceiling,
         }

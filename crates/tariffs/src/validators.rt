@@ -2,18 +2,18 @@
 ghost use Rattle.std.specs.Prelude.{◌≡◌, ◌<◌, ◌≤◌, true, if◌then◌else◌, IfOk, IfSome, IsTrue, None};
 ghost use Rattle.std.specs.Prelude.{length, nat_le, option_copied};
 ghost use Rattle.tariffs.specs.Fares.{range_at};
-ghost use Rattle.tariffs.specs.Validators.{stand_apart};
-ghost use Rattle.tariffs.specs.inside.Validators.{is_rising, AreSearchable};
-ghost use Rattle.tariffs.specs.Validators.{last_begun};
+ghost use Rattle.tariffs.specs.Validators.{are_disjoint};
+ghost use Rattle.tariffs.specs.inside.Validators.{is_increasing, AreSearchable};
+ghost use Rattle.tariffs.specs.Validators.{last_started};
 ghost use Rattle.tariffs.specs.inside.Validators.{IsSplitAt};
 
-use crate::validators::guesses::Guesses;
+use crate::validators::hints::Hints;
 use std::alloc::Global;
 use std::collections::BTreeMap;
 use std::marker::Model;
 use tap_views::NoMemory;
 
-mod guesses;
+mod hints;
 
 /// The most ranges that are searched without a hint.
 const MAX_RANGES_UNGUESSED: usize = 4;
@@ -34,7 +34,7 @@ pub struct Ranges {
     /// The first numbers again, side by side, so that a search touches few cache lines.
     firsts: Vec<u32>,
     /// Where to look first: of hundreds of ranges a binary search takes ten steps.
-    guesses: Guesses,
+    hints: Hints,
 }
 
 impl Model for Ranges {
@@ -53,20 +53,20 @@ impl Ranges {
     ghost use Rattle.std.specs.Prelude.{◌≡◌, ◌≤◌, true, IfOk, length, nat_le, map, option_copied};
     ghost use Rattle.std.specs.Prelude.{option_map};
     ghost use Rattle.tariffs.specs.Fares.{range_at};
-    ghost use Rattle.tariffs.specs.Validators.{stand_apart};
+    ghost use Rattle.tariffs.specs.Validators.{are_disjoint};
 
     /// The ranges of a map by their first numbers, or `NoMemory`.
     pub fn new(alloc: Global, ranges: BTreeMap<u32, RangeRest>) -> Result<Ranges, NoMemory>
-        requires { stand_apart ranges.entries ≡ true }
+        requires { are_disjoint ranges.entries ≡ true }
         ensures { IfOk result (λ r. r ≡ ranges.entries) }
     {
         let firsts = ranges.keys().copied().collect(alloc)?;
         let ranges: Vec<(u32, RangeRest)> = ranges.into_iter().collect(alloc)?;
-        let guesses = Guesses::new(alloc, &ranges)?;
+        let hints = Hints::new(alloc, &ranges)?;
         Ok(Ranges {
             ranges,
             firsts,
-            guesses,
+            hints,
         })
     }
 
@@ -79,7 +79,7 @@ impl Ranges {
     pub(crate) fn at(&self, number: u32) -> Option<RangeRest>
         ensures { result ≡ option_map (λ range. range.1) (range_at self.now number) }
     {
-        let (_, rest) = range_at(&self.ranges, &self.firsts, &self.guesses, number)?;
+        let (_, rest) = range_at(&self.ranges, &self.firsts, &self.hints, number)?;
         Some(*rest)
     }
 }
@@ -88,14 +88,14 @@ impl Ranges {
 fn range_at<'a>(
     ranges: &'a [(u32, RangeRest)],
     firsts: &[u32],
-    guesses: &Guesses,
+    hints: &Hints,
     number: u32,
 ) -> Option<&'a (u32, RangeRest)>
     requires { AreSearchable ranges.now firsts.now }
     ensures { option_copied result ≡ range_at ranges.now number }
 {
     if ranges.len() > MAX_RANGES_UNGUESSED {
-        if let Some(found) = range_near(ranges, guesses.at(number), number) {
+        if let Some(found) = range_near(ranges, hints.at(number), number) {
             return found;
         }
     }
@@ -106,34 +106,34 @@ fn range_at<'a>(
 /// range. The choice is a sum and no branch: numbers come in no order that a processor predicts.
 fn range_near<'a>(
     ranges: &'a [(u32, RangeRest)],
-    guess: usize,
+    hint: usize,
     number: u32,
 ) -> Option<Option<&'a (u32, RangeRest)>>
-    requires { stand_apart ranges.now ≡ true }
+    requires { are_disjoint ranges.now ≡ true }
     ensures { IfSome result (λ found. option_copied found ≡ range_at ranges.now number) }
 {
-    let near = ranges.get(guess)?;
-    let place = guess + usize::from(near.1.last < number);
-    let range = ranges.get(place)?;
+    let near = ranges.get(hint)?;
+    let position = hint + usize::from(near.1.last < number);
+    let range = ranges.get(position)?;
     if range.0 <= number && number <= range.1.last {
         return Some(Some(range));
     }
-    if is_just_before(ranges, place, number) {
+    if is_just_before(ranges, position, number) {
         Some(None)
     } else {
         None
     }
 }
 
-fn is_just_before(ranges: &[(u32, RangeRest)], place: usize, number: u32) -> bool
-    requires apart { stand_apart ranges.now ≡ true }
-    requires inside { place < length ranges.now }
+fn is_just_before(ranges: &[(u32, RangeRest)], position: usize, number: u32) -> bool
+    requires apart { are_disjoint ranges.now ≡ true }
+    requires inside { position < length ranges.now }
     ensures { IsTrue result → range_at ranges.now number ≡ None }
 {
-    if place == 0 {
+    if position == 0 {
         return number < ranges[0].0;
     }
-    ranges[place - 1].1.last < number && number < ranges[place].0
+    ranges[position - 1].1.last < number && number < ranges[position].0
 }
 
 #[tactic(auto, using(crate::proofs::ApartLemmas::found))]
@@ -145,7 +145,7 @@ fn range_by_halves<'a>(
     requires { AreSearchable ranges.now firsts.now }
     ensures { option_copied result ≡ range_at ranges.now number }
 {
-    let range = last_begun(ranges, firsts, number)?;
+    let range = last_started(ranges, firsts, number)?;
     if number <= range.1.last {
         Some(range)
     } else {
@@ -153,20 +153,20 @@ fn range_by_halves<'a>(
     }
 }
 
-fn last_begun<'a>(
+fn last_started<'a>(
     ranges: &'a [(u32, RangeRest)],
     firsts: &[u32],
     number: u32,
 ) -> Option<&'a (u32, RangeRest)>
     requires { AreSearchable ranges.now firsts.now }
-    ensures { option_copied result ≡ last_begun number ranges.now }
+    ensures { option_copied result ≡ last_started number ranges.now }
 {
-    ranges[..begun_by_halves(firsts, number)].last()
+    ranges[..started_by_halves(firsts, number)].last()
 }
 
 /// Each half is taken by a mask: mispredicted branches make the search three times as slow.
-fn begun_by_halves(firsts: &[u32], number: u32) -> usize
-    requires { is_rising firsts.now ≡ true }
+fn started_by_halves(firsts: &[u32], number: u32) -> usize
+    requires { is_increasing firsts.now ≡ true }
     ensures bound { result ≤ length firsts.now }
     ensures split { IsSplitAt number firsts.now result 0 }
 {
@@ -177,17 +177,17 @@ fn begun_by_halves(firsts: &[u32], number: u32) -> usize
     let mut size = firsts.len();
     while size > 1 {
         let half = size / 2;
-        base += taken_if_begun(half, firsts[base + half], number);
+        base += taken_if_started(half, firsts[base + half], number);
         size -= half;
     }
-    base + taken_if_begun(1, firsts[base], number)
+    base + taken_if_started(1, firsts[base], number)
 }
 
 /// The upper half of the difference is the mask: a comparison would become a branch again.
-fn taken_if_begun(places: usize, first: u32, number: u32) -> usize
-    requires { places < 0x1_0000_0000 }
-    ensures { result ≡ (if nat_le first number then places else 0) }
+fn taken_if_started(positions: usize, first: u32, number: u32) -> usize
+    requires { positions < 0x1_0000_0000 }
+    ensures { result ≡ (if nat_le first number then positions else 0) }
 {
     let mask = u64::from(first).wrapping_sub(u64::from(number) + 1) >> 32;
-    places & mask as usize
+    positions & mask as usize
 }

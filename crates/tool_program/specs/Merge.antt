@@ -42,14 +42,14 @@ IsRightMergeFault words texts end NoMemory = ⊤
 IsRightMergeFault words texts end fault = ⊥
 
 -- the parts were opened, and the fault is the right one of their texts
-pub record StopsMerge (words : List (List ℕ)) (loaded loaded' : Option (List Loaded))
+pub record FailsMerge (words : List (List ℕ)) (loaded loaded' : Option (List Loaded))
     (end : Option WriteEnd) (fault : Fault) : Type 0 where
   pub texts : List (List ℕ)
   pub opened : HasOpened words loaded loaded' texts
   pub right : IsRightMergeFault words texts end fault
 
 -- a part was not opened, or memory was refused before; or all were opened, and the merge was stopped
-abbrev pub GivesUpMerge : List (List ℕ) → Option (List Loaded) → Option (List Loaded)
+abbrev pub AbortsMerge : List (List ℕ) → Option (List Loaded) → Option (List Loaded)
     → Option (Option (List ℕ) × LoadFault) → Option WriteEnd → Fault → Type 0
-GivesUpMerge words loaded loaded' refused end fault =
-    IsRefusal refused words fault ⊎ StopsMerge words loaded loaded' end fault
+AbortsMerge words loaded loaded' refused end fault =
+    IsRefusal refused words fault ⊎ FailsMerge words loaded loaded' end fault

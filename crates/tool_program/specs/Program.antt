@@ -8,27 +8,27 @@ use Rattle.frame.specs.Ends.{Ends}
 use Rattle.world.specs.Run.{Run as WorldRun}
 use Rattle.world.specs.declared.faults.LoadFault.{LoadFault}
 use Rattle.program_manners.specs.declared.output.WriteEnd.{WriteEnd}
-use Rattle.tool_program.specs.Merge.{GivesUpMerge, MergesParts}
+use Rattle.tool_program.specs.Merge.{AbortsMerge, MergesParts}
 use Rattle.tool_tasks.specs.Corrections.{IsCorrected}
-use Rattle.tool_tasks.specs.Decode.{AreReported, Decoded, Decodes, DecodesFaulty, GivesUpDecode}
+use Rattle.tool_tasks.specs.Decode.{AreReported, Decoded, Decodes, DecodesFaulty, AbortsDecode}
 use Rattle.tool_tasks.specs.Decode.{are_whole}
-use Rattle.tool_tasks.specs.Encode.{EncodesTable, GivesUpEncode}
-use Rattle.tool_tasks.specs.EncodeRows.{EncodesWith, GivesUpRows}
+use Rattle.tool_tasks.specs.Encode.{EncodesTable, AbortsEncode}
+use Rattle.tool_tasks.specs.EncodeRows.{EncodesWith, AbortsRows}
 use Rattle.tool_tasks.specs.Fault.{IsFaultReported}
-use Rattle.tool_tasks.specs.GoodPart.{GivesUpGoodPart, KeepsGoodPart}
-use Rattle.tool_tasks.specs.MergeSorted.{GivesUpMergeSorted, Merges}
+use Rattle.tool_tasks.specs.ValidPrefix.{AbortsValidPrefix, KeepsValidPrefix}
+use Rattle.tool_tasks.specs.MergeSorted.{AbortsMergeSorted, Merges}
 use Rattle.tool_tasks.specs.Sink.{Made}
-use Rattle.tool_tasks.specs.Sort.{GivesUpSort, Sorts, ends_name, refused_lines}
+use Rattle.tool_tasks.specs.Sort.{AbortsSort, Sorts, ends_name, refused_lines}
 use Rattle.tool_tasks.specs.declared.encode_rows.RowsOutcome.{RowsOutcome}
 use Rattle.tool_tasks.specs.declared.encode_rows.RowsOutcome.TheVariants as outcomes
 use Rattle.tool_tasks.specs.declared.fault.Fault.{Fault}
 use Rattle.tool_tasks.specs.declared.sink.NewFault.{NewFault}
 use Rattle.tool_tasks.specs.declared.sort.SortWords.{SortWords}
-use Rattle.tool_words.specs.Asked.{Asked, RowsAsked, SortAsked, corrections, decode, encode}
-use Rattle.tool_words.specs.Asked.{encode_rows, good_part, merge, mistake, shows, sort}
-use Rattle.tool_words.specs.Mistakes.{mistake_text}
-use Rattle.tool_words.specs.Tasks.{good_part_of, rows_words_of}
-use Rattle.tool_words.specs.declared.task.GoodPartWords.{GoodPartWords}
+use Rattle.tool_words.specs.Request.{Request, RowsRequest, SortRequest, corrections, decode, encode}
+use Rattle.tool_words.specs.Request.{encode_rows, valid_prefix, merge, usage_error, shows, sort}
+use Rattle.tool_words.specs.UsageErrors.{usage_error_text}
+use Rattle.tool_words.specs.Tasks.{valid_prefix_of, rows_words_of}
+use Rattle.tool_words.specs.declared.task.ValidPrefixWords.{ValidPrefixWords}
 use Rattle.tool_words.specs.declared.task.RowsWords.{RowsWords}
 
 -- What is known of a run, before it and behind it: what the source loaded and last refused, what
@@ -42,7 +42,7 @@ pub record Run : Type 0 where
   pub made : Option (List Made)
   pub made' : Option (List Made)
   -- the new file that was last not begun, and why
-  pub unbegun : Option (List ℕ × NewFault)
+  pub unstarted : Option (List ℕ × NewFault)
   pub unmade : Option (List ℕ)
   pub out : Option (List ℕ)
   pub out' : Option (List ℕ)
@@ -60,31 +60,31 @@ abbrev pub IfKept : Run → Type 0 → Type 0
 IfKept run Fact = (kept : List Loaded) → run.loaded ≡ Some kept → Fact
 
 -- these are the files that `sort` makes
-pub record AreSortWords (asked : SortAsked) (words : SortWords) : Type 0 where
-  pub out : words.out.now ≡ asked.out
-  pub ends : ends_name words ≡ asked.ends
+pub record AreSortWords (request : SortRequest) (words : SortWords) : Type 0 where
+  pub out : words.out.now ≡ request.out
+  pub ends : ends_name words ≡ request.ends
 
 -- what is known of the files that are merged
 abbrev pub known_of : Run → List (List ℕ) → List (Option (List ℕ))
 known_of run words = map run.bytes_under words
 
 -- the uploads were sorted, and no upload has a layout fault, or one has
-abbrev pub SortsAll : SortAsked → Run → Bool → Type 0
-SortsAll asked run well = (words : SortWords) × AreSortWords asked words
-    × (ends : List UploadEnd) × (are_posted ends ≡ well)
-    × Sorts words asked.uploads run.loaded run.loaded' run.made run.made' ends
-    × MatchBool well ⊤
-    (AreReported run.said run.said' run.unsaid (refused_lines asked.uploads ends))
+abbrev pub SortsAll : SortRequest → Run → Bool → Type 0
+SortsAll request run success = (words : SortWords) × AreSortWords request words
+    × (ends : List UploadEnd) × (are_posted ends ≡ success)
+    × Sorts words request.uploads run.loaded run.loaded' run.made run.made' ends
+    × MatchBool success ⊤
+    (AreReported run.said run.said' run.unsaid (refused_lines request.uploads ends))
 
 -- sorted uploads were merged
-abbrev pub MergesAll : SortAsked → Run → Type 0
-MergesAll asked run = (words : SortWords) × AreSortWords asked words
-    × Merges words (known_of run asked.uploads) run.made run.made'
+abbrev pub MergesAll : SortRequest → Run → Type 0
+MergesAll request run = (words : SortWords) × AreSortWords request words
+    × Merges words (known_of run request.uploads) run.made run.made'
 
 -- the rows of an agency's CSV were encoded, and this came of them
-abbrev pub EncodesSo : RowsOutcome → List ℕ → RowsAsked → Run → Type 0
-EncodesSo outcome word asked run = IfKept run ((words : RowsWords)
-    × (rows_words_of words ≡ asked)
+abbrev pub EncodesSo : RowsOutcome → List ℕ → RowsRequest → Run → Type 0
+EncodesSo outcome word request run = IfKept run ((words : RowsWords)
+    × (rows_words_of words ≡ request)
     × EncodesWith outcome words word run.loaded run.loaded' run.made run.made' run.out run.out'
     run.said run.said' run.unsaid)
 
@@ -94,42 +94,42 @@ IsIdle run Silent = (run.loaded' ≡ run.loaded) × (run.made' ≡ run.made) × 
     × Silent
 
 -- What the frame runs ends so in its world. Anything else does nothing there.
-abbrev pub IsFramed : (List ℕ → Option (List ℕ)) → Asked → WorldRun → WorldRun → ℕ → Type 0
+abbrev pub IsFramed : (List ℕ → Option (List ℕ)) → Request → WorldRun → WorldRun → ℕ → Type 0
 IsFramed bytes_under (corrections ledgers) old new status =
     Ends (IsCorrected bytes_under ledgers) (ledgers.old ∷ ledgers.new ∷ []) old new status
-IsFramed bytes_under asked old new status = new ≡ old
+IsFramed bytes_under request old new status = new ≡ old
 
 -- What is asked for was done, with status 0. Of a source that keeps what it loads. `Silent` says
 -- that nothing was said. Of what only informs nothing is promised.
-abbrev pub IsDone : Asked → Run → Type 0 → Type 0
+abbrev pub IsDone : Request → Run → Type 0 → Type 0
 IsDone (encode word) run Silent =
     IfKept run (EncodesTable word run.loaded run.loaded' run.out run.out')
     × (run.is_flushed ≡ true) × Silent
-IsDone (encode_rows word asked) run Silent =
-    EncodesSo outcomes.Whole word asked run × (run.is_flushed ≡ true)
+IsDone (encode_rows word request) run Silent =
+    EncodesSo outcomes.Whole word request run × (run.is_flushed ≡ true)
 IsDone (decode words) run Silent = ((decoded : List Decoded)
     × Decodes words run.loaded run.loaded' run.out run.out' decoded
     × (are_whole decoded ≡ true)) × (run.is_flushed ≡ true) × Silent
-IsDone (good_part asked) run Silent = (words : GoodPartWords) × (good_part_of words ≡ asked)
-    × KeepsGoodPart words run.loaded run.loaded' run.made run.made' true
+IsDone (valid_prefix request) run Silent = (words : ValidPrefixWords) × (valid_prefix_of words ≡ request)
+    × KeepsValidPrefix words run.loaded run.loaded' run.made run.made' true
     × (run.is_flushed ≡ true) × Silent
-IsDone (sort asked) run Silent =
-    MatchBool asked.is_merge (MergesAll asked run) (IfKept run (SortsAll asked run true)) × Silent
+IsDone (sort request) run Silent =
+    MatchBool request.is_merge (MergesAll request run) (IfKept run (SortsAll request run true)) × Silent
 IsDone (merge parts) run Silent =
     IfKept run (MergesParts parts run.loaded run.loaded' run.out run.out')
     × (run.is_flushed ≡ true) × Silent
 IsDone (corrections ledgers) run Silent = IsIdle run Silent
-IsDone (mistake why) run Silent = ⊥
+IsDone (usage_error why) run Silent = ⊥
 IsDone shows run Silent = ⊤
 
 -- It was done, with status 3: an upload has a layout fault, which `sort` reports, or rows were
 -- refused.
-abbrev pub IsPartlyDone : Asked → Run → Type 0
-IsPartlyDone (encode_rows word asked) run =
-    EncodesSo outcomes.SomeRefused word asked run × (run.is_flushed ≡ true)
-IsPartlyDone (sort asked) run =
-    MatchBool asked.is_merge ⊥ (IfKept run (SortsAll asked run false))
-IsPartlyDone asked run = ⊥
+abbrev pub IsPartlyDone : Request → Run → Type 0
+IsPartlyDone (encode_rows word request) run =
+    EncodesSo outcomes.SomeRefused word request run × (run.is_flushed ≡ true)
+IsPartlyDone (sort request) run =
+    MatchBool request.is_merge ⊥ (IfKept run (SortsAll request run false))
+IsPartlyDone request run = ⊥
 
 -- a fault was reported, of which this holds
 abbrev pub Faults : Run → (Fault → Type 0) → Type 0
@@ -137,46 +137,46 @@ Faults run Why = (fault : Fault) × IsFaultReported fault run.said run.said' run
 
 -- With status 1 the right fault was reported, or the text has the layout fault of an upload, or no
 -- row is a tap.
-abbrev pub IsGivenUp : Asked → Run → Type 0 → Type 0
-IsGivenUp (encode word) run Silent = Faults run (λ fault. IfKept run
-    (GivesUpEncode word run.loaded run.loaded' run.refused run.end fault run.out run.out'))
-IsGivenUp (encode_rows word asked) run Silent = EncodesSo outcomes.NoTap word asked run
+abbrev pub IsAborted : Request → Run → Type 0 → Type 0
+IsAborted (encode word) run Silent = Faults run (λ fault. IfKept run
+    (AbortsEncode word run.loaded run.loaded' run.refused run.end fault run.out run.out'))
+IsAborted (encode_rows word request) run Silent = EncodesSo outcomes.NoTap word request run
     ⊎ Faults run (λ fault. (words : RowsWords)
-    × (rows_words_of words ≡ asked) × IfKept run (GivesUpRows words word run.loaded run.loaded'
-    run.refused run.made run.made' run.unbegun run.unmade run.end fault run.out run.out'))
-IsGivenUp (decode words) run Silent =
+    × (rows_words_of words ≡ request) × IfKept run (AbortsRows words word run.loaded run.loaded'
+    run.refused run.made run.made' run.unstarted run.unmade run.end fault run.out run.out'))
+IsAborted (decode words) run Silent =
     (DecodesFaulty words run.loaded run.loaded' run.out run.out' run.said run.said' run.unsaid
     × (run.is_flushed ≡ true))
-    ⊎ ((fault : Fault) × GivesUpDecode words run.loaded run.refused run.end fault run.out run.out'
+    ⊎ ((fault : Fault) × AbortsDecode words run.loaded run.refused run.end fault run.out run.out'
     run.said run.said' run.unsaid)
-IsGivenUp (good_part asked) run Silent = (words : GoodPartWords) × (good_part_of words ≡ asked)
-    × ((KeepsGoodPart words run.loaded run.loaded' run.made run.made' false
+IsAborted (valid_prefix request) run Silent = (words : ValidPrefixWords) × (valid_prefix_of words ≡ request)
+    × ((KeepsValidPrefix words run.loaded run.loaded' run.made run.made' false
     × (run.is_flushed ≡ true) × Silent)
-    ⊎ Faults run (λ fault. GivesUpGoodPart words run.loaded run.loaded' run.refused run.made
-    run.made' run.unmade run.unbegun run.end fault))
-IsGivenUp (sort asked) run Silent = Faults run (λ fault. (words : SortWords)
-    × AreSortWords asked words × MatchBool asked.is_merge
-    (GivesUpMergeSorted words asked.uploads (known_of run asked.uploads) run.made run.made'
+    ⊎ Faults run (λ fault. AbortsValidPrefix words run.loaded run.loaded' run.refused run.made
+    run.made' run.unmade run.unstarted run.end fault))
+IsAborted (sort request) run Silent = Faults run (λ fault. (words : SortWords)
+    × AreSortWords request words × MatchBool request.is_merge
+    (AbortsMergeSorted words request.uploads (known_of run request.uploads) run.made run.made'
     run.unmade fault)
-    (IfKept run (GivesUpSort words asked.uploads run.loaded run.loaded' run.refused run.made
+    (IfKept run (AbortsSort words request.uploads run.loaded run.loaded' run.refused run.made
     run.made' run.unmade fault)))
-IsGivenUp (merge parts) run Silent = Faults run (λ fault.
-    IfKept run (GivesUpMerge parts run.loaded run.loaded' run.refused run.end fault))
-IsGivenUp (corrections ledgers) run Silent = IsIdle run Silent
-IsGivenUp (mistake why) run Silent = ⊥
-IsGivenUp shows run Silent = ⊤
+IsAborted (merge parts) run Silent = Faults run (λ fault.
+    IfKept run (AbortsMerge parts run.loaded run.loaded' run.refused run.end fault))
+IsAborted (corrections ledgers) run Silent = IsIdle run Silent
+IsAborted (usage_error why) run Silent = ⊥
+IsAborted shows run Silent = ⊤
 
 -- the line of a mistake in what is asked for, if there is one
-abbrev pub mistake_line : Asked → Option (List ℕ)
-mistake_line (mistake why) = Some (mistake_text why)
-mistake_line asked = None
+abbrev pub usage_error_line : Request → Option (List ℕ)
+usage_error_line (usage_error why) = Some (usage_error_text why)
+usage_error_line request = None
 
 -- a run of these fields, in their order
 abbrev pub run_of : Option (List Loaded) → Option (List Loaded)
     → Option (Option (List ℕ) × LoadFault) → (List ℕ → Option (List ℕ)) → Option (List Made)
     → Option (List Made) → Option (List ℕ × NewFault) → Option (List ℕ) → Option (List ℕ)
     → Option (List ℕ) → Option WriteEnd → Bool → Option (List ℕ) → Option (List ℕ) → Bool → Run
-run_of loaded loaded' refused bytes_under made made' unbegun unmade out out' end is_flushed said
+run_of loaded loaded' refused bytes_under made made' unstarted unmade out out' end is_flushed said
     said' unsaid = record {
       loaded = loaded;
       loaded' = loaded';
@@ -184,7 +184,7 @@ run_of loaded loaded' refused bytes_under made made' unbegun unmade out out' end
       bytes_under = bytes_under;
       made = made;
       made' = made';
-      unbegun = unbegun;
+      unstarted = unstarted;
       unmade = unmade;
       out = out;
       out' = out';

@@ -58,7 +58,7 @@ pub(crate) fn show<W: Write, E: Write>(
         × IsFaultReported NoMemory (E.contents err.old.writer)
         (E.contents err.new.writer) err.new.failed) }
     ensures memory { kind_of error.now ≡ ErrorKind.OutOfMemory → result ≡ 1 }
-    ensures mistake { result ≡ 2 → ¬ IsRequest (kind_of error.now) }
+    ensures usage_error { result ≡ 2 → ¬ IsRequest (kind_of error.now) }
     ensures untouched { result ≡ 2 → out.new ≡ out.old }
     ensures status { result ≤ 2 }
 {

@@ -2,7 +2,7 @@
 ghost use Rattle.std.specs.Prelude.{◌≡◌, ◌≤◌, ℕ, List, IfErr, OnOk, Some, map, true};
 ghost use Rattle.report_texts.specs.Texts.{AreLeft};
 ghost use Rattle.program_manners.specs.Loads.{Loaded};
-ghost use Rattle.tool_program.specs.Merge.{GivesUpMerge, IsRightMergeFault, MergesParts};
+ghost use Rattle.tool_program.specs.Merge.{AbortsMerge, IsRightMergeFault, MergesParts};
 ghost use Rattle.tool_program.specs.Merge.{WritesWhole};
 ghost use Rattle.tool_program.specs.inside.Fault.{IsNamedAs};
 ghost use Rattle.tool_tasks.specs.Fault.{IsFaultReported};
@@ -73,7 +73,7 @@ fn merge<'a, S: Source, W: Write>(
         → MergesParts (map (λ w. w.now) words.now) (S.loaded source.old) (S.loaded source.new)
         (W.contents out.old.writer) (W.contents out.new.writer)) }
     ensures fault { IfErr result (λ fault. (kept : List Loaded) → S.loaded source.old ≡ Some kept
-        → GivesUpMerge (map (λ w. w.now) words.now) (S.loaded source.old) (S.loaded source.new)
+        → AbortsMerge (map (λ w. w.now) words.now) (S.loaded source.old) (S.loaded source.new)
         (S.refused source.new) out.new.end fault) }
     ensures flushed { OnOk result (out.new.is_flushed ≡ true) }
 {
@@ -103,7 +103,7 @@ pub fn merge_over<S: Source, W: Write, E: Write>(
     ensures faults { result ≡ 1 → (fault : AFault) × IsFaultReported fault
         (E.contents err.old.writer) (E.contents err.new.writer) err.new.failed
         × ((kept : List Loaded) → S.loaded source.old ≡ Some kept
-        → GivesUpMerge (map (λ w. w.now) words.now) (S.loaded source.old) (S.loaded source.new)
+        → AbortsMerge (map (λ w. w.now) words.now) (S.loaded source.old) (S.loaded source.new)
         (S.refused source.new) out.new.end fault) }
     // Nothing is said beside the whole.
     ensures quiet { result ≡ 0 → err.new ≡ err.old }

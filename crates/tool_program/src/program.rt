@@ -3,13 +3,13 @@ ghost use Rattle.std.specs.Prelude.{◌≡◌, ◌⊎◌, ◌≤◌, ℕ, Bool, 
 ghost use Rattle.std.specs.Prelude.{string_bytes};
 ghost use Rattle.program_manners.specs.LineWritten.{LineWritten};
 ghost use Rattle.program_manners.specs.declared.output.WriteEnd.{WriteEnd as AWriteEnd};
-ghost use Rattle.tool_program.specs.Program.{IsDone, IsFramed, IsGivenUp, IsPartlyDone};
-ghost use Rattle.tool_program.specs.Program.{mistake_line, run_of};
+ghost use Rattle.tool_program.specs.Program.{IsDone, IsFramed, IsAborted, IsPartlyDone};
+ghost use Rattle.tool_program.specs.Program.{usage_error_line, run_of};
 ghost use Rattle.tool_tasks.specs.Fault.{IsFaultReported};
 ghost use Rattle.tool_tasks.specs.declared.fault.Fault.TheVariants.{NoMemory};
-ghost use Rattle.tool_words.specs.Asked.{asked_by, shows, sort};
-ghost use Rattle.tool_words.specs.Mistakes.{mistake_text};
-ghost use Rattle.tool_words.specs.Tasks.{asked_of, sorting_of};
+ghost use Rattle.tool_words.specs.Request.{request_by, shows, sort};
+ghost use Rattle.tool_words.specs.UsageErrors.{usage_error_text};
+ghost use Rattle.tool_words.specs.Tasks.{request_of, sorting_of};
 ghost use Rattle.tool_words.specs.ToolLine.{AsksForText, Parses};
 
 use crate::answers::show;
@@ -24,19 +24,19 @@ use std::marker::Sync;
 use std::thread::Threads;
 use tool_tasks::{
     Escaped, Fault, PlacedFiles, Sink, SortWords, Source, bounds_over, corrections_over,
-    decode_over, encode_over, encode_rows_over, good_part_over, look_over, merge_sorted_over, say,
-    sort_over, table_over, uploads_over,
+    decode_over, encode_over, encode_rows_over, look_over, merge_sorted_over, say, sort_over,
+    table_over, uploads_over, valid_prefix_over,
 };
-use tool_words::{Mistake, SortingWords, Task, read};
+use tool_words::{SortingWords, Task, UsageError, read};
 use world::World;
 
 /// Says what is wrong with the words, and gives the status.
-fn report_mistake<E: Write>(err: &mut Complaints<E>, mistake: Mistake) -> u8
+fn report_usage_error<E: Write>(err: &mut Complaints<E>, usage_error: UsageError) -> u8
     ensures status { result ≡ 2 }
     ensures line { LineWritten (E.contents err.old.writer) (E.contents err.new.writer)
-        err.new.failed (mistake_text mistake) }
+        err.new.failed (usage_error_text usage_error) }
 {
-    err.report_line(mistake);
+    err.report_line(usage_error);
     2
 }
 
@@ -70,30 +70,30 @@ fn sort_task<R: Threads + Sync, S: Source, D: PlacedFiles, K: Sink, E: Write>(
     ensures done { (o o' : Option (List ℕ)) (end : Option AWriteEnd) (flushed : Bool)
         → result ≡ 0 → IsDone (sort (sorting_of words.now)) (run_of (S.loaded source.old)
         (S.loaded source.new) (S.refused source.new) (D.bytes_under files.now) (K.made sink.old)
-        (K.made sink.new) (K.unbegun sink.new) (K.failed sink.new) o o' end flushed
+        (K.made sink.new) (K.unstarted sink.new) (K.failed sink.new) o o' end flushed
         (E.contents err.old.writer) (E.contents err.new.writer) err.new.failed)
         (err.new ≡ err.old) }
     ensures partly { (o o' : Option (List ℕ)) (end : Option AWriteEnd) (flushed : Bool)
         → result ≡ 3 → IsPartlyDone (sort (sorting_of words.now)) (run_of (S.loaded source.old)
         (S.loaded source.new) (S.refused source.new) (D.bytes_under files.now) (K.made sink.old)
-        (K.made sink.new) (K.unbegun sink.new) (K.failed sink.new) o o' end flushed
+        (K.made sink.new) (K.unstarted sink.new) (K.failed sink.new) o o' end flushed
         (E.contents err.old.writer) (E.contents err.new.writer) err.new.failed) }
-    ensures given_up { (o o' : Option (List ℕ)) (end : Option AWriteEnd) (flushed : Bool)
-        → result ≡ 1 → IsGivenUp (sort (sorting_of words.now)) (run_of (S.loaded source.old)
+    ensures aborted { (o o' : Option (List ℕ)) (end : Option AWriteEnd) (flushed : Bool)
+        → result ≡ 1 → IsAborted (sort (sorting_of words.now)) (run_of (S.loaded source.old)
         (S.loaded source.new) (S.refused source.new) (D.bytes_under files.now) (K.made sink.old)
-        (K.made sink.new) (K.unbegun sink.new) (K.failed sink.new) o o' end flushed
+        (K.made sink.new) (K.unstarted sink.new) (K.failed sink.new) o o' end flushed
         (E.contents err.old.writer) (E.contents err.new.writer) err.new.failed)
         (err.new ≡ err.old) }
     ensures status { (result ≡ 0) ⊎ ((result ≡ 1) ⊎ (result ≡ 3)) }
 {
-    let asked = SortWords {
+    let request = SortWords {
         out: words.out,
         ends: words.ends,
     };
     if words.is_merge {
-        return merge_sorted_over(alloc, &asked, &words.uploads, files, sink, err);
+        return merge_sorted_over(alloc, &request, &words.uploads, files, sink, err);
     }
-    sort_over(threads, alloc, &asked, &words.uploads, source, sink, err)
+    sort_over(threads, alloc, &request, &words.uploads, source, sink, err)
 }
 
 /// Does what is asked for, and gives the status.
@@ -119,29 +119,29 @@ fn task_over<
     world: &mut X,
 ) -> u8
     // What the frame runs ends as it says. Anything else does nothing in its world.
-    ensures framed { IsFramed X.bytes_under (asked_of task.entry) (X.run world.old)
+    ensures framed { IsFramed X.bytes_under (request_of task.entry) (X.run world.old)
         (X.run world.new) result }
-    ensures done { result ≡ 0 → IsDone (asked_of task.entry) (run_of (S.loaded source.old)
+    ensures done { result ≡ 0 → IsDone (request_of task.entry) (run_of (S.loaded source.old)
         (S.loaded source.new) (S.refused source.new) (D.bytes_under files.now) (K.made sink.old)
-        (K.made sink.new) (K.unbegun sink.new) (K.failed sink.new) (W.contents out.old.writer)
+        (K.made sink.new) (K.unstarted sink.new) (K.failed sink.new) (W.contents out.old.writer)
         (W.contents out.new.writer) out.new.end out.new.is_flushed (E.contents err.old.writer)
         (E.contents err.new.writer) err.new.failed) (err.new ≡ err.old) }
-    ensures partly { result ≡ 3 → IsPartlyDone (asked_of task.entry) (run_of (S.loaded source.old)
+    ensures partly { result ≡ 3 → IsPartlyDone (request_of task.entry) (run_of (S.loaded source.old)
         (S.loaded source.new) (S.refused source.new) (D.bytes_under files.now) (K.made sink.old)
-        (K.made sink.new) (K.unbegun sink.new) (K.failed sink.new) (W.contents out.old.writer)
+        (K.made sink.new) (K.unstarted sink.new) (K.failed sink.new) (W.contents out.old.writer)
         (W.contents out.new.writer) out.new.end out.new.is_flushed (E.contents err.old.writer)
         (E.contents err.new.writer) err.new.failed) }
-    ensures given_up { result ≡ 1 → IsGivenUp (asked_of task.entry) (run_of (S.loaded source.old)
+    ensures aborted { result ≡ 1 → IsAborted (request_of task.entry) (run_of (S.loaded source.old)
         (S.loaded source.new) (S.refused source.new) (D.bytes_under files.now) (K.made sink.old)
-        (K.made sink.new) (K.unbegun sink.new) (K.failed sink.new) (W.contents out.old.writer)
+        (K.made sink.new) (K.unstarted sink.new) (K.failed sink.new) (W.contents out.old.writer)
         (W.contents out.new.writer) out.new.end out.new.is_flushed (E.contents err.old.writer)
         (E.contents err.new.writer) err.new.failed) (err.new ≡ err.old) }
-    ensures mistaken { (line : List ℕ) → mistake_line (asked_of task.entry) ≡ Some line
+    ensures misused { (line : List ℕ) → usage_error_line (request_of task.entry) ≡ Some line
         → ((result ≡ 2) × LineWritten (E.contents err.old.writer) (E.contents err.new.writer)
         err.new.failed line) ⊎ ((result ≡ 1) × IsFaultReported NoMemory
         (E.contents err.old.writer) (E.contents err.new.writer) err.new.failed) }
-    ensures right { result ≡ 2 → (asked_of task.entry ≡ shows)
-        ⊎ ((line : List ℕ) × (mistake_line (asked_of task.entry) ≡ Some line)) }
+    ensures right { result ≡ 2 → (request_of task.entry ≡ shows)
+        ⊎ ((line : List ℕ) × (usage_error_line (request_of task.entry) ≡ Some line)) }
     ensures untouched { result ≡ 2 → (out.new ≡ out.old)
         × (S.loaded source.new ≡ S.loaded source.old) × (K.made sink.new ≡ K.made sink.old) }
     ensures status { result ≤ 3 }
@@ -155,15 +155,15 @@ fn task_over<
         Task::Uploads(words, has_tokens) => {
             uploads_over(alloc, &words, has_tokens, source, out, err)
         }
-        Task::GoodPart(words) => good_part_over(alloc, &words, source, sink, out, err),
+        Task::ValidPrefix(words) => valid_prefix_over(alloc, &words, source, sink, out, err),
         Task::Look(words, names) => look_over(threads, alloc, &words, &names, source, out, err),
         Task::Table(question) => table_over(alloc, &question, moment, source, out, err),
         Task::Sort(words) => sort_task(threads, alloc, &words, source, files, sink, err),
         Task::Merge(parts) => merge_over(alloc, &parts, source, out, err),
         Task::Bounds(words) => bounds_over(alloc, &words, files, out, err),
         Task::Corrections(words) => corrections_over(alloc, &words, world),
-        Task::Mistake(mistake) => report_mistake(err, mistake),
-        Task::Unshown(mistake) => report_mistake(err, mistake),
+        Task::UsageError(usage_error) => report_usage_error(err, usage_error),
+        Task::Unshown(usage_error) => report_usage_error(err, usage_error),
         Task::WrongDate(wrong) => report_wrong_date(alloc, err, &wrong),
     }
 }
@@ -199,16 +199,16 @@ pub fn main_over<
     // `corrections` is run by the frame in its world, and ends as it says. Only being out of memory,
     // while the words are read, may come before it. Anything else does nothing in that world.
     ensures framed { Parses (map string_bytes words.now)
-        → IsFramed X.bytes_under (asked_by (map string_bytes words.now)) (X.run world.old)
+        → IsFramed X.bytes_under (request_by (map string_bytes words.now)) (X.run world.old)
         (X.run world.new) result
         ⊎ ((result ≡ 1) × (X.run world.new ≡ X.run world.old)) }
     ensures unframed { ¬ Parses (map string_bytes words.now) → X.run world.new ≡ X.run world.old }
 
     // With status 0 what the words ask for was done.
     ensures done { Parses (map string_bytes words.now) → result ≡ 0
-        → IsDone (asked_by (map string_bytes words.now)) (run_of (S.loaded source.old)
+        → IsDone (request_by (map string_bytes words.now)) (run_of (S.loaded source.old)
         (S.loaded source.new) (S.refused source.new) (D.bytes_under files.now) (K.made sink.old)
-        (K.made sink.new) (K.unbegun sink.new) (K.failed sink.new) (W.contents out.old.writer)
+        (K.made sink.new) (K.unstarted sink.new) (K.failed sink.new) (W.contents out.old.writer)
         (W.contents out.new.writer) out.new.end out.new.is_flushed (E.contents err.old.writer)
         (E.contents err.new.writer) err.new.failed) (err.new ≡ err.old) }
 
@@ -219,18 +219,18 @@ pub fn main_over<
 
     // With status 3 it was done, and an upload has a layout fault or rows were refused.
     ensures partly { Parses (map string_bytes words.now) → result ≡ 3
-        → IsPartlyDone (asked_by (map string_bytes words.now)) (run_of (S.loaded source.old)
+        → IsPartlyDone (request_by (map string_bytes words.now)) (run_of (S.loaded source.old)
         (S.loaded source.new) (S.refused source.new) (D.bytes_under files.now) (K.made sink.old)
-        (K.made sink.new) (K.unbegun sink.new) (K.failed sink.new) (W.contents out.old.writer)
+        (K.made sink.new) (K.unstarted sink.new) (K.failed sink.new) (W.contents out.old.writer)
         (W.contents out.new.writer) out.new.end out.new.is_flushed (E.contents err.old.writer)
         (E.contents err.new.writer) err.new.failed) }
 
     // With status 1 the right fault was reported, or the text has the layout fault of an upload, or
     // no row is a tap. Only being out of memory, while the words are read, may come before it.
-    ensures given_up { Parses (map string_bytes words.now) → result ≡ 1
-        → IsGivenUp (asked_by (map string_bytes words.now)) (run_of (S.loaded source.old)
+    ensures aborted { Parses (map string_bytes words.now) → result ≡ 1
+        → IsAborted (request_by (map string_bytes words.now)) (run_of (S.loaded source.old)
         (S.loaded source.new) (S.refused source.new) (D.bytes_under files.now) (K.made sink.old)
-        (K.made sink.new) (K.unbegun sink.new) (K.failed sink.new) (W.contents out.old.writer)
+        (K.made sink.new) (K.unstarted sink.new) (K.failed sink.new) (W.contents out.old.writer)
         (W.contents out.new.writer) out.new.end out.new.is_flushed (E.contents err.old.writer)
         (E.contents err.new.writer) err.new.failed) (err.new ≡ err.old)
         ⊎ IsFaultReported NoMemory
@@ -245,16 +245,16 @@ pub fn main_over<
 
     // A mistake in what is asked for is reported by its line, with status 2. Only running out of
     // memory, while the words are read or the line is made, may come before it.
-    ensures mistaken { (line : List ℕ) → Parses (map string_bytes words.now)
-        → mistake_line (asked_by (map string_bytes words.now)) ≡ Some line → ((result ≡ 2)
+    ensures misused { (line : List ℕ) → Parses (map string_bytes words.now)
+        → usage_error_line (request_by (map string_bytes words.now)) ≡ Some line → ((result ≡ 2)
         × LineWritten (E.contents err.old.writer) (E.contents err.new.writer) err.new.failed line)
         ⊎ ((result ≡ 1) × IsFaultReported NoMemory
         (E.contents err.old.writer) (E.contents err.new.writer) err.new.failed) }
 
     // Only such words have status 2, and those of what only informs.
     ensures right { result ≡ 2 → (¬ Parses (map string_bytes words.now))
-        ⊎ ((asked_by (map string_bytes words.now) ≡ shows)
-        ⊎ ((line : List ℕ) × (mistake_line (asked_by (map string_bytes words.now)) ≡ Some line))) }
+        ⊎ ((request_by (map string_bytes words.now) ≡ shows)
+        ⊎ ((line : List ℕ) × (usage_error_line (request_by (map string_bytes words.now)) ≡ Some line))) }
 
     // A mistake in the words loads nothing, makes nothing and writes nothing to `out`.
     ensures untouched { result ≡ 2 → (out.new ≡ out.old)

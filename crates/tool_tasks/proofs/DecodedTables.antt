@@ -12,7 +12,7 @@ use Rattle.program_manners.specs.Loads.{Loaded}
 use Rattle.world.specs.declared.faults.LoadFault.{LoadFault}
 use Rattle.program_manners.specs.declared.output.WriteEnd.{WriteEnd}
 use Rattle.tap_rows.specs.TapTables.{head}
-use Rattle.tool_tasks.specs.Decode.{AreReported, Decoded, Decodes, GivesUpDecode}
+use Rattle.tool_tasks.specs.Decode.{AreReported, Decoded, Decodes, AbortsDecode}
 use Rattle.tool_tasks.specs.Decode.{IsRightDecodeFault, IsWrittenUpTo}
 use Rattle.tool_tasks.specs.Decode.{layout_lines, rows_of, tap_table_of, uploads_of, words_of}
 use Rattle.tool_tasks.specs.Fault.{IsFaultReported, failed_as, fault_line, fault_text}
@@ -20,9 +20,9 @@ use Rattle.tool_tasks.specs.Fault.{is_quiet}
 use Rattle.tool_tasks.specs.Source.{HasOpened}
 use Rattle.tool_tasks.specs.declared.fault.Fault.{Fault}
 use Rattle.tool_tasks.specs.inside.Decode.{DecodesEach}
-use Rattle.tool_tasks.specs.inside.Decode.{StopsDecode, StopsEach}
+use Rattle.tool_tasks.specs.inside.Decode.{FailsDecode, FailsEach}
 use Rattle.tool_tasks.proofs.Opened.{opened_none}
-use Rattle.tool_tasks.proofs.Decoding.{right_of_writing, written_begun, written_behind}
+use Rattle.tool_tasks.proofs.Decoding.{right_of_writing, written_started, written_after}
 use Rattle.tool_tasks.proofs.Decoding.{written_kept, written_of_writing}
 
 -- ---- the whole table
@@ -49,12 +49,12 @@ decodes_kept words loaded loaded' out mid out' decoded all kept = record {
   written = Appends-kept out mid out' (tap_table_of decoded) all.written kept;
 }
 
-pub table_stops : (words : List (List ℕ)) (loaded : Option (List Loaded))
+pub table_fails : (words : List (List ℕ)) (loaded : Option (List Loaded))
     (refused : Option (Option (List ℕ) × LoadFault)) (end : Option WriteEnd) (fault : Fault)
     (out mid out' said said' : Option (List ℕ)) (failed : Bool) → Appends out mid (head ++ 10 ∷ [])
-    → StopsEach words loaded refused end fault mid out' said said' failed
-    → StopsDecode words loaded refused end fault out out' said said' failed
-table_stops words loaded refused end fault out mid out' said said' failed first stops = record {
+    → FailsEach words loaded refused end fault mid out' said said' failed
+    → FailsDecode words loaded refused end fault out out' said said' failed
+table_fails words loaded refused end fault out mid out' said said' failed first stops = record {
   reported = stops.reported;
   last = stops.last;
   one_at_most = stops.one_at_most;
@@ -62,19 +62,19 @@ table_stops words loaded refused end fault out mid out' said said' failed first 
   between = stops.between;
   named = stops.named;
   opened = stops.opened;
-  written = written_behind fault out mid out' (head ++ 10 ∷ [])
+  written = written_after fault out mid out' (head ++ 10 ∷ [])
       (rows_of (stops.reported ++ stops.last)) first stops.written;
   right = stops.right;
   lines = stops.lines;
 }
 
 -- in the head line
-pub head_stops : (words : List (List ℕ)) (loaded : Option (List Loaded))
+pub head_fails : (words : List (List ℕ)) (loaded : Option (List Loaded))
     (refused : Option (Option (List ℕ) × LoadFault)) (end : Option WriteEnd) (fault : Fault)
     (out out' said : Option (List ℕ)) (failed : Bool) → fault ≡ failed_as end
     → Begins out out' (head ++ 10 ∷ [])
-    → StopsDecode words loaded refused end fault out out' said said failed
-head_stops words loaded refused end fault out out' said failed is begun = record {
+    → FailsDecode words loaded refused end fault out out' said said failed
+head_fails words loaded refused end fault out out' said failed is started = record {
   reported = [];
   last = [];
   one_at_most = omega arith;
@@ -83,9 +83,9 @@ head_stops words loaded refused end fault out out' said failed is begun = record
   named = refl;
   opened = opened_none loaded;
   written = written_of_writing end fault out out' (tap_table_of []) (inl is)
-      (begins_front out out' (head ++ 10 ∷ []) [] begun);
+      (begins_front out out' (head ++ 10 ∷ []) [] started);
   right = right_of_writing refused words end fault (inl is);
-  lines = λ well. Appends-nil said;
+  lines = λ success. Appends-nil said;
 }
 
 -- all was written, and did not go out
@@ -94,7 +94,7 @@ pub whole_stops : (words : List (List ℕ)) (loaded loaded' : Option (List Loade
     (out mid out' said said' : Option (List ℕ)) (failed : Bool) (decoded : List Decoded)
     → Decodes words loaded loaded' out mid decoded → Keeps mid out' → fault ≡ failed_as end
     → AreReported said said' failed (layout_lines decoded)
-    → StopsDecode words loaded refused end fault out out' said said' failed
+    → FailsDecode words loaded refused end fault out out' said said' failed
 whole_stops words loaded loaded' refused end fault out mid out' said said' failed decoded all kept
     is lines = record {
       reported = decoded;
@@ -121,8 +121,8 @@ whole_stops words loaded loaded' refused end fault out mid out' said said' faile
 pub stops_kept : (words : List (List ℕ)) (loaded : Option (List Loaded))
     (refused : Option (Option (List ℕ) × LoadFault)) (end end' : Option WriteEnd) (fault : Fault)
     (out mid out' said said' : Option (List ℕ)) (failed : Bool)
-    → StopsDecode words loaded refused end fault out mid said said' failed → Keeps mid out'
-    → end' ≡ end → StopsDecode words loaded refused end' fault out out' said said' failed
+    → FailsDecode words loaded refused end fault out mid said said' failed → Keeps mid out'
+    → end' ≡ end → FailsDecode words loaded refused end' fault out out' said said' failed
 stops_kept words loaded refused end end' fault out mid out' said said' failed stops kept same =
     record {
       reported = stops.reported;
@@ -143,9 +143,9 @@ stops_kept words loaded refused end end' fault out mid out' said said' failed st
 pub stops_again : (words : List (List ℕ)) (loaded : Option (List Loaded))
     (refused : Option (Option (List ℕ) × LoadFault)) (end end' : Option WriteEnd)
     (fault unwritten : Fault) (out mid out' said said' : Option (List ℕ)) (failed : Bool)
-    → StopsDecode words loaded refused end fault out mid said said' failed → Keeps mid out'
+    → FailsDecode words loaded refused end fault out mid said said' failed → Keeps mid out'
     → unwritten ≡ failed_as end'
-    → StopsDecode words loaded refused end' unwritten out out' said said' failed
+    → FailsDecode words loaded refused end' unwritten out out' said said' failed
 stops_again words loaded refused end end' fault unwritten out mid out' said said' failed stops kept
     is = record {
       reported = stops.reported;
@@ -158,7 +158,7 @@ stops_again words loaded refused end end' fault unwritten out mid out' said said
       written = written_of_writing end' unwritten out out'
           (tap_table_of (stops.reported ++ stops.last)) (inl is)
           (begins_kept out mid out' (tap_table_of (stops.reported ++ stops.last))
-          (written_begun fault out mid (tap_table_of (stops.reported ++ stops.last)) stops.written)
+          (written_started fault out mid (tap_table_of (stops.reported ++ stops.last)) stops.written)
           kept);
       right = right_of_writing refused stops.rest end' unwritten (inl is);
       lines = stops.lines;
@@ -168,18 +168,18 @@ stops_again words loaded refused end end' fault unwritten out mid out' said said
 pub line_of_report : (quiet failed : Bool) (said said' : Option (List ℕ)) (text : List ℕ)
     → MatchBool quiet (said' ≡ said) (LineWritten said said' failed text) → failed ≡ false
     → Appends said said' (if quiet then [] else text ++ codes "\n")
-line_of_report true failed said said' text same well =
+line_of_report true failed said said' text same success =
     subst (λ (o : Option (List ℕ)). Appends said o []) (sym same) (Appends-nil said)
-line_of_report false failed said said' text line well = line well
+line_of_report false failed said said' text line success = line success
 
 -- behind the lines of the layout faults
-pub gives_up : (words : List (List ℕ)) (loaded : Option (List Loaded))
+pub aborts : (words : List (List ℕ)) (loaded : Option (List Loaded))
     (refused : Option (Option (List ℕ) × LoadFault)) (end : Option WriteEnd) (fault : Fault)
     (out out' said said' said'' : Option (List ℕ)) (failed failed' : Bool)
-    → StopsDecode words loaded refused end fault out out' said said' failed
+    → FailsDecode words loaded refused end fault out out' said said' failed
     → IsFaultReported fault said' said'' failed' → (failed' ≡ false → failed ≡ false)
-    → GivesUpDecode words loaded refused end fault out out' said said'' failed'
-gives_up words loaded refused end fault out out' said said' said'' failed failed' stops line kept =
+    → AbortsDecode words loaded refused end fault out out' said said'' failed'
+aborts words loaded refused end fault out out' said said' said'' failed failed' stops line kept =
     record {
       reported = stops.reported;
       last = stops.last;
@@ -190,7 +190,7 @@ gives_up words loaded refused end fault out out' said said' said'' failed failed
       opened = stops.opened;
       written = stops.written;
       right = stops.right;
-      lines = λ well. Appends-trans said said' said'' (layout_lines stops.reported)
-          (fault_line fault) (stops.lines (kept well))
-          (line_of_report (is_quiet fault) failed' said' said'' (fault_text fault) line well);
+      lines = λ success. Appends-trans said said' said'' (layout_lines stops.reported)
+          (fault_line fault) (stops.lines (kept success))
+          (line_of_report (is_quiet fault) failed' said' said'' (fault_text fault) line success);
     }

@@ -9,7 +9,7 @@ use Rattle.std.proofs.KnownBytes.{Appends-kept, Appends-nil, Appends-trans}
 use Rattle.std.proofs.lemmas.List.{map-append}
 use Rattle.std.proofs.lemmas.List.Concat.{flat_map-append}
 use Rattle.fare_texts.specs.WrittenOut.{Begins}
-use Rattle.fare_texts.proofs.Beginnings.{begins_behind, begins_kept, begins_whole}
+use Rattle.fare_texts.proofs.Beginnings.{begins_after, begins_kept, begins_whole}
 use Rattle.program_manners.specs.Loads.{Loaded, LoadsOne}
 use Rattle.world.specs.declared.faults.LoadFault.{LoadFault}
 use Rattle.program_manners.specs.declared.output.WriteEnd.{WriteEnd}
@@ -26,7 +26,7 @@ use Rattle.tool_tasks.specs.declared.fault.Fault.{Fault}
 use Rattle.tool_tasks.specs.declared.fault.Fault.TheVariants.{Closed, TooLong, Unread}
 use Rattle.tool_tasks.specs.declared.fault.Fault.TheVariants.{Write}
 use Rattle.tool_tasks.specs.inside.Decode.{DecodesEach, DecodesOne, IsOfWriting}
-use Rattle.tool_tasks.specs.inside.Decode.{StopsEach, StopsOne}
+use Rattle.tool_tasks.specs.inside.Decode.{FailsEach, FailsOne}
 use Rattle.tool_tasks.proofs.Opened.{opened_none}
 
 -- ---- what is loaded, and written
@@ -78,25 +78,25 @@ written_whole (TooLong word) out out' text whole = whole
 written_whole fault out out' text whole = begins_whole out out' text whole
 
 -- it was begun at least
-pub written_begun : (fault : Fault) (out out' : Option (List ℕ)) (text : List ℕ)
+pub written_started : (fault : Fault) (out out' : Option (List ℕ)) (text : List ℕ)
     → IsWrittenUpTo fault out out' text → Begins out out' text
-written_begun (Unread word) out out' text whole = begins_whole out out' text whole
-written_begun (TooLong word) out out' text whole = begins_whole out out' text whole
-written_begun fault out out' text begun = begun
+written_started (Unread word) out out' text whole = begins_whole out out' text whole
+written_started (TooLong word) out out' text whole = begins_whole out out' text whole
+written_started fault out out' text started = started
 
 -- and has gone out
 pub written_kept : (fault : Fault) (a b c : Option (List ℕ)) (text : List ℕ)
     → IsWrittenUpTo fault a b text → Keeps b c → IsWrittenUpTo fault a c text
 written_kept (Unread word) a b c text whole kept = Appends-kept a b c text whole kept
 written_kept (TooLong word) a b c text whole kept = Appends-kept a b c text whole kept
-written_kept fault a b c text begun kept = begins_kept a b c text begun kept
+written_kept fault a b c text started kept = begins_kept a b c text started kept
 
 -- behind a text that was written whole
-pub written_behind : (fault : Fault) (a b c : Option (List ℕ)) (x y : List ℕ) → Appends a b x
+pub written_after : (fault : Fault) (a b c : Option (List ℕ)) (x y : List ℕ) → Appends a b x
     → IsWrittenUpTo fault b c y → IsWrittenUpTo fault a c (x ++ y)
-written_behind (Unread word) a b c x y first next = Appends-trans a b c x y first next
-written_behind (TooLong word) a b c x y first next = Appends-trans a b c x y first next
-written_behind fault a b c x y first next = begins_behind a b c x y first next
+written_after (Unread word) a b c x y first next = Appends-trans a b c x y first next
+written_after (TooLong word) a b c x y first next = Appends-trans a b c x y first next
+written_after fault a b c x y first next = begins_after a b c x y first next
 
 -- ---- faults
 -- of a write that failed, or want of memory
@@ -116,14 +116,14 @@ right_of_writing refused rest end fault (inr is) =
 pub written_of_writing : (end : Option WriteEnd) (fault : Fault) (out out' : Option (List ℕ))
     (text : List ℕ) → IsOfWriting end fault → Begins out out' text
     → IsWrittenUpTo fault out out' text
-written_of_writing None fault out out' text (inl is) begun =
-    subst (λ (f : Fault). IsWrittenUpTo f out out' text) (sym is) begun
-written_of_writing (Some writes.Closed) fault out out' text (inl is) begun =
-    subst (λ (f : Fault). IsWrittenUpTo f out out' text) (sym is) begun
-written_of_writing (Some writes.Refused) fault out out' text (inl is) begun =
-    subst (λ (f : Fault). IsWrittenUpTo f out out' text) (sym is) begun
-written_of_writing end fault out out' text (inr is) begun =
-    subst (λ (f : Fault). IsWrittenUpTo f out out' text) (sym is) begun
+written_of_writing None fault out out' text (inl is) started =
+    subst (λ (f : Fault). IsWrittenUpTo f out out' text) (sym is) started
+written_of_writing (Some writes.Closed) fault out out' text (inl is) started =
+    subst (λ (f : Fault). IsWrittenUpTo f out out' text) (sym is) started
+written_of_writing (Some writes.Refused) fault out out' text (inl is) started =
+    subst (λ (f : Fault). IsWrittenUpTo f out out' text) (sym is) started
+written_of_writing end fault out out' text (inr is) started =
+    subst (λ (f : Fault). IsWrittenUpTo f out out' text) (sym is) started
 
 -- of a file that was refused
 pub right_of_refusal : (refused : Option (Option (List ℕ) × LoadFault)) (word : List ℕ)
@@ -140,7 +140,7 @@ each_none loaded out said failed = record {
   named = refl;
   opened = opened_none loaded;
   written = Appends-nil out;
-  reported = λ well. Appends-nil said;
+  reported = λ success. Appends-nil said;
 }
 
 pub each_more : (words : List (List ℕ)) (word : List ℕ)
@@ -162,11 +162,11 @@ each_more words word loaded loaded' loaded'' out out' out'' said said' said'' fa
       written = subst (λ (text : List ℕ). Appends out out'' text)
           (sym (flat_push (λ (d : Decoded). d.rows) decoded one.one))
           (Appends-trans out out' out'' (rows_of decoded) one.one.rows each.written one.written);
-      reported = λ well. subst (λ (text : List ℕ). Appends said said'' text)
+      reported = λ success. subst (λ (text : List ℕ). Appends said said'' text)
           (sym (flat_push (λ (d : Decoded). layout_line d.word d.fault) decoded one.one
           ∙ ap (λ (text : List ℕ). layout_lines decoded ++ text) own))
           (Appends-trans said said' said'' (layout_lines decoded) (layout_line word fault)
-          (each.reported (kept well)) (line well));
+          (each.reported (kept success)) (line success));
     }
   where
     own : layout_line one.one.word one.one.fault ≡ layout_line word fault
@@ -189,22 +189,22 @@ whole_more (first ∷ decoded) one =
     joined false b c = refl
 
 -- the next upload stops it
-pub each_stops : (words front behind : List (List ℕ)) (word : List ℕ)
+pub each_fails : (words front trailing : List (List ℕ)) (word : List ℕ)
     (loaded loaded' loaded'' : Option (List Loaded))
     (refused : Option (Option (List ℕ) × LoadFault)) (end : Option WriteEnd) (fault : Fault)
     (out out' out'' said said' : Option (List ℕ)) (failed : Bool) (decoded : List Decoded)
-    → words ≡ front ++ word ∷ behind
+    → words ≡ front ++ word ∷ trailing
     → DecodesEach front loaded loaded' out out' said said' failed decoded
-    → StopsOne word loaded' loaded'' refused end fault out' out''
-    → StopsEach words loaded refused end fault out out'' said said' failed
-each_stops words front behind word loaded loaded' loaded'' refused end fault out out' out'' said
+    → FailsOne word loaded' loaded'' refused end fault out' out''
+    → FailsEach words loaded refused end fault out out'' said said' failed
+each_fails words front trailing word loaded loaded' loaded'' refused end fault out out' out'' said
     said' failed decoded parts each (inl (refusal, kept)) = record {
       reported = decoded;
       last = [];
       one_at_most = omega arith;
-      rest = word ∷ behind;
+      rest = word ∷ trailing;
       between = loaded';
-      named = parts ∙ ap (λ (ws : List (List ℕ)). ws ++ word ∷ behind)
+      named = parts ∙ ap (λ (ws : List (List ℕ)). ws ++ word ∷ trailing)
           (sym (ap words_of (append-nil decoded) ∙ each.named));
       opened = subst (λ (ds : List Decoded). HasOpened (words_of ds) loaded loaded' (uploads_of ds))
           (sym (append-nil decoded))
@@ -214,18 +214,18 @@ each_stops words front behind word loaded loaded' loaded'' refused end fault out
           (sym (append-nil decoded))
           (written_whole fault out out'' (rows_of decoded)
           (Appends-kept out out' out'' (rows_of decoded) each.written kept));
-      right = right_of_refusal refused word behind end fault refusal;
+      right = right_of_refusal refused word trailing end fault refusal;
       lines = each.reported;
     }
-each_stops words front behind word loaded loaded' loaded'' refused end fault out out' out'' said
+each_fails words front trailing word loaded loaded' loaded'' refused end fault out out' out'' said
     said' failed decoded parts each (inr (writing, breaks)) = record {
       reported = decoded;
       last = breaks.one ∷ [];
       one_at_most = omega arith;
-      rest = behind;
+      rest = trailing;
       between = loaded'';
-      named = parts ∙ sym (append_assoc front (word ∷ []) behind)
-          ∙ ap (λ (ws : List (List ℕ)). ws ++ behind) (sym more);
+      named = parts ∙ sym (append_assoc front (word ∷ []) trailing)
+          ∙ ap (λ (ws : List (List ℕ)). ws ++ trailing) (sym more);
       opened = subst (λ (ws : List (List ℕ)). HasOpened ws loaded loaded''
           (uploads_of (decoded ++ breaks.one ∷ []))) (sym more)
           (uploads_push (front ++ word ∷ []) loaded loaded'' decoded breaks.one
@@ -235,9 +235,9 @@ each_stops words front behind word loaded loaded' loaded'' refused end fault out
           writing
           (subst (λ (text : List ℕ). Begins out out'' text)
           (sym (flat_push (λ (d : Decoded). d.rows) decoded breaks.one))
-          (begins_behind out out' out'' (rows_of decoded) breaks.one.rows each.written
-          breaks.begun));
-      right = right_of_writing refused behind end fault writing;
+          (begins_after out out' out'' (rows_of decoded) breaks.one.rows each.written
+          breaks.started));
+      right = right_of_writing refused trailing end fault writing;
       lines = each.reported;
     }
   where

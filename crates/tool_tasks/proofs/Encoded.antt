@@ -5,7 +5,7 @@ use Rattle.std.proofs.KnownBytes.{Appends-kept}
 use Rattle.fare_texts.proofs.Beginnings.{begins_kept}
 use Rattle.program_manners.specs.declared.output.WriteEnd.{WriteEnd}
 use Rattle.program_manners.specs.declared.output.WriteEnd.TheVariants as writes
-use Rattle.tap_rows.specs.TapTables.{IsBadRow, IsBegun, IsEncoded, IsOfTapTable, IsRowsFault}
+use Rattle.tap_rows.specs.TapTables.{IsBadRow, IsPartlyWritten, IsEncoded, IsOfTapTable, IsRowsFault}
 use Rattle.tap_rows.specs.declared.column.Column.{Column}
 use Rattle.tap_rows.specs.declared.fault.RowsFault.{RowsFault}
 use Rattle.tap_rows.specs.declared.fault.RowsFault.TheVariants as rows
@@ -64,13 +64,13 @@ encoded_kept text old mid new count encoded kept = record {
   written = Appends-kept old mid new encoded.file encoded.written kept;
 }
 
-pub begun_kept : (text : List ℕ) (old mid new : Option (List ℕ)) → IsBegun text old mid
-    → Keeps mid new → IsBegun text old new
-begun_kept text old mid new begun kept = record {
-  taps = begun.taps;
-  rest = begun.rest;
-  rows = begun.rows;
-  file = begun.file;
-  upload = begun.upload;
-  begun = begins_kept old mid new begun.file begun.begun kept;
+pub started_kept : (text : List ℕ) (old mid new : Option (List ℕ)) → IsPartlyWritten text old mid
+    → Keeps mid new → IsPartlyWritten text old new
+started_kept text old mid new started kept = record {
+  taps = started.taps;
+  rest = started.rest;
+  rows = started.rows;
+  file = started.file;
+  upload = started.upload;
+  started = begins_kept old mid new started.file started.started kept;
 }

@@ -7,9 +7,9 @@ use Rattle.std.specs.Prelude.{IfErr, IfOk, IfSome}
 use Rattle.std.specs.Io.KnownBytes.{Keeps}
 use Rattle.std.proofs.KnownBytes.{Appends-kept, Keeps-refl, Keeps-trans}
 use Rattle.fare_texts.proofs.Beginnings.{begins_kept}
-use Rattle.tap_rows.proofs.AgencyBegunLemmas.{whole_begun}
+use Rattle.tap_rows.proofs.AgencyStartedLemmas.{whole_started}
 use Rattle.tap_rows.specs.Agencies.{IsAgencyFault, IsFirstRefused, IsOfRows, IsRowsEncoded}
-use Rattle.tap_rows.specs.Agencies.{IsUploadBegun, MayEndOnce, refusals, refusals_text}
+use Rattle.tap_rows.specs.Agencies.{IsUploadStarted, MayEndOnce, refusals, refusals_text}
 use Rattle.tap_rows.specs.declared.agency.choice.Choice.{Choice}
 use Rattle.tap_rows.specs.declared.agency.fault.AgencyFault.{AgencyFault}
 use Rattle.tap_rows.specs.declared.agency.fault.AgencyFault.TheVariants as agency
@@ -21,15 +21,15 @@ use Rattle.tap_rows.specs.declared.devices.fault.DevicesFault.{DevicesFault}
 use Rattle.tap_rows.specs.declared.devices.fault.DevicesFault.TheVariants as devices
 use Rattle.tap_rows.specs.declared.devices.fault.WrongDevice.{WrongDevice}
 use Rattle.tap_rows.specs.declared.devices.table.DeviceTable.{DeviceTable}
-use Rattle.tool_tasks.specs.EncodeRows.{GivesUpText, HasDevices, IsChoice, IsRefusedUnmade}
-use Rattle.tool_tasks.specs.EncodeRows.{IsRightRowsFault, StopsDevices, word_in, words_in}
+use Rattle.tool_tasks.specs.EncodeRows.{AbortsText, HasDevices, IsChoice, IsRefusedUnmade}
+use Rattle.tool_tasks.specs.EncodeRows.{IsRightRowsFault, FailsDevices, word_in, words_in}
 use Rattle.tool_tasks.specs.Fault.{failed_as}
 use Rattle.program_manners.specs.Loads.{Loaded}
 use Rattle.world.specs.declared.faults.LoadFault.{LoadFault}
 use Rattle.program_manners.specs.declared.output.WriteEnd.{WriteEnd}
 use Rattle.program_manners.specs.declared.output.WriteEnd.TheVariants as writes
 use Rattle.tool_tasks.specs.Sink.{IsEmptyFile, IsNotMade, Made, Makes, MakesOne, RefusesNew}
-use Rattle.tool_tasks.specs.Sink.{StopsFile}
+use Rattle.tool_tasks.specs.Sink.{FailsFile}
 use Rattle.tool_tasks.specs.Source.{HasOpened}
 use Rattle.tool_words.specs.declared.task.RowsWords.{RowsWords}
 use Rattle.tool_tasks.specs.declared.fault.Fault.{Fault}
@@ -43,7 +43,7 @@ use Rattle.tool_tasks.specs.declared.sink.NewFault.TheVariants as newly
 use Rattle.tool_tasks.specs.declared.wrong_tables.WrongDevices.TheVariants as wrong_table
 use Rattle.tool_tasks.specs.declared.wrong_tables.WrongRows.TheVariants as wrong_rows
 use Rattle.tool_tasks.specs.inside.EncodeRows.{EndsRows, HasLoadedDevices, IsNamedDevicesFault}
-use Rattle.tool_tasks.specs.inside.EncodeRows.{IsNewFault, IsRowsFault, IsUnfinished, StopsOnce}
+use Rattle.tool_tasks.specs.inside.EncodeRows.{IsNewFault, IsRowsFault, IsUnfinished, FailsOnce}
 use Rattle.tool_tasks.proofs.FilesMade.{has_bytes, made_as}
 use Rattle.tool_tasks.proofs.Opened.{opened_none}
 
@@ -65,7 +65,7 @@ rows_kept choice text old mid new old_refused new_refused summary encoded kept =
 }
 
 pub upload_kept : (choice : Choice) (text : List ℕ) (old mid new : Option (List ℕ))
-    → IsUploadBegun choice text old mid → Keeps mid new → IsUploadBegun choice text old new
+    → IsUploadStarted choice text old mid → Keeps mid new → IsUploadStarted choice text old new
 upload_kept choice text old mid new (inl same) kept = inl (Keeps-trans old mid new same kept)
 upload_kept choice text old mid new (inr begins) kept = inr (record {
   head = begins.head;
@@ -73,13 +73,13 @@ upload_kept choice text old mid new (inr begins) kept = inr (record {
   readings = begins.readings;
   records = begins.records;
   each = begins.each;
-  begun = record {
-    done = begins.begun.done;
-    later = begins.begun.later;
-    all = begins.begun.all;
-    file = begins.begun.file;
-    upload = begins.begun.upload;
-    begun = begins_kept old mid new begins.begun.file begins.begun.begun kept;
+  started = record {
+    done = begins.started.done;
+    later = begins.started.later;
+    all = begins.started.all;
+    file = begins.started.file;
+    upload = begins.started.upload;
+    started = begins_kept old mid new begins.started.file begins.started.started kept;
   };
 })
 
@@ -102,21 +102,21 @@ pub of_some : (o : Option (List ℕ)) (text : List ℕ) (P : List ℕ → Type 0
 of_some o text P is holds = subst (λ (o : Option (List ℕ)). IfSome o P) is holds
 
 -- however it ended, a beginning of an upload was written
-pub begun_so : (choice : Choice) (left : Option (List ℕ)) (text : List ℕ)
+pub started_so : (choice : Choice) (left : Option (List ℕ)) (text : List ℕ)
     (old mid new old_refused new_refused : Option (List ℕ)) (encoded : Result Summary AgencyFault)
     → left ≡ Some text
     → IfOk encoded (λ summary. IfSome left (λ bytes.
     IsRowsEncoded choice bytes old mid old_refused new_refused summary))
-    → IfErr encoded (λ fault. IfSome left (λ bytes. IsUploadBegun choice bytes old mid))
-    → Keeps mid new → IsUploadBegun choice text old new
-begun_so choice left text old mid new old_refused new_refused (Ok summary) is whole begun kept =
+    → IfErr encoded (λ fault. IfSome left (λ bytes. IsUploadStarted choice bytes old mid))
+    → Keeps mid new → IsUploadStarted choice text old new
+started_so choice left text old mid new old_refused new_refused (Ok summary) is whole started kept =
     upload_kept choice text old mid new
-    (whole_begun choice text old mid old_refused new_refused summary
+    (whole_started choice text old mid old_refused new_refused summary
     (of_some left text (λ bytes. IsRowsEncoded choice bytes old mid old_refused new_refused summary)
     is whole)) kept
-begun_so choice left text old mid new old_refused new_refused (Err fault) is whole begun kept =
+started_so choice left text old mid new old_refused new_refused (Err fault) is whole started kept =
     upload_kept choice text old mid new
-    (of_some left text (λ bytes. IsUploadBegun choice bytes old mid) is begun) kept
+    (of_some left text (λ bytes. IsUploadStarted choice bytes old mid) is started) kept
 
 -- ---- the refused rows
 -- no file was made
@@ -157,25 +157,25 @@ makes_one (Some before) made' name bytes one = one
 
 -- they are in the file that was made
 pub refused_made : (choice : Choice) (text : List ℕ) (old new empty written : Option (List ℕ))
-    (summary : Summary) (made begun made' : Option (List Made)) (name : List ℕ)
+    (summary : Summary) (made started made' : Option (List Made)) (name : List ℕ)
     → IsRowsEncoded choice text old new empty written summary → IsEmptyFile made empty
-    → begun ≡ made → MakesOne begun made' name written
+    → started ≡ made → MakesOne started made' name written
     → (bytes : List ℕ) × IsRowsEncoded choice text old new (Some []) (Some bytes) summary
     × Makes made made' (record { name = name; bytes = bytes } ∷ [])
-refused_made choice text old new empty written summary made begun made' name encoded is_empty same
+refused_made choice text old new empty written summary made started made' name encoded is_empty same
     one =
     let bytes = refusals_text choice.separator encoded.head
     (refusals encoded.rows encoded.readings) in (
       bytes,
       refused_into choice text old new empty written summary encoded,
       makes_one made made' name bytes
-          (made_as made begun made' name written bytes same
+          (made_as made started made' name written bytes same
           (has_bytes made empty written bytes is_empty encoded.refused) one),
     )
 
 -- a file to which a write failed could not be made
 pub stopped : (name : List ℕ) (end : Option WriteEnd) (failed failed' : Option (List ℕ))
-    → StopsFile name end failed failed' → end ≢ None → IsNotMade failed' name
+    → FailsFile name end failed failed' → end ≢ None → IsNotMade failed' name
 stopped name None failed failed' stops some = absurd (some refl)
 stopped name (Some end) failed failed' stops some = stops
 
@@ -316,7 +316,7 @@ pub wrong_devices : (word : List ℕ) (separator : Separator) (text : List ℕ)
     (loaded loaded' : Option (List Loaded)) (unread : Option (Option (List ℕ) × LoadFault))
     (fault : DevicesFault) (reported : Fault) → IsNamedDevicesFault word fault reported
     → HasOpened (word ∷ []) loaded loaded' (text ∷ []) → IsDevicesFault separator text fault
-    → StopsDevices (Some word) separator loaded loaded' unread reported
+    → FailsDevices (Some word) separator loaded loaded' unread reported
 wrong_devices word separator text loaded loaded' unread devices.Head
     (Devices named wrong_table.Head) is opened wrong =
     inr (record { text = text; opened = opened; wrong = (is, wrong) })
@@ -336,38 +336,38 @@ wrong_devices word separator text loaded loaded' unread devices.NoMemory NoMemor
 wrong_devices word separator text loaded loaded' unread fault reported is opened wrong = absurd is
 
 -- the choice, by the table that was lent
-pub choice_of : (words : RowsWords) (table : Option DeviceTable) (lent : Option (Bor DeviceTable))
-    (choice : Choice) → option_copied lent ≡ table
-    → IsChoice words (option_map (λ d. devices_of d.now) lent) choice
+pub choice_of : (words : RowsWords) (table : Option DeviceTable) (provided : Option (Bor DeviceTable))
+    (choice : Choice) → option_copied provided ≡ table
+    → IsChoice words (option_map (λ d. devices_of d.now) provided) choice
     → IsChoice words (option_map devices_of table) choice
-choice_of words table lent choice same is =
+choice_of words table provided choice same is =
     subst (λ (t : Option DeviceTable). IsChoice words (option_map devices_of t) choice) same
-    (by_lent lent is)
+    (by_provided provided is)
   where
-    by_lent : (lent : Option (Bor DeviceTable))
-        → IsChoice words (option_map (λ d. devices_of d.now) lent) choice
-        → IsChoice words (option_map devices_of (option_copied lent)) choice
-    by_lent None is = is
-    by_lent (Some table) is = is
+    by_provided : (provided : Option (Bor DeviceTable))
+        → IsChoice words (option_map (λ d. devices_of d.now) provided) choice
+        → IsChoice words (option_map devices_of (option_copied provided)) choice
+    by_provided None is = is
+    by_provided (Some table) is = is
 
 -- ---- the file of the refused rows
 -- it was not begun
-pub not_begun : (words : RowsWords) (name word : List ℕ) (choice : Choice)
+pub not_started : (words : RowsWords) (name word : List ℕ) (choice : Choice)
     (loaded loaded' : Option (List Loaded)) (unread : Option (Option (List ℕ) × LoadFault))
-    (unbegun : Option (List ℕ × NewFault)) (failed : Option (List ℕ)) (end : Option WriteEnd)
+    (unstarted : Option (List ℕ × NewFault)) (failed : Option (List ℕ)) (end : Option WriteEnd)
     (fault : NewFault) (reported : Fault) (out : Option (List ℕ)) → IsNewFault name fault reported
-    → (fault ≢ newly.NoMemory → RefusesNew unbegun name fault)
-    → GivesUpText words (Some name) word choice loaded loaded' unread unbegun failed end reported
+    → (fault ≢ newly.NoMemory → RefusesNew unstarted name fault)
+    → AbortsText words (Some name) word choice loaded loaded' unread unstarted failed end reported
     out out
-not_begun words name word choice loaded loaded' unread unbegun failed end newly.Exists
+not_started words name word choice loaded loaded' unread unstarted failed end newly.Exists
     (Exists named) out is why =
     inl (inr (is, why (λ e. absurd (cc e))), Keeps-refl out)
-not_begun words name word choice loaded loaded' unread unbegun failed end newly.Unmade
+not_started words name word choice loaded loaded' unread unstarted failed end newly.Unmade
     (Unmade named) out is why =
     inl (inr (is, why (λ e. absurd (cc e))), Keeps-refl out)
-not_begun words name word choice loaded loaded' unread unbegun failed end newly.NoMemory NoMemory
+not_started words name word choice loaded loaded' unread unstarted failed end newly.NoMemory NoMemory
     out is why = inl (inl tt, Keeps-refl out)
-not_begun words name word choice loaded loaded' unread unbegun failed end fault reported out is
+not_started words name word choice loaded loaded' unread unstarted failed end fault reported out is
     why = absurd is
 
 -- it is written whole, and did not get its name
@@ -383,17 +383,17 @@ unfinished words name word choice text end failed make.NoMemory NoMemory out out
 unfinished words name word choice text end failed fault reported out out' is why = absurd is
 
 -- it was removed
-pub once_stops : (words : RowsWords) (name word : List ℕ) (choice : Choice)
+pub once_fails : (words : RowsWords) (name word : List ℕ) (choice : Choice)
     (loaded loaded' : Option (List Loaded)) (unread : Option (Option (List ℕ) × LoadFault))
-    (unbegun : Option (List ℕ × NewFault)) (failed : Option (List ℕ))
+    (unstarted : Option (List ℕ × NewFault)) (failed : Option (List ℕ))
     (end refused_end : Option WriteEnd) (fault : Fault) (out out' : Option (List ℕ))
     → (refused_end ≢ None → IsNotMade failed name)
-    → StopsOnce words name word choice loaded loaded' unread end refused_end fault out out'
-    → GivesUpText words (Some name) word choice loaded loaded' unread unbegun failed end fault out
+    → FailsOnce words name word choice loaded loaded' unread end refused_end fault out out'
+    → AbortsText words (Some name) word choice loaded loaded' unread unstarted failed end fault out
     out'
-once_stops words name word choice loaded loaded' unread unbegun failed end refused_end fault out
+once_fails words name word choice loaded loaded' unread unstarted failed end refused_end fault out
     out' stopped (inl (refusal, kept)) = inl (inl refusal, kept)
-once_stops words name word choice loaded loaded' unread unbegun failed end refused_end fault out
+once_fails words name word choice loaded loaded' unread unstarted failed end refused_end fault out
     out' stopped (inr off) = inr (record {
       text = off.text;
       again = off.text;
@@ -402,6 +402,6 @@ once_stops words name word choice loaded loaded' unread unbegun failed end refus
         right = right_weaker words (Some name) word choice off.text off.text end
             (refused_end ≢ None)
             (IsNotMade failed name) fault out out' stopped off.stops.right;
-        begun = off.stops.begun;
+        started = off.stops.started;
       };
     })

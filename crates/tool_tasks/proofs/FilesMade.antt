@@ -16,10 +16,10 @@ has_bytes (Some files) (Some old) (Some bytes) file is_empty appends =
     ap (λ (b : List ℕ). Some b) (appends ∙ ap (λ (o : List ℕ). o ++ file) none)
 
 -- a file was made with its bytes
-pub made_as : (before begun after : Option (List Made)) (name : List ℕ)
-    (written : Option (List ℕ)) (file : List ℕ) → begun ≡ before → HasBytes before written file
-    → MakesOne begun after name written → MakesOne before after name (Some file)
-made_as before begun after name written file same has makes =
+pub made_as : (before started after : Option (List Made)) (name : List ℕ)
+    (written : Option (List ℕ)) (file : List ℕ) → started ≡ before → HasBytes before written file
+    → MakesOne started after name written → MakesOne before after name (Some file)
+made_as before started after name written file same has makes =
     known before has (subst (λ (b : Option (List Made)). MakesOne b after name written) same makes)
   where
     known : (before : Option (List Made)) → HasBytes before written file

@@ -4,7 +4,7 @@ pub mod Encoded
 pub mod EncodedRows
 pub mod Faults
 pub mod FilesMade
-pub mod GoodParts
+pub mod ValidPrefixes
 pub mod MergedUploads
 pub mod Opened
 pub mod Sorting

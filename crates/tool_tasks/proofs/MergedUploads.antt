@@ -38,11 +38,11 @@ merge_of uploads numbers ends empty written merged is = record {
 }
 
 -- a word at a place is one of the words
-pub one_got : (words : List (List ℕ)) (place : ℕ) (word : List ℕ)
-    → slice_get words place ≡ Some word → IsOneOf word words
-one_got [] place word at = cc
+pub one_got : (words : List (List ℕ)) (position : ℕ) (word : List ℕ)
+    → slice_get words position ≡ Some word → IsOneOf word words
+one_got [] position word at = cc
 one_got (first ∷ words) zero word at = inl (sym cc)
-one_got (first ∷ words) (suc place) word at = inr (one_got words place word at)
+one_got (first ∷ words) (suc position) word at = inr (one_got words position word at)
 
 -- the fault of a file that is named by its word is the right one
 pub right_file : (words : List (List ℕ)) (known : List (Option (List ℕ))) (index : ℕ)

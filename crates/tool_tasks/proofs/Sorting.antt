@@ -43,7 +43,7 @@ pub reported_more : (said mid end : Option (List ℕ)) (failed failed' : Bool)
     (lines line : List ℕ) → AreReported said mid failed lines → AreReported mid end failed' line
     → (failed' ≡ false → failed ≡ false) → AreReported said end failed' (lines ++ line)
 reported_more said mid end failed failed' lines line first second kept =
-    λ well. Appends-trans said mid end lines line (first (kept well)) (second well)
+    λ success. Appends-trans said mid end lines line (first (kept success)) (second success)
 
 -- the line of one more upload
 pub lines_push : (words : List (List ℕ)) (ends : List UploadEnd) (end : UploadEnd)

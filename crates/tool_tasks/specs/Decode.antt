@@ -95,7 +95,7 @@ IsRightDecodeFault refused rest end fault = IsRefusal refused (take 1 rest) faul
 -- The decoding was given up after these uploads were loaded. Of their tap table a beginning was
 -- written, and all of it if the next upload was not loaded. The layout faults were reported,
 -- perhaps without that of the last upload, and then the fault, which is the right one.
-pub record GivesUpDecode (words : List (List ℕ)) (loaded : Option (List Loaded))
+pub record AbortsDecode (words : List (List ℕ)) (loaded : Option (List Loaded))
     (refused : Option (Option (List ℕ) × LoadFault)) (end : Option WriteEnd) (fault : Fault)
     (out out' said said' : Option (List ℕ)) (failed : Bool) : Type 0 where
   pub reported : List Decoded

@@ -6,7 +6,7 @@ use Rattle.program_manners.specs.Loads.{Loaded}
 use Rattle.world.specs.declared.faults.LoadFault.{LoadFault}
 use Rattle.program_manners.specs.declared.output.WriteEnd.{WriteEnd}
 use Rattle.program_manners.specs.declared.output.WriteEnd.TheVariants as writes
-use Rattle.tap_rows.specs.TapTables.{IsBadRow, IsBegun, IsEncoded, IsHead}
+use Rattle.tap_rows.specs.TapTables.{IsBadRow, IsPartlyWritten, IsEncoded, IsHead}
 use Rattle.tool_tasks.specs.Fault.{IsRefusal}
 use Rattle.tool_tasks.specs.Source.{HasOpened}
 use Rattle.tool_tasks.specs.declared.fault.Fault.{Fault}
@@ -55,24 +55,24 @@ IsRightEncodeFault word text again end fault out out' = ⊥
 
 -- The fault is the right one of a text that was read under this word. What was written is a
 -- beginning of an upload of the first taps of the text, as it was when it was read again.
-pub record StopsEncode (word text again : List ℕ) (end : Option WriteEnd) (fault : Fault)
+pub record FailsEncode (word text again : List ℕ) (end : Option WriteEnd) (fault : Fault)
     (out out' : Option (List ℕ)) : Type 0 where
   pub right : IsRightEncodeFault word text again end fault out out'
-  pub begun : IsBegun again out out'
+  pub started : IsPartlyWritten again out out'
 
 -- the tap table was read, and the encoding was broken off
-pub record BreaksOffEncode (word : List ℕ) (loaded loaded' : Option (List Loaded))
+pub record FailsEncodeWrite (word : List ℕ) (loaded loaded' : Option (List Loaded))
     (end : Option WriteEnd) (fault : Fault) (out out' : Option (List ℕ)) : Type 0 where
   pub text : List ℕ
   pub again : List ℕ
   pub reads : ReadsTwice word loaded loaded' text again
-  pub stops : StopsEncode word text again end fault out out'
+  pub stops : FailsEncode word text again end fault out out'
 
 -- The tap table was not opened, or memory was refused before, and nothing was written; or it was
 -- read, and the encoding was broken off.
-abbrev pub GivesUpEncode : List ℕ → Option (List Loaded) → Option (List Loaded)
+abbrev pub AbortsEncode : List ℕ → Option (List Loaded) → Option (List Loaded)
     → Option (Option (List ℕ) × LoadFault) → Option WriteEnd → Fault → Option (List ℕ)
     → Option (List ℕ) → Type 0
-GivesUpEncode word loaded loaded' refused end fault out out' =
+AbortsEncode word loaded loaded' refused end fault out out' =
     (IsRefusal refused (word ∷ []) fault × Keeps out out')
-    ⊎ BreaksOffEncode word loaded loaded' end fault out out'
+    ⊎ FailsEncodeWrite word loaded loaded' end fault out out'

@@ -9,7 +9,7 @@ use Rattle.program_manners.specs.Loads.{Loaded}
 use Rattle.world.specs.declared.faults.LoadFault.{LoadFault}
 use Rattle.program_manners.specs.declared.output.WriteEnd.{WriteEnd}
 use Rattle.program_manners.specs.declared.output.WriteEnd.TheVariants as writes
-use Rattle.tap_rows.specs.Agencies.{IsFirstRefused, IsRowsEncoded, IsUploadBegun, IsWanting}
+use Rattle.tap_rows.specs.Agencies.{IsFirstRefused, IsRowsEncoded, IsUploadStarted, IsWanting}
 use Rattle.tap_rows.specs.AgencyTexts.{first_record}
 use Rattle.tap_rows.specs.Devices.{AreDevices, Device, IsDevicesFault, devices_of}
 use Rattle.tap_rows.specs.declared.agency.choice.Choice.{Choice}
@@ -158,8 +158,8 @@ abbrev pub IsColumnName : RowsWords → Wanted → List ℕ → Type 0
 IsColumnName words wanted.Token name = name ≡ words.token.now
 IsColumnName words wanted.Validator name = name ≡ words.validator.now
 IsColumnName words wanted.Moment name = name ≡ words.moment.now
-IsColumnName words (wanted.Only place) name =
-    (condition : Condition) → slice_get words.only.items place ≡ Some condition
+IsColumnName words (wanted.Only position) name =
+    (condition : Condition) → slice_get words.only.items position ≡ Some condition
     → name ≡ condition.column.now
 
 -- the head of the text lacks a column of this name, which the words ask for
@@ -193,11 +193,11 @@ IsRightRowsFault words refused word choice text again end Failed fault out out' 
 
 -- The fault is the right one of a text that was read under this word. What was written is a
 -- beginning of an upload of its first taps, as they were when they were read last.
-pub record StopsRows (words : RowsWords) (refused : Option (List ℕ)) (word : List ℕ)
+pub record FailsRows (words : RowsWords) (refused : Option (List ℕ)) (word : List ℕ)
     (choice : Choice) (text again : List ℕ) (end : Option WriteEnd) (Failed : Type 0)
     (fault : Fault) (out out' : Option (List ℕ)) : Type 0 where
   pub right : IsRightRowsFault words refused word choice text again end Failed fault out out'
-  pub begun : IsUploadBegun choice again out out'
+  pub started : IsUploadStarted choice again out out'
 
 -- the file of the refused rows, which has this name, could not be made
 abbrev pub IsRefusedUnmade : Option (List ℕ) → Option (List ℕ) → Type 0
@@ -205,31 +205,31 @@ IsRefusedUnmade None failed = ⊥
 IsRefusedUnmade (Some name) failed = IsNotMade failed name
 
 -- the text was read, and the encoding was broken off
-pub record BreaksOffText (words : RowsWords) (refused : Option (List ℕ)) (word : List ℕ)
+pub record FailsTextWrite (words : RowsWords) (refused : Option (List ℕ)) (word : List ℕ)
     (choice : Choice) (loaded loaded' : Option (List Loaded)) (failed : Option (List ℕ))
     (end : Option WriteEnd) (fault : Fault) (out out' : Option (List ℕ)) : Type 0 where
   pub text : List ℕ
   pub again : List ℕ
   pub reads : ReadsText refused word loaded loaded' text again
-  pub stops : StopsRows words refused word choice text again end (IsRefusedUnmade refused failed)
+  pub stops : FailsRows words refused word choice text again end (IsRefusedUnmade refused failed)
       fault out out'
 
 -- the sink did not begin the file of the refused rows, which the fault names, for its reason
-abbrev pub IsNotBegun : Option (List ℕ) → Option (List ℕ × NewFault) → Fault → Type 0
-IsNotBegun (Some name) unbegun (Exists named) =
-    (named.now ≡ name) × RefusesNew unbegun name newly.Exists
-IsNotBegun (Some name) unbegun (Unmade named) =
-    (named.now ≡ name) × RefusesNew unbegun name newly.Unmade
-IsNotBegun refused unbegun fault = ⊥
+abbrev pub IsNotStarted : Option (List ℕ) → Option (List ℕ × NewFault) → Fault → Type 0
+IsNotStarted (Some name) unstarted (Exists named) =
+    (named.now ≡ name) × RefusesNew unstarted name newly.Exists
+IsNotStarted (Some name) unstarted (Unmade named) =
+    (named.now ≡ name) × RefusesNew unstarted name newly.Unmade
+IsNotStarted refused unstarted fault = ⊥
 
 -- The file of the refused rows was not begun, or the text was not opened, or memory was refused
 -- before, and nothing was written; or the text was read, and the encoding was broken off.
-abbrev pub GivesUpText : RowsWords → Option (List ℕ) → List ℕ → Choice → Option (List Loaded)
+abbrev pub AbortsText : RowsWords → Option (List ℕ) → List ℕ → Choice → Option (List Loaded)
     → Option (List Loaded) → Option (Option (List ℕ) × LoadFault) → Option (List ℕ × NewFault)
     → Option (List ℕ) → Option WriteEnd → Fault → Option (List ℕ) → Option (List ℕ) → Type 0
-GivesUpText words refused word choice loaded loaded' unread unbegun failed end fault out out' =
-    ((IsRefusal unread (word ∷ []) fault ⊎ IsNotBegun refused unbegun fault) × Keeps out out')
-    ⊎ BreaksOffText words refused word choice loaded loaded' failed end fault out out'
+AbortsText words refused word choice loaded loaded' unread unstarted failed end fault out out' =
+    ((IsRefusal unread (word ∷ []) fault ⊎ IsNotStarted refused unstarted fault) × Keeps out out')
+    ⊎ FailsTextWrite words refused word choice loaded loaded' failed end fault out out'
 
 -- the text is no device table beside rows with this separator, as the fault of this word reports
 abbrev pub IsDevicesFaultOf : List ℕ → Separator → List ℕ → Fault → Type 0
@@ -247,33 +247,33 @@ pub record RefusesDevices (word : List ℕ) (separator : Separator)
   pub wrong : IsDevicesFaultOf word separator text fault
 
 -- there is no device table: it was not loaded, or memory was refused; or it is none
-abbrev pub StopsDevices : Option (List ℕ) → Separator → Option (List Loaded)
+abbrev pub FailsDevices : Option (List ℕ) → Separator → Option (List Loaded)
     → Option (List Loaded) → Option (Option (List ℕ) × LoadFault) → Fault → Type 0
-StopsDevices None separator loaded loaded' unread fault = ⊥
-StopsDevices (Some word) separator loaded loaded' unread fault =
+FailsDevices None separator loaded loaded' unread fault = ⊥
+FailsDevices (Some word) separator loaded loaded' unread fault =
     IsRefusal unread (word ∷ []) fault ⊎ RefusesDevices word separator loaded loaded' fault
 
 -- the device table was loaded, if the words name one, and then the encoding was given up
-pub record GivesUpBehindDevices (words : RowsWords) (word : List ℕ)
+pub record AbortsAfterDevices (words : RowsWords) (word : List ℕ)
     (loaded loaded' : Option (List Loaded)) (unread : Option (Option (List ℕ) × LoadFault))
-    (unbegun : Option (List ℕ × NewFault)) (failed : Option (List ℕ)) (end : Option WriteEnd)
+    (unstarted : Option (List ℕ × NewFault)) (failed : Option (List ℕ)) (end : Option WriteEnd)
     (fault : Fault) (out out' : Option (List ℕ)) : Type 0 where
   pub devices : Option (List Device)
   pub choice : Choice
   pub is_choice : IsChoice words devices choice
   pub between : Option (List Loaded)
   pub of_devices : HasDevices words loaded between devices
-  pub gives_up : GivesUpText words (word_in words.refused) word choice between loaded' unread
-      unbegun failed end fault out out'
+  pub aborts : AbortsText words (word_in words.refused) word choice between loaded' unread
+      unstarted failed end fault out out'
 
 -- The encoding was given up: there is no device table, and nothing was written; or behind it. No
 -- file was made.
-abbrev pub GivesUpRows : RowsWords → List ℕ → Option (List Loaded) → Option (List Loaded)
+abbrev pub AbortsRows : RowsWords → List ℕ → Option (List Loaded) → Option (List Loaded)
     → Option (Option (List ℕ) × LoadFault) → Option (List Made) → Option (List Made)
     → Option (List ℕ × NewFault) → Option (List ℕ) → Option WriteEnd → Fault → Option (List ℕ)
     → Option (List ℕ) → Type 0
-GivesUpRows words word loaded loaded' unread made made' unbegun failed end fault out out' =
+AbortsRows words word loaded loaded' unread made made' unstarted failed end fault out out' =
     (made' ≡ made)
-    × ((StopsDevices (word_in words.devices) words.separator loaded loaded' unread fault
+    × ((FailsDevices (word_in words.devices) words.separator loaded loaded' unread fault
     × Keeps out out')
-    ⊎ GivesUpBehindDevices words word loaded loaded' unread unbegun failed end fault out out')
+    ⊎ AbortsAfterDevices words word loaded loaded' unread unstarted failed end fault out out')

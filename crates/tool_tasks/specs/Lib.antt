@@ -3,7 +3,7 @@ pub mod Decode
 pub mod Encode
 pub mod EncodeRows
 pub mod Fault
-pub mod GoodPart
+pub mod ValidPrefix
 pub mod Layout
 pub mod MergeSorted
 pub mod Names

@@ -52,9 +52,9 @@ IsRightFileFault words known fault = ⊥
 
 -- The merge was given up, and no file was made, or that of the ends alone: an upload is refused, or
 -- one of the two files could not be made.
-abbrev pub GivesUpMergeSorted : SortWords → List (List ℕ) → List (Option (List ℕ))
+abbrev pub AbortsMergeSorted : SortWords → List (List ℕ) → List (Option (List ℕ))
     → Option (List Made) → Option (List Made) → Option (List ℕ) → Fault → Type 0
-GivesUpMergeSorted words uploads known made made' failed fault =
+AbortsMergeSorted words uploads known made made' failed fault =
     ((IsRightFileFault uploads known fault ⊎ (IsUnmade words.out.now failed fault
     ⊎ ((name : List ℕ) × (ends_name words ≡ Some name) × IsUnmade name failed fault)))
     × (made' ≡ made))

@@ -36,9 +36,9 @@ IsNotMade (Some failed) name = failed ≡ name
 
 -- A file that was to have this name is removed. If a write to it failed, it is the last one that
 -- could not be made.
-abbrev pub StopsFile : List ℕ → Option WriteEnd → Option (List ℕ) → Option (List ℕ) → Type 0
-StopsFile name None failed failed' = failed' ≡ failed
-StopsFile name (Some end) failed failed' = IsNotMade failed' name
+abbrev pub FailsFile : List ℕ → Option WriteEnd → Option (List ℕ) → Option (List ℕ) → Type 0
+FailsFile name None failed failed' = failed' ≡ failed
+FailsFile name (Some end) failed failed' = IsNotMade failed' name
 
 -- No file of this name was made. Of a sink that keeps no list nothing is known.
 abbrev pub IsNewName : Option (List Made) → List ℕ → Type 0
@@ -49,4 +49,4 @@ IsNewName (Some files) name = All (λ file. file.name ≢ name) files
 -- that does not keep it nothing is known.
 abbrev pub RefusesNew : Option (List ℕ × NewFault) → List ℕ → NewFault → Type 0
 RefusesNew None name fault = ⊤
-RefusesNew (Some unbegun) name fault = (unbegun.0 ≡ name) × (unbegun.1 ≡ fault)
+RefusesNew (Some unstarted) name fault = (unstarted.0 ≡ name) × (unstarted.1 ≡ fault)

@@ -76,7 +76,7 @@ IsRightSortFault words uploads refused failed fault =
 
 -- The uploads were loaded and the file of their ends was made, if it has a name. That of their taps
 -- could not be made.
-pub record BreaksOffSort (words : SortWords) (uploads : List (List ℕ))
+pub record FailsSortWrite (words : SortWords) (uploads : List (List ℕ))
     (loaded loaded' : Option (List Loaded)) (made made' : Option (List Made))
     (failed : Option (List ℕ)) (fault : Fault) : Type 0 where
   pub bytes : List (List ℕ)
@@ -87,9 +87,9 @@ pub record BreaksOffSort (words : SortWords) (uploads : List (List ℕ))
   pub why : IsUnmade words.out.now failed fault
 
 -- The sort was given up: no file was made, or that of the ends alone.
-abbrev pub GivesUpSort : SortWords → List (List ℕ) → Option (List Loaded)
+abbrev pub AbortsSort : SortWords → List (List ℕ) → Option (List Loaded)
     → Option (List Loaded) → Option (Option (List ℕ) × LoadFault) → Option (List Made)
     → Option (List Made) → Option (List ℕ) → Fault → Type 0
-GivesUpSort words uploads loaded loaded' refused made made' failed fault =
+AbortsSort words uploads loaded loaded' refused made made' failed fault =
     (IsRightSortFault words uploads refused failed fault × (made' ≡ made))
-    ⊎ BreaksOffSort words uploads loaded loaded' made made' failed fault
+    ⊎ FailsSortWrite words uploads loaded loaded' made made' failed fault

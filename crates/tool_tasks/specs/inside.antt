@@ -4,5 +4,5 @@ pub mod Corrections
 pub mod Decode
 pub mod EncodeRows
 pub mod Fault
-pub mod GoodPart
+pub mod ValidPrefix
 pub mod Sort

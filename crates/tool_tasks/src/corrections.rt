@@ -184,11 +184,11 @@ impl<'a, I: Streams> Task<I> for CorrectionsTask<'a, I::Text> {
     ghost use Rattle.tool_tasks.specs.inside.Corrections.{HasGivenAt};
     ghost use Rattle.tool_words.specs.Tasks.{corrections_of};
 
-    type Asked = CorrectionsWords<'a>;
+    type Request = CorrectionsWords<'a>;
 
     type Line = Fault<'a>;
 
-    ghost asked = { λ task. task.words };
+    ghost request = { λ task. task.words };
 
     ghost right = { λ words. IsCorrected I.bytes_under (corrections_of words) };
 

@@ -1,10 +1,10 @@
 //! `decode`.
 ghost use Rattle.std.specs.Prelude.{◌≡◌, ◌≤◌, ◌⊎◌, IfErr, IfOk, List, false, is_none, map, true};
 ghost use Rattle.tool_tasks.specs.Decode.{AreReported, Decoded, Decodes, DecodesFaulty};
-ghost use Rattle.tool_tasks.specs.Decode.{GivesUpDecode, are_whole, layout_line, layout_lines};
+ghost use Rattle.tool_tasks.specs.Decode.{AbortsDecode, are_whole, layout_line, layout_lines};
 ghost use Rattle.tool_tasks.specs.declared.fault.Fault.{Fault as AFault};
 ghost use Rattle.tool_tasks.specs.inside.Decode.{DecodesEach, DecodesOne, IsOfWriting};
-ghost use Rattle.tool_tasks.specs.inside.Decode.{StopsDecode, StopsEach, StopsOne};
+ghost use Rattle.tool_tasks.specs.inside.Decode.{FailsDecode, FailsEach, FailsOne};
 
 use crate::fault::{Fault, finish_after, say};
 use crate::source::{Source, load_upload};
@@ -34,7 +34,7 @@ fn decode_one<'a, S: Source, W: Write>(
 ) -> Result<Option<(u64, LayoutFault)>, Fault<'a>>
     ensures done { IfOk result (DecodesOne word.entry.now (S.loaded source.old)
         (S.loaded source.new) (W.contents out.old.writer) (W.contents out.new.writer)) }
-    ensures stops { IfErr result (λ fault. StopsOne word.entry.now (S.loaded source.old)
+    ensures stops { IfErr result (λ fault. FailsOne word.entry.now (S.loaded source.old)
         (S.loaded source.new) (S.refused source.new) out.new.end fault (W.contents out.old.writer)
         (W.contents out.new.writer)) }
 {
@@ -80,23 +80,23 @@ fn decode_each<'a, S: Source, W: Write, E: Write>(
     out: &mut Output<W>,
     err: &mut Complaints<E>,
 ) -> Result<bool, Fault<'a>>
-    ensures done { IfOk result (λ well. (decoded : List Decoded)
+    ensures done { IfOk result (λ success. (decoded : List Decoded)
         × DecodesEach (map (λ w. w.now) words.now) (S.loaded source.old) (S.loaded source.new)
         (W.contents out.old.writer) (W.contents out.new.writer) (E.contents err.old.writer)
-        (E.contents err.new.writer) err.new.failed decoded × (well ≡ are_whole decoded)) }
-    ensures quiet { IfOk result (λ well. well ≡ true → err.new ≡ err.old) }
-    ensures stops { IfErr result (λ fault. StopsEach (map (λ w. w.now) words.now)
+        (E.contents err.new.writer) err.new.failed decoded × (success ≡ are_whole decoded)) }
+    ensures quiet { IfOk result (λ success. success ≡ true → err.new ≡ err.old) }
+    ensures stops { IfErr result (λ fault. FailsEach (map (λ w. w.now) words.now)
         (S.loaded source.old) (S.refused source.new) out.new.end fault
         (W.contents out.old.writer) (W.contents out.new.writer) (E.contents err.old.writer)
         (E.contents err.new.writer) err.new.failed) }
 {
-    let mut is_well = true;
+    let mut succeeded = true;
     for (number, word) in words.iter().enumerate() {
         source.show_count(number, words.len(), "uploads");
         let fault = decode_one(alloc, word, source, out)?;
-        is_well &= report_layout(word, fault, source, err);
+        succeeded &= report_layout(word, fault, source, err);
     }
-    Ok(is_well)
+    Ok(succeeded)
 }
 
 /// Writes the header line, and then the rows of the uploads that the words name.
@@ -107,13 +107,13 @@ fn decode_table<'a, S: Source, W: Write, E: Write>(
     out: &mut Output<W>,
     err: &mut Complaints<E>,
 ) -> Result<bool, Fault<'a>>
-    ensures done { IfOk result (λ well. (decoded : List Decoded)
+    ensures done { IfOk result (λ success. (decoded : List Decoded)
         × Decodes (map (λ w. w.now) words.now) (S.loaded source.old) (S.loaded source.new)
         (W.contents out.old.writer) (W.contents out.new.writer) decoded
-        × (well ≡ are_whole decoded) × AreReported (E.contents err.old.writer)
+        × (success ≡ are_whole decoded) × AreReported (E.contents err.old.writer)
         (E.contents err.new.writer) err.new.failed (layout_lines decoded)) }
-    ensures quiet { IfOk result (λ well. well ≡ true → err.new ≡ err.old) }
-    ensures stops { IfErr result (λ fault. StopsDecode (map (λ w. w.now) words.now)
+    ensures quiet { IfOk result (λ success. success ≡ true → err.new ≡ err.old) }
+    ensures stops { IfErr result (λ fault. FailsDecode (map (λ w. w.now) words.now)
         (S.loaded source.old) (S.refused source.new) out.new.end fault
         (W.contents out.old.writer) (W.contents out.new.writer) (E.contents err.old.writer)
         (E.contents err.new.writer) err.new.failed) }
@@ -154,7 +154,7 @@ pub fn decode_over<S: Source, W: Write, E: Write>(
         (S.loaded source.old) (S.loaded source.new) (W.contents out.old.writer)
         (W.contents out.new.writer) (E.contents err.old.writer) (E.contents err.new.writer)
         err.new.failed × (out.new.is_flushed ≡ true)) ⊎ ((fault : AFault)
-        × GivesUpDecode (map (λ w. w.now) words.now) (S.loaded source.old)
+        × AbortsDecode (map (λ w. w.now) words.now) (S.loaded source.old)
         (S.refused source.new) out.new.end fault
         (W.contents out.old.writer) (W.contents out.new.writer) (E.contents err.old.writer)
         (E.contents err.new.writer) err.new.failed) }
@@ -162,7 +162,7 @@ pub fn decode_over<S: Source, W: Write, E: Write>(
 {
     let decoded = decode_table(alloc, words, source, out, err);
     match finish_after(decoded, out) {
-        Ok(well) => if well { 0 } else { 1 },
+        Ok(success) => if success { 0 } else { 1 },
         Err(fault) => {
             say(err, &fault);
             1

@@ -2,7 +2,7 @@
 ghost use Rattle.std.specs.Prelude.{◌≡◌, ◌≤◌, ℕ, List, IfErr, OnOk, Some, true};
 ghost use Rattle.program_manners.specs.Loads.{Loaded};
 ghost use Rattle.tap_rows.specs.TapTables.{IsEncoded};
-ghost use Rattle.tool_tasks.specs.Encode.{EncodesTable, GivesUpEncode, StopsEncode};
+ghost use Rattle.tool_tasks.specs.Encode.{EncodesTable, AbortsEncode, FailsEncode};
 ghost use Rattle.tool_tasks.specs.Fault.{IsFaultReported};
 ghost use Rattle.tool_tasks.specs.declared.fault.Fault.{Fault as AFault};
 ghost use Rattle.tool_tasks.specs.inside.Fault.{IsEncodeFault};
@@ -45,7 +45,7 @@ fn encode_texts<'a, R: BufRead, T: BufRead, W: Write>(
         count) }
     ensures fault { IfErr result (λ fault. (text again_text : List ℕ)
         → R.remaining table.old ≡ Some text → T.remaining again.old ≡ Some again_text
-        → StopsEncode word.entry.now text again_text out.new.end fault
+        → FailsEncode word.entry.now text again_text out.new.end fault
         (W.contents out.old.writer) (W.contents out.new.writer)) }
     ensures flushed { OnOk result (out.new.is_flushed ≡ true) }
 {
@@ -74,7 +74,7 @@ fn encode_file<'a, S: Source, W: Write>(
         (W.contents out.old.writer) (W.contents out.new.writer)) }
     ensures fault { IfErr result (λ fault. (kept : List Loaded)
         → S.loaded source.old ≡ Some kept
-        → GivesUpEncode word.entry.now (S.loaded source.old) (S.loaded source.new)
+        → AbortsEncode word.entry.now (S.loaded source.old) (S.loaded source.new)
         (S.refused source.new) out.new.end fault (W.contents out.old.writer)
         (W.contents out.new.writer)) }
     ensures flushed { OnOk result (out.new.is_flushed ≡ true) }
@@ -107,7 +107,7 @@ fn encode_loaded<'a, S: Source, W: Write>(
         (W.contents out.old.writer) (W.contents out.new.writer)) }
     ensures fault { IfErr result (λ fault. (kept : List Loaded)
         → S.loaded source.old ≡ Some kept
-        → GivesUpEncode word.entry.now (S.loaded source.old) (S.loaded source.new)
+        → AbortsEncode word.entry.now (S.loaded source.old) (S.loaded source.new)
         (S.refused source.new) out.new.end fault (W.contents out.old.writer)
         (W.contents out.new.writer)) }
     ensures flushed { OnOk result (out.new.is_flushed ≡ true) }
@@ -130,7 +130,7 @@ fn encode<'a, S: Source, W: Write>(
         (W.contents out.old.writer) (W.contents out.new.writer)) }
     ensures fault { IfErr result (λ fault. (kept : List Loaded)
         → S.loaded source.old ≡ Some kept
-        → GivesUpEncode word.entry.now (S.loaded source.old) (S.loaded source.new)
+        → AbortsEncode word.entry.now (S.loaded source.old) (S.loaded source.new)
         (S.refused source.new) out.new.end fault (W.contents out.old.writer)
         (W.contents out.new.writer)) }
     ensures flushed { OnOk result (out.new.is_flushed ≡ true) }
@@ -161,7 +161,7 @@ pub fn encode_over<S: Source, W: Write, E: Write>(
     ensures faults { result ≡ 1 → (fault : AFault) × IsFaultReported fault
         (E.contents err.old.writer) (E.contents err.new.writer) err.new.failed
         × ((kept : List Loaded) → S.loaded source.old ≡ Some kept
-        → GivesUpEncode word.entry.now (S.loaded source.old) (S.loaded source.new)
+        → AbortsEncode word.entry.now (S.loaded source.old) (S.loaded source.new)
         (S.refused source.new) out.new.end fault (W.contents out.old.writer)
         (W.contents out.new.writer)) }
     // Nothing is said beside a whole upload.

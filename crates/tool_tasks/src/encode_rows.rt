@@ -8,19 +8,19 @@ ghost use Rattle.program_manners.specs.declared.output.WriteEnd.{WriteEnd as AnE
 ghost use Rattle.tap_rows.specs.Agencies.{IsRowsEncoded};
 ghost use Rattle.tap_rows.specs.Devices.{devices_of};
 ghost use Rattle.tap_rows.specs.declared.agency.summary.Summary.{Summary as ASummary};
-ghost use Rattle.tool_tasks.specs.EncodeRows.{EncodesRows, EncodesWith, GivesUpRows};
+ghost use Rattle.tool_tasks.specs.EncodeRows.{EncodesRows, EncodesWith, AbortsRows};
 ghost use Rattle.tool_tasks.specs.EncodeRows.{HasDevices, IsChoice, IsColumnName};
-ghost use Rattle.tool_tasks.specs.EncodeRows.{IsSummaryLine, StopsDevices, rows_outcome};
-ghost use Rattle.tool_tasks.specs.EncodeRows.{StopsRows, word_in};
+ghost use Rattle.tool_tasks.specs.EncodeRows.{IsSummaryLine, FailsDevices, rows_outcome};
+ghost use Rattle.tool_tasks.specs.EncodeRows.{FailsRows, word_in};
 ghost use Rattle.tool_tasks.specs.Fault.{IsFaultReported, IsRefusal};
 ghost use Rattle.tool_tasks.specs.Names.{file_named};
 ghost use Rattle.tool_tasks.specs.declared.fault.Fault.{Fault as AFault};
 ghost use Rattle.tool_tasks.specs.inside.EncodeRows.{EncodesOnce, EndsRows, HasEncoded};
-ghost use Rattle.tool_tasks.specs.inside.EncodeRows.{HasEncodedAll, HasGivenUp, HasGivenUpAll};
+ghost use Rattle.tool_tasks.specs.inside.EncodeRows.{HasEncodedAll, HasAborted, HasAbortedAll};
 ghost use Rattle.tool_tasks.specs.inside.EncodeRows.{HasLoadedDevices, IsNamedDevicesFault};
 ghost use Rattle.tool_tasks.specs.inside.EncodeRows.{IsNewFault, IsRowsEnd, IsRowsFault};
 ghost use Rattle.tool_tasks.specs.inside.EncodeRows.{IsUnfinished};
-ghost use Rattle.tool_tasks.specs.inside.EncodeRows.{StopsOnce};
+ghost use Rattle.tool_tasks.specs.inside.EncodeRows.{FailsOnce};
 
 use crate::fault::{Fault, finish, say};
 use crate::names::file_of;
@@ -54,10 +54,10 @@ fn choice<'c>(words: &'c RowsWords<'_>, devices: Option<&'c DeviceTable>) -> Cho
 }
 
 /// The name of the column of the condition at this place.
-fn only_column<'a>(words: &RowsWords<'a>, place: usize) -> &'a str
-    ensures { IsColumnName words.now (Wanted.Only place) result.now }
+fn only_column<'a>(words: &RowsWords<'a>, position: usize) -> &'a str
+    ensures { IsColumnName words.now (Wanted.Only position) result.now }
 {
-    match words.only.get(place) {
+    match words.only.get(position) {
         Some(condition) => condition.column,
         None => "",
     }
@@ -71,7 +71,7 @@ fn name_of<'a>(words: &RowsWords<'a>, wanted: Wanted) -> &'a str
         Wanted::Token => words.token,
         Wanted::Validator => words.validator,
         Wanted::Moment => words.moment,
-        Wanted::Only(place) => only_column(words, place),
+        Wanted::Only(position) => only_column(words, position),
     }
 }
 
@@ -98,7 +98,7 @@ fn load_devices<'a, S: Source>(
 ) -> Result<DeviceTable, Fault<'a>>
     ensures table { IfOk result (λ table. HasLoadedDevices word.entry.now separator
         (S.loaded source.old) (S.loaded source.new) (devices_of table)) }
-    ensures stops { IfErr result (StopsDevices (Some word.entry.now) separator
+    ensures stops { IfErr result (FailsDevices (Some word.entry.now) separator
         (S.loaded source.old) (S.loaded source.new) (S.refused source.new)) }
 {
     let text = load_upload(alloc, source, word)?;
@@ -117,7 +117,7 @@ fn devices_in<'a, S: Source>(
 ) -> Result<Option<DeviceTable>, Fault<'a>>
     ensures table { IfOk result (λ table. HasDevices words.now (S.loaded source.old)
         (S.loaded source.new) (option_map devices_of table)) }
-    ensures stops { IfErr result (StopsDevices (word_in words.now.devices) words.now.separator
+    ensures stops { IfErr result (FailsDevices (word_in words.now.devices) words.now.separator
         (S.loaded source.old) (S.loaded source.new) (S.refused source.new)) }
 {
     match words.devices {
@@ -261,7 +261,7 @@ fn encode_twice<'a, R: Read + Drop, T: Read + Drop, W: Write>(
         None None summary × (summary.first_refused ≡ None)) }
     ensures stops { IfErr result (λ fault. (bytes later : List ℕ) → R.remaining text ≡ Some bytes
         → T.remaining again ≡ Some later
-        → StopsRows words.now None word.entry.now choice.now bytes later out.new.end ⊥ fault
+        → FailsRows words.now None word.entry.now choice.now bytes later out.new.end ⊥ fault
         (W.contents out.old.writer) (W.contents out.new.writer)) }
     ensures flushed { OnOk result (out.new.is_flushed ≡ true) }
 {
@@ -285,7 +285,7 @@ fn encode_once<'a, R: Read + Drop, W: Write, X: Write>(
         × IsRowsEncoded choice.now bytes (W.contents out.old.writer) (W.contents out.new.writer)
         (X.contents refused.old.writer) (X.contents refused.new.writer) summary) }
     ensures stops { IfErr result (λ fault. (bytes name : List ℕ) → R.remaining text ≡ Some bytes
-        → StopsRows words.now (Some name) word.entry.now choice.now bytes bytes out.new.end
+        → FailsRows words.now (Some name) word.entry.now choice.now bytes bytes out.new.end
         (refused.new.end ≢ None) fault (W.contents out.old.writer) (W.contents out.new.writer)) }
     ensures flushed { OnOk result (out.new.is_flushed ≡ true) }
 {
@@ -306,7 +306,7 @@ fn encode_file<'a, S: Source, W: Write>(
     ensures done { IfOk result (λ end. HasEncodedAll word.entry.now choice.now
         (S.loaded source.old) (S.loaded source.new) (W.contents out.old.writer)
         (W.contents out.new.writer) end) }
-    ensures stops { IfErr result (λ fault. HasGivenUpAll words.now word.entry.now choice.now
+    ensures stops { IfErr result (λ fault. HasAbortedAll words.now word.entry.now choice.now
         (S.loaded source.old) (S.loaded source.new) (S.refused source.new) out.new.end fault
         (W.contents out.old.writer) (W.contents out.new.writer)) }
     ensures flushed { OnOk result (out.new.is_flushed ≡ true) }
@@ -339,7 +339,7 @@ fn encode_loaded<'a, S: Source, W: Write>(
     ensures done { IfOk result (λ end. HasEncodedAll word.entry.now choice.now
         (S.loaded source.old) (S.loaded source.new) (W.contents out.old.writer)
         (W.contents out.new.writer) end) }
-    ensures stops { IfErr result (λ fault. HasGivenUpAll words.now word.entry.now choice.now
+    ensures stops { IfErr result (λ fault. HasAbortedAll words.now word.entry.now choice.now
         (S.loaded source.old) (S.loaded source.new) (S.refused source.new) out.new.end fault
         (W.contents out.old.writer) (W.contents out.new.writer)) }
     ensures flushed { OnOk result (out.new.is_flushed ≡ true) }
@@ -363,7 +363,7 @@ fn encode_all<'a, S: Source, W: Write>(
     ensures done { IfOk result (λ end. HasEncodedAll word.entry.now choice.now
         (S.loaded source.old) (S.loaded source.new) (W.contents out.old.writer)
         (W.contents out.new.writer) end) }
-    ensures stops { IfErr result (λ fault. HasGivenUpAll words.now word.entry.now choice.now
+    ensures stops { IfErr result (λ fault. HasAbortedAll words.now word.entry.now choice.now
         (S.loaded source.old) (S.loaded source.new) (S.refused source.new) out.new.end fault
         (W.contents out.old.writer) (W.contents out.new.writer)) }
     ensures flushed { OnOk result (out.new.is_flushed ≡ true) }
@@ -410,7 +410,7 @@ fn encode_some<'a, S: Source, W: Write, X: Write>(
         (X.contents refused.new.writer) end) }
     ensures stops { IfErr result (λ fault. (kept : List Loaded) (name : List ℕ)
         → S.loaded source.old ≡ Some kept
-        → StopsOnce words.now name word.entry.now choice.now (S.loaded source.old)
+        → FailsOnce words.now name word.entry.now choice.now (S.loaded source.old)
         (S.loaded source.new) (S.refused source.new) out.new.end refused.new.end fault
         (W.contents out.old.writer) (W.contents out.new.writer)) }
     ensures flushed { OnOk result (out.new.is_flushed ≡ true) }
@@ -459,9 +459,9 @@ fn encode_and_refuse<'a, S: Source, K: Sink, W: Write>(
         (K.made sink.new) (W.contents out.old.writer) (W.contents out.new.writer)
         end) }
     ensures kept { IfErr result (λ _. K.made sink.new ≡ K.made sink.old) }
-    ensures stops { IfErr result (λ fault. HasGivenUp words.now (Some refused.entry.now)
+    ensures stops { IfErr result (λ fault. HasAborted words.now (Some refused.entry.now)
         word.entry.now choice.now (S.loaded source.old) (S.loaded source.new)
-        (S.refused source.new) (K.unbegun sink.new) (K.failed sink.new) out.new.end fault
+        (S.refused source.new) (K.unstarted sink.new) (K.failed sink.new) out.new.end fault
         (W.contents out.old.writer) (W.contents out.new.writer)) }
     ensures flushed { OnOk result (out.new.is_flushed ≡ true) }
 {
@@ -497,9 +497,9 @@ fn encode_text<'a, S: Source, K: Sink, W: Write>(
         (K.made sink.new) (W.contents out.old.writer) (W.contents out.new.writer)
         end) }
     ensures kept { IfErr result (λ _. K.made sink.new ≡ K.made sink.old) }
-    ensures stops { IfErr result (λ fault. HasGivenUp words.now (word_in words.now.refused)
+    ensures stops { IfErr result (λ fault. HasAborted words.now (word_in words.now.refused)
         word.entry.now choice.now (S.loaded source.old) (S.loaded source.new)
-        (S.refused source.new) (K.unbegun sink.new) (K.failed sink.new) out.new.end fault
+        (S.refused source.new) (K.unstarted sink.new) (K.failed sink.new) out.new.end fault
         (W.contents out.old.writer) (W.contents out.new.writer)) }
     ensures flushed { OnOk result (out.new.is_flushed ≡ true) }
 {
@@ -528,8 +528,8 @@ fn encode<'a, S: Source, K: Sink, W: Write>(
         (K.made sink.old) (K.made sink.new) (W.contents out.old.writer)
         (W.contents out.new.writer) summary) }
     ensures stops { IfErr result (λ fault. (kept : List Loaded) → S.loaded source.old ≡ Some kept
-        → GivesUpRows words.now word.entry.now (S.loaded source.old) (S.loaded source.new)
-        (S.refused source.new) (K.made sink.old) (K.made sink.new) (K.unbegun sink.new)
+        → AbortsRows words.now word.entry.now (S.loaded source.old) (S.loaded source.new)
+        (S.refused source.new) (K.made sink.old) (K.made sink.new) (K.unstarted sink.new)
         (K.failed sink.new) out.new.end fault (W.contents out.old.writer)
         (W.contents out.new.writer)) }
     ensures flushed { OnOk result (out.new.is_flushed ≡ true) }
@@ -580,8 +580,8 @@ pub fn encode_rows_over<S: Source, K: Sink, W: Write, E: Write>(
         err.new.failed) ⊎ ((fault : AFault) × IsFaultReported fault
         (E.contents err.old.writer) (E.contents err.new.writer) err.new.failed
         × ((kept : List Loaded) → S.loaded source.old ≡ Some kept
-        → GivesUpRows words.now word.entry.now (S.loaded source.old) (S.loaded source.new)
-        (S.refused source.new) (K.made sink.old) (K.made sink.new) (K.unbegun sink.new)
+        → AbortsRows words.now word.entry.now (S.loaded source.old) (S.loaded source.new)
+        (S.refused source.new) (K.made sink.old) (K.made sink.new) (K.unstarted sink.new)
         (K.failed sink.new) out.new.end fault (W.contents out.old.writer)
         (W.contents out.new.writer))) }
     ensures status { (result ≡ 0) ⊎ ((result ≡ 1) ⊎ (result ≡ 3)) }

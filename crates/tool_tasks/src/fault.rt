@@ -207,7 +207,7 @@ pub fn say<E: Write>(err: &mut Complaints<E>, fault: &Fault<'_>)
 /// Lets all that was written go out.
 pub fn finish<'a, W: Write>(out: &mut Output<W>) -> Result<(), Fault<'a>>
     ensures kept { Keeps (W.contents out.old.writer) (W.contents out.new.writer) }
-    ensures well { OnOk result (out.new.end ≡ out.old.end) }
+    ensures success { OnOk result (out.new.end ≡ out.old.end) }
     ensures flushed { OnOk result (out.new.is_flushed ≡ true) }
     ensures fault { IfErr result (λ fault. fault ≡ failed_as out.new.end) }
     // It is not said that an allocation failed.
@@ -225,7 +225,7 @@ pub(crate) fn finish_after<'a, W: Write>(
     out: &mut Output<W>,
 ) -> Result<bool, Fault<'a>>
     ensures kept { Keeps (W.contents out.old.writer) (W.contents out.new.writer) }
-    ensures same { IfOk result (λ well. before.entry ≡ Ok well) }
+    ensures same { IfOk result (λ success. before.entry ≡ Ok success) }
     ensures flushed { OnOk result (out.new.is_flushed ≡ true) }
     ensures fault { IfErr result (λ fault. (fault ≡ failed_as out.new.end)
         ⊎ ((before.entry ≡ Err fault) × (out.new.end ≡ out.old.end))) }

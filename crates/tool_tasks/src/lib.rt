@@ -19,7 +19,7 @@
 //! | `bounds` | `bounds` |
 //! | `uploads` | `uploads`: what each upload has |
 //! | `upload_tokens` | `uploads --tokens` |
-//! | `good_part` | `uploads --good-part` |
+//! | `valid_prefix` | `uploads --good-part` |
 //! | `look` | `uploads --look`: what each upload has, and what is found in them |
 //! | `corrections` | `corrections` |
 //! | `table` | `table` |
@@ -32,7 +32,6 @@ mod decode;
 mod encode;
 mod encode_rows;
 mod fault;
-mod good_part;
 mod layout;
 mod look;
 mod merge_sorted;
@@ -46,6 +45,7 @@ mod stops;
 mod table;
 mod upload_tokens;
 mod uploads;
+mod valid_prefix;
 mod wrong_tables;
 
 pub use bounds::bounds_over;
@@ -54,7 +54,6 @@ pub use decode::decode_over;
 pub use encode::encode_over;
 pub use encode_rows::encode_rows_over;
 pub use fault::{Fault, finish, say};
-pub use good_part::good_part_over;
 pub use layout::{AtTap, Cause, Remedy};
 pub use look::look_over;
 pub use merge_sorted::merge_sorted_over;
@@ -65,4 +64,5 @@ pub use sort::{SortWords, sort_over};
 pub use source::{Shown, Source, open_all};
 pub use table::table_over;
 pub use uploads::uploads_over;
+pub use valid_prefix::valid_prefix_over;
 pub use wrong_tables::{WrongDevices, WrongRows, WrongTapTable};

@@ -15,7 +15,7 @@ use std::marker::Sync;
 use std::thread::Threads;
 use tap_views::{MOMENT_LIMIT_MS, MomentSpan, NoMemory, TapFields, facts_of};
 use tool_words::LookWords;
-use upload_checks::{SilentDays, find_silent_days, look};
+use upload_checks::{InactiveDays, find_inactive_days, look};
 
 mod counts;
 mod found_texts;
@@ -43,7 +43,7 @@ fn read_table<'a, S: Source>(
 #[derive(Drop)]
 struct Taken {
     uploads: Vec<Vec<u8>>,
-    is_well: bool,
+    succeeded: bool,
 }
 
 /// Writes the lines of each upload, or reports its layout fault if what is found is listed.
@@ -56,7 +56,7 @@ fn take_each<'a, S: Source, W: Write, E: Write>(
     err: &mut Complaints<E>,
 ) -> Result<Taken, Fault<'a>> {
     let mut uploads = Vec::new(alloc);
-    let mut is_well = true;
+    let mut succeeded = true;
     for (number, name) in names.iter().enumerate() {
         source.show_count(number, names.len(), "uploads");
         let upload = load_upload(alloc, source, name)?;
@@ -66,19 +66,19 @@ fn take_each<'a, S: Source, W: Write, E: Write>(
         } else {
             write_text(&upload_text(alloc, number, name, &facts)?, out)?;
         }
-        is_well &= facts.fault.is_none();
+        succeeded &= facts.fault.is_none();
         uploads.push(upload)?;
     }
-    Ok(Taken { uploads, is_well })
+    Ok(Taken { uploads, succeeded })
 }
 
 /// Validators that are inactive on a day: each day of the span, if both its ends are given.
-fn silent_of(
+fn inactive_of(
     alloc: Global,
     words: &LookWords<'_>,
     table: &Option<FareTable>,
     lists: &[Vec<TapFields>],
-) -> Result<Option<SilentDays>, NoMemory> {
+) -> Result<Option<InactiveDays>, NoMemory> {
     let Some(table) = table else {
         return Ok(None);
     };
@@ -87,7 +87,7 @@ fn silent_of(
         last: words.last.unwrap_or(u64::MAX).min(MOMENT_LIMIT_MS - 1),
     };
     let every_day = words.first.is_some() && words.last.is_some();
-    let silent = find_silent_days(alloc, table.first(), days, every_day, lists)?;
+    let silent = find_inactive_days(alloc, table.first(), days, every_day, lists)?;
     Ok(Some(silent))
 }
 
@@ -104,20 +104,20 @@ fn look_at<'a, R: Threads + Sync, S: Source, W: Write, E: Write>(
 ) -> Result<bool, Fault<'a>> {
     let taken = take_each(alloc, words.has_list, names, source, out, err);
     source.end_count();
-    let Taken { uploads, is_well } = taken?;
+    let Taken { uploads, succeeded } = taken?;
     let span = MomentSpan {
         first: words.first.unwrap_or(0),
         last: words.last.unwrap_or(u64::MAX),
     };
     let found = look(threads, alloc, &uploads, words.within, span, WORKERS)?;
-    let silent = silent_of(alloc, words, table, found.lists.as_slice())?;
+    let silent = inactive_of(alloc, words, table, found.lists.as_slice())?;
     if words.has_list {
         write_table(alloc, names, &found, &silent, out)?;
     } else {
         let text = counts_of(alloc, words, &uploads, &found, &silent)?;
         write_text(&text, out)?;
     }
-    Ok(is_well)
+    Ok(succeeded)
 }
 
 fn look_all<'a, R: Threads + Sync, S: Source, W: Write, E: Write>(
@@ -149,7 +149,7 @@ pub fn look_over<R: Threads + Sync, S: Source, W: Write, E: Write>(
     ensures { result ≤ 1 }
 {
     match look_all(threads, alloc, words, names, source, out, err) {
-        Ok(well) => if well { 0 } else { 1 },
+        Ok(success) => if success { 0 } else { 1 },
         Err(fault) => {
             say(err, &fault);
             1

@@ -4,7 +4,7 @@ ghost use Rattle.tap_views.specs.declared.upload_end.UploadEnd.TheVariants.{Post
 ghost use Rattle.sorted_taps.specs.Checked.{IsMergeFault};
 ghost use Rattle.sorted_taps.specs.Written.{IsMergedFile};
 ghost use Rattle.tool_tasks.specs.Fault.{IsFaultReported};
-ghost use Rattle.tool_tasks.specs.MergeSorted.{GivesUpMergeSorted, IsRightFileFault, Merges};
+ghost use Rattle.tool_tasks.specs.MergeSorted.{AbortsMergeSorted, IsRightFileFault, Merges};
 ghost use Rattle.tool_tasks.specs.declared.fault.Fault.{Fault as AFault};
 ghost use Rattle.tool_tasks.specs.inside.Sort.{IsFileFault, IsUnwritten};
 
@@ -104,7 +104,7 @@ fn merge<'a, D: PlacedFiles, K: Sink>(
     ensures done { OnOk result (Merges words.now
         (map (D.bytes_under disk.now) (map (λ w. w.now) uploads.now)) (K.made sink.old)
         (K.made sink.new)) }
-    ensures fault { IfErr result (GivesUpMergeSorted words.now (map (λ w. w.now) uploads.now)
+    ensures fault { IfErr result (AbortsMergeSorted words.now (map (λ w. w.now) uploads.now)
         (map (D.bytes_under disk.now) (map (λ w. w.now) uploads.now)) (K.made sink.old)
         (K.made sink.new) (K.failed sink.new)) }
 {
@@ -143,7 +143,7 @@ pub fn merge_sorted_over<D: PlacedFiles, K: Sink, E: Write>(
     // With status 1 the line of a fault was reported, which is the right one.
     ensures faults { result ≡ 1 → (fault : AFault) × IsFaultReported fault
         (E.contents err.old.writer) (E.contents err.new.writer) err.new.failed
-        × GivesUpMergeSorted words.now (map (λ w. w.now) uploads.now)
+        × AbortsMergeSorted words.now (map (λ w. w.now) uploads.now)
         (map (D.bytes_under disk.now) (map (λ w. w.now) uploads.now)) (K.made sink.old)
         (K.made sink.new) (K.failed sink.new) fault }
     // Nothing is said beside whole files.

@@ -55,7 +55,7 @@ pub enum NewFault {
 pub trait Sink {
     ghost use Rattle.std.specs.Prelude.{◌≡◌, ◌≢◌, ℕ, List, IfErr, IfOk, OnOk, Option, None};
     ghost use Rattle.tool_tasks.specs.Sink.{IsEmptyFile, IsNewName, IsNotMade, Made, MakesOne};
-    ghost use Rattle.tool_tasks.specs.Sink.{RefusesNew, StopsFile};
+    ghost use Rattle.tool_tasks.specs.Sink.{RefusesNew, FailsFile};
     ghost use Rattle.tool_tasks.specs.declared.sink.MakeFault.TheVariants.{Unmade};
     ghost use Rattle.tool_tasks.specs.declared.sink.NewFault.{NewFault as ANewFault};
 
@@ -68,7 +68,7 @@ pub trait Sink {
     ghost failed: { Self → Option (List ℕ) } = { λ _. None };
 
     // The last new file that was not begun: its name, and why; of a sink that keeps it.
-    ghost unbegun: { Self → Option (List ℕ × ANewFault) } = { λ _. None };
+    ghost unstarted: { Self → Option (List ℕ × ANewFault) } = { λ _. None };
 
     /// An empty file, which is to have this name.
     fn begin(&mut self, alloc: Global, name: &str) -> Result<Output<Self::File>, MakeFault>
@@ -85,7 +85,7 @@ pub trait Sink {
             (λ file. IsEmptyFile (made self.old) (Self.File.contents file.writer)) }
         ensures is_new { OnOk result (IsNewName (made self.old) name.now) }
         ensures refused { IfErr result (λ fault. fault ≢ NewFault.NoMemory
-            → RefusesNew (unbegun self.new) name.now fault) };
+            → RefusesNew (unstarted self.new) name.now fault) };
 
     /// Gives the file its name, and replaces a file that has it. A fault leaves nothing that was
     /// written.
@@ -104,7 +104,7 @@ pub trait Sink {
     /// Removes what was written of a file that cannot be made if a write to it failed.
     fn fail(&mut self, name: &str, file: Output<Self::File>)
         ensures made { made self.new ≡ made self.old }
-        ensures failed { StopsFile name.now file.end (failed self.old) (failed self.new) };
+        ensures failed { FailsFile name.now file.end (failed self.old) (failed self.new) };
 }
 
 pub(crate) fn make_file<K: Sink>(

@@ -9,7 +9,7 @@ ghost use Rattle.sorted_uploads.specs.SortedUploads.{IsSortedFileOf};
 ghost use Rattle.tool_tasks.specs.Decode.{AreReported};
 ghost use Rattle.tool_tasks.specs.Fault.{IsFaultReported, IsRefusal};
 ghost use Rattle.tool_tasks.specs.Sink.{Makes};
-ghost use Rattle.tool_tasks.specs.Sort.{GivesUpSort, IsUnmade, Sorts, ends_files};
+ghost use Rattle.tool_tasks.specs.Sort.{AbortsSort, IsUnmade, Sorts, ends_files};
 ghost use Rattle.tool_tasks.specs.Sort.{ends_name, files_of, refused_lines};
 ghost use Rattle.tool_tasks.specs.Source.{HasOpened};
 ghost use Rattle.tool_tasks.specs.declared.fault.Fault.{Fault as AFault};
@@ -205,7 +205,7 @@ fn sort<'a, R: Threads + Sync, S: Source, K: Sink>(
         → Sorts words.now (map (λ w. w.now) uploads.now) (S.loaded source.old)
         (S.loaded source.new) (K.made sink.old) (K.made sink.new) ends.items) }
     ensures fault { IfErr result (λ fault. (kept : List Loaded) → S.loaded source.old ≡ Some kept
-        → GivesUpSort words.now (map (λ w. w.now) uploads.now) (S.loaded source.old)
+        → AbortsSort words.now (map (λ w. w.now) uploads.now) (S.loaded source.old)
         (S.loaded source.new) (S.refused source.new) (K.made sink.old) (K.made sink.new)
         (K.failed sink.new) fault) }
 {
@@ -294,7 +294,7 @@ pub fn sort_over<R: Threads + Sync, S: Source, K: Sink, E: Write>(
     ensures faults { result ≡ 1 → (fault : AFault) × IsFaultReported fault
         (E.contents err.old.writer) (E.contents err.new.writer) err.new.failed
         × ((kept : List Loaded) → S.loaded source.old ≡ Some kept
-        → GivesUpSort words.now (map (λ w. w.now) uploads.now) (S.loaded source.old)
+        → AbortsSort words.now (map (λ w. w.now) uploads.now) (S.loaded source.old)
         (S.loaded source.new) (S.refused source.new) (K.made sink.old) (K.made sink.new)
         (K.failed sink.new) fault) }
     // Nothing is said beside whole uploads.

@@ -71,7 +71,7 @@ fn write_at<'a, W: Write, E: Write>(
     now: Timestamp,
     word: &str,
     span: &MomentSpan,
-    place: usize,
+    position: usize,
     table: &TableText<'_>,
     seen: Option<&SeenValidators>,
     out: &mut Output<W>,
@@ -80,7 +80,11 @@ fn write_at<'a, W: Write, E: Write>(
     let shown = format!(in alloc; "{}", Name(word))?;
     let wanted = Wanted {
         name: &shown,
-        valid_from: if place == 0 { None } else { Some(span.first) },
+        valid_from: if position == 0 {
+            None
+        } else {
+            Some(span.first)
+        },
         has_riders: question.has_riders,
         from: question.from.unwrap_or(now),
         is_sql: question.is_sql,
@@ -118,16 +122,16 @@ fn load_and_write<'a, S: Source, W: Write, E: Write>(
     };
     let spans = spans_of(alloc, &fares)?;
     let uploads = seen_in(alloc, &question.uploads, &spans, source, err)?;
-    let mut is_silent = true;
-    for (place, table) in tables.iter().enumerate() {
-        if let (Some(word), Some(span)) = (words.get(place), spans.get(place)) {
-            let seen = uploads.at(place);
-            is_silent &= write_at(
-                alloc, question, now, word, span, place, table, seen, out, err,
+    let mut is_inactive = true;
+    for (position, table) in tables.iter().enumerate() {
+        if let (Some(word), Some(span)) = (words.get(position), spans.get(position)) {
+            let seen = uploads.at(position);
+            is_inactive &= write_at(
+                alloc, question, now, word, span, position, table, seen, out, err,
             )?;
         }
     }
-    Ok(uploads.is_well && (is_silent || !question.is_strict))
+    Ok(uploads.succeeded && (is_inactive || !question.is_strict))
 }
 
 fn say_stopped<E: Write>(err: &mut Complaints<E>, word: &str, stopped: Stopped<'_>) {
@@ -159,7 +163,7 @@ pub fn table_over<S: Source, W: Write, E: Write>(
     let written = load_and_write(alloc, question, now, source, out, err);
     match finish(out) {
         Ok(()) => match written {
-            Ok(well) => if well { 0 } else { 1 },
+            Ok(success) => if success { 0 } else { 1 },
             Err(stopped) => {
                 say_stopped(err, question.table, stopped);
                 1

@@ -69,16 +69,16 @@ fn list_each<'a, S: Source, W: Write>(
     source: &mut S,
     out: &mut Output<W>,
 ) -> Result<bool, Fault<'a>> {
-    let mut is_well = true;
+    let mut succeeded = true;
     for (number, word) in words.iter().enumerate() {
         source.show_count(number, words.len(), "uploads");
         let upload = load_upload(alloc, source, word)?;
         let facts = facts_of(&upload);
         write_text(&upload_text(alloc, number, word, &facts)?, out)?;
         add_tokens(tokens, &upload)?;
-        is_well &= facts.fault.is_none();
+        succeeded &= facts.fault.is_none();
     }
-    Ok(is_well)
+    Ok(succeeded)
 }
 
 /// Then writes the lines of the tokens, if these are counted.
@@ -92,9 +92,9 @@ fn list_all<'a, S: Source, W: Write>(
     let mut tokens = no_tokens(alloc, has_tokens);
     let listed = list_each(alloc, words, &mut tokens, source, out);
     source.end_count();
-    let is_well = listed?;
+    let succeeded = listed?;
     write_tokens(alloc, &tokens, out)?;
-    Ok(is_well)
+    Ok(succeeded)
 }
 
 /// Writes the lines of each upload to `out`, `-` being standard input; and if `has_tokens` is set,
@@ -112,7 +112,7 @@ pub fn uploads_over<S: Source, W: Write, E: Write>(
 {
     let listed = list_all(alloc, words, has_tokens, source, out);
     match finish_after(listed, out) {
-        Ok(well) => if well { 0 } else { 1 },
+        Ok(success) => if success { 0 } else { 1 },
         Err(fault) => {
             say(err, &fault);
             1

@@ -27,12 +27,12 @@ parts_found word (Some p) at =
     (λ i. Some (at.0 i, at.1 i))
 
 -- the words with one more
-pub texts_more : (words : List (Bor Text)) (place : ℕ) (other : Bor Text) → place < length words
-    → texts_of (take (place + 1) words)
-    ≡ texts_of (take place words) ++ (get_or words place other).now ∷ []
-texts_more words place other within =
-    ap texts_of (take_more words place other within)
-    ∙ map-append (λ (w : Bor Text). w.now) (take place words) _
+pub texts_more : (words : List (Bor Text)) (position : ℕ) (other : Bor Text) → position < length words
+    → texts_of (take (position + 1) words)
+    ≡ texts_of (take position words) ++ (get_or words position other).now ∷ []
+texts_more words position other within =
+    ap texts_of (take_more words position other within)
+    ∙ map-append (λ (w : Bor Text). w.now) (take position words) _
 
 -- what is found in one word
 one_found : {X : Type 0} (find : Text → Option X) (word : Text)
@@ -44,16 +44,16 @@ one_found find word = go (find word)
     go (Some x) = refl
 
 -- what is found in words with one more
-pub found_more : {X : Type 0} (find : Text → Option X) (words : List (Bor Text)) (place : ℕ)
-    (other : Bor Text) (found : Option X) → place < length words
-    → find (get_or words place other).now ≡ found
-    → filter_map find (texts_of (take (place + 1) words))
-    ≡ filter_map find (texts_of (take place words)) ++ option_to_list found
-found_more find words place other found within is =
-    ap (filter_map find) (texts_more words place other within)
-    ∙ filter_map-append find (texts_of (take place words)) _
-    ∙ ap (λ more. filter_map find (texts_of (take place words)) ++ more)
-    (one_found find (get_or words place other).now ∙ ap option_to_list is)
+pub found_more : {X : Type 0} (find : Text → Option X) (words : List (Bor Text)) (position : ℕ)
+    (other : Bor Text) (found : Option X) → position < length words
+    → find (get_or words position other).now ≡ found
+    → filter_map find (texts_of (take (position + 1) words))
+    ≡ filter_map find (texts_of (take position words)) ++ option_to_list found
+found_more find words position other found within is =
+    ap (filter_map find) (texts_more words position other within)
+    ∙ filter_map-append find (texts_of (take position words)) _
+    ∙ ap (λ more. filter_map find (texts_of (take position words)) ++ more)
+    (one_found find (get_or words position other).now ∙ ap option_to_list is)
 
 -- the texts of references, of which one more may be found
 texts_found : (names : List (Bor Text)) (found : Option (Bor Text))
@@ -62,45 +62,45 @@ texts_found names None = map-append (λ (w : Bor Text). w.now) names []
 texts_found names (Some name) = map-append (λ (w : Bor Text). w.now) names (name ∷ [])
 
 -- what is found in one more word is put behind
-pub names_more : (find : Text → Option Text) (words : List (Bor Text)) (place : ℕ)
+pub names_more : (find : Text → Option Text) (words : List (Bor Text)) (position : ℕ)
     (other : Bor Text) (names more : List (Bor Text)) (found : Option (Bor Text))
-    → place < length words → text_in found ≡ find (get_or words place other).now
-    → texts_of names ≡ filter_map find (texts_of (take place words))
+    → position < length words → text_in found ≡ find (get_or words position other).now
+    → texts_of names ≡ filter_map find (texts_of (take position words))
     → more ≡ names ++ option_to_list found
-    → texts_of more ≡ filter_map find (texts_of (take (place + 1) words))
-names_more find words place other names more found within is before adds =
+    → texts_of more ≡ filter_map find (texts_of (take (position + 1) words))
+names_more find words position other names more found within is before adds =
     ap texts_of adds ∙ texts_found names found
     ∙ ap (λ ns. ns ++ option_to_list (text_in found)) before
-    ∙ sym (found_more find words place other (text_in found) within (sym is))
+    ∙ sym (found_more find words position other (text_in found) within (sym is))
 
 -- one more word is COLUMN=VALUE
-pub conditions_more : (words : List (Bor Text)) (place : ℕ) (other : Bor Text)
-    (conditions more : List Condition) (condition : Condition) → place < length words
-    → Some (condition_of condition) ≡ parts_of (get_or words place other).now
-    → (have_parts (texts_of (take place words)) ≡ true)
-    × (map condition_of conditions ≡ filter_map parts_of (texts_of (take place words)))
+pub conditions_more : (words : List (Bor Text)) (position : ℕ) (other : Bor Text)
+    (conditions more : List Condition) (condition : Condition) → position < length words
+    → Some (condition_of condition) ≡ parts_of (get_or words position other).now
+    → (have_parts (texts_of (take position words)) ≡ true)
+    × (map condition_of conditions ≡ filter_map parts_of (texts_of (take position words)))
     → more ≡ conditions ++ condition ∷ []
-    → (have_parts (texts_of (take (place + 1) words)) ≡ true)
-    × (map condition_of more ≡ filter_map parts_of (texts_of (take (place + 1) words)))
-conditions_more words place other conditions more condition within is before adds =
-    let word = (get_or words place other).now in
+    → (have_parts (texts_of (take (position + 1) words)) ≡ true)
+    × (map condition_of more ≡ filter_map parts_of (texts_of (take (position + 1) words)))
+conditions_more words position other conditions more condition within is before adds =
+    let word = (get_or words position other).now in
     let known : is_some (parts_of word) ≡ true = ap is_some (sym is) in
-    let all : have_parts (texts_of (take place words) ++ word ∷ []) ≡ true =
-    list_all-append (λ (w : Text). is_some (parts_of w)) (texts_of (take place words)) (word ∷ [])
+    let all : have_parts (texts_of (take position words) ++ word ∷ []) ≡ true =
+    list_all-append (λ (w : Text). is_some (parts_of w)) (texts_of (take position words)) (word ∷ [])
     ∙ rw (before.0, known) refl in (
-      ap have_parts (texts_more words place other within) ∙ all,
+      ap have_parts (texts_more words position other within) ∙ all,
       ap (map condition_of) adds ∙ map-append condition_of conditions (condition ∷ [])
           ∙ ap (λ cs. cs ++ condition_of condition ∷ []) before.1
-          ∙ sym (found_more parts_of words place other (Some (condition_of condition)) within
+          ∙ sym (found_more parts_of words position other (Some (condition_of condition)) within
           (sym is)),
     )
 
 -- a word is not COLUMN=VALUE
-pub lacks_parts : (words : List (Bor Text)) (place : ℕ) (other : Bor Text) → place < length words
-    → None ≡ parts_of (get_or words place other).now → None ≡ conditions_in (texts_of words)
-lacks_parts words place other within none =
+pub lacks_parts : (words : List (Bor Text)) (position : ℕ) (other : Bor Text) → position < length words
+    → None ≡ parts_of (get_or words position other).now → None ≡ conditions_in (texts_of words)
+lacks_parts words position other within none =
     let not_all : have_parts (texts_of words) ≡ false =
     list_all-map (λ (w : Text). is_some (parts_of w)) (λ (w : Bor Text). w.now) words
-    ∙ list_all_at (λ (w : Bor Text). is_some (parts_of w.now)) words place other within
+    ∙ list_all_at (λ (w : Bor Text). is_some (parts_of w.now)) words position other within
     (ap is_some (sym none)) in
     rw not_all refl

@@ -9,8 +9,8 @@ use Rattle.program_manners.specs.declared.table_words.WrongWord.{WrongWord}
 use Rattle.program_manners.proofs.DatedWords.{later_right, short_word}
 
 -- the words of `--table` behind a first one that has no letter
-abbrev tables_behind : List (Bor (List ℕ)) → TableNames
-tables_behind words = record { first = []; later = map (λ w. w.now) words }
+abbrev tables_after : List (Bor (List ℕ)) → TableNames
+tables_after words = record { first = []; later = map (λ w. w.now) words }
 
 -- a first word without a letter is right
 first_right : (later : List (List ℕ)) → wrong_word (record { first = []; later = later })
@@ -21,10 +21,10 @@ first_right later =
 
 -- what is wrong with the only word behind it is found
 pub one_wrong : (words : List (Bor (List ℕ))) (word : Bor (List ℕ)) (found : Option WrongWord)
-    → words ≡ word ∷ [] → option_map wrong_of found ≡ wrong_word (tables_behind words)
+    → words ≡ word ∷ [] → option_map wrong_of found ≡ wrong_word (tables_after words)
     → option_map wrong_of found ≡ wrong_later (word.now ∷ [])
 one_wrong words word found one is =
-    is ∙ ap (λ (ws : List (Bor (List ℕ))). wrong_word (tables_behind ws)) one
+    is ∙ ap (λ (ws : List (Bor (List ℕ))). wrong_word (tables_after ws)) one
     ∙ first_right (word.now ∷ [])
 
 -- if nothing is, its date is right

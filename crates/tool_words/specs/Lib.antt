@@ -1,6 +1,6 @@
-pub mod Asked
+pub mod Request
 pub mod Columns
-pub mod Mistakes
+pub mod UsageErrors
 pub mod Tasks
 pub mod ToolLine
 pub mod inside

@@ -3,11 +3,11 @@ use Rattle.std.specs.Prelude.{List, Option, map, option_map}
 use Rattle.std.specs.Borrow.{Bor}
 use Rattle.clap.specs.Words.{Text}
 use Rattle.tap_rows.specs.declared.agency.choice.Condition.{Condition}
-use Rattle.tool_words.specs.Asked.{Asked, CorrectionsAsked, GoodPartAsked, RowsAsked, SortAsked}
-use Rattle.tool_words.specs.Asked.{corrections, decode, encode, encode_rows, good_part, merge}
-use Rattle.tool_words.specs.Asked.{mistake, shows, sort}
+use Rattle.tool_words.specs.Request.{Request, CorrectionsRequest, ValidPrefixRequest, RowsRequest, SortRequest}
+use Rattle.tool_words.specs.Request.{corrections, decode, encode, encode_rows, valid_prefix, merge}
+use Rattle.tool_words.specs.Request.{usage_error, shows, sort}
 use Rattle.tool_words.specs.declared.task.CorrectionsWords.{CorrectionsWords}
-use Rattle.tool_words.specs.declared.task.GoodPartWords.{GoodPartWords}
+use Rattle.tool_words.specs.declared.task.ValidPrefixWords.{ValidPrefixWords}
 use Rattle.tool_words.specs.declared.task.RowsWords.{RowsWords}
 use Rattle.tool_words.specs.declared.task.SortingWords.{SortingWords}
 use Rattle.tool_words.specs.declared.task.Task.{Task}
@@ -25,7 +25,7 @@ text_in word = option_map (λ w. w.now) word
 abbrev pub condition_of : Condition → Text × Text
 condition_of condition = (condition.column.now, condition.value.now)
 
-abbrev pub rows_words_of : RowsWords → RowsAsked
+abbrev pub rows_words_of : RowsWords → RowsRequest
 rows_words_of words = record {
   columns = record {
     token = words.token.now;
@@ -39,14 +39,14 @@ rows_words_of words = record {
   refused = text_in words.refused;
 }
 
-abbrev pub good_part_of : GoodPartWords → GoodPartAsked
-good_part_of words = record {
+abbrev pub valid_prefix_of : ValidPrefixWords → ValidPrefixRequest
+valid_prefix_of words = record {
   upload = words.upload.now;
   out = words.out.now;
   has_tokens = words.has_tokens;
 }
 
-abbrev pub sorting_of : SortingWords → SortAsked
+abbrev pub sorting_of : SortingWords → SortRequest
 sorting_of words = record {
   is_merge = words.is_merge;
   out = words.out.now;
@@ -54,7 +54,7 @@ sorting_of words = record {
   uploads = texts_of words.uploads.items;
 }
 
-abbrev pub corrections_of : CorrectionsWords → CorrectionsAsked
+abbrev pub corrections_of : CorrectionsWords → CorrectionsRequest
 corrections_of words = record {
   old = words.old.now;
   new = words.new.now;
@@ -62,18 +62,18 @@ corrections_of words = record {
 }
 
 -- what a task is
-abbrev pub asked_of : Task → Asked
-asked_of (task.Encode word) = encode word.now
-asked_of (task.EncodeRows word words) = encode_rows word.now (rows_words_of words)
-asked_of (task.Decode words) = decode (texts_of words.items)
-asked_of (task.Uploads words has_tokens) = shows
-asked_of (task.GoodPart words) = good_part (good_part_of words)
-asked_of (task.Look words names) = shows
-asked_of (task.Table question) = shows
-asked_of (task.Sort words) = sort (sorting_of words)
-asked_of (task.Merge parts) = merge (texts_of parts.items)
-asked_of (task.Bounds words) = shows
-asked_of (task.Corrections words) = corrections (corrections_of words)
-asked_of (task.Mistake why) = mistake why
-asked_of (task.Unshown why) = shows
-asked_of (task.WrongDate wrong) = shows
+abbrev pub request_of : Task → Request
+request_of (task.Encode word) = encode word.now
+request_of (task.EncodeRows word words) = encode_rows word.now (rows_words_of words)
+request_of (task.Decode words) = decode (texts_of words.items)
+request_of (task.Uploads words has_tokens) = shows
+request_of (task.ValidPrefix words) = valid_prefix (valid_prefix_of words)
+request_of (task.Look words names) = shows
+request_of (task.Table question) = shows
+request_of (task.Sort words) = sort (sorting_of words)
+request_of (task.Merge parts) = merge (texts_of parts.items)
+request_of (task.Bounds words) = shows
+request_of (task.Corrections words) = corrections (corrections_of words)
+request_of (task.UsageError why) = usage_error why
+request_of (task.Unshown why) = shows
+request_of (task.WrongDate wrong) = shows

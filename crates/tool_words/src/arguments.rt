@@ -42,7 +42,7 @@ pub(crate) enum Row {
     List,
 }
 
-fn begun_arg<'a>(alloc: Global, takes: Takes) -> Arg<'a>
+fn started_arg<'a>(alloc: Global, takes: Takes) -> Arg<'a>
     ensures rule { rule_of result ≡ taken_rule takes }
     ensures local { result.global ≡ false }
 {
@@ -66,22 +66,22 @@ fn arg<'a>(alloc: Global, takes: Takes, need: Need, is_whole: bool) -> Result<Ar
         → IfOk result (λ arg. rule_of arg ≡ rule_by need (taken_rule takes)) }
     ensures local { is_whole ≡ false → IfOk result (λ arg. arg.global ≡ false) }
 {
-    let begun = begun_arg(alloc, takes);
+    let started = started_arg(alloc, takes);
     match need {
-        Need::Never => Ok(begun),
-        Need::Always => Ok(begun.required(true)),
+        Need::Never => Ok(started),
+        Need::Always => Ok(started.required(true)),
         Need::WithoutList => {
             if is_whole {
-                begun.required_unless_present("files-from")
+                started.required_unless_present("files-from")
             } else {
-                Ok(begun)
+                Ok(started)
             }
         }
         Need::Apart(others) => {
             if is_whole {
-                begun.conflicts_with_all(others)
+                started.conflicts_with_all(others)
             } else {
-                Ok(begun)
+                Ok(started)
             }
         }
     }

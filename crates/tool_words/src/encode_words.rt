@@ -1,17 +1,17 @@
 //! What `encode` with columns requests.
 ghost use Rattle.std.specs.Prelude.{◌≡◌, IfOk, filter_map, map, option_map};
 ghost use Rattle.clap.specs.Words.{found_of, rows_of};
-ghost use Rattle.tool_words.specs.Asked.{encoded_file, has_devices_twice, rows_asked};
+ghost use Rattle.tool_words.specs.Request.{encoded_file, has_devices_twice, rows_request};
 ghost use Rattle.tool_words.specs.Columns.{between_commas, columns_among, columns_in};
 ghost use Rattle.tool_words.specs.Columns.{conditions_in, name_given, names_of, only_name};
 ghost use Rattle.tool_words.specs.Columns.{parts_of};
 ghost use Rattle.tool_words.specs.Columns.{separator_in, unit_in};
-ghost use Rattle.tool_words.specs.Tasks.{asked_of, condition_of, text_in, texts_of};
+ghost use Rattle.tool_words.specs.Tasks.{request_of, condition_of, text_in, texts_of};
 ghost use Rattle.tool_words.specs.inside.Columns.{columns_of};
 
-use crate::mistake::Mistake;
 use crate::reading::{is_input, is_input_given, value_in};
 use crate::task::{RowsWords, Task};
+use crate::usage_error::UsageError;
 use clap::ArgMatches;
 use program_manners::names_in;
 use std::alloc::{AllocError, Global};
@@ -33,8 +33,12 @@ fn parts_of<'a>(word: &'a str) -> Option<(&'a str, &'a str)>
 fn name_given<'a>(column: &str, word: &'a str) -> Option<&'a str>
     ensures { text_in result ≡ name_given column.now word.entry.now }
 {
-    let (before, behind) = parts_of(word)?;
-    if before == column { Some(behind) } else { None }
+    let (before, trailing) = parts_of(word)?;
+    if before == column {
+        Some(trailing)
+    } else {
+        None
+    }
 }
 
 fn names_given<'a>(
@@ -164,25 +168,25 @@ fn has_devices_twice(matches: &ArgMatches<'_>) -> bool
 }
 
 pub(crate) fn rows_task<'a>(alloc: Global, matches: &ArgMatches<'a>) -> Result<Task<'a>, AllocError>
-    ensures { IfOk result (λ task. asked_of task ≡ rows_asked (rows_of (found_of matches.now))) }
+    ensures { IfOk result (λ task. request_of task ≡ rows_request (rows_of (found_of matches.now))) }
 {
     let columns = columns_in(alloc, value_in(matches, "columns").unwrap_or(""))?;
     let only = names_in(alloc, matches, "only")?;
     let only = conditions_in(alloc, &only)?;
     let Some(columns) = columns else {
-        return Ok(Task::Mistake(Mistake::Columns));
+        return Ok(Task::UsageError(UsageError::Columns));
     };
     let Some(separator) = separator_in(value_in(matches, "separator")) else {
-        return Ok(Task::Mistake(Mistake::Separator));
+        return Ok(Task::UsageError(UsageError::Separator));
     };
     let Some(unit) = unit_in(value_in(matches, "unit")) else {
-        return Ok(Task::Mistake(Mistake::Unit));
+        return Ok(Task::UsageError(UsageError::Unit));
     };
     let Some(only) = only else {
-        return Ok(Task::Mistake(Mistake::Condition));
+        return Ok(Task::UsageError(UsageError::Condition));
     };
     if has_devices_twice(matches) {
-        return Ok(Task::Mistake(Mistake::InputTwice));
+        return Ok(Task::UsageError(UsageError::InputTwice));
     }
     let words = RowsWords {
         token: columns.token,

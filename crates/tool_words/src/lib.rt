@@ -10,7 +10,6 @@ mod encode;
 mod encode_words;
 mod later_table;
 mod merge;
-mod mistake;
 mod moments;
 mod named_list;
 mod program;
@@ -22,14 +21,15 @@ mod table_words;
 mod task;
 mod uploads;
 mod uploads_words;
+mod usage_error;
 mod words;
 
 pub use later_table::LaterTable;
-pub use mistake::Mistake;
 pub use named_list::list_words;
 pub use reading::is_input;
 pub use task::{
-    BoundsWords, CorrectionsWords, GoodPartWords, LookWords, RowsWords, SortingWords,
-    TableQuestion, Task,
+    BoundsWords, CorrectionsWords, LookWords, RowsWords, SortingWords, TableQuestion, Task,
+    ValidPrefixWords,
 };
+pub use usage_error::UsageError;
 pub use words::read;

@@ -1,7 +1,7 @@
 //! Moments that words give.
 
-use crate::mistake::Mistake;
 use crate::reading::value_in;
+use crate::usage_error::UsageError;
 use clap::ArgMatches;
 use jiff::Timestamp;
 
@@ -35,24 +35,26 @@ fn milliseconds_of(moment: Timestamp) -> u64 {
 fn milliseconds_given(
     matches: &ArgMatches<'_>,
     name: &str,
-    mistake: Mistake,
-) -> Result<Option<u64>, Mistake> {
+    usage_error: UsageError,
+) -> Result<Option<u64>, UsageError> {
     match moment_given(matches, name) {
         Ok(Some(moment)) => Ok(Some(milliseconds_of(moment))),
         Ok(None) => Ok(None),
-        Err(NoMoment) => Err(mistake),
+        Err(NoMoment) => Err(usage_error),
     }
 }
 
 /// The first and the last moment that are looked at, where given.
-pub(crate) fn span_given(matches: &ArgMatches<'_>) -> Result<(Option<u64>, Option<u64>), Mistake> {
-    let first = milliseconds_given(matches, "from", Mistake::From)?;
-    let behind = milliseconds_given(matches, "until", Mistake::Until)?;
-    let Some(behind) = behind else {
+pub(crate) fn span_given(
+    matches: &ArgMatches<'_>,
+) -> Result<(Option<u64>, Option<u64>), UsageError> {
+    let first = milliseconds_given(matches, "from", UsageError::From)?;
+    let trailing = milliseconds_given(matches, "until", UsageError::Until)?;
+    let Some(trailing) = trailing else {
         return Ok((first, None));
     };
-    if behind <= first.unwrap_or(0) {
-        return Err(Mistake::Order);
+    if trailing <= first.unwrap_or(0) {
+        return Err(UsageError::Order);
     }
-    Ok((first, Some(behind - 1)))
+    Ok((first, Some(trailing - 1)))
 }

@@ -1,13 +1,13 @@
 //! What `table` requests.
 ghost use Rattle.std.specs.Prelude.{◌≡◌, IfOk};
-ghost use Rattle.tool_words.specs.Asked.{shows};
-ghost use Rattle.tool_words.specs.Tasks.{asked_of};
+ghost use Rattle.tool_words.specs.Request.{shows};
+ghost use Rattle.tool_words.specs.Tasks.{request_of};
 
 use crate::later_table::LaterTable;
-use crate::mistake::Mistake;
 use crate::moments::moment_given;
 use crate::reading::{has_value, inputs_in, is_input, value_in};
 use crate::task::{TableQuestion, Task};
+use crate::usage_error::UsageError;
 use clap::ArgMatches;
 use program_manners::{WrongWord, flag_in, names_in};
 use std::alloc::{AllocError, Global};
@@ -43,16 +43,16 @@ pub(crate) fn table_task<'a>(
     alloc: Global,
     matches: &ArgMatches<'a>,
 ) -> Result<Task<'a>, AllocError>
-    ensures { IfOk result (λ task. asked_of task ≡ shows) }
+    ensures { IfOk result (λ task. request_of task ≡ shows) }
 {
     let words = names_in(alloc, matches, "table")?;
     let uploads = names_in(alloc, matches, "UPLOAD")?;
     let Ok(from) = moment_given(matches, "from") else {
-        return Ok(Task::Unshown(Mistake::From));
+        return Ok(Task::Unshown(UsageError::From));
     };
     let is_sql = flag_in(matches, "sql");
     if is_sql && has_value(matches, "table") {
-        return Ok(Task::Unshown(Mistake::TablesAsSql));
+        return Ok(Task::Unshown(UsageError::TablesAsSql));
     }
     let later = match later_tables(alloc, &words)? {
         Ok(later) => later,
@@ -68,7 +68,7 @@ pub(crate) fn table_task<'a>(
         is_sql,
     };
     if has_later_twice(&question) {
-        return Ok(Task::Unshown(Mistake::InputTwice));
+        return Ok(Task::Unshown(UsageError::InputTwice));
     }
     Ok(Task::Table(question))
 }

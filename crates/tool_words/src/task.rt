@@ -2,7 +2,7 @@
 ghost use Rattle.std.specs.Prelude.{◌≤◌};
 
 use crate::later_table::LaterTable;
-use crate::mistake::Mistake;
+use crate::usage_error::UsageError;
 use jiff::Timestamp;
 use program_manners::WrongWord;
 use tap_rows::{Condition, Separator, Unit};
@@ -25,7 +25,7 @@ pub struct RowsWords<'a> {
 
 /// What `uploads --good-part` requests.
 #[derive(Clone, Copy, Debug)]
-pub struct GoodPartWords<'a> {
+pub struct ValidPrefixWords<'a> {
     pub upload: &'a str,
     pub out: &'a str,
     pub has_tokens: bool,
@@ -108,7 +108,7 @@ pub enum Task<'a> {
     /// What uploads have, and whether their tokens are counted.
     Uploads(Vec<&'a str>, bool),
     /// What one upload has, and a file of its valid prefix.
-    GoodPart(GoodPartWords<'a>),
+    ValidPrefix(ValidPrefixWords<'a>),
     /// What uploads have, and what is found in them.
     Look(LookWords<'a>, Vec<&'a str>),
     /// What fare tables are understood as.
@@ -122,9 +122,9 @@ pub enum Task<'a> {
     /// The corrections from one ledger to another.
     Corrections(CorrectionsWords<'a>),
     /// Nothing, since the words are wrong in this way.
-    Mistake(Mistake),
+    UsageError(UsageError),
     /// Nothing, since the words of what only informs are wrong in this way.
-    Unshown(Mistake),
+    Unshown(UsageError),
     /// Nothing, since the word of a later table has a wrong date, or none.
     WrongDate(WrongWord<'a>),
 }

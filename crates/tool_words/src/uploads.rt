@@ -23,7 +23,7 @@ const TOKENS_HELP: &str =
 
 const UPLOADS_HELP: &str = "Uploads of at most 67108864 bytes; - stands for standard input";
 
-const GOOD_PART_HELP: &str =
+const VALID_PREFIX_HELP: &str =
     "Make the file OUT of the batches before the layout fault; it must not be there; needs one FILE";
 
 const LOOK_HELP: &str =
@@ -57,7 +57,7 @@ pub(crate) fn uploads_command<'a>(
 {
     let rows = [
         Row::One(
-            Takes::Value("good-part", "OUT", GOOD_PART_HELP),
+            Takes::Value("good-part", "OUT", VALID_PREFIX_HELP),
             Need::Never,
         ),
         Row::One(Takes::Flag("tokens", TOKENS_HELP), Need::Never),

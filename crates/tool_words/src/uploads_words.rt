@@ -1,12 +1,12 @@
 //! What `uploads` requests with a valid prefix or a look.
 ghost use Rattle.std.specs.Prelude.{◌≡◌, IfOk};
-ghost use Rattle.tool_words.specs.Asked.{good_part_asked, shows};
-ghost use Rattle.tool_words.specs.Tasks.{asked_of, texts_of};
+ghost use Rattle.tool_words.specs.Request.{valid_prefix_request, shows};
+ghost use Rattle.tool_words.specs.Tasks.{request_of, texts_of};
 
-use crate::mistake::Mistake;
 use crate::moments::span_given;
 use crate::reading::{inputs_in, is_input_given, number_in, value_in};
-use crate::task::{GoodPartWords, LookWords, Task};
+use crate::task::{LookWords, Task, ValidPrefixWords};
+use crate::usage_error::UsageError;
 use clap::ArgMatches;
 use program_manners::{flag_in, names_in};
 use std::alloc::{AllocError, Global};
@@ -14,13 +14,13 @@ use std::alloc::{AllocError, Global};
 /// How many seconds at most a near duplicate is later than the tap before it, if none are given.
 const WITHIN_SECONDS: u32 = 5;
 
-pub(crate) fn good_part_task<'a>(out: &'a str, has_tokens: bool, words: &[&'a str]) -> Task<'a>
-    ensures { asked_of result ≡ good_part_asked out.entry.now has_tokens (texts_of words.now) }
+pub(crate) fn valid_prefix_task<'a>(out: &'a str, has_tokens: bool, words: &[&'a str]) -> Task<'a>
+    ensures { request_of result ≡ valid_prefix_request out.entry.now has_tokens (texts_of words.now) }
 {
     if words.len() != 1 {
-        return Task::Mistake(Mistake::NotOneUpload);
+        return Task::UsageError(UsageError::NotOneUpload);
     }
-    Task::GoodPart(GoodPartWords {
+    Task::ValidPrefix(ValidPrefixWords {
         upload: words[0],
         out,
         has_tokens,
@@ -28,17 +28,17 @@ pub(crate) fn good_part_task<'a>(out: &'a str, has_tokens: bool, words: &[&'a st
 }
 
 pub(crate) fn look_task<'a>(alloc: Global, matches: &ArgMatches<'a>) -> Result<Task<'a>, AllocError>
-    ensures { IfOk result (λ task. asked_of task ≡ shows) }
+    ensures { IfOk result (λ task. request_of task ≡ shows) }
 {
     let uploads = names_in(alloc, matches, "FILE")?;
     let (first, last) = match span_given(matches) {
         Ok(span) => span,
-        Err(mistake) => return Ok(Task::Unshown(mistake)),
+        Err(usage_error) => return Ok(Task::Unshown(usage_error)),
     };
     let table = value_in(matches, "table");
     let inputs = inputs_in(&uploads);
     if inputs > 1 || (inputs > 0 && is_input_given(table)) {
-        return Ok(Task::Unshown(Mistake::InputTwice));
+        return Ok(Task::Unshown(UsageError::InputTwice));
     }
     let words = LookWords {
         within: u64::from(number_in(matches, "within", WITHIN_SECONDS)) * 1000,

@@ -4,14 +4,13 @@ ghost use Rattle.std.specs.Prelude.{string_bytes};
 ghost use Rattle.clap.specs.Words.{FailsBy, fault_of, found_of, kind_of, matches_of, rows_of};
 ghost use Rattle.clap.specs.Words.{subcommand_of, subcommand_rows_of};
 ghost use Rattle.program_manners.specs.Words.{IsRequest};
-ghost use Rattle.tool_words.specs.Asked.{asked_by, asked_of_name, asked_once, corrections_asked};
-ghost use Rattle.tool_words.specs.Asked.{decode, encode_asked, ledgers_named, merge_asked, named};
-ghost use Rattle.tool_words.specs.Asked.{or_input, shows, sort_asked, uploads_asked};
-ghost use Rattle.tool_words.specs.Tasks.{asked_of, corrections_of, texts_of};
+ghost use Rattle.tool_words.specs.Request.{request_by, request_of_name, requested_once, corrections_request};
+ghost use Rattle.tool_words.specs.Request.{decode, encode_request, ledgers_named, merge_request, named};
+ghost use Rattle.tool_words.specs.Request.{or_input, shows, sort_request, uploads_request};
+ghost use Rattle.tool_words.specs.Tasks.{request_of, corrections_of, texts_of};
 ghost use Rattle.tool_words.specs.ToolLine.{AsksForText, Parses, program};
 
 use crate::encode_words::{encoded_file, rows_task};
-use crate::mistake::Mistake;
 use crate::program::command;
 use crate::reading::{
     as_parts, has_input_twice, has_value, inputs_in, is_input, number_in, value_in,
@@ -19,14 +18,15 @@ use crate::reading::{
 use crate::rules::{breaks_rule, looks};
 use crate::table_words::table_task;
 use crate::task::{BoundsWords, CorrectionsWords, SortingWords, Task};
-use crate::uploads_words::{good_part_task, look_task};
+use crate::uploads_words::{look_task, valid_prefix_task};
+use crate::usage_error::UsageError;
 use clap::error::ErrorKind;
 use clap::{ArgMatches, Error};
 use program_manners::{flag_in, names_in};
 use std::alloc::{AllocError, Global};
 
 fn encode_task<'a>(alloc: Global, matches: &ArgMatches<'a>) -> Result<Task<'a>, AllocError>
-    ensures { IfOk result (λ task. asked_of task ≡ encode_asked (rows_of (found_of matches.now))) }
+    ensures { IfOk result (λ task. request_of task ≡ encode_request (rows_of (found_of matches.now))) }
 {
     if has_value(matches, "columns") {
         return rows_task(alloc, matches);
@@ -35,20 +35,20 @@ fn encode_task<'a>(alloc: Global, matches: &ArgMatches<'a>) -> Result<Task<'a>, 
         || has_value(matches, "separator")
         || has_value(matches, "refused")
     {
-        return Ok(Task::Mistake(Mistake::NoColumns));
+        return Ok(Task::UsageError(UsageError::NoColumns));
     }
     if has_value(matches, "validators") {
-        return Ok(Task::Mistake(Mistake::NoColumnsForValidators));
+        return Ok(Task::UsageError(UsageError::NoColumnsForValidators));
     }
     if has_value(matches, "unit") {
-        return Ok(Task::Mistake(Mistake::NoColumnsForUnit));
+        return Ok(Task::UsageError(UsageError::NoColumnsForUnit));
     }
     Ok(Task::Encode(encoded_file(matches)))
 }
 
 /// Standard input, if no upload is named.
 fn decode_task<'a>(alloc: Global, matches: &ArgMatches<'a>) -> Result<Task<'a>, AllocError>
-    ensures { IfOk result (λ task. asked_of task
+    ensures { IfOk result (λ task. request_of task
         ≡ decode (or_input (named (codes "FILE") (rows_of (found_of matches.now))))) }
 {
     let mut words = names_in(alloc, matches, "FILE")?;
@@ -59,11 +59,11 @@ fn decode_task<'a>(alloc: Global, matches: &ArgMatches<'a>) -> Result<Task<'a>, 
 }
 
 fn uploads_task<'a>(alloc: Global, matches: &ArgMatches<'a>) -> Result<Task<'a>, AllocError>
-    ensures { IfOk result (λ task. asked_of task ≡ uploads_asked (rows_of (found_of matches.now))) }
+    ensures { IfOk result (λ task. request_of task ≡ uploads_request (rows_of (found_of matches.now))) }
 {
     if let Some(out) = value_in(matches, "good-part") {
         let words = names_in(alloc, matches, "FILE")?;
-        return Ok(good_part_task(out, flag_in(matches, "tokens"), &words));
+        return Ok(valid_prefix_task(out, flag_in(matches, "tokens"), &words));
     }
     if looks(matches) {
         return look_task(alloc, matches);
@@ -74,16 +74,16 @@ fn uploads_task<'a>(alloc: Global, matches: &ArgMatches<'a>) -> Result<Task<'a>,
 
 /// Uploads that are merged are read at any offset.
 fn sort_task<'a>(alloc: Global, matches: &ArgMatches<'a>) -> Result<Task<'a>, AllocError>
-    ensures { IfOk result (λ task. asked_of task ≡ sort_asked (rows_of (found_of matches.now))) }
+    ensures { IfOk result (λ task. request_of task ≡ sort_request (rows_of (found_of matches.now))) }
 {
     let is_merge = flag_in(matches, "merge");
     let uploads = names_in(alloc, matches, "UPLOAD")?;
     let inputs = inputs_in(&uploads);
     if inputs > 0 && is_merge {
-        return Ok(Task::Mistake(Mistake::InputMerged));
+        return Ok(Task::UsageError(UsageError::InputMerged));
     }
     if inputs > 1 {
-        return Ok(Task::Mistake(Mistake::InputTwice));
+        return Ok(Task::UsageError(UsageError::InputTwice));
     }
     Ok(Task::Sort(SortingWords {
         is_merge,
@@ -94,22 +94,22 @@ fn sort_task<'a>(alloc: Global, matches: &ArgMatches<'a>) -> Result<Task<'a>, Al
 }
 
 fn merge_task<'a>(parts: Vec<&'a str>) -> Task<'a>
-    ensures { asked_of result ≡ merge_asked (texts_of parts.entry.items) }
+    ensures { request_of result ≡ merge_request (texts_of parts.entry.items) }
 {
     if inputs_in(&parts) > 1 {
-        return Task::Mistake(Mistake::InputTwice);
+        return Task::UsageError(UsageError::InputTwice);
     }
     Task::Merge(parts)
 }
 
 /// Uploads that are sampled are read at any offset, too.
 fn bounds_task<'a>(alloc: Global, matches: &ArgMatches<'a>) -> Result<Task<'a>, AllocError>
-    ensures { IfOk result (λ task. asked_of task ≡ shows) }
+    ensures { IfOk result (λ task. request_of task ≡ shows) }
 {
     let parts = as_parts(number_in(matches, "parts", 1));
     let uploads = names_in(alloc, matches, "FILE")?;
     if inputs_in(&uploads) > 0 {
-        return Ok(Task::Unshown(Mistake::InputSampled));
+        return Ok(Task::Unshown(UsageError::InputSampled));
     }
     Ok(Task::Bounds(BoundsWords { parts, uploads }))
 }
@@ -125,10 +125,10 @@ fn ledgers_in<'a>(matches: &ArgMatches<'a>) -> CorrectionsWords<'a>
 }
 
 fn corrections_task<'a>(words: CorrectionsWords<'a>) -> Task<'a>
-    ensures { asked_of result ≡ corrections_asked (corrections_of words.entry) }
+    ensures { request_of result ≡ corrections_request (corrections_of words.entry) }
 {
     if is_input(words.old) && is_input(words.new) {
-        return Task::Mistake(Mistake::InputTwice);
+        return Task::UsageError(UsageError::InputTwice);
     }
     Task::Corrections(words)
 }
@@ -138,8 +138,8 @@ fn task_of_name<'a>(
     name: &'a str,
     matches: ArgMatches<'a>,
 ) -> Result<Task<'a>, AllocError>
-    ensures { IfOk result (λ task. asked_of task
-        ≡ asked_of_name name.entry.now (rows_of (found_of matches.entry))) }
+    ensures { IfOk result (λ task. request_of task
+        ≡ request_of_name name.entry.now (rows_of (found_of matches.entry))) }
 {
     if name == "encode" {
         return encode_task(alloc, &matches);
@@ -176,7 +176,7 @@ pub(crate) fn matched<'a>(alloc: Global, words: &'a [String]) -> Result<ArgMatch
 
 /// What clap says of words that it refuses, with the rules between arguments, if it says so; else
 /// the error as it is.
-fn told<'a>(alloc: Global, words: &'a [String], error: Error) -> Error
+fn reported<'a>(alloc: Global, words: &'a [String], error: Error) -> Error
     ensures { ((kind_of result ≡ kind_of error)
         × (IsRequest (kind_of error) ⊎ (kind_of error ≡ ErrorKind.OutOfMemory)))
         ⊎ ((¬ IsRequest (kind_of result)) × (¬ IsRequest (kind_of error))
@@ -223,11 +223,11 @@ fn task_in<'a>(
     name: &'a str,
     matches: ArgMatches<'a>,
 ) -> Result<Task<'a>, AllocError>
-    ensures { IfOk result (λ task. asked_of task
-        ≡ asked_once name.entry.now (rows_of (found_of matches.entry))) }
+    ensures { IfOk result (λ task. request_of task
+        ≡ requested_once name.entry.now (rows_of (found_of matches.entry))) }
 {
     if has_input_twice(&matches) {
-        return Ok(Task::Mistake(Mistake::InputTwice));
+        return Ok(Task::UsageError(UsageError::InputTwice));
     }
     task_of_name(alloc, name, matches)
 }
@@ -235,9 +235,9 @@ fn task_in<'a>(
 /// What the words request, the program's name first; else clap's error, which may be a call for
 /// help.
 pub fn read<'a>(alloc: Global, words: &'a [String]) -> Result<Task<'a>, Error>
-    ensures asked { IfOk result (λ task.
+    ensures request { IfOk result (λ task.
         (fault_of program (map string_bytes words.entry.now) ≡ [])
-        × (asked_of task ≡ asked_by (map string_bytes words.entry.now))) }
+        × (request_of task ≡ request_by (map string_bytes words.entry.now))) }
     ensures refused { IfErr result (λ error. (kind_of error ≡ ErrorKind.OutOfMemory)
         ⊎ ((IsRequest (kind_of error) × AsksForText (map string_bytes words.entry.now)
         × ¬ Parses (map string_bytes words.entry.now))
@@ -245,15 +245,15 @@ pub fn read<'a>(alloc: Global, words: &'a [String]) -> Result<Task<'a>, Error>
 {
     let matches = match matched(alloc, words) {
         Ok(matches) => matches,
-        Err(error) => return Err(told(alloc, words, error)),
+        Err(error) => return Err(reported(alloc, words, error)),
     };
     let Some((name, found)) = entered(matches) else {
-        return Ok(Task::Mistake(Mistake::NoSubcommand));
+        return Ok(Task::UsageError(UsageError::NoSubcommand));
     };
     if breaks_rule(name, &found) {
         return match whole_error(alloc, words) {
             Some(error) => Err(error),
-            None => Ok(Task::Mistake(Mistake::Arguments)),
+            None => Ok(Task::UsageError(UsageError::Arguments)),
         };
     }
     Ok(task_in(alloc, name, found)?)

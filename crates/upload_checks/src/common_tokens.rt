@@ -2,7 +2,7 @@
 
 use std::alloc::Global;
 use std::collections::BTreeMap;
-use tap_views::{NoMemory, TapFields, good_batches};
+use tap_views::{NoMemory, TapFields, valid_batches};
 
 #[derive(Clone, Copy)]
 struct TokenUploads {
@@ -76,7 +76,7 @@ impl CommonTokens {
     pub fn add(&mut self, upload: &[u8]) -> Result<(), NoMemory> {
         let number = self.counts.len();
         self.counts.push(CommonCounts { all: 0, shared: 0 })?;
-        for batch in good_batches(upload) {
+        for batch in valid_batches(upload) {
             for tap in batch.taps() {
                 self.add_token(TapFields::of(&tap).token, number)?;
             }

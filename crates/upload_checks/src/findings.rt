@@ -1,6 +1,6 @@
 //! What is found in uploads.
 
-use crate::near_doubles::{NearDouble, near_doubles};
+use crate::near_duplicates::{NearDuplicate, near_duplicates};
 use crate::repeats::{Repeat, repeated_uploads};
 use settlement::{LoadedUploads, SettledTaps, settled_taps};
 use std::alloc::Global;
@@ -14,7 +14,7 @@ use world::Trace;
 pub struct Findings {
     /// The lists, one after the other, have the valid taps in canonical order.
     pub lists: Vec<Vec<TapFields>>,
-    pub doubles: Vec<NearDouble>,
+    pub duplicates: Vec<NearDuplicate>,
     pub before: Vec<TapFields>,
     pub after: Vec<TapFields>,
     pub repeated: Vec<Repeat>,
@@ -32,7 +32,7 @@ pub fn look<R: Threads + Sync>(
 ) -> Result<Findings, NoMemory> {
     let loaded = LoadedUploads { all: uploads };
     let SettledTaps { lists, .. } = settled_taps(rt, alloc, &loaded, workers, &mut Trace::new())?;
-    let doubles = near_doubles(alloc, lists.as_slice(), within)?;
+    let duplicates = near_duplicates(alloc, lists.as_slice(), within)?;
     let mut before = Vec::new(alloc);
     let mut after = Vec::new(alloc);
     for list in &lists {
@@ -48,7 +48,7 @@ pub fn look<R: Threads + Sync>(
     let repeated = repeated_uploads(alloc, uploads)?;
     Ok(Findings {
         lists,
-        doubles,
+        duplicates,
         before,
         after,
         repeated,

@@ -3,12 +3,12 @@
 
 mod common_tokens;
 mod findings;
-mod near_doubles;
+mod inactive_days;
+mod near_duplicates;
 mod repeats;
-mod silent_days;
 
 pub use common_tokens::{CommonCounts, CommonTokens};
 pub use findings::{Findings, look};
-pub use near_doubles::NearDouble;
+pub use inactive_days::{InactiveDays, InactiveRun, find_inactive_days};
+pub use near_duplicates::NearDuplicate;
 pub use repeats::Repeat;
-pub use silent_days::{SilentDays, SilentRun, find_silent_days};

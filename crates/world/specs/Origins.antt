@@ -30,6 +30,6 @@ abbrev pub with_loads : Run → List Load → Run
 with_loads r loads = record r { loads = r.loads ++ loads }
 
 -- The bytes were read from there, and nothing else was done.
-pub record IsLent (origin : Origin) (old new : Run) (bytes : List ℕ) : Type 0 where
+pub record IsProvided (origin : Origin) (old new : Run) (bytes : List ℕ) : Type 0 where
   pub from : IsFrom origin bytes
   pub loads : new ≡ with_loads old (loads_from origin bytes)

@@ -84,7 +84,7 @@ fn make_room(bytes: &mut Vec<u8>, end: usize) -> Result<(), AllocError>
     Ok(())
 }
 
-fn read_behind<F: Read>(file: &mut F, bytes: &mut Vec<u8>, end: usize) -> io::Result<usize>
+fn read_after<F: Read>(file: &mut F, bytes: &mut Vec<u8>, end: usize) -> io::Result<usize>
     requires { end ≤ vec_len bytes.old }
     ensures kept { take end bytes.new.items ≡ take end bytes.old.items }
     ensures len { vec_len bytes.new ≡ vec_len bytes.old }
@@ -130,7 +130,7 @@ fn read_all<F: Read>(file: &mut F, room: Vec<u8>, trace: &mut Trace) -> Result<V
     let mut end = 0usize;
     for _ in 0..u64::MAX {
         make_room(&mut bytes, end)?;
-        match read_behind(file, &mut bytes, end) {
+        match read_after(file, &mut bytes, end) {
             Ok(0) => {
                 trace.read(&bytes, end, 0);
                 bytes.truncate(end);

@@ -8,7 +8,7 @@ use std::marker::Model;
 pub struct Staged {
     name: String,
     /// The name that it has until it is made.
-    begun: String,
+    started: String,
     bytes: GhostBytes,
 }
 
@@ -25,12 +25,12 @@ impl Model for Staged {
 impl Staged {
     ghost use Rattle.std.specs.Prelude.{◌≡◌, string_bytes};
 
-    pub(crate) fn new(name: String, begun: String, bytes: &[u8]) -> Staged
+    pub(crate) fn new(name: String, started: String, bytes: &[u8]) -> Staged
         ensures { result ≡ record { name = string_bytes name; bytes = bytes.now } }
     {
         Staged {
             name,
-            begun,
+            started,
             bytes: GhostBytes::of(bytes),
         }
     }
@@ -41,7 +41,7 @@ impl Staged {
         self.name.as_str()
     }
 
-    pub(crate) fn begun(&self) -> &str {
-        self.begun.as_str()
+    pub(crate) fn started(&self) -> &str {
+        self.started.as_str()
     }
 }

@@ -110,13 +110,13 @@ impl<R: Files + Input + AllocGlobal, W: Write, E: Write> World for System<'_, R,
         give_line(&mut self.err, line, &mut self.trace)
     }
 
-    fn stage(&mut self, name: &str, begun: &str, bytes: &[u8]) -> Result<Staged, MakeFault> {
+    fn stage(&mut self, name: &str, started: &str, bytes: &[u8]) -> Result<Staged, MakeFault> {
         let own = String::from_str(self.rt.alloc(), name)?;
-        let own_begun = String::from_str(self.rt.alloc(), begun)?;
-        match write_file(self.rt, begun, bytes) {
+        let own_started = String::from_str(self.rt.alloc(), started)?;
+        match write_file(self.rt, started, bytes) {
             Ok(()) => {
                 self.trace.staged(name, bytes);
-                Ok(Staged::new(own, own_begun, bytes))
+                Ok(Staged::new(own, own_started, bytes))
             }
             Err(_) => {
                 self.trace.unmade(name);
@@ -126,13 +126,13 @@ impl<R: Files + Input + AllocGlobal, W: Write, E: Write> World for System<'_, R,
     }
 
     fn publish(&mut self, file: Staged) -> Result<(), MakeFault> {
-        match fs::rename(self.rt, file.begun(), file.name()) {
+        match fs::rename(self.rt, file.started(), file.name()) {
             Ok(()) => {
                 self.trace.made(&file);
                 Ok(())
             }
             Err(_) => {
-                let _ = fs::remove_file(self.rt, file.begun());
+                let _ = fs::remove_file(self.rt, file.started());
                 self.trace.unmade(file.name());
                 Err(MakeFault::Unmade)
             }

@@ -84,7 +84,7 @@ pub trait World: Inputs {
         ensures said { IsSaid (Self.run self.old) (Self.run self.new) };
 
     /// Writes and syncs a whole file under the name `begun`. `publish` gives it this name.
-    fn stage(&mut self, name: &str, begun: &str, bytes: &[u8]) -> Result<Staged, MakeFault>
+    fn stage(&mut self, name: &str, started: &str, bytes: &[u8]) -> Result<Staged, MakeFault>
         ensures staged { IfOk result (λ file.
             file ≡ record { name = name.now; bytes = bytes.now }) }
         ensures unchanged { OnOk result (Self.run self.new ≡ Self.run self.old) }

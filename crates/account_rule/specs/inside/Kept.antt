@@ -35,7 +35,7 @@ unfoldable pub transfers_in : TableMeaning → ℕ → TransferRules
 transfers_in meaning class = record {
   count = λ tap. (transfer_terms meaning class).taps;
   time = λ tap. (transfer_terms meaning class).time;
-  permits = λ from tap. is_permitted meaning from.place tap.mode.place;
+  permits = λ from tap. is_permitted meaning from.position tap.mode.position;
 }
 
 -- what its owner sees of a window
@@ -75,7 +75,7 @@ unfoldable pub reply_under : TableMeaning → ClockView → Kept → LiveTap →
 reply_under meaning clock state tap =
     if gives (transfers_in meaning state.class) (kept_trip (Some state)) tap
     then reply_with Transfer 0
-    else ride_reply (paid_by (charge (ride_terms meaning state.class tap.mode.place)
+    else ride_reply (paid_by (charge (ride_terms meaning state.class tap.mode.position)
     (window_under meaning clock state tap).rides (window_under meaning clock state tap).cents))
 
 -- what is kept after the tap
@@ -88,7 +88,7 @@ kept_under meaning clock state tap =
       ride = tap;
       given = 0;
       class = state.class;
-      window = with_ride (ride_terms meaning state.class tap.mode.place)
+      window = with_ride (ride_terms meaning state.class tap.mode.position)
           (window_under meaning clock state tap);
     }
 

@@ -12,7 +12,7 @@ ghost use Rattle.account_rule.specs.inside.Kept.{with_ride};
 ghost use Rattle.account_rule.specs.NoTransfers.{HasModesBelow, no_transfer, no_transfer_from};
 ghost use Rattle.account_rule.specs.Reasons.{given_by, reason, replied_by};
 ghost use Rattle.account_rule.specs.TokenRules.{TokenRules, rules_of};
-ghost use Rattle.account_rule.specs.Stands.{Stands, StandsForSome};
+ghost use Rattle.account_rule.specs.Represents.{Represents, RepresentsSome};
 ghost use Rattle.account_rule.specs.Taps.{live_at};
 
 use super::Account;
@@ -33,15 +33,15 @@ impl Account {
     ) -> Reason
         requires clock { clock.now ≡ table.now.zone }
         requires token { length token.now ≡ 16 }
-        requires mode { ForSome tap.mode (λ mode. mode.place < length table.now.meaning.modes) }
+        requires mode { ForSome tap.mode (λ mode. mode.position < length table.now.meaning.modes) }
         requires early { tap.moment < 4_102_444_800_000 }
-        requires stands { StandsForSome (rules_of table.now token.now) self.old }
+        requires holds { RepresentsSome (rules_of table.now token.now) self.old }
 
-        ensures reason { (taps : List TapIn) → Stands (rules_of table.now token.now) self.old taps
+        ensures reason { (taps : List TapIn) → Represents (rules_of table.now token.now) self.old taps
             → result ≡ reason (rules_of table.now token.now) taps tap }
-        ensures stands { (taps : List TapIn) → Stands (rules_of table.now token.now) self.old taps
-            → Stands (rules_of table.now token.now) self.new (taps ++ tap ∷ []) }
-        ensures some { StandsForSome (rules_of table.now token.now) self.new }
+        ensures holds { (taps : List TapIn) → Represents (rules_of table.now token.now) self.old taps
+            → Represents (rules_of table.now token.now) self.new (taps ++ tap ∷ []) }
+        ensures some { RepresentsSome (rules_of table.now token.now) self.new }
         ensures few { (replied_by result).cents ≤ 100_000 }
     {
         let Some(mode) = tap.mode else {
@@ -77,10 +77,10 @@ impl Account {
     ) -> NoTransfer
         requires token { length token.now ≡ 16 }
 
-        ensures lacks { (taps : List TapIn) → Stands (rules_of table.now token.now) self.now taps
+        ensures lacks { (taps : List TapIn) → Represents (rules_of table.now token.now) self.now taps
             → result ≡ no_transfer (rules_of table.now token.now) taps moment mode }
-        ensures modes { (rules : TokenRules) (taps : List TapIn) → Stands rules self.now taps
-            → mode.place < rules.modes → HasModesBelow rules.modes result }
+        ensures modes { (rules : TokenRules) (taps : List TapIn) → Represents rules self.now taps
+            → mode.position < rules.modes → HasModesBelow rules.modes result }
     {
         if !self.has_window {
             return NoTransfer::FirstTap;
@@ -94,7 +94,7 @@ impl Account {
         requires class { class < length tariff.now.meaning.classes }
         ensures lacks { result ≡ no_transfer_from (transfers_in tariff.now.meaning class)
             (kept_trip (Some (kept_numbers self.now))) (live_at moment mode) }
-        ensures modes { (modes : ℕ) → self.now.mode.place < modes → mode.place < modes
+        ensures modes { (modes : ℕ) → self.now.mode.position < modes → mode.position < modes
             → HasModesBelow modes result }
     {
         let gives = tariff.transfer_terms(class);
@@ -130,12 +130,12 @@ impl Account {
     #[tactic(auto, unfolding(crate::specs::inside::Kept::window_at, crate::specs::inside::Kept::open_window))]
     fn explain_ride(&mut self, tariff: &Tariff, clock: &Clock, mode: Mode, moment: u64) -> Reason
         requires class { self.old.class < length tariff.now.meaning.classes }
-        requires mode { mode.place < length tariff.now.meaning.modes }
+        requires mode { mode.position < length tariff.now.meaning.modes }
         requires early { moment < 4_102_444_800_000 }
         requires room { IsRoomy self.old.window }
-        ensures bounds { AreRideTerms (ride_terms tariff.now.meaning self.old.class mode.place) }
+        ensures bounds { AreRideTerms (ride_terms tariff.now.meaning self.old.class mode.position) }
         ensures reason { result
-            ≡ next_reason (ride_terms tariff.now.meaning self.old.class mode.place)
+            ≡ next_reason (ride_terms tariff.now.meaning self.old.class mode.position)
             (window_at (Some self.old.window) moment (window_end_in clock.now
             tariff.now.meaning.window moment)) }
         ensures has_window { self.new.has_window ≡ self.old.has_window }
@@ -144,7 +144,7 @@ impl Account {
           ride = live_at moment mode;
           given = 0;
           class = self.old.class;
-          window = with_ride (ride_terms tariff.now.meaning self.old.class mode.place)
+          window = with_ride (ride_terms tariff.now.meaning self.old.class mode.position)
               (window_at (Some self.old.window) moment (window_end_in clock.now
               tariff.now.meaning.window moment));
         } }

@@ -15,9 +15,9 @@ pub record IsChargedPart (ledger : Bool) (known : List (Option (List ℕ))) (far
   pub written : Appends out out' text
 
 -- a prefix of it was, and nothing else
-pub record IsBegunPart (ledger : Bool) (known : List (Option (List ℕ))) (fares : Fares)
+pub record IsStartedPart (ledger : Bool) (known : List (Option (List ℕ))) (fares : Fares)
     (out out' : Option (List ℕ)) : Type 0 where
   pub text : List ℕ
   pub shows : (files : List (List ℕ)) → known ≡ map Some files
       → IsPartText ledger fares files text
-  pub begun : Begins out out' text
+  pub started : Begins out out' text

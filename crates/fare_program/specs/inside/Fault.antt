@@ -6,8 +6,8 @@ use Rattle.world.specs.declared.faults.LoadFault.{LoadFault}
 use Rattle.program_manners.specs.declared.output.WriteEnd.{WriteEnd}
 use Rattle.program_manners.specs.declared.table_loads.TablesFault.{TablesFault}
 use Rattle.program_manners.specs.declared.table_loads.TablesFault.TheVariants as unloaded
-use Rattle.fare_program.specs.Fault.{fault_text, mistake, status_of, wrong_date}
-use Rattle.fare_program.specs.Options.{Asked}
+use Rattle.fare_program.specs.Fault.{fault_text, usage_error, status_of, wrong_date}
+use Rattle.fare_program.specs.Options.{Request}
 use Rattle.fare_program.specs.declared.fault.Fault.{Fault}
 use Rattle.std.specs.Prelude.{◌<◌}
 use Rattle.fare_service.specs.Faults.{IsForMemory}
@@ -49,8 +49,8 @@ IsLoadLine name line = (fault : LoadFault) × (line ≡ load_text name fault)
 
 -- Why the program gives up: the first mistake in what is asked for, or else the first wrong date of
 -- a table, with their status, if there is one; else a fault with the other status.
-abbrev pub IsWhyOf : Asked → Fault → Type 0
-IsWhyOf asked fault = MatchOption (mistake asked) (MatchOption (wrong_date asked)
+abbrev pub IsWhyOf : Request → Fault → Type 0
+IsWhyOf request fault = MatchOption (usage_error request) (MatchOption (wrong_date request)
     (status_of fault ≡ 1)
     (λ wrong. (fault_text fault ≡ codes "fault: " ++ date_text wrong.0 wrong.1)
     × (status_of fault ≡ 2)))

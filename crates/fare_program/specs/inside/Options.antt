@@ -4,12 +4,12 @@ use Rattle.clap.specs.Words.{Row, Text}
 use Rattle.clap.specs.Words.{IsSignedIn, one_of, without_minus}
 use Rattle.std.specs.Prelude.{map, option_map}
 use Rattle.fare_program.specs.declared.options.Options.{Options}
-use Rattle.fare_program.specs.Options.{Asked}
+use Rattle.fare_program.specs.Options.{Request}
 use Rattle.program_manners.specs.TableViews.{names_of}
 
 -- what the options ask for
-abbrev pub asked_of : Options → Asked
-asked_of options = record {
+abbrev pub request_of : Options → Request
+request_of options = record {
   table = option_map names_of options.table;
   list = options.list;
   workers = options.workers;

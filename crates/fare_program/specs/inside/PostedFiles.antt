@@ -2,9 +2,9 @@
 use Rattle.std.specs.Prelude.{◌≡◌, ℕ, true, List, Option}
 use Rattle.tariffs.specs.Fares.{Fares}
 use Rattle.tap_views.specs.declared.token.Token.{Token}
-use Rattle.fare_service.specs.Lending.{AreLentAs}
+use Rattle.fare_service.specs.Lending.{AreProvidedAs}
 use Rattle.fare_service.specs.Outcomes.{OutcomeView}
-use Rattle.fare_program.specs.Options.{Asked}
+use Rattle.fare_program.specs.Options.{Request}
 use Rattle.tap_views.specs.UploadEnds.{are_posted}
 use Rattle.fare_program.specs.Program.{ShowsOf, ShowsPlain}
 use Rattle.fare_service.specs.Headline.{AreLoaded, HasRun, drawn_by}
@@ -15,18 +15,18 @@ use Rattle.world.specs.Run.{Run, with_all}
 -- shown of the outcome is shown over their sequential history.
 pub record IsLiveRun (fares : Fares) (shards workers : ℕ) (uploads : List Origin)
     (files : List (List ℕ)) (outcome : OutcomeView) : Type 0 where
-  pub lent : AreLentAs uploads files
+  pub provided : AreProvidedAs uploads files
   pub run : HasRun fares shards files workers outcome
   pub loaded : AreLoaded uploads files (drawn_by run.0) outcome.run
-  pub plain : (asked : Asked) (token : Option Token) (text : List ℕ)
-      → are_posted outcome.ends ≡ true → ShowsOf asked token outcome.ends outcome text
-      → ShowsPlain asked fares files token text
+  pub plain : (request : Request) (token : Option Token) (text : List ℕ)
+      → are_posted outcome.ends ≡ true → ShowsOf request token outcome.ends outcome text
+      → ShowsPlain request fares files token text
 
 -- These uploads were lent with the bytes of the files, and those that were drawn were loaded by the
 -- calls that were appended.
-pub record AreLent (uploads : List Origin) (files : List (List ℕ)) (drawn : List ℕ) (old new : Run)
+pub record AreProvided (uploads : List Origin) (files : List (List ℕ)) (drawn : List ℕ) (old new : Run)
     : Type 0 where
-  pub lent : AreLentAs uploads files
+  pub provided : AreProvidedAs uploads files
   pub run : Run
   pub loaded : AreLoaded uploads files drawn run
   pub appended : new ≡ with_all old run

@@ -10,11 +10,11 @@ use Rattle.settlement.specs.Settled.{IsSettledHistory}
 
 -- The text is the report of the settled history of the files. It is well if each file ends posted
 -- whole.
-pub record ShowsBill (fares : Fares) (files : List (List ℕ)) (text : List ℕ) (well : Bool)
+pub record ShowsBill (fares : Fares) (files : List (List ℕ)) (text : List ℕ) (success : Bool)
     : Type 0 where
   pub history : List Entry
   pub is_settled : IsSettledHistory fares files history
   pub shows : IsReportOver files history text
   pub ends : List UploadEnd
   pub ended : ArePlainEnds files ends
-  pub is_well : well ≡ are_posted ends
+  pub succeeded : success ≡ are_posted ends

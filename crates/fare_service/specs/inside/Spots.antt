@@ -11,12 +11,12 @@ abbrev pub book_at : Spot → ℕ
 book_at spot = spot.bits % 65536
 
 -- the place of the entry in its book
-abbrev pub place_at : Spot → ℕ
-place_at spot = spot.bits / 65536
+abbrev pub position_at : Spot → ℕ
+position_at spot = spot.bits / 65536
 
 -- the entry at a place of a book, if there is one
 abbrev pub entry_in : List Book → ℕ → ℕ → Option Entry
-entry_in books book place = option_and_then (λ b. slice_get b.entries place) (slice_get books book)
+entry_in books book position = option_and_then (λ b. slice_get b.entries position) (slice_get books book)
 
 -- what is read if there is none
 abbrev pub no_entry : Entry
@@ -30,7 +30,7 @@ no_entry = record {
 
 -- the entry at a spot
 unfoldable pub entry_at_spot : List Book → Spot → Entry
-entry_at_spot books spot = unwrap_or (entry_in books (book_at spot) (place_at spot)) no_entry
+entry_at_spot books spot = unwrap_or (entry_in books (book_at spot) (position_at spot)) no_entry
 
 -- the entries at the spots
 abbrev pub entries_at_spots : List Book → List Spot → List Entry

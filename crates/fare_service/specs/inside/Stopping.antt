@@ -7,7 +7,7 @@ use Rattle.fare_service.specs.ShareView.{ShareView}
 use Rattle.fare_service.specs.Shares.{made_visits_at, WentOn}
 use Rattle.fare_service.specs.declared.service.working.Stop.{Stop}
 use Rattle.fare_service.specs.declared.service.working.Stop.TheVariants.{Memory, Full}
-use Rattle.fare_service.specs.Stopping.{SomeFull, StoppedWell}
+use Rattle.fare_service.specs.Stopping.{SomeFull, StoppedCleanly}
 
 -- What was known of a full shard is still known. If a full shard stopped the work, it is known now.
 abbrev pub ReportsFull : {A : Type 0} → Result A Stop → List PassView → List PassView → Type 0
@@ -24,4 +24,4 @@ ReportsMemory shard answer old new =
 -- stopped. It keeps the share's claims.
 pub record WorkedOn (service : ServiceView) (old new : ShareView) : Type 0 where
   pub went_on : WentOn service old new
-  pub stopped : (new ≡ old) ⊎ StoppedWell service old new
+  pub stopped : (new ≡ old) ⊎ StoppedCleanly service old new

@@ -19,9 +19,9 @@ ghost use Rattle.fare_service.specs.Shares.{Worked};
 
 use crate::outcome::Outcome;
 use histories::laws::plain_history;
-use shard_book::laws::one_rising_list;
+use shard_book::laws::one_increasing_list;
 use tap_views::UploadEnd;
-use tap_views::laws::one_reading_each;
+use tap_views::laws::unique_parse_each;
 
 /// The tokens of an outcome's books are those of their bytes and of their shard. Reads no entry.
 pub fn tokens_are_named(outcome: &Outcome)
@@ -53,7 +53,7 @@ pub fn statements_are_plain(uploads: &[Vec<u8>], outcome: &Outcome)
 {
     let _ = outcome.shards();
     tokens_are_named(outcome);
-    one_reading_each(uploads);
+    unique_parse_each(uploads);
 }
 
 /// If no upload was cut or left undrawn, each ends as its bytes call for.
@@ -75,8 +75,8 @@ pub fn report_is_plain(uploads: &[Vec<u8>], outcome: &Outcome)
 {
     let _ = outcome.shards();
     tokens_are_named(outcome);
-    one_reading_each(uploads);
-    one_rising_list();
+    unique_parse_each(uploads);
+    one_increasing_list();
 }
 
 /// Two outcomes over the same uploads and table have the same report and the same statements, if no
@@ -93,7 +93,7 @@ pub fn same_texts(uploads: &[Vec<u8>], one: &Outcome, other: &Outcome)
         ↔ IsStatementOf other.now token text }
 {
     plain_history(uploads);
-    one_reading_each(uploads);
+    unique_parse_each(uploads);
     report_is_plain(uploads, one);
     report_is_plain(uploads, other);
     statements_are_plain(uploads, one);

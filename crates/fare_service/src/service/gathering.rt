@@ -17,7 +17,7 @@ ghost use Rattle.fare_service.specs.Faults.{IsForMemory, IsGatherFault};
 ghost use Rattle.fare_service.specs.Shares.{books_of, made_visits_at};
 
 use crate::faults::GatherFault;
-use crate::lending::LentUploads;
+use crate::lending::UploadSource;
 use crate::outcome::Outcome;
 use crate::service::Service;
 use crate::service::share::{Done, Posting, Share};
@@ -232,7 +232,7 @@ fn close_with(
     }
 }
 
-impl<U: LentUploads + Drop> Service<U> {
+impl<U: UploadSource + Drop> Service<U> {
     ghost use Rattle.fare_service.specs.ServiceView.{shards_of};
     ghost use Rattle.fare_service.specs.Headline.{HasOutcome, AreUndrawnReported};
     ghost use Rattle.fare_service.specs.Shares.{IsShareOf};

@@ -13,7 +13,7 @@ ghost use Rattle.fare_service.specs.Stopping.{HaveStopped};
 ghost use Rattle.fare_service.specs.inside.Lending.{IsAnswer, IsFaultOf};
 
 use crate::faults::RunFault;
-use crate::lending::{LentUploads, Unlent};
+use crate::lending::{Unavailable, UploadSource};
 use crate::outcome::Outcome;
 use crate::service::Service;
 use crate::service::share::Share;
@@ -30,12 +30,12 @@ const MAX_WORKERS: u32 = 16;
 
 /// The service that a thread gives a share of, and the share that it began with.
 #[derive(Drop)]
-struct OfShare<'s, U: LentUploads + Drop> {
+struct OfShare<'s, U: UploadSource + Drop> {
     service: &'s Service<U>,
     began: Snapshot<Share>,
 }
 
-impl<'s, U: LentUploads + Drop> Promise<Result<Share, Unlent>> for OfShare<'s, U> {
+impl<'s, U: UploadSource + Drop> Promise<Result<Share, Unavailable>> for OfShare<'s, U> {
     ghost kept_by = { λ p answer. IsAnswer p.service.now p.began.value answer };
 }
 
@@ -46,7 +46,10 @@ fn push(shares: &mut Vec<Share>, share: Share) -> Result<(), NoMemory>
     Ok(())
 }
 
-fn all_shares(alloc: Global, answers: Vec<Result<Share, Unlent>>) -> Result<Vec<Share>, RunFault>
+fn all_shares(
+    alloc: Global,
+    answers: Vec<Result<Share, Unavailable>>,
+) -> Result<Vec<Share>, RunFault>
     ensures shares { IfOk result (λ shares. answers.items ≡ map Ok shares.items) }
     ensures fault { IfErr result (IsFaultOf answers.items) }
 {
@@ -54,13 +57,13 @@ fn all_shares(alloc: Global, answers: Vec<Result<Share, Unlent>>) -> Result<Vec<
     for answer in answers {
         match answer {
             Ok(share) => push(&mut shares, share)?,
-            Err(unlent) => return Err(RunFault::Unlent(unlent)),
+            Err(unavailable) => return Err(RunFault::Unavailable(unavailable)),
         }
     }
     Ok(shares)
 }
 
-impl<U: LentUploads + Drop + Sync> Service<U> {
+impl<U: UploadSource + Drop + Sync> Service<U> {
     fn share_out(&self, alloc: Global, first: Share, workers: u32) -> Result<Vec<Share>, NoMemory>
         requires first { IsShareOf self.now first }
         requires some { 0 < workers }
@@ -89,7 +92,7 @@ impl<U: LentUploads + Drop + Sync> Service<U> {
         alloc: Global,
         shares: Vec<Share>,
         keeper: &'s G,
-    ) -> Result<Vec<Result<Share, Unlent>>, NoMemory>
+    ) -> Result<Vec<Result<Share, Unavailable>>, NoMemory>
         requires { All (IsShareOf self.now) shares.items }
         ensures { IfOk result (λ r. AllZip (IsAnswer self.now) shares.items r.items) }
     {
@@ -101,7 +104,7 @@ impl<U: LentUploads + Drop + Sync> Service<U> {
                     service: self,
                     began,
                 },
-                move || -> Result<Share, Unlent>
+                move || -> Result<Share, Unavailable>
                     requires { IsShareOf self.now share }
                     ensures { IsAnswer self.entry.now share result }
                 { self.work(rt, alloc, share, keeper) },
@@ -123,14 +126,14 @@ impl<U: LentUploads + Drop + Sync> Service<U> {
         alloc: Global,
         shares: Vec<Share>,
         keeper: &G,
-    ) -> Result<Vec<Result<Share, Unlent>>, NoMemory>
+    ) -> Result<Vec<Result<Share, Unavailable>>, NoMemory>
         requires { All (IsShareOf self.now) shares.items }
         ensures { IfOk result (λ r. AllZip (IsAnswer self.now) shares.items r.items) }
     {
         let worked = thread::scope(
             thread::scope_env(),
             rt,
-            |scope| -> Result<Vec<Result<Share, Unlent>>, NoMemory>
+            |scope| -> Result<Vec<Result<Share, Unavailable>>, NoMemory>
                 requires { All (IsShareOf self.now) shares.items }
                 ensures { IfOk result
                     (λ r. AllZip (IsAnswer self.entry.now) shares.items r.items) }

@@ -5,7 +5,7 @@ ghost use Rattle.std.specs.Prelude.{Some, vec_len, vec_capacity};
 ghost use Rattle.shared_books.specs.Passes.{new_pass};
 ghost use Rattle.fare_service.specs.inside.ServiceView.{AreOpened};
 
-use crate::lending::LentUploads;
+use crate::lending::UploadSource;
 use crate::service::Service;
 use shard_book::{HashSeed, ShardBook};
 use shared_books::{Pass, SharedBook};
@@ -36,7 +36,7 @@ pub(crate) fn open_books(
     Ok((books, passes))
 }
 
-impl<U: LentUploads + Drop> Service<U> {
+impl<U: UploadSource + Drop> Service<U> {
     ghost use Rattle.shared_books.specs.Passes.{fresh_pass, left_pass};
     ghost use Rattle.fare_service.specs.Shares.{books_of};
 

@@ -6,14 +6,14 @@ ghost use Rattle.std.specs.Prelude.{IfNone, IfSome, is_ok, is_some, map, true, f
 ghost use Rattle.std.specs.Prelude.{[]};
 ghost use Rattle.histories.specs.Sums.{sums_of, sums_of_replies, add_sums};
 
-use crate::lending::{LentUploads, Unlent};
+use crate::lending::{Unavailable, UploadSource};
 use crate::service::Service;
 use crate::service::share::{Done, Posting, Share};
 use shard_book::{Replies, RunEnd, Tally, Totals};
 use shared_books::{Drawer, Full};
 use std::alloc::Global;
 use std::sync::Wait;
-use tap_views::{Batch, LayoutFault, NoMemory, Runs, UploadEnd, good_batches};
+use tap_views::{Batch, LayoutFault, NoMemory, Runs, UploadEnd, valid_batches};
 use tariffs::Clock;
 
 /// What a worker calls before it posts an upload and after it. A test can make workers wait there.
@@ -21,17 +21,17 @@ pub trait Gatekeeper {
     ghost use Rattle.std.specs.Prelude.{ℕ, ◌≡◌};
 
     /// Shows that an upload was begun: only `before` gives it, and only `after` takes it.
-    type Begun;
+    type Started;
 
     // The upload that was begun.
-    ghost begins: { Self.Begun → ℕ };
+    ghost begins: { Self.Started → ℕ };
 
     /// The upload was drawn, and nothing of it is posted yet.
-    fn before(&self, upload: u32) -> Self::Begun
+    fn before(&self, upload: u32) -> Self::Started
         ensures { begins result ≡ upload };
 
     /// Nothing more of the upload that was begun will be posted.
-    fn after(&self, begun: Self::Begun);
+    fn after(&self, started: Self::Started);
 }
 
 /// A gatekeeper that keeps nobody waiting.
@@ -39,9 +39,9 @@ pub trait Gatekeeper {
 pub struct OpenGatekeeper;
 
 impl Gatekeeper for OpenGatekeeper {
-    type Begun = u32;
+    type Started = u32;
 
-    ghost begins = { λ begun. begun };
+    ghost begins = { λ started. started };
 
     fn before(&self, upload: u32) -> u32 {
         upload
@@ -101,8 +101,8 @@ fn count(totals: &mut Totals, replies: &Replies)
         ≡ add_sums (sums_of totals.old) (sums_of_replies replies.now.items) }
 {
     let mut tally = Tally::new();
-    for place in 0..replies.len() {
-        tally.add(replies.get(place));
+    for position in 0..replies.len() {
+        tally.add(replies.get(position));
     }
     totals.add_all(&tally.totals());
 }
@@ -113,7 +113,7 @@ fn bytes_in(file: &[u8]) -> usize
     file.len()
 }
 
-impl<U: LentUploads + Drop> Service<U> {
+impl<U: UploadSource + Drop> Service<U> {
     ghost use Rattle.fare_service.specs.ServiceView.{shards_of};
     ghost use Rattle.tap_views.specs.Runs.{AreRuns};
     ghost use Rattle.tap_views.specs.Layout.{Tap};
@@ -124,11 +124,11 @@ impl<U: LentUploads + Drop> Service<U> {
     ghost use Rattle.fare_service.specs.inside.Runs.{ArePostedOrCut};
     ghost use Rattle.fare_service.specs.Shares.{HasVisited, books_of, IsShareOf, IsWorked};
     ghost use Rattle.fare_service.specs.Shares.{WentOn};
-    ghost use Rattle.fare_service.specs.Lending.{IsUnlent, origin_at};
+    ghost use Rattle.fare_service.specs.Lending.{IsUnavailable, origin_at};
     ghost use Rattle.world.specs.Origins.{IsFrom};
     ghost use Rattle.fare_service.specs.inside.Shares.{worked};
     ghost use Rattle.fare_service.specs.Plain.{WasNotCut};
-    ghost use Rattle.fare_service.specs.Stopping.{SomeFull, StoppedWell, WasCut};
+    ghost use Rattle.fare_service.specs.Stopping.{SomeFull, StoppedCleanly, WasCut};
     ghost use Rattle.fare_service.specs.inside.Stopping.{ReportsFull, ReportsMemory};
 
     /// Memory for its replies is taken before the turn.
@@ -230,11 +230,11 @@ impl<U: LentUploads + Drop> Service<U> {
     {
         // proof: a file has fewer than 2^64 bytes, so that the counts of its taps fit
         let _bytes = bytes_in(file);
-        let mut good = good_batches(file);
-        while let Some(batch) = good.next() {
+        let mut valid = valid_batches(file);
+        while let Some(batch) = valid.next() {
             self.post_batch(rt, posting, buffers, &batch)?;
         }
-        Ok(good.fault())
+        Ok(valid.fault())
     }
 
     /// Returns how the upload ended, and whether the worker may go on.
@@ -245,11 +245,11 @@ impl<U: LentUploads + Drop> Service<U> {
         buffers: &mut Buffers,
         upload: u32,
         file: &[u8],
-        _begun: &G::Begun,
+        _started: &G::Started,
     ) -> (UploadEnd, bool)
-        requires begun { G.begins _begun.now ≡ upload }
+        requires started { G.begins _started.now ≡ upload }
         requires upload { upload < length self.now.uploads }
-        requires lent { IsFrom (origin_at self.now.uploads upload) file.now }
+        requires provided { IsFrom (origin_at self.now.uploads upload) file.now }
         requires passes { books_of posting.old.passes.items ≡ self.now.books }
         requires clock { buffers.old.run.clock ≡ self.now.table.zone }
         requires runs { length buffers.old.runs ≡ shards_of self.now }
@@ -299,7 +299,7 @@ impl<U: LentUploads + Drop> Service<U> {
         keeper: &G,
     ) -> (Done, bool)
         requires upload { upload < length self.now.uploads }
-        requires lent { IsFrom (origin_at self.now.uploads upload) file.now }
+        requires provided { IsFrom (origin_at self.now.uploads upload) file.now }
         requires passes { books_of posting.old.passes.items ≡ self.now.books }
         requires clock { buffers.old.run.clock ≡ self.now.table.zone }
         requires runs { length buffers.old.runs ≡ shards_of self.now }
@@ -317,9 +317,9 @@ impl<U: LentUploads + Drop> Service<U> {
         ensures clock { buffers.new.run.clock ≡ buffers.old.run.clock }
         ensures runs { length buffers.new.runs ≡ length buffers.old.runs }
     {
-        let begun = keeper.before(upload);
-        let (end, goes_on) = self.post_upload::<R, G>(rt, posting, buffers, upload, file, &begun);
-        keeper.after(begun);
+        let started = keeper.before(upload);
+        let (end, goes_on) = self.post_upload::<R, G>(rt, posting, buffers, upload, file, &started);
+        keeper.after(started);
         (Done { upload, end }, goes_on)
     }
 
@@ -347,13 +347,13 @@ impl<U: LentUploads + Drop> Service<U> {
         alloc: Global,
         share: Share,
         keeper: &G,
-    ) -> Result<Share, Unlent>
+    ) -> Result<Share, Unavailable>
         requires { IsShareOf self.now share }
         ensures share { IfOk result (IsShareOf self.now) }
         ensures went_on { IfOk result (WentOn self.now share) }
         ensures stopped { IfOk result
-            (λ new. (new ≡ share) ⊎ StoppedWell self.now share new) }
-        ensures unlent { IfErr result (λ unlent. IsUnlent self.now.uploads unlent.upload) }
+            (λ new. (new ≡ share) ⊎ StoppedCleanly self.now share new) }
+        ensures unavailable { IfErr result (λ unavailable. IsUnavailable self.now.uploads unavailable.upload) }
     {
         let Ok(mut buffers) = self.buffers(alloc) else {
             return Ok(share);
@@ -384,8 +384,8 @@ impl<U: LentUploads + Drop> Service<U> {
                     calls,
                 });
             };
-            let Some(file) = self.uploads.lend(upload, &mut room, &mut calls) else {
-                return Err(Unlent { upload });
+            let Some(file) = self.uploads.provide(upload, &mut room, &mut calls) else {
+                return Err(Unavailable { upload });
             };
             let (next, goes_on) = self.post_drawn(
                 rt,

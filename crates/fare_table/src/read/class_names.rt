@@ -19,7 +19,7 @@ pub(crate) struct ClassNames<'t> {
     pub classes: &'t Table,
     pub names: Vec<&'t str>,
     pub ghost listed: { map (λ name. name.now) names.items ≡ names_in (table_view classes.now) },
-    pub ghost rising: { in_byte_order (table_view classes.now) ≡ true },
+    pub ghost increasing: { in_byte_order (table_view classes.now) ≡ true },
 }
 
 impl<'t> ClassNames<'t> {
@@ -35,14 +35,14 @@ impl<'t> ClassNames<'t> {
     }
 
     /// An index that `u32` does not hold counts as an allocation failure: no memory holds so many.
-    pub(crate) fn place_of(&self, name: &str) -> Result<u32, TableFault>
-        ensures place { Answers (λ place. place) result
+    pub(crate) fn position_of(&self, name: &str) -> Result<u32, TableFault>
+        ensures position { Answers (λ position. position) result
             (spec.class_named (table_view self.now.classes.now) name.now) }
         ensures there { IfOk result
-            (λ place. place < count_of (table_view self.now.classes.now)) }
+            (λ position. position < count_of (table_view self.now.classes.now)) }
     {
         match self.names.as_slice().binary_search(&name) {
-            Ok(place) => short_place(place),
+            Ok(position) => short_position(position),
             // proof: no class has the name. A linear search, so that no proof need say that a
             // binary search finds each name.
             Err(_) => class_named(self.classes, name),
@@ -50,14 +50,14 @@ impl<'t> ClassNames<'t> {
     }
 }
 
-fn short_place(place: usize) -> Result<u32, TableFault>
-    ensures same { IfOk result (λ short. short ≡ place) }
+fn short_position(position: usize) -> Result<u32, TableFault>
+    ensures same { IfOk result (λ short. short ≡ position) }
     ensures refused { IfErr result (λ e. e ≡ TableFault.NoMemory) }
 {
-    if place > u32::MAX as usize {
+    if position > u32::MAX as usize {
         return Err(TableFault::NoMemory);
     }
-    Ok(place as u32)
+    Ok(position as u32)
 }
 
 pub(crate) fn names_of(alloc: Global, classes: &Table) -> Result<Vec<String>, TableFault>

@@ -142,9 +142,9 @@ fn fares_from(modes: &[String], fare: u32, members: &Table) -> Result<[u32; MAX_
 {
     let mut fares = equal_fares(fare);
     for (name, value) in members {
-        let place = mode_named(modes, name.as_str())?;
+        let position = mode_named(modes, name.as_str())?;
         let cents = number_in(value, Key::Fares, 0, MAX_FARE_CENTS)?;
-        fares[place as usize] = cents;
+        fares[position as usize] = cents;
     }
     Ok(fares)
 }
@@ -180,25 +180,25 @@ fn ceiling_of(price: u32, value: Option<&Value>) -> Result<u32, TableFault>
 
 /// An index that `u32` does not hold counts as an allocation failure: no memory holds so many.
 pub(crate) fn class_named(classes: &Table, name: &str) -> Result<u32, TableFault>
-    ensures place { Answers (λ place. place) result
+    ensures position { Answers (λ position. position) result
         (spec.class_named (table_view classes.now) name.now) }
-    ensures there { IfOk result (λ place. place < count_of (table_view classes.now)) }
+    ensures there { IfOk result (λ position. position < count_of (table_view classes.now)) }
 {
-    let mut place = 0u32;
+    let mut position = 0u32;
     for (key, _value) in classes {
         if name == key.as_str() {
-            return Ok(place);
+            return Ok(position);
         }
-        place = next_place(place)?;
+        position = next_position(position)?;
     }
     Err(TableFault::Rider)
 }
 
-fn next_place(place: u32) -> Result<u32, TableFault>
-    ensures next { IfOk result (λ next. next ≡ place + 1) }
+fn next_position(position: u32) -> Result<u32, TableFault>
+    ensures next { IfOk result (λ next. next ≡ position + 1) }
     ensures refused { IfErr result (λ e. e ≡ TableFault.NoMemory) }
 {
-    match place.checked_add(1) {
+    match position.checked_add(1) {
         Some(next) => Ok(next),
         None => Err(TableFault::NoMemory),
     }
@@ -206,9 +206,9 @@ fn next_place(place: u32) -> Result<u32, TableFault>
 
 #[tactic(auto, unfolding(crate::specs::Classes::default_of))]
 pub(crate) fn default_of(classes: &Table, table: &Table) -> Result<u32, TableFault>
-    ensures place { Answers (λ place. place) result
+    ensures position { Answers (λ position. position) result
         (spec.default_of (table_view classes.now) (table_view table.now)) }
-    ensures there { IfOk result (λ place. place < count_of (table_view classes.now)) }
+    ensures there { IfOk result (λ position. position < count_of (table_view classes.now)) }
 {
     class_named(classes, text_at(table, "default_class", Key::DefaultClass)?)
 }

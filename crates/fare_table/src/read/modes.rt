@@ -103,11 +103,11 @@ fn has_name(names: &[String], name: &str) -> bool
 pub(crate) fn mode_named(modes: &[String], name: &str) -> Result<u8, TableFault>
     requires { length modes.now ≤ 32 }
     ensures mode { result ≡ spec.mode_named (map string_bytes modes.now) name.now }
-    ensures within { IfOk result (λ place. place < length modes.now) }
+    ensures within { IfOk result (λ position. position < length modes.now) }
 {
-    for (place, mode) in modes.iter().enumerate() {
+    for (position, mode) in modes.iter().enumerate() {
         if name == mode.as_str() {
-            return Ok(place as u8);
+            return Ok(position as u8);
         }
     }
     Err(TableFault::Mode)

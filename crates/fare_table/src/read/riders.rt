@@ -23,7 +23,7 @@ pub(crate) fn riders_of(alloc: Global, classes: &Table, table: &Table) -> Result
     ensures answer { Answers (λ r. r) result
         (spec.riders_of (table_view classes.now) (table_view table.now)) }
     ensures there { IfOk result
-        (λ r. All (λ place. place < count_of (table_view classes.now)) (values_of r)) }
+        (λ r. All (λ position. position < count_of (table_view classes.now)) (values_of r)) }
 {
     let Some(value) = optional(table, "riders") else {
         return Ok(Riders::new(alloc, BTreeMap::new(alloc))?);
@@ -44,7 +44,7 @@ fn riders_from(
     ensures answer { Answers (λ m. by_bytes m.entries) result
         (spec.riders_from (table_view classes.now) [] (table_view members.now)) }
     ensures fits { IfOk result (λ m. All Fits (keys_of m.entries)) }
-    ensures there { IfOk result (λ m. All (λ place. place < count_of (table_view classes.now))
+    ensures there { IfOk result (λ m. All (λ position. position < count_of (table_view classes.now))
         (values_of (by_bytes m.entries))) }
 {
     let names = ClassNames::new(alloc, classes)?;
@@ -67,7 +67,7 @@ fn rider_of(names: &ClassNames<'_>, key: &str, value: &Value) -> Result<([u8; 16
 {
     let token = token_of_digits(key)?;
     let name = of_kind(value.as_str(), Key::Riders)?;
-    Ok((token, names.place_of(name)?))
+    Ok((token, names.position_of(name)?))
 }
 
 fn token_of_digits(digits: &str) -> Result<[u8; 16], TableFault>

@@ -61,17 +61,17 @@ fn transfers_from(
 {
     let mut transfers = Transfers::new(alloc);
     for pair in pairs {
-        let (from, to) = places_of(modes, pair.0, pair.1)?;
+        let (from, to) = positions_of(modes, pair.0, pair.1)?;
         transfers.add(from, to)?;
     }
     Ok(transfers)
 }
 
-fn places_of(modes: &[String], from: &str, to: &str) -> Result<(u8, u8), TableFault>
+fn positions_of(modes: &[String], from: &str, to: &str) -> Result<(u8, u8), TableFault>
     requires { length modes.now ≤ 32 }
-    ensures places { result ≡ spec.places_of (map string_bytes modes.now) (from.now, to.now) }
-    ensures from { IfOk result (λ places. places.0 < 32) }
-    ensures to { IfOk result (λ places. places.1 < 32) }
+    ensures positions { result ≡ spec.positions_of (map string_bytes modes.now) (from.now, to.now) }
+    ensures from { IfOk result (λ positions. positions.0 < 32) }
+    ensures to { IfOk result (λ positions. positions.1 < 32) }
 {
     let from = mode_named(modes, from)?;
     let to = mode_named(modes, to)?;

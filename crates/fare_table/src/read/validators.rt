@@ -4,10 +4,10 @@ ghost use Rattle.std.specs.Prelude.{string_bytes};
 ghost use Rattle.std.specs.List.{list_any};
 ghost use Rattle.toml.specs.View.{view, array_view, table_view};
 ghost use Rattle.fare_table.specs.inside.OrFault.{Answers};
-ghost use Rattle.tariffs.specs.Validators.{stand_apart, are_modes_below};
+ghost use Rattle.tariffs.specs.Validators.{are_disjoint, are_modes_below};
 ghost use Rattle.fare_table.specs.Validators.{share_number};
 ghost use Rattle.fare_table.specs.Validators as spec;
-ghost use Rattle.tariffs.specs.Validators.{last_begun};
+ghost use Rattle.tariffs.specs.Validators.{last_started};
 
 use super::members::{are_tables, array_at, number_at, of_kind, text_at};
 use super::modes::mode_named;
@@ -47,7 +47,7 @@ fn ranges_from(
     requires { length modes.now ≤ 32 }
     ensures answer { Answers (λ m. m.entries) result
         (spec.ranges_from (map string_bytes modes.now) [] (array_view array.now)) }
-    ensures apart { IfOk result (λ m. stand_apart m.entries ≡ true) }
+    ensures apart { IfOk result (λ m. are_disjoint m.entries ≡ true) }
     ensures known { IfOk result (λ m. are_modes_below (length modes.now) m.entries ≡ true) }
 {
     let mut ranges = BTreeMap::new(alloc);
@@ -63,7 +63,7 @@ fn ranges_from(
 
 /// Only the last range that begins no later than this one ends can share a number.
 fn shares_number(ranges: &BTreeMap<u32, RangeRest>, first: u32, rest: RangeRest) -> bool
-    requires apart { stand_apart ranges.now.entries ≡ true }
+    requires apart { are_disjoint ranges.now.entries ≡ true }
     requires order { first ≤ rest.last }
     ensures { result ≡ list_any (share_number (first, rest)) ranges.now.entries }
 {
@@ -74,8 +74,8 @@ fn shares_number(ranges: &BTreeMap<u32, RangeRest>, first: u32, rest: RangeRest)
 }
 
 fn last_upto(ranges: &BTreeMap<u32, RangeRest>, number: u32) -> Option<u32>
-    requires { stand_apart ranges.now.entries ≡ true }
-    ensures { result ≡ option_map (λ range. range.1.last) (last_begun number ranges.now.entries) }
+    requires { are_disjoint ranges.now.entries ≡ true }
+    ensures { result ≡ option_map (λ range. range.1.last) (last_started number ranges.now.entries) }
 {
     match ranges.range(..=number).next_back() {
         Some((_first, rest)) => Some(rest.last),

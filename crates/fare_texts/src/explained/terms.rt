@@ -46,8 +46,8 @@ fn write_all_later(text: &mut String, table: &FareTable, token: &[u8]) -> Result
         × AreLaterTerms token.now table.now.later written
         × (string_bytes text.new ≡ string_bytes text.old ++ written)) }
 {
-    for place in 0..table.later_len() {
-        let (from, tariff) = table.later(place);
+    for position in 0..table.later_len() {
+        let (from, tariff) = table.later(position);
         write_later(text, from, tariff.terms_of(token))?;
     }
     Ok(())

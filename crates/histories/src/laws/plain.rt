@@ -3,19 +3,19 @@
 ghost use Rattle.std.specs.Prelude.{◌≡◌, ◌<◌, ℕ, List, All, flat_map, map};
 ghost use Rattle.tariffs.specs.Fares.{Fares};
 ghost use Rattle.tap_views.specs.Layout.{Tap};
-ghost use Rattle.tap_views.specs.Files.{AreGoodTaps};
+ghost use Rattle.tap_views.specs.Files.{AreValidTaps};
 ghost use Rattle.histories.specs.declared.entry.Entry.{Entry};
 ghost use Rattle.histories.specs.Entry.{AreEntriesOf};
 ghost use Rattle.histories.specs.History.{IsLegal};
 ghost use Rattle.histories.specs.Plain.{IsPlain};
 
-use tap_views::laws::one_reading_each;
+use tap_views::laws::unique_parse_each;
 
 fn taps_of(file: &[u8])
-    ensures taps { (taps : List Tap) × AreGoodTaps file.now taps }
+    ensures taps { (taps : List Tap) × AreValidTaps file.now taps }
     ensures bytes { All (λ byte. byte < 256) file.now }
 {
-    let _ = tap_views::good_batches(file);
+    let _ = tap_views::valid_batches(file);
 }
 
 /// Uploads have exactly one sequential history under a table: legal, with their taps in order.
@@ -34,5 +34,5 @@ pub fn plain_history(uploads: &[Vec<u8>])
     for upload in uploads {
         taps_of(upload.as_slice());
     }
-    one_reading_each(uploads);
+    unique_parse_each(uploads);
 }

@@ -6,7 +6,7 @@ ghost use Rattle.histories.specs.declared.sums.tally.Tally.{Tally};
 ghost use Rattle.histories.specs.declared.entry.Entry.{Entry};
 ghost use Rattle.histories.specs.SumsBy.{sums_by};
 ghost use Rattle.histories.specs.TalliesByKey.{AreByKey, HasRoom, HaveRoom, kept_sums};
-ghost use Rattle.histories.specs.Rising.{rising};
+ghost use Rattle.histories.specs.Increasing.{increasing};
 ghost use Rattle.std.specs.HashMap.{get};
 ghost use Rattle.histories.specs.Sums.{Sums, add_sums, sums_of};
 ghost use Rattle.histories.specs.Tally.{sums_of_tally};
@@ -60,12 +60,12 @@ pub fn add_entry<K: SumKey>(
 }
 
 #[inline(always)]
-fn is_at<K: SumKey>(tallies: &IndexMap<K, Tally, HashSeed>, place: usize, key: K) -> bool
+fn is_at<K: SumKey>(tallies: &IndexMap<K, Tally, HashSeed>, position: usize, key: K) -> bool
     ensures { IsTrue result → (tally : Tally)
-        × (slice_get tallies.now.entries place ≡ Some (key, tally))
+        × (slice_get tallies.now.entries position ≡ Some (key, tally))
         × (get K.eq tallies.now key ≡ Some tally) }
 {
-    match tallies.get_index(place) {
+    match tallies.get_index(position) {
         Some((there, _)) => *there == key,
         None => false,
     }
@@ -75,7 +75,7 @@ fn is_at<K: SumKey>(tallies: &IndexMap<K, Tally, HashSeed>, place: usize, key: K
 #[inline(always)]
 pub(crate) fn add_at<K: SumKey>(
     tallies: &mut IndexMap<K, Tally, HashSeed>,
-    place: usize,
+    position: usize,
     entry: &Entry,
 ) -> bool
     requires { HasRoom K.eq K.key_of tallies.old.entries 1 }
@@ -84,21 +84,21 @@ pub(crate) fn add_at<K: SumKey>(
         → AreByKey K.eq K.key_of (before ++ entry.now ∷ []) tallies.new.entries }
     ensures unchanged { result ≡ false → tallies.new ≡ tallies.old }
 {
-    if !is_at(tallies, place, K::of(entry)) {
+    if !is_at(tallies, position, K::of(entry)) {
         return false;
     }
-    let (_, kept) = tallies.pair_mut(place);
+    let (_, kept) = tallies.pair_mut(position);
     kept.add(entry.reply());
     true
 }
 
-fn rising_keys<K: SumKey>(
+fn increasing_keys<K: SumKey>(
     alloc: Global,
     tallies: &IndexMap<K, Tally, HashSeed>,
 ) -> Result<Vec<K>, NoMemory>
     ensures { IfOk result (λ keys. (entries : List Entry)
         → AreByKey K.eq K.key_of entries tallies.now.entries
-        → keys.items ≡ rising K.cmp (map K.key_of entries)) }
+        → keys.items ≡ increasing K.cmp (map K.key_of entries)) }
 {
     let mut keys: Vec<K> = tallies.keys().copied().collect(alloc)?;
     keys.sort_unstable();
@@ -125,7 +125,7 @@ pub fn listed<K: SumKey>(
         → AreByKey K.eq K.key_of entries tallies.now.entries
         → map K.shown list.items ≡ sums_by K.cmp K.eq K.key_of entries) }
 {
-    let keys = rising_keys(alloc, tallies)?;
+    let keys = increasing_keys(alloc, tallies)?;
     let mut list = Vec::with_capacity(alloc, keys.len())?;
     for key in &keys {
         list.push_reserved(key.sum(kept_totals(tallies, *key)));

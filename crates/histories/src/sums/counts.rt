@@ -38,8 +38,8 @@ impl Counts {
     ghost use Rattle.histories.specs.Counts.{sums_of_counts};
     ghost use Rattle.histories.specs.Sums.{sums_of, sums_of_replies, add_sums};
     ghost use Rattle.histories.specs.Sums.{has_taps};
-    ghost use Rattle.histories.specs.Tally.{sums_of_places};
-    ghost use Rattle.histories.specs.inside.Places.{HasFewCents};
+    ghost use Rattle.histories.specs.Tally.{sums_of_positions};
+    ghost use Rattle.histories.specs.inside.Positions.{HasFewCents};
 
     /// The counts of nothing.
     #[tactic(auto, unfolding(crate::specs::Sums::sums_of_replies))]
@@ -58,7 +58,7 @@ impl Counts {
 
     pub(crate) fn of_counts(counts: [u128; 5], cents: u128) -> Option<Self>
         requires { HasFewCents counts cents }
-        ensures { IfSome result (λ small. sums_of_counts small ≡ sums_of_places counts cents) }
+        ensures { IfSome result (λ small. sums_of_counts small ≡ sums_of_positions counts cents) }
     {
         let [paid, transfers, capped, stale, unknown] = counts;
         Some(Counts {

@@ -1,8 +1,8 @@
 //! Counts of replies, indexed by answer, so that counting takes no branch.
 
 ghost use Rattle.std.specs.Prelude.{◌≡◌, ◌<◌};
-ghost use Rattle.histories.specs.Places.{count_place};
-ghost use Rattle.histories.specs.inside.Places.{HasFewCents};
+ghost use Rattle.histories.specs.Positions.{count_position};
+ghost use Rattle.histories.specs.inside.Positions.{HasFewCents};
 
 use crate::sums::counts::Counts;
 use crate::sums::totals::Totals;
@@ -19,8 +19,8 @@ pub struct Tally {
 }
 
 /// The index of the answer's count.
-pub fn place_of(answer: Answer) -> usize
-    ensures place { result ≡ count_place answer }
+pub fn position_of(answer: Answer) -> usize
+    ensures position { result ≡ count_position answer }
     ensures within { result < 5 }
 {
     match answer {
@@ -55,7 +55,7 @@ impl Tally {
         ensures { sums_of_tally self.new
             ≡ add_sums (sums_of_tally self.old) (sums_of_replies (reply ∷ [])) }
     {
-        self.counts[place_of(reply.answer)] += 1;
+        self.counts[position_of(reply.answer)] += 1;
         self.cents += u128::from(reply.cents);
     }
 

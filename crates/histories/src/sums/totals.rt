@@ -26,9 +26,9 @@ pub struct Totals {
 impl Totals {
     ghost use Rattle.std.specs.Prelude.{◌≡◌, ◌+◌, ◌^◌, ◌≤◌, []};
     ghost use Rattle.histories.specs.Sums.{sums_of, sums_of_replies, add_sums};
-    ghost use Rattle.histories.specs.Tally.{sums_of_places};
-    ghost use Rattle.histories.specs.Places.{all_of};
-    ghost use Rattle.histories.specs.inside.Places.{HasFewCents};
+    ghost use Rattle.histories.specs.Tally.{sums_of_positions};
+    ghost use Rattle.histories.specs.Positions.{all_of};
+    ghost use Rattle.histories.specs.inside.Positions.{HasFewCents};
 
     /// The totals of nothing.
     #[tactic(auto, unfolding(crate::specs::Sums::sums_of_replies))]
@@ -49,7 +49,7 @@ impl Totals {
     pub(crate) fn of_counts(counts: [u128; 5], cents: u128) -> Self
         requires room { all_of counts ≤ 2 ^ 95 }
         requires in_cents { HasFewCents counts cents }
-        ensures { sums_of result ≡ sums_of_places counts cents }
+        ensures { sums_of result ≡ sums_of_positions counts cents }
     {
         let [paid, transfers, capped, stale, unknown] = counts;
         Totals {

@@ -63,11 +63,11 @@ impl ValidatorTallies {
             → AreByKey ◌==◌ validator_of before self.old
             → AreByKey ◌==◌ validator_of (before ++ entry.now ∷ []) self.new) }
     {
-        let place = match self.hints.get(hint_of(entry.validator)) {
-            Some(place) => *place as usize,
+        let position = match self.hints.get(hint_of(entry.validator)) {
+            Some(position) => *position as usize,
             None => 0,
         };
-        if add_at(&mut self.tallies, place, entry) {
+        if add_at(&mut self.tallies, position, entry) {
             return Ok(());
         }
         // a copy, so that the entry itself stays in registers
@@ -90,9 +90,9 @@ impl ValidatorTallies {
         ensures { self.new ≡ self.old }
     {
         self.hints.resize(HINTS, 0)?;
-        let place = self.tallies.get_index_of(&validator).unwrap_or(0);
+        let position = self.tallies.get_index_of(&validator).unwrap_or(0);
         if let Some(hint) = self.hints.get_mut(hint_of(validator)) {
-            *hint = place.min(0xffff_ffff) as u32;
+            *hint = position.min(0xffff_ffff) as u32;
         }
         Ok(())
     }

@@ -1,7 +1,7 @@
 -- The first four fields of a line.
 use Rattle.std.specs.Prelude.{◌≡◌, List, ℕ, ◌∷◌, ◌++◌}
 use Rattle.ledger_check.specs.Lines.{Lacks}
-use Rattle.ledger_check.specs.Recounts.{EndsField}
+use Rattle.ledger_check.specs.FullChecks.{EndsField}
 use Rattle.ledger_check.specs.declared.exact.Front.{Front}
 
 -- these are the first four fields, and this is after them

@@ -9,7 +9,7 @@ use Rattle.ledger_check.specs.Ledger.{IsNextLine}
 use Rattle.ledger_check.specs.declared.replay.Replay.{Replay}
 use Rattle.ledger_check.specs.declared.replay.Step.{Step}
 use Rattle.ledger_check.specs.declared.replay.Step.TheVariants.{Legal, Wants, NoLine}
-use Rattle.ledger_check.specs.Replays.{HasRead, IsWanted, IsWrongAfter, StandsForOwn}
+use Rattle.ledger_check.specs.Replays.{HasRead, IsWanted, IsWrongAfter, RepresentsOwn}
 use Rattle.ledger_check.specs.inside.Taps.{NamesTap}
 
 -- the token's next tap was taken: this is its line, and the explainer after it
@@ -22,7 +22,7 @@ pub record GoesOn (fares : Fares) (explainer : Explainer) (entries : List Entry)
   pub of_moment : entry.moment ≡ moment
   pub replied : IsReplied fares entries entry
   pub shown : IsNextLine fares (own entry.token entries) entry line
-  pub stands : StandsForOwn fares after (entries ++ entry ∷ [])
+  pub holds : RepresentsOwn fares after (entries ++ entry ∷ [])
   pub some : 0 < after.number
 
 -- what a step found of the next line

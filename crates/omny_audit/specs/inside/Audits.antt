@@ -2,7 +2,7 @@
 use Rattle.std.specs.Prelude.{◌≡◌, ◌++◌, ℕ, Bool, false, List, [], Option, None, Some, length}
 use Rattle.std.specs.Prelude.{if◌then◌else◌, option_map, Result, Ok, Err}
 use Rattle.std.specs.Io.KnownBytes.{Appends}
-use Rattle.frame.specs.Failing.{HasBegun}
+use Rattle.frame.specs.Failing.{HasStarted}
 use Rattle.program_manners.specs.declared.output.WriteEnd.{WriteEnd}
 use Rattle.tap_views.specs.declared.encoder.TapFields.{TapFields}
 use Rattle.world.specs.declared.faults.LoadFault.{LoadFault}
@@ -17,49 +17,49 @@ use Rattle.omny_audit.specs.inside.Traced.{HasReadAll, HasReadAs, wanted_by}
 
 -- what the ledger is audited by, if these are the valid taps of the uploads
 abbrev pub given_in : Audit → List TapFields → Given
-given_in audit good = record {
+given_in audit valid = record {
   all = is_all audit.check;
   live = audit.live;
   fares = audit.table.now;
   wanted = wanted_by audit.trace;
-  good = if audit.strikes then Some good else None;
+  valid = if audit.subtracts then Some valid else None;
   ends = option_map (λ e. e.now) audit.ends;
   report = text_of audit.report;
 }
 
 -- this text was checked, and summed, and this reported of it
-pub record HasTaken (audit : Audit) (good : List TapFields) (text written : List ℕ) : Type 0 where
+pub record HasTaken (audit : Audit) (valid : List TapFields) (text written : List ℕ) : Type 0 where
   pub clock : audit.clock.now ≡ audit.table.now.zone
-  pub checked : HasChecked audit.table.now audit.strikes good audit.check text written
+  pub checked : HasChecked audit.table.now audit.subtracts valid audit.check text written
   pub summed : HasSummedFor audit.table.now audit.report text
 
 -- the file was read so far, and this reported of it
-pub record HasAudited (audit : Audit) (good : List TapFields) (file written : List ℕ) : Type 0 where
+pub record HasAudited (audit : Audit) (valid : List TapFields) (file written : List ℕ) : Type 0 where
   pub text : List ℕ
   pub as_text : HasReadAs audit.trace file text
-  pub taken : HasTaken audit good text written
+  pub taken : HasTaken audit valid text written
 
 -- the file was read whole, or a line is the first wrong one, and this was reported of it
-pub record HasEnded (audit : Audit) (good : List TapFields) (file written : List ℕ) : Type 0 where
-  pub checked : HasChecked audit.table.now audit.strikes good audit.check
-      (ledger_in (given_in audit good) file) written
+pub record HasEnded (audit : Audit) (valid : List TapFields) (file written : List ℕ) : Type 0 where
+  pub checked : HasChecked audit.table.now audit.subtracts valid audit.check
+      (ledger_in (given_in audit valid) file) written
   pub summed : is_decided audit.check ≡ false
-      → HasSummedFor audit.table.now audit.report (ledger_in (given_in audit good) file)
+      → HasSummedFor audit.table.now audit.report (ledger_in (given_in audit valid) file)
   pub all : is_decided audit.check ≡ false → HasReadAll audit.trace file
 
 -- The next piece of the file was read, and this was reported so far. An audit that has ended has
 -- reported all that is found of the file, however it goes on after a piece.
 abbrev pub IsNext : Audit → Audit → List TapFields → List ℕ → List ℕ → List ℕ → Option Bool → Type 0
-IsNext before after good file piece written None = (given_in after good ≡ given_in before good)
-    × HasAudited after good (file ++ piece) written
-IsNext before after good file piece written (Some well) = (more : List ℕ)
+IsNext before after valid file piece written None = (given_in after valid ≡ given_in before valid)
+    × HasAudited after valid (file ++ piece) written
+IsNext before after valid file piece written (Some success) = (more : List ℕ)
     → (length piece ≡ 0 → more ≡ []) → (read : List ReadLine)
-    × IsAudit (given_in before good) ((file ++ piece) ++ more) read written well
+    × IsAudit (given_in before valid) ((file ++ piece) ++ more) read written success
 
 -- what is found of the file was written; or the run failed, and what was written is a prefix of it
 abbrev pub EndsAs : Given → List ℕ → Option (Option (List ℕ) × LoadFault) → Option (List ℕ)
     → Option WriteEnd → Option (List ℕ) → Option (List ℕ) → Result Bool Fault → Type 0
-EndsAs given file refused name ended out out' (Ok well) = (text : List ℕ) × (read : List ReadLine)
-    × IsAudit given file read text well × Appends out out' text
+EndsAs given file refused name ended out out' (Ok success) = (text : List ℕ) × (read : List ReadLine)
+    × IsAudit given file read text success × Appends out out' text
 EndsAs given file refused name ended out out' (Err fault) =
-    IsStreamFault refused name ended fault × HasBegun (IsAuditText given file) out out'
+    IsStreamFault refused name ended fault × HasStarted (IsAuditText given file) out out'

@@ -1,8 +1,8 @@
 -- What a check of lines has read: what private functions alone cite.
 use Rattle.std.specs.Prelude.{◌≡◌, ◌++◌, ℕ, Bool, true, false, List, [], None, Some, is_some}
 use Rattle.tariffs.specs.Fares.{Fares}
-use Rattle.ledger_check.specs.RecountStates.{HasRecounted}
-use Rattle.ledger_check.specs.Struck.{HasStruck}
+use Rattle.ledger_check.specs.FullCheckStates.{HasFullyChecked}
+use Rattle.ledger_check.specs.Subtracted.{HasSubtracted}
 use Rattle.ledger_check.specs.Verdicts.{IsVerdict, is_legal}
 use Rattle.tap_views.specs.declared.encoder.TapFields.{TapFields}
 use Rattle.omny_audit.specs.declared.check.Check.{Check}
@@ -11,20 +11,20 @@ use Rattle.omny_audit.specs.declared.check.Check.TheVariants.{First, All}
 -- whether all lines are checked
 abbrev pub is_all : Check → Bool
 is_all (First checker balance verdict) = false
-is_all (All recount full) = true
+is_all (All full_check full) = true
 
 -- whether the first wrong line was found
 abbrev pub is_decided : Check → Bool
 is_decided (First checker balance verdict) = is_some verdict
-is_decided (All recount full) = false
+is_decided (All full_check full) = false
 
 -- The text was read, this was reported of it, and its taps were subtracted from the valid ones, if
 -- it is to subtract them; or a line of it is the first wrong one, whatever follows.
 abbrev pub HasChecked : Fares → Bool → List TapFields → Check → List ℕ → List ℕ → Type 0
-HasChecked fares strikes good (First checker balance None) text written =
-    HasStruck fares checker balance text good × (written ≡ [])
-HasChecked fares strikes good (First checker balance (Some verdict)) text written =
+HasChecked fares subtracts valid (First checker balance None) text written =
+    HasSubtracted fares checker balance text valid × (written ≡ [])
+HasChecked fares subtracts valid (First checker balance (Some verdict)) text written =
     ((more : List ℕ) → IsVerdict fares (text ++ more) verdict) × (is_legal verdict ≡ false)
     × (written ≡ [])
-HasChecked fares strikes good (All recount full) text written =
-    HasRecounted fares recount strikes full text written good
+HasChecked fares subtracts valid (All full_check full) text written =
+    HasFullyChecked fares full_check subtracts full text written valid

@@ -2,11 +2,11 @@
 use Rattle.std.specs.Prelude.{map, option_map}
 use Rattle.program_manners.specs.TableViews.{names_of}
 use Rattle.omny_audit.specs.declared.options.Options.{Options}
-use Rattle.omny_audit.specs.Options.{AuditAsked}
+use Rattle.omny_audit.specs.Options.{AuditRequest}
 
 -- what the options ask for
-abbrev pub audit_asked_of : Options → AuditAsked
-audit_asked_of options = record {
+abbrev pub audit_request_of : Options → AuditRequest
+audit_request_of options = record {
   table = names_of options.table;
   all = options.all;
   live = options.live;

@@ -4,39 +4,39 @@ use Rattle.class_names.specs.Names.{class_by}
 use Rattle.tap_views.specs.declared.encoder.TapFields.{TapFields}
 use Rattle.ledger_check.specs.Columns.{untraced_lines}
 use Rattle.ledger_check.specs.Lines.{Lacks, lines_of}
-use Rattle.ledger_check.specs.Places.{is_named, uploads_of}
-use Rattle.ledger_check.specs.declared.places.Places.{Places}
-use Rattle.omny_audit.specs.Traced.{AreLinesOf, AreRead, ReadLine, Wanted, have_place, lines_read}
-use Rattle.omny_audit.specs.Traced.{wrong_class, wrong_place}
+use Rattle.ledger_check.specs.Positions.{is_named, uploads_of}
+use Rattle.ledger_check.specs.declared.positions.Positions.{Positions}
+use Rattle.omny_audit.specs.Traced.{AreLinesOf, AreRead, ReadLine, Wanted, have_position, lines_read}
+use Rattle.omny_audit.specs.Traced.{wrong_class, wrong_position}
 use Rattle.omny_audit.specs.declared.traced.LinesRead.{LinesRead}
-use Rattle.omny_audit.specs.declared.traced.PlaceFault.{PlaceFault}
+use Rattle.omny_audit.specs.declared.traced.PositionFault.{PositionFault}
 use Rattle.omny_audit.specs.declared.traced.TracedPieces.{TracedPieces}
 
 -- the valid taps of the uploads whose places are kept
-abbrev pub uploads_in : Option Places → Option (List (List TapFields))
-uploads_in places = option_map uploads_of places
+abbrev pub uploads_in : Option Positions → Option (List (List TapFields))
+uploads_in positions = option_map uploads_of positions
 
 -- the first line that has a wrong place, if there are uploads
-abbrev pub wrong_place_in : Option (List (List TapFields)) → List ReadLine → Option PlaceFault
-wrong_place_in None read = None
-wrong_place_in (Some uploads) read = wrong_place uploads read
+abbrev pub wrong_position_in : Option (List (List TapFields)) → List ReadLine → Option PositionFault
+wrong_position_in None read = None
+wrong_position_in (Some uploads) read = wrong_position uploads read
 
 -- the places that were named are those of the lines
-abbrev pub HaveNamed : Option Places → List ReadLine → Type 0
+abbrev pub HaveNamed : Option Positions → List ReadLine → Type 0
 HaveNamed None read = Unit {0}
-HaveNamed (Some places) read =
-    (upload place : ℕ) → is_named places upload place ≡ have_place read upload place
+HaveNamed (Some positions) read =
+    (upload position : ℕ) → is_named positions upload position ≡ have_position read upload position
 
 -- the places of the lines were looked at
-pub record HasPlaces (places : Option Places) (wrong : Option PlaceFault) (read : List ReadLine)
+pub record HasPositions (positions : Option Positions) (wrong : Option PositionFault) (read : List ReadLine)
     : Type 0 where
-  pub wrong_is : wrong ≡ wrong_place_in (uploads_in places) read
-  pub named : wrong ≡ None → HaveNamed places read
+  pub wrong_is : wrong ≡ wrong_position_in (uploads_in positions) read
+  pub named : wrong ≡ None → HaveNamed positions read
 
 -- the columns of the lines were looked at
 pub record HasColumns (so_far : LinesRead) (read : List ReadLine) : Type 0 where
   pub class : so_far.wrong_class ≡ wrong_class (class_by so_far.names) read
-  pub places : HasPlaces so_far.places so_far.wrong_place read
+  pub positions : HasPositions so_far.positions so_far.wrong_position read
 
 -- these lines were read
 pub record HasLines (so_far : LinesRead) (read : List ReadLine) : Type 0 where
@@ -53,11 +53,11 @@ IsKeptOf kept text = (kept ≡ text) ⊎ ((352 < length kept) × (352 < length t
 pub record HasTraced (trace : TracedPieces) (file text : List ℕ) (read : List ReadLine)
     : Type 0 where
   pub lines : HasLines trace.so_far read
-  pub begun : List ℕ
-  pub kept : IsKeptOf trace.begun.items begun
-  pub lacks : Lacks 10 begun
+  pub started : List ℕ
+  pub kept : IsKeptOf trace.started.items started
+  pub lacks : Lacks 10 started
   pub split : (more : List ℕ)
-      → lines_of (file ++ more) ≡ lines_read read ++ lines_of (begun ++ more)
+      → lines_of (file ++ more) ≡ lines_read read ++ lines_of (started ++ more)
   pub reported : text ≡ untraced_lines (lines_read read)
 
 -- the file was read so far, and this in its place
@@ -74,7 +74,7 @@ HasReadAll (Some trace) file =
 -- what the columns are compared with
 abbrev pub wanted_of : LinesRead → Wanted
 wanted_of so_far =
-    record { classes = class_by so_far.names; uploads = uploads_in so_far.places }
+    record { classes = class_by so_far.names; uploads = uploads_in so_far.positions }
 
 -- what the columns are compared with, if the ledger is traced
 abbrev pub wanted_by : Option TracedPieces → Option Wanted

@@ -1,17 +1,17 @@
 -- Uploads that were loaded: what private functions alone cite.
 use Rattle.std.specs.Prelude.{ℕ, List, []}
 use Rattle.ledger_check.specs.Balances.{IsBalance}
-use Rattle.ledger_check.specs.Places.{HasUploads}
+use Rattle.ledger_check.specs.Positions.{HasUploads}
 use Rattle.tap_views.specs.UploadEnds.{ArePlainEnds}
 use Rattle.tap_views.specs.declared.encoder.TapFields.{TapFields}
-use Rattle.omny_audit.specs.Program.{AreGoodFieldsOfAll, AreGoodFieldsOfEach}
+use Rattle.omny_audit.specs.Program.{AreValidFieldsOfAll, AreValidFieldsOfEach}
 use Rattle.omny_audit.specs.declared.program.Uploads.{Uploads}
 
 -- these are the valid taps of these files, together and of each, and their ends
-pub record AreUploads (files : List (List ℕ)) (good : List TapFields)
+pub record AreUploads (files : List (List ℕ)) (valid : List TapFields)
     (lists : List (List TapFields)) (uploads : Uploads) : Type 0 where
-  pub are_good : AreGoodFieldsOfAll files good
-  pub balance : IsBalance uploads.balance good []
-  pub are_lists : AreGoodFieldsOfEach files lists
-  pub places : HasUploads uploads.places lists
+  pub are_valid : AreValidFieldsOfAll files valid
+  pub balance : IsBalance uploads.balance valid []
+  pub are_lists : AreValidFieldsOfEach files lists
+  pub positions : HasUploads uploads.positions lists
   pub ends : ArePlainEnds files uploads.ends.items

@@ -11,6 +11,6 @@ IsWith old new sum true = with_validator old sum ≡ Some new
 IsWith old new sum false = with_validator old sum ≡ None
 
 -- at the begin of the part at this place, of this many parts
-abbrev pub begun : ℕ → ℕ → FrontsView → FrontsView
-begun place count s =
-    record s { stage = Head; is_first = nat_eq place 0; is_last = nat_le count (place + 1) }
+abbrev pub started : ℕ → ℕ → FrontsView → FrontsView
+started position count s =
+    record s { stage = Head; is_first = nat_eq position 0; is_last = nat_le count (position + 1) }

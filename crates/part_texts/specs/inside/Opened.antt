@@ -31,11 +31,11 @@ AreOpen remaining opens views = map (open_view remaining) opens ≡ map (λ view
 
 -- the fault of the text at this place
 abbrev pub fault_by : ℕ → Stop Wrong → MergeFault
-fault_by place (StopLine number why) = Line place number why
-fault_by place StopUnread = Unread place
-fault_by place StopLong = TooLong place
-fault_by place Unwritten = Write
-fault_by place StopMemory = NoMemory
+fault_by position (StopLine number why) = Line position number why
+fault_by position StopUnread = Unread position
+fault_by position StopLong = TooLong position
+fault_by position Unwritten = Write
+fault_by position StopMemory = NoMemory
 
 -- the front is read as it is defined
 abbrev pub FrontRead : Result (FrontsView × OpenView) WrongLine → FrontsView → Option (List ℕ)

@@ -10,21 +10,21 @@ use Rattle.report_texts.specs.Report.{report}
 use Rattle.part_texts.specs.Fronts.{is_above, may_end, no_sums, starts, sums_within, taps_before}
 use Rattle.part_texts.specs.Fronts.{with_validator}
 use Rattle.part_texts.specs.Sections.{is_token_above}
-use Rattle.sorted_taps.specs.declared.places.FileSpan.{FileSpan}
-use Rattle.sorted_taps.specs.declared.places.Place.{Place}
+use Rattle.sorted_taps.specs.declared.positions.FileSpan.{FileSpan}
+use Rattle.sorted_taps.specs.declared.positions.Position.{Position}
 use Rattle.part_texts.specs.Shown.{PartReport, SpanFits, sum_up}
 
 -- the spans, one after the other, join the ends of the parts before: these are the ends after them
-abbrev pub are_joined : Bool → Bool → List (Option Place) → List FileSpan → List (Option Place)
+abbrev pub are_joined : Bool → Bool → List (Option Position) → List FileSpan → List (Option Position)
     → Type 0
 are_joined first last ends [] all = ends ≡ all
 are_joined first last ends (span ∷ spans) all =
-    (rest : List (Option Place)) × (starts first ends ≡ Some (span.from, rest))
+    (rest : List (Option Position)) × (starts first ends ≡ Some (span.from, rest))
     × (may_end last span.to ≡ true) × are_joined first last (rest ++ span.to ∷ []) spans all
 
-abbrev pub is_none_behind : {A : Type 0} → List A → Bool
-is_none_behind [] = true
-is_none_behind (x ∷ xs) = false
+abbrev pub is_none_after : {A : Type 0} → List A → Bool
+is_none_after [] = true
+is_none_after (x ∷ xs) = false
 
 -- the sums of keys, one after the other, after some: no more taps than any run has
 abbrev pub adds_to : {K : Type 0} → Sums → List (K × Sums) → Sums → Type 0
@@ -39,14 +39,14 @@ are_added list (one ∷ more) all =
     (next : List (ℕ × Sums)) × (with_validator list one ≡ Some next) × are_added next more all
 
 -- each validator is above the one before
-abbrev pub do_rise : Option ℕ → List (ℕ × Sums) → Type 0
-do_rise last [] = Unit {0}
-do_rise last (one ∷ more) = (is_above last one.0 ≡ true) × do_rise (Some one.0) more
+abbrev pub are_increasing : Option ℕ → List (ℕ × Sums) → Type 0
+are_increasing last [] = Unit {0}
+are_increasing last (one ∷ more) = (is_above last one.0 ≡ true) × are_increasing (Some one.0) more
 
 -- each token is above the one before
-abbrev pub do_tokens_rise : Option Token → List (Token × Sums) → Type 0
-do_tokens_rise last [] = Unit {0}
-do_tokens_rise last (one ∷ more) = (is_token_above last one.0 ≡ true) × do_tokens_rise (Some one.0) more
+abbrev pub are_tokens_increasing : Option Token → List (Token × Sums) → Type 0
+are_tokens_increasing last [] = Unit {0}
+are_tokens_increasing last (one ∷ more) = (is_token_above last one.0 ≡ true) × are_tokens_increasing (Some one.0) more
 
 -- the token that no later part may have, nor one below it
 abbrev pub last_of : Option Token → List (Token × Sums) → Option Token
@@ -62,7 +62,7 @@ pub record IsRight (p : PartReport) : Type 0 where
   pub totals : AreCounts p.totals
   pub validators_number : length p.validators < 2 ^ 64
   pub validators : AllByRecursion IsValidatorSum p.validators
-  pub validators_rise : do_rise None p.validators
+  pub validators_increase : are_increasing None p.validators
   pub validators_add : adds_to no_sums p.validators p.totals
   pub tokens_number : length p.tokens < 2 ^ 64
   pub tokens : AllByRecursion IsTokenSum p.tokens
@@ -79,7 +79,7 @@ are_posted_to first taps posted (n ∷ ns) all sum =
 -- what the parts so far add up to
 pub record SoFar : Type 0 where
   -- where their taps end in each file
-  pub ends : List (Option Place)
+  pub ends : List (Option Position)
   -- how many taps they have of each upload
   pub taps : List ℕ
   pub totals : Sums
@@ -109,14 +109,14 @@ pub record IsNextPart (first final : Bool) (before : SoFar) (p : PartReport) (af
     pub validators : are_added before.validators p.validators after.validators
     pub number : before.tokens + length p.tokens < 2 ^ 64
     pub tokens : after.tokens ≡ before.tokens + length p.tokens
-    pub rise : do_tokens_rise before.last p.tokens
+    pub increase : are_tokens_increasing before.last p.tokens
     pub last_is : after.last ≡ last_of before.last p.tokens
 
 -- the parts follow, one after the other
 abbrev pub are_next_parts : Bool → SoFar → List PartReport → SoFar → Type 0
 are_next_parts first before [] after = before ≡ after
 are_next_parts first before (p ∷ ps) after =
-    (next : SoFar) × IsNextPart first (is_none_behind ps) before p next
+    (next : SoFar) × IsNextPart first (is_none_after ps) before p next
     × are_next_parts false next ps after
 
 -- the tokens of all parts

@@ -8,9 +8,9 @@ use Rattle.part_texts.specs.EntryLines.{entry_token_in}
 use Rattle.part_texts.specs.Heads.{part_head}
 use Rattle.part_texts.specs.Sections.{may_follow}
 use Rattle.part_texts.specs.Shown.{SpanFits}
-use Rattle.part_texts.specs.inside.Shown.{are_joined, is_none_behind}
-use Rattle.sorted_taps.specs.declared.places.Place.{Place}
-use Rattle.sorted_taps.specs.declared.places.FileSpan.{FileSpan}
+use Rattle.part_texts.specs.inside.Shown.{are_joined, is_none_after}
+use Rattle.sorted_taps.specs.declared.positions.Position.{Position}
+use Rattle.sorted_taps.specs.declared.positions.FileSpan.{FileSpan}
 
 -- where a part lies in each file, and the lines of its ledger after the header line
 pub record PartLedger : Type 0 where
@@ -26,12 +26,12 @@ abbrev pub all_lines : List PartLedger → List ℕ
 all_lines parts = flat_map (λ part. part.lines) parts
 
 -- the parts' fronts follow, one after the other, after these ends of files
-abbrev pub are_next_ledgers : Bool → List (Option Place) → List PartLedger → Type 0
+abbrev pub are_next_ledgers : Bool → List (Option Position) → List PartLedger → Type 0
 are_next_ledgers first ends [] = Unit {0}
 are_next_ledgers first ends (p ∷ ps) =
-    (next : List (Option Place)) × (length p.spans < 2 ^ 64) × AllByRecursion SpanFits p.spans
+    (next : List (Option Position)) × (length p.spans < 2 ^ 64) × AllByRecursion SpanFits p.spans
     × ((first || nat_eq (length p.spans) (length ends)) ≡ true)
-    × are_joined first (is_none_behind ps) ends p.spans next × are_next_ledgers false next ps
+    × are_joined first (is_none_after ps) ends p.spans next × are_next_ledgers false next ps
 
 -- a line of a ledger, and its token
 pub record EntryLine : Type 0 where

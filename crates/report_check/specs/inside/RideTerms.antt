@@ -9,6 +9,6 @@ use Rattle.tap_views.specs.declared.token.Token.{Token}
 -- bounds
 abbrev pub HasRideTerms : Fares → Token → ℕ → ℕ → Type 0
 HasRideTerms fares token moment validator =
-    (place : ℕ) → mode_at fares moment validator ≡ Some place
+    (position : ℕ) → mode_at fares moment validator ≡ Some position
     → AreRideTerms (ride_terms (meaning_at fares moment)
-    (class_of (meaning_at fares moment) (bytes_of token)) place)
+    (class_of (meaning_at fares moment) (bytes_of token)) position)

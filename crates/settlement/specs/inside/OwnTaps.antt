@@ -1,7 +1,7 @@
 -- The taps of one token, collected from uploads: what private functions alone cite.
 use Rattle.std.specs.Prelude.{◌≡◌, ℕ, List, ◌++◌, All, map}
 use Rattle.tap_views.specs.Encoding.{fields_of}
-use Rattle.tap_views.specs.Files.{AreGoodTaps, AreGoodTapsOfEach}
+use Rattle.tap_views.specs.Files.{AreValidTaps, AreValidTapsOfEach}
 use Rattle.tap_views.specs.Layout.{Tap}
 use Rattle.tap_views.specs.declared.encoder.TapFields.{TapFields}
 use Rattle.tap_views.specs.declared.token.Token.{Token}
@@ -12,14 +12,14 @@ use Rattle.world.specs.Origins.{Origin}
 use Rattle.world.specs.Run.{Run}
 use Rattle.settlement.specs.Posted.{only}
 use Rattle.settlement.specs.Reading.{AreRead}
-use Rattle.settlement.specs.inside.SplitTaps.{HasGoodTokens}
+use Rattle.settlement.specs.inside.SplitTaps.{HasValidTokens}
 
 -- the token's taps among the valid taps of the upload were added, in their order, and the upload
 -- ends so
 pub record AreOwnAdded (token : Token) (upload : List ℕ) (old new : List TapFields)
     (end : UploadEnd) : Type 0 where
   pub taps : List Tap
-  pub of_upload : AreGoodTaps upload taps
+  pub of_upload : AreValidTaps upload taps
   pub added : new ≡ old ++ only token (map fields_of taps)
   pub ended : IsPlainEnd upload end
 
@@ -28,7 +28,7 @@ pub record AreOwnAdded (token : Token) (upload : List ℕ) (old new : List TapFi
 pub record AreOwnTaps (token : Token) (uploads : List (List ℕ)) (own : List TapFields)
     (ends : List UploadEnd) : Type 0 where
   pub taps : List (List Tap)
-  pub of_uploads : AreGoodTapsOfEach uploads taps
+  pub of_uploads : AreValidTapsOfEach uploads taps
   pub are : own ≡ only token (map fields_of (taps_of_uploads taps))
   pub ended : ArePlainEnds uploads ends
 
@@ -38,5 +38,5 @@ pub record AreOwnBetween (origin : ℕ → Origin) (start end : ℕ) (token : To
     (own : List TapFields) (ends : List UploadEnd) (before after : Run) : Type 0 where
   pub files : List (List ℕ)
   pub read : AreRead origin start end files before after
-  pub tokens : All HasGoodTokens files
+  pub tokens : All HasValidTokens files
   pub are : AreOwnTaps token files own ends

@@ -5,7 +5,7 @@ use Rattle.tap_views.specs.Encoding.{fields_of}
 use Rattle.tap_views.specs.Layout.{Tap}
 use Rattle.tap_views.specs.declared.encoder.TapFields.{TapFields}
 use Rattle.tap_parts.specs.Parts.{AreAddedBy, taps_at}
-use Rattle.tap_views.specs.Files.{AreGoodTaps, AreGoodTapsOfEach}
+use Rattle.tap_views.specs.Files.{AreValidTaps, AreValidTapsOfEach}
 use Rattle.tap_views.specs.UploadEnds.{ArePlainEnds}
 use Rattle.tap_views.specs.declared.upload_end.UploadEnd.{UploadEnd}
 use Rattle.tap_parts.specs.Parts.{taps_of_uploads}
@@ -28,7 +28,7 @@ pub record ArePiecesAdded (pieces old new : List (List TapFields)) : Type 0 wher
 pub record AreAllAdded (part_of : List ℕ → ℕ) (uploads : List (List ℕ))
     (old new : List (List TapFields)) (ends : List UploadEnd) : Type 0 where
   pub taps : List (List Tap)
-  pub of_uploads : AreGoodTapsOfEach uploads taps
+  pub of_uploads : AreValidTapsOfEach uploads taps
   pub added : AreAddedBy part_of (taps_of_uploads taps) old new
   pub ended : ArePlainEnds uploads ends
 
@@ -37,23 +37,23 @@ pub record AreAllAdded (part_of : List ℕ → ℕ) (uploads : List (List ℕ))
 pub record AreInParts (part_of : List ℕ → ℕ) (parts : ℕ) (uploads : List (List ℕ))
     (lists : List (List (List TapFields))) (ends : List UploadEnd) : Type 0 where
   pub taps : List (List Tap)
-  pub of_uploads : AreGoodTapsOfEach uploads taps
+  pub of_uploads : AreValidTapsOfEach uploads taps
   pub number : All (λ list. length list ≡ parts) lists
   pub each : (part : ℕ) → part < parts
       → in_part part lists ≡ map fields_of (taps_at part_of part (taps_of_uploads taps))
   pub ended : ArePlainEnds uploads ends
 
 -- the upload's valid taps have tokens of 16 bytes
-abbrev pub HasGoodTokens : List ℕ → Type 0
-HasGoodTokens upload =
-    (taps : List Tap) → AreGoodTaps upload taps → All HasTokenBytes (map fields_of taps)
+abbrev pub HasValidTokens : List ℕ → Type 0
+HasValidTokens upload =
+    (taps : List Tap) → AreValidTaps upload taps → All HasTokenBytes (map fields_of taps)
 
 -- of the uploads from one number on and below another, all that were read were added
 pub record AreAddedBetween (origin : ℕ → Origin) (start end : ℕ) (part_of : List ℕ → ℕ)
     (old new : List (List TapFields)) (ends : List UploadEnd) (before after : Run) : Type 0 where
   pub files : List (List ℕ)
   pub read : AreRead origin start end files before after
-  pub tokens : All HasGoodTokens files
+  pub tokens : All HasValidTokens files
   pub added : AreAllAdded part_of files old new ends
 
 -- of the uploads from one number on and below another, which were read, the valid taps lie in parts
@@ -62,5 +62,5 @@ pub record AreInPartsBetween (origin : ℕ → Origin) (start end : ℕ) (part_o
     (before after : Run) : Type 0 where
   pub files : List (List ℕ)
   pub read : AreRead origin start end files before after
-  pub tokens : All HasGoodTokens files
+  pub tokens : All HasValidTokens files
   pub inside : AreInParts part_of parts files lists ends

@@ -1,7 +1,7 @@
 -- Uploads whose taps are split into parts: what private functions alone cite.
 use Rattle.std.specs.Prelude.{◌≡◌, ℕ, ◌+◌, ◌<◌, ◌≤◌, List, All, length, map, slice_index_or, []}
 use Rattle.tap_views.specs.Encoding.{fields_of}
-use Rattle.tap_views.specs.Files.{AreGoodTapsOfEach}
+use Rattle.tap_views.specs.Files.{AreValidTapsOfEach}
 use Rattle.tap_views.specs.Layout.{Tap}
 use Rattle.tap_views.specs.declared.encoder.TapFields.{TapFields}
 use Rattle.tap_parts.specs.Canonical.{HasTokenBytes}
@@ -17,7 +17,7 @@ pub record AreSplit (uploads : List (List ℕ)) (ends : List UploadEnd)
     (parts : List (List TapFields)) : Type 0 where
   pub ended : ArePlainEnds uploads ends
   pub taps : List (List Tap)
-  pub of_uploads : AreGoodTapsOfEach uploads taps
+  pub of_uploads : AreValidTapsOfEach uploads taps
   pub bounds : List ℕ
   pub number : length parts ≡ length bounds + 1
   pub few_parts : length parts ≤ 65535

@@ -4,7 +4,7 @@ use Rattle.std.specs.Prelude.{IsTrue}
 use Rattle.indexmap.specs.IndexMap.{get}
 use Rattle.account_rule.specs.declared.tap.TapIn.{TapIn}
 use Rattle.account_rule.specs.TokenRules.{TokenRules}
-use Rattle.account_rule.specs.Stands.{Stands}
+use Rattle.account_rule.specs.Represents.{Represents}
 use Rattle.shard_book.specs.declared.accounts.Accounts.{Accounts}
 use Rattle.shard_book.specs.declared.accounts.KeptAccount.{KeptAccount}
 use Rattle.tap_views.specs.declared.token.Token.{Token}
@@ -24,25 +24,25 @@ IsCounting accounts = IsTrue accounts.counting
 -- the kept account represents the taps; if none is kept there are none
 abbrev pub IsKept : TokenRules → Option KeptAccount → List TapIn → Type 0
 IsKept rules None taps = taps ≡ []
-IsKept rules (Some kept) taps = Stands rules kept.account taps
+IsKept rules (Some kept) taps = Represents rules kept.account taps
 
 -- what was kept, or else a fresh account and the counts of nothing
 abbrev pub IsKeptOrFresh : Option KeptAccount → KeptAccount → Type 0
 IsKeptOrFresh None kept =
-    ((rules : TokenRules) → Stands rules kept.account [])
+    ((rules : TokenRules) → Represents rules kept.account [])
     × (sums_of_counts kept.counts ≡ sums_of_replies [])
 IsKeptOrFresh (Some old) kept = kept ≡ old
 
 -- the token and what is kept of it are at the place
-pub record IsPlace (accounts : Accounts) (token : Token) (place : ℕ) : Type 0 where
+pub record IsPosition (accounts : Accounts) (token : Token) (position : ℕ) : Type 0 where
   pub kept : KeptAccount
-  pub at : slice_get accounts.map.entries place ≡ Some (token, kept)
+  pub at : slice_get accounts.map.entries position ≡ Some (token, kept)
   pub is : kept_at accounts token ≡ Some kept
 
 -- what is kept of the token, or was put there for it, is at the place
-pub record HasPlaceFor (old new : Accounts) (token : Token) (place : ℕ) : Type 0 where
+pub record HasPositionFor (old new : Accounts) (token : Token) (position : ℕ) : Type 0 where
   pub kept : KeptAccount
-  pub at : slice_get new.map.entries place ≡ Some (token, kept)
+  pub at : slice_get new.map.entries position ≡ Some (token, kept)
   pub is : IsKeptOrFresh (kept_at old token) kept
   pub now : kept_at new token ≡ Some kept
 
@@ -53,7 +53,7 @@ counted (Some kept) = sums_of_counts kept.counts
 
 -- what is stored now represents the taps that were represented before, and counts the same: it
 -- stayed, or is fresh
-pub record StandsOn (old new : Option KeptAccount) : Type 0 where
+pub record StillRepresents (old new : Option KeptAccount) : Type 0 where
   pub kept : (rules : TokenRules) (taps : List TapIn)
       → IsKept rules old taps → IsKept rules new taps
   pub sums : counted new ≡ counted old

@@ -50,7 +50,7 @@ entry_with token validator moment reply = record {
 -- the entry that a packed one represents, if the accounts have these tokens
 unfoldable pub entry_of : List Token → PackedEntry → Entry
 entry_of tokens packed = record {
-  token = unwrap_or (slice_get tokens packed.place) no_token;
+  token = unwrap_or (slice_get tokens packed.position) no_token;
   validator = packed.validator;
   moment = bits_moment packed.bits;
   answer = bits_answer packed.bits;
@@ -63,13 +63,13 @@ history_of tokens packed = map (entry_of tokens) packed
 
 -- there is a token at the place
 abbrev pub HasToken : List Token → ℕ → Type 0
-HasToken tokens place = (token : Token) × (slice_get tokens place ≡ Some token)
+HasToken tokens position = (token : Token) × (slice_get tokens position ≡ Some token)
 
 -- each packed entry has the place of an account
 pub record ArePlaced (tokens : List Token) (packed : List PackedEntry) : Type 0 where
-  pub each : All (λ entry. HasToken tokens entry.place) packed
+  pub each : All (λ entry. HasToken tokens entry.position) packed
 
 -- no account moved: a token that had a place has it still
-pub record KeepPlaces (before after : List Token) : Type 0 where
-  pub each : (place : ℕ) (token : Token) → slice_get before place ≡ Some token
-      → slice_get after place ≡ Some token
+pub record KeepPositions (before after : List Token) : Type 0 where
+  pub each : (position : ℕ) (token : Token) → slice_get before position ≡ Some token
+      → slice_get after position ≡ Some token

@@ -46,7 +46,7 @@ fn sort(list: &mut Vec<TokenCounts>)
     list.sort_unstable_by_key(|counts| counts.token);
 }
 
-pub(crate) fn rising_counts(
+pub(crate) fn increasing_counts(
     alloc: Global,
     books: &[ShardBook],
 ) -> Result<Option<Vec<TokenCounts>>, NoMemory>

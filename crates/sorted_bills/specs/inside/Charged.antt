@@ -6,7 +6,7 @@ use Rattle.tap_views.specs.declared.token.Token.{Token}
 use Rattle.tap_views.specs.TokenOrder.{IsUpTo}
 use Rattle.settlement.specs.Bills.{IsBillOf}
 use Rattle.settlement.specs.Posted.{HasName, posted, token_of_tap}
-use Rattle.settled_texts.specs.ExplainedTaps.{NoTapFallsFrom, last_token}
+use Rattle.settled_texts.specs.ExplainedTaps.{TapsNondecreasingFrom, last_token}
 use Rattle.sorted_taps.specs.Spans.{IsSpanOf}
 use Rattle.sorted_taps.specs.declared.reader.TapReader.{TapReader}
 use Rattle.sorted_bills.specs.inside.OpenBills.{IsOpenBill}
@@ -20,7 +20,7 @@ pub record IsCharged (fares : Fares) (known : List (Option (List ℕ))) (old : L
   pub taps : List TapFields
   pub taken : AreTapsTaken known old taps new
   pub bill_is : IsOpenBill fares taps bill
-  pub no_fall : NoTapFallsFrom from taps
+  pub nondecreasing : TapsNondecreasingFrom from taps
   pub last : bill.replay.token ≡ last_token from taps
   pub few : length taps ≤ 2 ^ 73
 

@@ -8,7 +8,7 @@ use Rattle.sorted_taps.specs.declared.merge.Merge.{Merge}
 use Rattle.sorted_taps.specs.declared.reader.TapReader.{TapReader}
 use Rattle.sorted_taps.specs.declared.span.Span.{Span}
 use Rattle.sorted_bills.specs.declared.range.Range.{Range}
-use Rattle.sorted_bills.specs.inside.Ranges.{AreLinesAnywhere, IsBehind}
+use Rattle.sorted_bills.specs.inside.Ranges.{AreLinesAnywhere, IsAfter}
 
 -- the range's tokens are above this one, it has no more taps than are left, and the merge is
 -- after them
@@ -19,4 +19,4 @@ pub record DoesFollow (fares : Fares) (known : List (Option (List ℕ))) (reader
   pub fits : range.number ≤ left
   pub few : range.explainer.number ≤ range.number
   pub lines : AreLinesAnywhere fares known range.first span range.explainer range.lines.items
-  pub behind : IsBehind readers span next
+  pub trailing : IsAfter readers span next

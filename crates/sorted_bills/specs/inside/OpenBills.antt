@@ -21,7 +21,7 @@ pub record IsOpenBill (fares : Fares) (taps : List TapFields) (bill : OpenBill) 
   pub both : taps ≡ lower ++ last
   pub below : AreBelow (map token_of_tap lower) (bill.replay.token ∷ [])
   pub its : All (λ tap. token_of_tap tap ≡ bill.replay.token) last
-  pub stands : HasPosted fares bill.replay (posted fares last)
+  pub holds : HasPosted fares bill.replay (posted fares last)
   pub tally : sums_of_tally bill.tally ≡ sums (posted fares last)
   pub some : bill.has_taps ≡ true → 0 < length last
   pub none : bill.has_taps ≡ false → last ≡ []

@@ -41,8 +41,8 @@ pub record AreOwnOf (token : Token) (files : List (List ℕ)) (own : List TapFie
 
 -- the taps are of the token, and if the bytes of the file at the place are known, it is sorted, and
 -- these are all that it has
-pub record IsOwnAt (token : Token) (known : List (Option (List ℕ))) (place : ℕ) (own : OwnTaps)
+pub record IsOwnAt (token : Token) (known : List (Option (List ℕ))) (position : ℕ) (own : OwnTaps)
     : Type 0 where
   pub sound : AreSound token own.taps.items
-  pub added : (bytes : Option (List ℕ)) → slice_get known place ≡ Some bytes
+  pub added : (bytes : Option (List ℕ)) → slice_get known position ≡ Some bytes
       → IfSome bytes (λ all. AreOwnAdded token all [] own.taps.items [] own.numbers.items)

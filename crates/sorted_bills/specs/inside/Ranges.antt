@@ -7,10 +7,10 @@ use Rattle.fare_texts.specs.Lines.{AreUpTo}
 use Rattle.tap_views.specs.TokenOrder.{IsUpTo}
 use Rattle.fare_texts.specs.declared.explainer.Explainer.{Explainer}
 use Rattle.settlement.specs.Posted.{HasName}
-use Rattle.settled_texts.specs.ExplainedTaps.{AreExplained, NoTapFallsFrom, last_token}
+use Rattle.settled_texts.specs.ExplainedTaps.{AreExplained, TapsNondecreasingFrom, last_token}
 use Rattle.histories.specs.Entry.{own}
 use Rattle.histories.specs.declared.entry.Entry.{Entry}
-use Rattle.sorted_taps.specs.Spans.{HaveCome, IsSpanOf}
+use Rattle.sorted_taps.specs.Spans.{HaveConsumed, IsSpanOf}
 use Rattle.sorted_taps.specs.declared.merge.Merge.{Merge}
 use Rattle.sorted_taps.specs.declared.reader.TapReader.{TapReader}
 use Rattle.sorted_taps.specs.declared.span.Span.{Span}
@@ -21,7 +21,7 @@ use Rattle.sorted_bills.specs.declared.range.Range.{Range}
 pub record AreLinesFrom (fares : Fares) (earlier : List Entry) (first : Token)
     (taps : List TapFields) (explainer : Explainer) (lines : List ℕ) : Type 0 where
   pub named : All HasName taps
-  pub no_fall : NoTapFallsFrom first taps
+  pub nondecreasing : TapsNondecreasingFrom first taps
   pub explained : AreExplained fares earlier taps explainer lines
   pub up : IsUpTo (last_token first taps) explainer.token
 
@@ -46,7 +46,7 @@ IsRange fares known range = IfSome range.span (λ span. (range.explainer.number 
 
 -- who has come to where the readers are, has come to where the merge is, after the taps of
 -- the span
-abbrev pub IsBehind : List TapReader → Span → Merge → Type 0
-IsBehind readers span next = (files : List (List ℕ)) (begun : List TapReader)
-    (before taps : List TapFields) → HaveCome files begun before readers → IsSpanOf files taps span
-    → HaveCome files begun (before ++ taps) next.readers.items
+abbrev pub IsAfter : List TapReader → Span → Merge → Type 0
+IsAfter readers span next = (files : List (List ℕ)) (started : List TapReader)
+    (before taps : List TapFields) → HaveConsumed files started before readers → IsSpanOf files taps span
+    → HaveConsumed files started (before ++ taps) next.readers.items

@@ -4,7 +4,7 @@ use Rattle.tap_views.specs.Encoding.{AreEarly}
 use Rattle.tap_views.specs.declared.encoder.TapFields.{TapFields}
 use Rattle.tap_views.specs.declared.token.Token.{Token}
 use Rattle.settlement.specs.Posted.{HasName}
-use Rattle.settled_texts.specs.ExplainedTaps.{NoTapFallsFrom, last_token}
+use Rattle.settled_texts.specs.ExplainedTaps.{TapsNondecreasingFrom, last_token}
 use Rattle.sorted_taps.specs.Heads.{IsRanked}
 use Rattle.sorted_taps.specs.Merges.{AreTaken}
 use Rattle.sorted_taps.specs.Reading.{window_bytes}
@@ -24,7 +24,7 @@ pub record AreTapsTaken (known : List (Option (List ℕ))) (old : List TapReader
 pub record AreFollowing (from : Token) (taps : List TapFields) (last : Token) : Type 0 where
   pub early : AreEarly (λ (tap : TapFields). tap.moment) taps
   pub named : All HasName taps
-  pub no_fall : NoTapFallsFrom from taps
+  pub nondecreasing : TapsNondecreasingFrom from taps
   pub is_last : last ≡ last_token from taps
 
 -- there is a reader of each of the files, their heads are ranked, and there is room to read

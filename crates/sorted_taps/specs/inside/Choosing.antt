@@ -4,7 +4,7 @@ use Rattle.sorted_taps.specs.Heads.{IsChosen}
 use Rattle.sorted_taps.specs.declared.heads.Head.{Head}
 
 -- the place has the one chosen of those at twice the place and after that; the others are kept
-pub record IsChosenAnew (old : List Head) (place : ℕ) (new : List Head) : Type 0 where
+pub record IsChosenAnew (old : List Head) (position : ℕ) (new : List Head) : Type 0 where
   pub head : Head
-  pub put : new ≡ set old place head
-  pub chosen : (d : Head) → IsChosen (get_or old (2 * place) d) (get_or old (2 * place + 1) d) head
+  pub put : new ≡ set old position head
+  pub chosen : (d : Head) → IsChosen (get_or old (2 * position) d) (get_or old (2 * position + 1) d) head

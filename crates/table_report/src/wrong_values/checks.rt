@@ -71,19 +71,19 @@ pub(super) fn are_all<F: Fn(&Value) -> bool>(
     array: &Array,
     key: &str,
     wanted: &str,
-    is_well: F,
+    succeeded: F,
 ) -> Result<bool, AllocError>
-    requires { F.IsAlwaysCallable is_well }
+    requires { F.IsAlwaysCallable succeeded }
 {
-    let mut are_well = true;
-    for (place, value) in array.iter().enumerate() {
-        if !is_well(value) {
-            let path = item_path(wrongs.alloc, key, place)?;
+    let mut all_valid = true;
+    for (position, value) in array.iter().enumerate() {
+        if !succeeded(value) {
+            let path = item_path(wrongs.alloc, key, position)?;
             wrongs.value(path, value, wanted)?;
-            are_well = false;
+            all_valid = false;
         }
     }
-    Ok(are_well)
+    Ok(all_valid)
 }
 
 /// Whether a name can be that of a mode.
@@ -117,10 +117,10 @@ fn strings_of<'t>(
 
 fn check_names(wrongs: &mut Wrongs, array: &Array, wanted: &str) -> Result<(), AllocError> {
     let mut earlier: Vec<&str> = Vec::new(wrongs.alloc);
-    for (place, value) in array.iter().enumerate() {
+    for (position, value) in array.iter().enumerate() {
         let name = value.as_str().unwrap_or("");
         if !is_mode_name(name) || earlier.iter().any(|other| *other == name) {
-            let path = item_path(wrongs.alloc, "modes", place)?;
+            let path = item_path(wrongs.alloc, "modes", position)?;
             wrongs.value(path, value, wanted)?;
         }
         earlier.push(name)?;
@@ -160,8 +160,8 @@ fn is_pair(value: &Value) -> bool {
 
 fn check_pairs(wrongs: &mut Wrongs, array: &Array, modes: &[&str]) -> Result<(), AllocError> {
     let wanted = one_of(wrongs.alloc, "a mode of the table", modes)?;
-    for (place, value) in array.iter().enumerate() {
-        let pair = item_path(wrongs.alloc, "transfers", place)?;
+    for (position, value) in array.iter().enumerate() {
+        let pair = item_path(wrongs.alloc, "transfers", position)?;
         if let Some(names) = value.as_array() {
             for (side, name) in names.iter().enumerate() {
                 if !is_one_of(name, modes) {
@@ -324,15 +324,15 @@ fn check_classes(
     classes: &Table,
     modes: &Option<Vec<&str>>,
 ) -> Result<(), AllocError> {
-    let mut is_well = true;
+    let mut succeeded = true;
     for (name, value) in classes {
         if !value.is_table() {
             let path = key_path(wrongs.alloc, "classes", name.as_str())?;
             wrongs.value(path, value, CLASS)?;
-            is_well = false;
+            succeeded = false;
         }
     }
-    if !is_well {
+    if !succeeded {
         return Ok(());
     }
     for (name, value) in classes {

@@ -16,9 +16,9 @@ const RANGE: &str = "a range: a table with first, last and mode";
 type Ranges = BTreeMap<i64, (i64, usize)>;
 
 fn shared(ranges: &Ranges, first: i64, last: i64) -> Option<(i64, i64, usize)> {
-    let (begin, (end, place)) = ranges.range(..=last).next_back()?;
+    let (begin, (end, position)) = ranges.range(..=last).next_back()?;
     if first <= *end {
-        Some((*begin, *end, *place))
+        Some((*begin, *end, *position))
     } else {
         None
     }
@@ -29,7 +29,7 @@ fn check_overlap(
     wrongs: &mut Wrongs,
     ranges: &mut Ranges,
     path: &str,
-    place: usize,
+    position: usize,
     first: i64,
     last: i64,
     value: &Value,
@@ -43,7 +43,7 @@ fn check_overlap(
             wrongs.value(path, value, wanted.as_str())
         }
         None => {
-            ranges.insert(first, (last, place))?;
+            ranges.insert(first, (last, position))?;
             Ok(())
         }
     }
@@ -62,11 +62,11 @@ fn check_mode(
     let Some(value) = entry.get("mode") else {
         return wrongs.missing(path, "mode", wanted.as_str());
     };
-    let is_well = match modes {
+    let succeeded = match modes {
         Some(modes) => is_one_of(value, modes),
         None => value.is_str(),
     };
-    if is_well {
+    if succeeded {
         return Ok(());
     }
     let path = key_path(wrongs.alloc, path, "mode")?;
@@ -76,14 +76,14 @@ fn check_mode(
 fn check_range(
     wrongs: &mut Wrongs,
     ranges: &mut Ranges,
-    place: usize,
+    position: usize,
     value: &Value,
     modes: &Option<Vec<&str>>,
 ) -> Result<(), AllocError> {
     let Some(entry) = value.as_table() else {
         return Ok(());
     };
-    let path = item_path(wrongs.alloc, "validators", place)?;
+    let path = item_path(wrongs.alloc, "validators", position)?;
     let first = check_key(wrongs, path.as_str(), entry, Key::First, "")?;
     let low = first.unwrap_or(0);
     let last = check_number(
@@ -98,7 +98,7 @@ fn check_range(
     check_mode(wrongs, path.as_str(), entry, modes)?;
     match (first, last) {
         (Some(first), Some(last)) => {
-            check_overlap(wrongs, ranges, path.as_str(), place, first, last, value)
+            check_overlap(wrongs, ranges, path.as_str(), position, first, last, value)
         }
         _ => Ok(()),
     }
@@ -116,8 +116,8 @@ pub(super) fn check_ranges(
         return Ok(());
     }
     let mut ranges = BTreeMap::new(wrongs.alloc);
-    for (place, value) in array.iter().enumerate() {
-        check_range(wrongs, &mut ranges, place, value, modes)?;
+    for (position, value) in array.iter().enumerate() {
+        check_range(wrongs, &mut ranges, position, value, modes)?;
     }
     Ok(())
 }

@@ -1,7 +1,7 @@
 //! One wrong value, and what is wanted in its place.
 
 use crate::paths::key_path;
-use crate::places::Places;
+use crate::positions::Positions;
 use std::alloc::{AllocError, Global};
 use toml::Value;
 
@@ -118,15 +118,15 @@ impl Wrong {
         alloc: Global,
         name: &str,
         text: &str,
-        places: &Places,
+        positions: &Positions,
     ) -> Result<String, AllocError> {
         let shown = self.shown.as_str();
         let offset = match self.part {
-            Part::Value => places.of_value(shown),
-            _ => places.of_key(shown),
+            Part::Value => positions.of_value(shown),
+            _ => positions.of_key(shown),
         };
         let (line, column) = match offset {
-            Some(offset) => places.line_and_column(text, offset),
+            Some(offset) => positions.line_and_column(text, offset),
             None => (1, 1),
         };
         let path = self.path.as_str();

@@ -11,7 +11,7 @@ use Rattle.tap_rows.specs.declared.agency.choice.Separator.{Separator}
 use Rattle.tap_rows.specs.declared.devices.fault.DevicesFault.{DevicesFault}
 use Rattle.tap_rows.specs.declared.devices.fault.DevicesFault.TheVariants as fault
 use Rattle.tap_rows.specs.declared.devices.fault.WrongDevice.{WrongDevice}
-use Rattle.tap_rows.specs.inside.RecordReaders.{HasCome}
+use Rattle.tap_rows.specs.inside.RecordReaders.{HasConsumed}
 
 -- the row has the two names, as the head of a device table
 abbrev pub IsHeadRow : List (List ℕ) → Type 0
@@ -39,7 +39,7 @@ IsFaultBy separator text fault.NoMemory = Unit {0}
 pub record HasDevices {R : Type 0} (remaining : R → Option (List ℕ)) (separator : Separator)
     (text : List ℕ) (count : ℕ) (reader : Reader R) (devices : List Device) : Type 0 where
   pub rows : List (List (List ℕ))
-  pub come : HasCome remaining separator text (device_head ∷ rows) reader
+  pub consumed : HasConsumed remaining separator text (device_head ∷ rows) reader
   pub each : AllZip IsDeviceRow rows devices
   pub once : IsDistinct bytes_eq (keys_of devices)
   pub number : length rows ≡ count

@@ -6,15 +6,15 @@ use Rattle.csv.specs.declared.reader.Reader.{Reader}
 use Rattle.tap_views.specs.Encoding.{AreEncodable}
 use Rattle.tap_views.specs.declared.encoder.TapFields.{TapFields}
 use Rattle.tap_rows.specs.Agencies.{IsSummary, refusals, refusals_text, taps_in}
-use Rattle.tap_rows.specs.AgencyRows.{IsReadingOf}
+use Rattle.tap_rows.specs.AgencyRows.{IsParseOf}
 use Rattle.tap_rows.specs.declared.agency.choice.Choice.{Choice}
 use Rattle.tap_rows.specs.declared.agency.fault.AgencyFault.{AgencyFault}
 use Rattle.tap_rows.specs.declared.agency.fault.AgencyFault.TheVariants as fault
-use Rattle.tap_rows.specs.declared.agency.places.Places.{Places}
+use Rattle.tap_rows.specs.declared.agency.positions.Positions.{Positions}
 use Rattle.tap_rows.specs.declared.agency.reading.Reading.{Reading}
 use Rattle.tap_rows.specs.declared.agency.summary.Summary.{Summary}
-use Rattle.tap_rows.specs.inside.Places.{ArePlaces}
-use Rattle.tap_rows.specs.inside.RecordReaders.{HasCome}
+use Rattle.tap_rows.specs.inside.Positions.{ArePositions}
+use Rattle.tap_rows.specs.inside.RecordReaders.{HasConsumed}
 use Rattle.tap_rows.specs.inside.WaitingTaps.{AreWritten}
 
 -- the fault is none of the text
@@ -30,16 +30,16 @@ IsOfSystem fault.NoMemory = Unit {0}
 -- `count` rows are read from a text whose bytes may be known. Their taps are written but those that
 -- wait, the refused rows are written, and the summary is theirs
 pub record IsGoing {R : Type 0} (remaining : R → Option (List ℕ)) (choice : Choice)
-    (places : Places) (text : Option (List ℕ)) (count : ℕ) (reader : Reader R)
+    (positions : Positions) (text : Option (List ℕ)) (count : ℕ) (reader : Reader R)
     (waiting : List TapFields) (summary : Summary)
     (old new old_refused new_refused : Option (List ℕ)) : Type 0 where
   pub head : List (List ℕ)
   pub rows : List (List (List ℕ))
   pub readings : List Reading
-  pub columns : ArePlaces choice head places
-  pub come : (bytes : List ℕ) → text ≡ Some bytes
-      → HasCome remaining choice.separator bytes (head ∷ rows) reader
-  pub each : AllZip (IsReadingOf choice head) rows readings
+  pub columns : ArePositions choice head positions
+  pub consumed : (bytes : List ℕ) → text ≡ Some bytes
+      → HasConsumed remaining choice.separator bytes (head ∷ rows) reader
+  pub each : AllZip (IsParseOf choice head) rows readings
   pub number : length rows ≡ count
   pub room : AreEncodable (λ tap. tap.moment) waiting
   pub written : AreWritten old new waiting (taps_in readings)

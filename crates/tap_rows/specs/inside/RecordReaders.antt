@@ -8,7 +8,7 @@ use Rattle.tap_rows.specs.AgencyTexts.{config_of}
 use Rattle.tap_rows.specs.declared.agency.choice.Separator.{Separator}
 
 -- the reader of this text has come over these records
-pub record HasCome {R : Type 0} (remaining : R → Option (List ℕ)) (separator : Separator)
+pub record HasConsumed {R : Type 0} (remaining : R → Option (List ℕ)) (separator : Separator)
     (text : List ℕ) (rows : List (List (List ℕ))) (reader : Reader R) : Type 0 where
   pub left : List ℕ
   pub config : reader.config ≡ config_of separator

@@ -44,6 +44,6 @@ abbrev pub IsEncodedAs : List TapFields → Option (List ℕ) → Option (List �
 IsEncodedAs taps old new = (file : List ℕ) × IsFileOf file taps × Appends old new file
 
 -- what was written after the old bytes is nothing, or a prefix of an upload of these taps
-abbrev pub IsBegunAs : List TapFields → Option (List ℕ) → Option (List ℕ) → Type 0
-IsBegunAs taps old new =
+abbrev pub IsStartedAs : List TapFields → Option (List ℕ) → Option (List ℕ) → Type 0
+IsStartedAs taps old new =
     Keeps old new ⊎ ((file : List ℕ) × IsFileOf file taps × Begins old new file)

@@ -5,18 +5,18 @@ ghost use Rattle.std.specs.Prelude.{MatchOption, length};
 ghost use Rattle.std.specs.List.{AllZip};
 ghost use Rattle.csv.specs.Records.{field_at, fields_of};
 ghost use Rattle.tap_rows.specs.Agencies as Spec;
-ghost use Rattle.tap_rows.specs.AgencyRows.{IsAsLong, IsMet, IsMomentReason, IsNoTap, IsReadingOf};
+ghost use Rattle.tap_rows.specs.AgencyRows.{IsAsLong, IsMet, IsMomentReason, IsNoTap, IsParseOf};
 ghost use Rattle.tap_rows.specs.AgencyRows.{IsTapOf};
-ghost use Rattle.tap_rows.specs.AgencyRows.{IsTokenText, StandsForValidator};
+ghost use Rattle.tap_rows.specs.AgencyRows.{IsTokenText, RepresentsValidator};
 ghost use Rattle.tap_rows.specs.Devices.{devices_of, validator_of};
 ghost use Rattle.tap_rows.specs.Rows.{IsNoValidator, IsValidator};
 ghost use Rattle.tap_rows.specs.inside.Validators.{IsWrongValidator};
-ghost use Rattle.tap_rows.specs.inside.Places.{ArePlaces, IsPlaceOf};
+ghost use Rattle.tap_rows.specs.inside.Positions.{ArePositions, IsPositionOf};
 ghost use Rattle.tap_views.specs.Layout.{moment_limit};
 
 use crate::agency::choice::{Choice, Condition, Unit};
 use crate::agency::instant::{agency_moment_in, is_early, is_local_time};
-use crate::agency::places::{Places, has_at};
+use crate::agency::positions::{Positions, has_at};
 use crate::devices::DeviceTable;
 use crate::row::validator_in;
 use csv::ByteRecord;
@@ -63,24 +63,24 @@ fn token_text_in(value: &[u8]) -> Option<[u8; 16]>
     }
 }
 
-fn is_kept(only: &[Condition<'_>], places: &[usize], row: &ByteRecord) -> bool
-    ensures { (head : List (List ℕ)) → AllZip (IsPlaceOf head) only.now places.now
+fn is_kept(only: &[Condition<'_>], positions: &[usize], row: &ByteRecord) -> bool
+    ensures { (head : List (List ℕ)) → AllZip (IsPositionOf head) only.now positions.now
         → (IsTrue result ↔ All (IsMet head (fields_of row.now)) only.now) }
 {
-    for index in 0..only.len().min(places.len()) {
+    for index in 0..only.len().min(positions.len()) {
         let condition = &only[index];
-        if !has_at(row, places[index], condition.value.as_bytes()) {
+        if !has_at(row, positions[index], condition.value.as_bytes()) {
             return false;
         }
     }
     true
 }
 
-pub(crate) fn field_in(row: &ByteRecord, place: usize) -> &[u8]
-    ensures { place < length (fields_of row.now)
-        → field_at (fields_of row.now) place ≡ Some result.now }
+pub(crate) fn field_in(row: &ByteRecord, position: usize) -> &[u8]
+    ensures { position < length (fields_of row.now)
+        → field_at (fields_of row.now) position ≡ Some result.now }
 {
-    match row.get(place) {
+    match row.get(position) {
         Some(field) => field,
         None => b"",
     }
@@ -110,7 +110,7 @@ fn device_in(devices: &DeviceTable, field: &[u8]) -> Result<u32, Reason>
 }
 
 fn validator_for(choice: &Choice<'_>, field: &[u8]) -> Result<u32, Reason>
-    ensures validator { IfOk result (StandsForValidator choice.now.devices field.now) }
+    ensures validator { IfOk result (RepresentsValidator choice.now.devices field.now) }
     ensures wrong { IfErr result (IsWrongValidator choice.now.devices field.now) }
 {
     match choice.devices {
@@ -131,23 +131,23 @@ fn moment_reason(unit: Unit, field: &[u8]) -> Reason
     }
 }
 
-fn tap_of(choice: &Choice<'_>, places: &Places, row: &ByteRecord) -> Result<TapFields, Reason>
-    ensures tap { (head : List (List ℕ)) → ArePlaces choice.now head places.now
+fn tap_of(choice: &Choice<'_>, positions: &Positions, row: &ByteRecord) -> Result<TapFields, Reason>
+    ensures tap { (head : List (List ℕ)) → ArePositions choice.now head positions.now
         → IsAsLong head (fields_of row.now)
         → IfOk result (IsTapOf choice.now head (fields_of row.now)) }
-    ensures wrong { (head : List (List ℕ)) → ArePlaces choice.now head places.now
+    ensures wrong { (head : List (List ℕ)) → ArePositions choice.now head positions.now
         → IsAsLong head (fields_of row.now)
         → IfErr result (IsNoTap choice.now head (fields_of row.now)) }
     ensures early { IfOk result (λ tap. tap.moment < moment_limit) }
 {
-    let Some(token) = token_text_in(field_in(row, places.token)) else {
+    let Some(token) = token_text_in(field_in(row, positions.token)) else {
         return Err(Reason::Token);
     };
-    let validator = match validator_for(choice, field_in(row, places.validator)) {
+    let validator = match validator_for(choice, field_in(row, positions.validator)) {
         Ok(validator) => validator,
         Err(reason) => return Err(reason),
     };
-    let field = field_in(row, places.moment);
+    let field = field_in(row, positions.moment);
     let Some(moment) = agency_moment_in(choice.unit, field) else {
         return Err(moment_reason(choice.unit, field));
     };
@@ -158,18 +158,18 @@ fn tap_of(choice: &Choice<'_>, places: &Places, row: &ByteRecord) -> Result<TapF
     })
 }
 
-pub(crate) fn reading_of(choice: &Choice<'_>, places: &Places, row: &ByteRecord) -> Reading
-    ensures reading { (head : List (List ℕ)) → ArePlaces choice.now head places.now
-        → IsReadingOf choice.now head (fields_of row.now) result }
+pub(crate) fn reading_of(choice: &Choice<'_>, positions: &Positions, row: &ByteRecord) -> Reading
+    ensures reading { (head : List (List ℕ)) → ArePositions choice.now head positions.now
+        → IsParseOf choice.now head (fields_of row.now) result }
     ensures early { All (λ tap. tap.moment < moment_limit) (Spec.tap_of result) }
 {
-    if row.len() != places.width {
+    if row.len() != positions.width {
         return Reading::Refused(Reason::Fields);
     }
-    if !is_kept(choice.only, &places.only, row) {
+    if !is_kept(choice.only, &positions.only, row) {
         return Reading::LeftOut;
     }
-    match tap_of(choice, places, row) {
+    match tap_of(choice, positions, row) {
         Ok(tap) => Reading::Tap(tap),
         Err(reason) => Reading::Refused(reason),
     }

@@ -4,7 +4,7 @@ ghost use Rattle.std.specs.Prelude.{◌≡◌, ◌∷◌, ◌++◌, [], ℕ, Lis
 ghost use Rattle.csv.specs.Records.{fields_of};
 ghost use Rattle.tap_rows.specs.AgencyTexts.{HasRecords};
 ghost use Rattle.tap_rows.specs.inside.Goings.{IsOfSystem};
-ghost use Rattle.tap_rows.specs.inside.RecordReaders.{HasCome};
+ghost use Rattle.tap_rows.specs.inside.RecordReaders.{HasConsumed};
 
 use crate::agency::choice::Separator;
 use crate::agency::fault::AgencyFault;
@@ -14,7 +14,7 @@ use std::io::Read;
 
 pub(crate) fn records_of<R: Read>(alloc: Global, separator: Separator, text: R) -> Reader<R>
     ensures { (bytes : List ℕ) → R.remaining text ≡ Some bytes
-        → HasCome R.remaining separator bytes [] result }
+        → HasConsumed R.remaining separator bytes [] result }
 {
     ReaderBuilder::new()
         .has_headers(false)
@@ -28,10 +28,10 @@ pub(crate) fn next_record<R: Read>(
     row: &mut ByteRecord,
 ) -> Result<bool, AgencyFault>
     ensures more { IfOk result (λ found. found ≡ true → (separator : Separator) (bytes : List ℕ)
-        (rows : List (List (List ℕ))) → HasCome R.remaining separator bytes rows reader.old
-        → HasCome R.remaining separator bytes (rows ++ fields_of row.new ∷ []) reader.new) }
+        (rows : List (List (List ℕ))) → HasConsumed R.remaining separator bytes rows reader.old
+        → HasConsumed R.remaining separator bytes (rows ++ fields_of row.new ∷ []) reader.new) }
     ensures none { IfOk result (λ found. found ≡ false → (separator : Separator) (bytes : List ℕ)
-        (rows : List (List (List ℕ))) → HasCome R.remaining separator bytes rows reader.old
+        (rows : List (List (List ℕ))) → HasConsumed R.remaining separator bytes rows reader.old
         → HasRecords separator bytes rows) }
     ensures fault { IfErr result IsOfSystem }
 {

@@ -1,7 +1,7 @@
 //! The taps that wait to be written as a batch.
 
 ghost use Rattle.std.specs.Prelude.{◌≡◌, ◌<◌, ◌∷◌, ◌++◌, [], ℕ, List, Option, IfErr, OnErr, OnOk};
-ghost use Rattle.tap_rows.specs.Agencies.{AreBegun};
+ghost use Rattle.tap_rows.specs.Agencies.{AreStarted};
 ghost use Rattle.tap_rows.specs.inside.Goings.{IsOfSystem};
 ghost use Rattle.tap_rows.specs.inside.WaitingTaps.{AreWritten};
 ghost use Rattle.tap_views.specs.Encoding.{AreEncodable};
@@ -25,9 +25,9 @@ pub(crate) fn write_waiting<W: Write>(
         → AreWritten old (W.contents out.old) waiting.old.items taps
         → AreWritten old (W.contents out.new) [] taps) }
     ensures none { OnOk result (waiting.new.items ≡ []) }
-    ensures begun { OnErr result ((old : Option (List ℕ)) (taps : List TapFields)
+    ensures started { OnErr result ((old : Option (List ℕ)) (taps : List TapFields)
         → AreWritten old (W.contents out.old) waiting.old.items taps
-        → AreBegun taps old (W.contents out.new)) }
+        → AreStarted taps old (W.contents out.new)) }
     ensures fault { IfErr result IsOfSystem }
 {
     match write_batch(alloc, waiting, out) {
@@ -52,9 +52,9 @@ pub(crate) fn add_tap<W: Write>(
     ensures written { OnOk result ((old : Option (List ℕ)) (taps : List TapFields)
         → AreWritten old (W.contents out.old) waiting.old.items taps
         → AreWritten old (W.contents out.new) waiting.new.items (taps ++ tap ∷ [])) }
-    ensures begun { OnErr result ((old : Option (List ℕ)) (taps : List TapFields)
+    ensures started { OnErr result ((old : Option (List ℕ)) (taps : List TapFields)
         → AreWritten old (W.contents out.old) waiting.old.items taps
-        → AreBegun taps old (W.contents out.new)) }
+        → AreStarted taps old (W.contents out.new)) }
     ensures fault { IfErr result IsOfSystem }
 {
     if waiting.len() == MAX_TAPS {

@@ -5,8 +5,8 @@ ghost use Rattle.std.specs.Prelude.{IfSome, IsErrOf, IsSome, OnErr, OnOk, true};
 ghost use Rattle.std.specs.Prelude.{flat_map};
 ghost use Rattle.std.specs.Io.KnownBytes.{Appends};
 ghost use Rattle.csv.specs.Records.{fields_of};
-ghost use Rattle.tap_rows.specs.Agencies.{AreBegun, IsAgencyFault, IsOfRows, IsRowsEncoded};
-ghost use Rattle.tap_rows.specs.Agencies.{IsUploadBegun, MayEndOnce, refusal_of, refusal_text};
+ghost use Rattle.tap_rows.specs.Agencies.{AreStarted, IsAgencyFault, IsOfRows, IsRowsEncoded};
+ghost use Rattle.tap_rows.specs.Agencies.{IsUploadStarted, MayEndOnce, refusal_of, refusal_text};
 ghost use Rattle.tap_rows.specs.Agencies.{tap_of};
 ghost use Rattle.tap_rows.specs.inside.Goings.{IsOfSystem};
 ghost use Rattle.tap_rows.specs.inside.WaitingTaps.{AreWritten};
@@ -16,7 +16,7 @@ ghost use Rattle.tap_views.specs.declared.encoder.TapFields.{TapFields};
 
 use crate::agency::choice::{Choice, Separator};
 use crate::agency::fault::{AgencyFault, Wanted};
-use crate::agency::places::places_of;
+use crate::agency::positions::positions_of;
 use crate::agency::reading::{Reading, reading_of};
 use crate::agency::records::{next_record, records_of};
 use crate::agency::refusals::{write_refusal, write_refusals_head};
@@ -47,9 +47,9 @@ fn put_row<W: Write, X: Write>(
         → Appends old (X.contents refused.old) text
         → Appends old (X.contents refused.new) (text ++ flat_map (refusal_text separator)
         (refusal_of number (fields_of row.now) reading.now))) }
-    ensures begun { OnErr result ((old : Option (List ℕ)) (taps : List TapFields)
+    ensures started { OnErr result ((old : Option (List ℕ)) (taps : List TapFields)
         → AreWritten old (W.contents out.old) waiting.old.items taps
-        → AreBegun taps old (W.contents out.new)) }
+        → AreStarted taps old (W.contents out.new)) }
     ensures fault { IfErr result IsOfSystem }
 {
     match reading {
@@ -78,8 +78,8 @@ pub fn encode_some_rows<R: Read + Drop, W: Write, X: Write>(
         (λ fault. IfSome (R.remaining text) (λ bytes. IsAgencyFault choice.now bytes fault)) }
     ensures nothing { IfErr result
         (λ fault. IsOfRows fault → (out.new ≡ out.old) × (refused.new ≡ refused.old)) }
-    ensures begun { OnErr result (IfSome (R.remaining text)
-        (λ bytes. IsUploadBegun choice.now bytes (W.contents out.old) (W.contents out.new))) }
+    ensures started { OnErr result (IfSome (R.remaining text)
+        (λ bytes. IsUploadStarted choice.now bytes (W.contents out.old) (W.contents out.new))) }
     ensures once { IfErr result MayEndOnce }
 {
     let mut reader = records_of(alloc, choice.separator, text);
@@ -88,7 +88,7 @@ pub fn encode_some_rows<R: Read + Drop, W: Write, X: Write>(
     if !has_head {
         return Err(AgencyFault::Column(Wanted::Token));
     }
-    let places = places_of(alloc, choice, &row)?;
+    let positions = positions_of(alloc, choice, &row)?;
     write_refusals_head(alloc, choice.separator, &row, refused)?;
     let mut waiting = Vec::with_capacity(alloc, MAX_TAPS)?;
     let mut summary = Summary::new();
@@ -98,7 +98,7 @@ pub fn encode_some_rows<R: Read + Drop, W: Write, X: Write>(
             write_waiting(alloc, &mut waiting, out)?;
             return Ok(summary);
         }
-        let reading = reading_of(choice, &places, &row);
+        let reading = reading_of(choice, &positions, &row);
         let number = count + 2;
         put_row(
             alloc,
@@ -150,8 +150,8 @@ pub fn encode_rows<R: Read + Drop, S: Read + Drop, W: Write>(
     ensures refused { IfErr result (λ fault. IsOfRows fault
         → IfSome (R.remaining text) (λ bytes. IsAgencyFault choice.now bytes fault)) }
     ensures nothing { IfErr result (λ fault. IsOfRows fault → out.new ≡ out.old) }
-    ensures begun { OnErr result (IfSome (S.remaining again)
-        (λ bytes. IsUploadBegun choice.now bytes (W.contents out.old) (W.contents out.new))) }
+    ensures started { OnErr result (IfSome (S.remaining again)
+        (λ bytes. IsUploadStarted choice.now bytes (W.contents out.old) (W.contents out.new))) }
     ensures same { IsErrOf result AgencyFault.Changed → IsSome (R.remaining text)
         → R.remaining text ≡ S.remaining again → ⊥ }
 {

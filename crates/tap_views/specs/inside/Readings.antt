@@ -1,12 +1,12 @@
 -- What is left to give of a file, as a function of its bytes: the view of the iterator, and of
--- nothing else. Contracts say it by `IsReading`.
+-- nothing else. Contracts say it by `IsParse`.
 use Rattle.std.specs.Prelude.{ℕ, zero, suc, ◌+◌, ◌==◌, nat_lt, not, ◌||◌, Bool, List, [], ◌∷◌}
 use Rattle.std.specs.Prelude.{length, map, take, drop, find, codes, Option, Some, None, Ok, Err}
 use Rattle.std.specs.List.{range_with_len}
 use Rattle.std.specs.Str.{bytes_eq}
 use Rattle.tap_views.specs.Layout.{moment_limit, Tap}
 use Rattle.tap_views.specs.Faults.{header, layout_in, count_in, flags_in, size_in, moment_in}
-use Rattle.tap_views.specs.Files.{GoodBatchesView, Item}
+use Rattle.tap_views.specs.Files.{ValidBatchesView, Item}
 use Rattle.tap_views.specs.inside.Records.{taps_in}
 use Rattle.tap_views.specs.declared.fault.LayoutFault.{LayoutFault}
 use Rattle.tap_views.specs.declared.fault.LayoutFault.TheVariants.{Short, Magic, Flags, TooMany}
@@ -39,8 +39,8 @@ first_taps bytes =
 
 -- what is given at an offset, before what comes after the batch there
 abbrev pub given_at : ℕ → List ℕ → Option LayoutFault → List Item → List Item
-given_at offset bytes None behind = Ok (first_taps bytes) ∷ behind
-given_at offset bytes (Some fault) behind = Err (offset, fault) ∷ []
+given_at offset bytes None trailing = Ok (first_taps bytes) ∷ trailing
+given_at offset bytes (Some fault) trailing = Err (offset, fault) ∷ []
 
 -- at most this number of items
 abbrev pub items_within : ℕ → ℕ → List ℕ → List Item
@@ -69,9 +69,9 @@ fault_among (Ok batch ∷ items) = fault_among items
 fault_among (Err stop ∷ items) = Some stop
 
 -- what is left to read, by what is given
-abbrev pub good_among : List Item → GoodBatchesView
-good_among items = record { batches = batches_among items; fault = fault_among items }
+abbrev pub valid_among : List Item → ValidBatchesView
+valid_among items = record { batches = batches_among items; fault = fault_among items }
 
 -- what is left to read of bytes which are at an offset of their file
-abbrev pub good_from : ℕ → List ℕ → GoodBatchesView
-good_from offset bytes = good_among (items_from offset bytes)
+abbrev pub valid_from : ℕ → List ℕ → ValidBatchesView
+valid_from offset bytes = valid_among (items_from offset bytes)

@@ -39,9 +39,9 @@ pub record AreDated (modes : List (List ℕ)) (until : ℕ) (later : List (ℕ �
 
 -- how many of the tables that follow are valid at the moment or were before, up to the first that
 -- is not yet
-abbrev pub begun : ℕ → List (ℕ × TableMeaning) → ℕ
-begun moment [] = 0
-begun moment (next ∷ later) = if nat_le next.0 moment then suc (begun moment later) else 0
+abbrev pub started : ℕ → List (ℕ × TableMeaning) → ℕ
+started moment [] = 0
+started moment (next ∷ later) = if nat_le next.0 moment then suc (started moment later) else 0
 
 -- whether both are the same names in the same order
 abbrev pub same_names : List (List ℕ) → List (List ℕ) → Bool

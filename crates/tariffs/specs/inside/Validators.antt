@@ -3,17 +3,17 @@ use Rattle.std.specs.Prelude.{◌≡◌, ℕ, ◌+◌, ◌&&◌, Bool, true, fal
 use Rattle.std.specs.Prelude.{length, map, nat_le, nat_lt}
 use Rattle.std.specs.List.{AllWithin}
 use Rattle.tariffs.specs.declared.validators.RangeRest.{RangeRest}
-use Rattle.tariffs.specs.Validators.{stand_apart}
+use Rattle.tariffs.specs.Validators.{are_disjoint}
 
 -- each number is below the next one
-abbrev pub is_rising : List ℕ → Bool
-is_rising [] = true
-is_rising (first ∷ []) = true
-is_rising (first ∷ next ∷ more) = nat_lt first next && is_rising (next ∷ more)
+abbrev pub is_increasing : List ℕ → Bool
+is_increasing [] = true
+is_increasing (first ∷ []) = true
+is_increasing (first ∷ next ∷ more) = nat_lt first next && is_increasing (next ∷ more)
 
 -- disjoint ranges in increasing order, and their first numbers
 pub record AreSearchable (ranges : List (ℕ × RangeRest)) (firsts : List ℕ) : Type 0 where
-  pub apart : stand_apart ranges ≡ true
+  pub apart : are_disjoint ranges ≡ true
   pub same : firsts ≡ map (λ range. range.0) ranges
 
 -- each number before the index is not above `number`, and each from `size` places after the index

@@ -2,7 +2,7 @@
 
 ghost use Rattle.std.specs.Prelude.{◌≡◌, ◌<◌, ◌≤◌, ◌*◌, true, All, IfOk, length};
 ghost use Rattle.std.specs.Map.{keys_of};
-ghost use Rattle.tariffs.specs.RiderMarks.{is_marked, mark_place};
+ghost use Rattle.tariffs.specs.RiderFilter.{may_contain, filter_bit};
 
 use std::alloc::Global;
 use std::collections::BTreeMap;
@@ -10,17 +10,17 @@ use std::marker::Model;
 use tap_views::{NoMemory, Token};
 
 /// The least number of marks for each token: most other tokens then have none.
-const MARKS_FOR_EACH: usize = 8;
+const FILTER_BITS_FOR_EACH: usize = 8;
 
 /// A one-hash Bloom filter of tokens: a mark at the index that a token's last bits give. A token
 /// without a mark is none of them. One with a mark may be, since tokens share marks.
 #[derive(Drop)]
-pub(crate) struct RiderMarks {
+pub(crate) struct RiderFilter {
     /// A power of two of them, so that an index needs no division. None if there is no token.
     marks: Vec<bool>,
 }
 
-impl Model for RiderMarks {
+impl Model for RiderFilter {
     ghost use Rattle.std.specs.Prelude.{Bool, List};
 
     ghost Value = { List Bool };
@@ -28,38 +28,38 @@ impl Model for RiderMarks {
     ghost view = { λ m. m.marks.items };
 }
 
-impl RiderMarks {
-    pub(crate) fn new(alloc: Global, riders: &BTreeMap<Token, u32>) -> Result<RiderMarks, NoMemory>
+impl RiderFilter {
+    pub(crate) fn new(alloc: Global, riders: &BTreeMap<Token, u32>) -> Result<RiderFilter, NoMemory>
         ensures marked { IfOk result
-            (λ marks. All (λ token. is_marked marks token ≡ true) (keys_of riders.now.entries)) }
+            (λ marks. All (λ token. may_contain marks token ≡ true) (keys_of riders.now.entries)) }
         ensures few { IfOk result (λ marks. length marks ≤ 16 * length riders.now.entries) }
     {
-        let mut marks = vec![in alloc; false; marks_for(riders.len())?]?;
+        let mut marks = vec![in alloc; false; filter_bits_for(riders.len())?]?;
         for token in riders.keys() {
-            let place = mark_place(*token, marks.len());
-            marks[place] = true;
+            let position = filter_bit(*token, marks.len());
+            marks[position] = true;
         }
-        Ok(RiderMarks { marks })
+        Ok(RiderFilter { marks })
     }
 
     pub(crate) fn has(&self, token: Token) -> bool
-        ensures { result ≡ is_marked self.now token }
+        ensures { result ≡ may_contain self.now token }
     {
-        !self.marks.is_empty() && self.marks[mark_place(token, self.marks.len())]
+        !self.marks.is_empty() && self.marks[filter_bit(token, self.marks.len())]
     }
 }
 
 /// The last bits spread well, since most tokens are random.
-fn mark_place(token: Token, marks: usize) -> usize
+fn filter_bit(token: Token, marks: usize) -> usize
     requires { 0 < marks }
-    ensures place { result ≡ mark_place token marks }
+    ensures position { result ≡ filter_bit token marks }
     ensures inside { result < marks }
 {
     token.low() as usize & (marks - 1)
 }
 
 /// A number that `usize` does not hold is more than memory holds: it is returned as `NoMemory`.
-fn marks_for(tokens: usize) -> Result<usize, NoMemory>
+fn filter_bits_for(tokens: usize) -> Result<usize, NoMemory>
     ensures some { IfOk result (λ marks. 0 < tokens → 0 < marks) }
     ensures few { IfOk result (λ marks. marks ≤ 16 * tokens) }
 {
@@ -67,7 +67,7 @@ fn marks_for(tokens: usize) -> Result<usize, NoMemory>
         return Ok(0);
     }
     tokens
-        .saturating_mul(MARKS_FOR_EACH)
+        .saturating_mul(FILTER_BITS_FOR_EACH)
         .checked_next_power_of_two()
         .ok_or(NoMemory)
 }

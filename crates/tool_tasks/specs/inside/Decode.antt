@@ -31,20 +31,20 @@ pub record DecodesOne (word : List ℕ) (loaded loaded' : Option (List Loaded))
   pub written : Appends out out' one.rows
 
 -- the upload of the word was loaded, and a beginning of its rows was written
-pub record BreaksOffOne (word : List ℕ) (loaded loaded' : Option (List Loaded))
+pub record FailsOneWrite (word : List ℕ) (loaded loaded' : Option (List Loaded))
     (out out' : Option (List ℕ)) : Type 0 where
   pub one : Decoded
   pub named : one.word ≡ word
   pub is_loaded : LoadsOne loaded loaded' (file_named word) one.upload
-  pub begun : Begins out out' one.rows
+  pub started : Begins out out' one.rows
 
 -- the upload of the word was not loaded, or its rows were not written whole
-abbrev pub StopsOne : List ℕ → Option (List Loaded) → Option (List Loaded)
+abbrev pub FailsOne : List ℕ → Option (List Loaded) → Option (List Loaded)
     → Option (Option (List ℕ) × LoadFault) → Option WriteEnd → Fault → Option (List ℕ)
     → Option (List ℕ) → Type 0
-StopsOne word loaded loaded' refused end fault out out' =
+FailsOne word loaded loaded' refused end fault out out' =
     (IsRefusal refused (word ∷ []) fault × Keeps out out')
-    ⊎ (IsOfWriting end fault × BreaksOffOne word loaded loaded' out out')
+    ⊎ (IsOfWriting end fault × FailsOneWrite word loaded loaded' out out')
 
 -- the uploads of the words were loaded, in their order, their rows were written, and their layout
 -- faults were reported
@@ -58,7 +58,7 @@ pub record DecodesEach (words : List (List ℕ)) (loaded loaded' : Option (List 
 
 -- The decoding stopped, of which this text is written: after these uploads were loaded a beginning
 -- of it was written, and all of it if the next upload was not loaded.
-pub record StopsWith (text_of : List Decoded → List ℕ) (words : List (List ℕ))
+pub record FailsWith (text_of : List Decoded → List ℕ) (words : List (List ℕ))
     (loaded : Option (List Loaded)) (refused : Option (Option (List ℕ) × LoadFault))
     (end : Option WriteEnd) (fault : Fault)
     (out out' said said' : Option (List ℕ)) (failed : Bool) : Type 0 where
@@ -75,15 +75,15 @@ pub record StopsWith (text_of : List Decoded → List ℕ) (words : List (List �
   pub lines : AreReported said said' failed (layout_lines reported)
 
 -- the decoding stopped in the rows of the uploads
-abbrev pub StopsEach : List (List ℕ) → Option (List Loaded)
+abbrev pub FailsEach : List (List ℕ) → Option (List Loaded)
     → Option (Option (List ℕ) × LoadFault) → Option WriteEnd → Fault → Option (List ℕ)
     → Option (List ℕ) → Option (List ℕ) → Option (List ℕ) → Bool → Type 0
-StopsEach words loaded refused end fault out out' said said' failed =
-    StopsWith rows_of words loaded refused end fault out out' said said' failed
+FailsEach words loaded refused end fault out out' said said' failed =
+    FailsWith rows_of words loaded refused end fault out out' said said' failed
 
 -- the decoding stopped in the tap table
-abbrev pub StopsDecode : List (List ℕ) → Option (List Loaded)
+abbrev pub FailsDecode : List (List ℕ) → Option (List Loaded)
     → Option (Option (List ℕ) × LoadFault) → Option WriteEnd → Fault → Option (List ℕ)
     → Option (List ℕ) → Option (List ℕ) → Option (List ℕ) → Bool → Type 0
-StopsDecode words loaded refused end fault out out' said said' failed =
-    StopsWith tap_table_of words loaded refused end fault out out' said said' failed
+FailsDecode words loaded refused end fault out out' said said' failed =
+    FailsWith tap_table_of words loaded refused end fault out out' said said' failed

@@ -14,8 +14,8 @@ use Rattle.tap_rows.specs.declared.agency.fault.AgencyFault.TheVariants as agenc
 use Rattle.tap_rows.specs.declared.agency.summary.Summary.{Summary}
 use Rattle.tap_rows.specs.declared.devices.fault.DevicesFault.{DevicesFault}
 use Rattle.tap_rows.specs.declared.devices.fault.DevicesFault.TheVariants as devices
-use Rattle.tool_tasks.specs.EncodeRows.{EncodesText, GivesUpText, IsColumnName, IsSummaryLine}
-use Rattle.tool_tasks.specs.EncodeRows.{StopsRows, rows_outcome}
+use Rattle.tool_tasks.specs.EncodeRows.{EncodesText, AbortsText, IsColumnName, IsSummaryLine}
+use Rattle.tool_tasks.specs.EncodeRows.{FailsRows, rows_outcome}
 use Rattle.tool_tasks.specs.Fault.{IsRefusal, failed_as}
 use Rattle.tool_tasks.specs.Sink.{Made}
 use Rattle.tool_tasks.specs.Source.{HasOpened}
@@ -86,21 +86,21 @@ pub record EncodesOnce (word : List ℕ) (choice : Choice) (loaded loaded' : Opt
   pub encoded : IsRowsEncoded choice text out out' old_refused new_refused summary
 
 -- the text was read once, and the encoding was broken off
-pub record BreaksOffOnce (words : RowsWords) (name word : List ℕ) (choice : Choice)
+pub record FailsOnceWrite (words : RowsWords) (name word : List ℕ) (choice : Choice)
     (loaded loaded' : Option (List Loaded)) (end refused_end : Option WriteEnd) (fault : Fault)
     (out out' : Option (List ℕ)) : Type 0 where
   pub text : List ℕ
   pub opened : HasOpened (word ∷ []) loaded loaded' (text ∷ [])
-  pub stops : StopsRows words (Some name) word choice text text end (refused_end ≢ None) fault out
+  pub stops : FailsRows words (Some name) word choice text text end (refused_end ≢ None) fault out
       out'
 
 -- the text was not opened, and nothing was written; or it was read, and the encoding was broken off
-abbrev pub StopsOnce : RowsWords → List ℕ → List ℕ → Choice → Option (List Loaded)
+abbrev pub FailsOnce : RowsWords → List ℕ → List ℕ → Choice → Option (List Loaded)
     → Option (List Loaded) → Option (Option (List ℕ) × LoadFault) → Option WriteEnd
     → Option WriteEnd → Fault → Option (List ℕ) → Option (List ℕ) → Type 0
-StopsOnce words name word choice loaded loaded' unread end refused_end fault out out' =
+FailsOnce words name word choice loaded loaded' unread end refused_end fault out out' =
     (IsRefusal unread (word ∷ []) fault × Keeps out out')
-    ⊎ BreaksOffOnce words name word choice loaded loaded' end refused_end fault out out'
+    ⊎ FailsOnceWrite words name word choice loaded loaded' end refused_end fault out out'
 
 -- Of a source that keeps what it opened: the text was encoded whole, and ended so.
 abbrev pub HasEncoded : Option (List ℕ) → List ℕ → Choice → Option (List Loaded)
@@ -119,20 +119,20 @@ HasEncodedAll word choice loaded loaded' out out' end = (kept : List Loaded)
     × EncodesText None word choice loaded loaded' made made out out' summary
 
 -- of a source that keeps what it opened: the encoding was given up
-abbrev pub HasGivenUp : RowsWords → Option (List ℕ) → List ℕ → Choice → Option (List Loaded)
+abbrev pub HasAborted : RowsWords → Option (List ℕ) → List ℕ → Choice → Option (List Loaded)
     → Option (List Loaded) → Option (Option (List ℕ) × LoadFault) → Option (List ℕ × NewFault)
     → Option (List ℕ) → Option WriteEnd → Fault → Option (List ℕ) → Option (List ℕ) → Type 0
-HasGivenUp words refused word choice loaded loaded' unread unbegun failed end fault out out' =
+HasAborted words refused word choice loaded loaded' unread unstarted failed end fault out out' =
     (kept : List Loaded) → loaded ≡ Some kept
-    → GivesUpText words refused word choice loaded loaded' unread unbegun failed end fault out out'
+    → AbortsText words refused word choice loaded loaded' unread unstarted failed end fault out out'
 
 -- the same of a text of which no row may be refused, so that no file is to be made
-abbrev pub HasGivenUpAll : RowsWords → List ℕ → Choice → Option (List Loaded)
+abbrev pub HasAbortedAll : RowsWords → List ℕ → Choice → Option (List Loaded)
     → Option (List Loaded) → Option (Option (List ℕ) × LoadFault) → Option WriteEnd → Fault
     → Option (List ℕ) → Option (List ℕ) → Type 0
-HasGivenUpAll words word choice loaded loaded' unread end fault out out' = (kept : List Loaded)
-    (unbegun : Option (List ℕ × NewFault)) (failed : Option (List ℕ)) → loaded ≡ Some kept
-    → GivesUpText words None word choice loaded loaded' unread unbegun failed end fault out out'
+HasAbortedAll words word choice loaded loaded' unread end fault out out' = (kept : List Loaded)
+    (unstarted : Option (List ℕ × NewFault)) (failed : Option (List ℕ)) → loaded ≡ Some kept
+    → AbortsText words None word choice loaded loaded' unread unstarted failed end fault out out'
 
 -- the second fault is the first one, of the file of this word
 abbrev pub IsNewFault : List ℕ → NewFault → Fault → Type 0

@@ -5,7 +5,7 @@ use crate::upload_tokens::tokens_text;
 use std::alloc::{AllocError, Global};
 use tap_views::{NoMemory, TapFields};
 use tool_words::LookWords;
-use upload_checks::{CommonTokens, Findings, Repeat, SilentDays};
+use upload_checks::{CommonTokens, Findings, InactiveDays, Repeat};
 
 /// Appends how many taps of a kind are found, with the first of them, or `-` if there is none.
 fn push_count(
@@ -33,7 +33,7 @@ fn push_repeated(text: &mut String, repeats: &[Repeat]) -> Result<(), AllocError
     }
 }
 
-fn push_silent(text: &mut String, silent: &SilentDays) -> Result<(), AllocError> {
+fn push_inactive(text: &mut String, silent: &InactiveDays) -> Result<(), AllocError> {
     let number = silent.number;
     write!(text, "silent {number} first ")?;
     match silent.runs.first() {
@@ -61,17 +61,17 @@ pub(crate) fn counts_of(
     words: &LookWords<'_>,
     uploads: &[Vec<u8>],
     found: &Findings,
-    silent: &Option<SilentDays>,
+    silent: &Option<InactiveDays>,
 ) -> Result<String, NoMemory> {
     let mut text = String::new(alloc);
     if words.has_tokens {
         push_tokens(&mut text, alloc, uploads)?;
     }
-    let double = match found.doubles.first() {
+    let double = match found.duplicates.first() {
         Some(double) => Some(&double.tap),
         None => None,
     };
-    push_count(&mut text, "doubles", found.doubles.len(), double)?;
+    push_count(&mut text, "doubles", found.duplicates.len(), double)?;
     if words.first.is_some() {
         let taps = found.before.as_slice();
         push_count(&mut text, "before", taps.len(), taps.first())?;
@@ -82,7 +82,7 @@ pub(crate) fn counts_of(
     }
     push_repeated(&mut text, &found.repeated)?;
     if let Some(silent) = silent {
-        push_silent(&mut text, silent)?;
+        push_inactive(&mut text, silent)?;
     }
     Ok(text)
 }

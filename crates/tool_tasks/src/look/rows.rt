@@ -9,7 +9,7 @@ use program_manners::Output;
 use std::alloc::{AllocError, Global};
 use std::io::Write;
 use tap_views::TapFields;
-use upload_checks::{Findings, Repeat, SilentDays, SilentRun};
+use upload_checks::{Findings, InactiveDays, InactiveRun, Repeat};
 
 /// The names of the fields.
 const HEAD_LINE: &str = "check,token,moment,validator,earlier,day,upload,first,last\n";
@@ -67,7 +67,7 @@ fn repeat_row(alloc: Global, names: &[&str], repeat: &Repeat) -> Result<String, 
     Ok(text)
 }
 
-fn silent_row(alloc: Global, run: &SilentRun) -> Result<String, AllocError> {
+fn inactive_row(alloc: Global, run: &InactiveRun) -> Result<String, AllocError> {
     let (first, last) = (run.first, run.last);
     let mut text = format!(in alloc; "silent,,,{first},,")?;
     push_day(&mut text, run.day)?;
@@ -80,11 +80,11 @@ pub(crate) fn write_table<'a, W: Write>(
     alloc: Global,
     names: &[&str],
     found: &Findings,
-    silent: &Option<SilentDays>,
+    silent: &Option<InactiveDays>,
     out: &mut Output<W>,
 ) -> Result<(), Fault<'a>> {
     write_text(HEAD_LINE, out)?;
-    for double in &found.doubles {
+    for double in &found.duplicates {
         let earlier = Some(double.earlier);
         write_text(&tap_row(alloc, "double", &double.tap, earlier)?, out)?;
     }
@@ -99,7 +99,7 @@ pub(crate) fn write_table<'a, W: Write>(
     }
     if let Some(silent) = silent {
         for run in &silent.runs {
-            write_text(&silent_row(alloc, run)?, out)?;
+            write_text(&inactive_row(alloc, run)?, out)?;
         }
     }
     Ok(())

@@ -4,7 +4,7 @@ use crate::fault::Fault;
 use crate::names::Escaped;
 use crate::table::say_lines;
 use fare_table::{FareTable, FollowFault, TableFault};
-use program_manners::{Complaints, FollowLine, NextFault, TableWord, table_behind};
+use program_manners::{Complaints, FollowLine, NextFault, TableWord, table_after};
 use std::alloc::{AllocError, Global};
 use std::io::Write;
 use table_report::TableText;
@@ -46,7 +46,7 @@ fn table_next<'a, E: Write>(
     let Some(date) = TableWord::of(later.word).date else {
         unreachable!();
     };
-    match table_behind(alloc, fares, date, text) {
+    match table_after(alloc, fares, date, text) {
         Ok(all) => Ok(Some(all)),
         Err(fault) => {
             say_next(alloc, later.word, fault, err)?;
@@ -79,8 +79,8 @@ pub(crate) fn joined<'a, E: Write>(
 pub(crate) fn spans_of(alloc: Global, fares: &FareTable) -> Result<Vec<MomentSpan>, AllocError> {
     let mut spans = Vec::new(alloc);
     let mut first = 0;
-    for place in 0..fares.later_len() {
-        let (from, _) = fares.later(place);
+    for position in 0..fares.later_len() {
+        let (from, _) = fares.later(position);
         let last = from.saturating_sub(1);
         spans.push(MomentSpan { first, last })?;
         first = from;

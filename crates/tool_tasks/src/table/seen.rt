@@ -14,12 +14,12 @@ pub(crate) struct SeenUploads {
     /// At the moments of each table; none if there are no uploads.
     seen: Vec<SeenValidators>,
     /// Whether none has a layout fault.
-    pub(crate) is_well: bool,
+    pub(crate) succeeded: bool,
 }
 
 impl SeenUploads {
-    pub(crate) fn at(&self, place: usize) -> Option<&SeenValidators> {
-        self.seen.get(place)
+    pub(crate) fn at(&self, position: usize) -> Option<&SeenValidators> {
+        self.seen.get(position)
     }
 }
 
@@ -33,16 +33,16 @@ fn add_each<'a, S: Source, E: Write>(
     source: &mut S,
     err: &mut Complaints<E>,
 ) -> Result<bool, Fault<'a>> {
-    let mut is_well = true;
+    let mut succeeded = true;
     for (number, word) in words.iter().enumerate() {
         source.show_count(number, words.len(), "uploads");
         let upload = load_upload(alloc, source, word)?;
         for (seen, span) in seen.iter_mut().zip(spans.iter()) {
             seen.add(&upload, *span)?;
         }
-        is_well &= report_layout(word, facts_of(&upload).fault, source, err);
+        succeeded &= report_layout(word, facts_of(&upload).fault, source, err);
     }
-    Ok(is_well)
+    Ok(succeeded)
 }
 
 pub(crate) fn seen_in<'a, S: Source, E: Write>(
@@ -54,14 +54,14 @@ pub(crate) fn seen_in<'a, S: Source, E: Write>(
 ) -> Result<SeenUploads, Fault<'a>> {
     let mut seen = Vec::new(alloc);
     if words.is_empty() {
-        let is_well = true;
-        return Ok(SeenUploads { seen, is_well });
+        let succeeded = true;
+        return Ok(SeenUploads { seen, succeeded });
     }
     for _span in spans {
         seen.push(SeenValidators::new(alloc))?;
     }
     let added = add_each(alloc, words, spans, &mut seen, source, err);
     source.end_count();
-    let is_well = added?;
-    Ok(SeenUploads { seen, is_well })
+    let succeeded = added?;
+    Ok(SeenUploads { seen, succeeded })
 }

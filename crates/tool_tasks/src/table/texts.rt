@@ -50,12 +50,16 @@ pub(crate) fn read_texts<'a, 't, E: Write>(
     err: &mut Complaints<E>,
 ) -> Result<Option<Vec<TableText<'t>>>, Fault<'a>> {
     let mut tables = Vec::new(alloc);
-    let mut is_well = true;
+    let mut succeeded = true;
     for (word, text) in words.iter().zip(texts.iter()) {
         match read_text(alloc, word, text, err)? {
             Some(table) => tables.push(table)?,
-            None => is_well = false,
+            None => succeeded = false,
         }
     }
-    if is_well { Ok(Some(tables)) } else { Ok(None) }
+    if succeeded {
+        Ok(Some(tables))
+    } else {
+        Ok(None)
+    }
 }

@@ -3,4 +3,4 @@ use Rattle.account_rule.proofs.PriceLemmas.{higher-cost}
 use Rattle.account_rule.proofs.laws.higher_terms_are_never_cheaper.Goals as goal
 
 pub returns : goal.returns
-returns c = λ rules higher taps rise. higher-cost rules higher taps rise
+returns c = λ rules higher taps increase. higher-cost rules higher taps increase

@@ -4,5 +4,5 @@ use Rattle.account_rule.proofs.laws.windows_grow_within_limits.Goals as goal
 
 pub returns : goal.returns
 returns c =
-    λ rules taps place window _ before after ride _.
+    λ rules taps position window _ before after ride _.
     (paid-grow rules.terms before ride, cents-grow rules.terms before ride)

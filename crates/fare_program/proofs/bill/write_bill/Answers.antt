@@ -14,7 +14,7 @@ returns-clause-ok g c =
     let (files, read, ended, billed) = c.in_ok-made.ensures in
     let ends = c.in_ok-made.made.ends.items in
     IfOk-weaker c.write_billed.result _ _
-    (λ well made. (
+    (λ success made. (
       files,
       report_over ends billed.0,
       read,
@@ -24,18 +24,18 @@ returns-clause-ok g c =
         shows = record { ends = ends; of_uploads = ended; shown = refl };
         ends = ends;
         ended = ended;
-        is_well = made.0;
+        succeeded = made.0;
       },
       made.1 billed.0 billed.2,
     ))
     c.write_billed.ensures.ok
 
-pub returns-clause-begun : goal.returns-clause-begun
-returns-clause-begun g c =
+pub returns-clause-started : goal.returns-clause-started
+returns-clause-started g c =
     let (files, read, ended, billed) = c.in_ok-made.ensures in
     let ends = c.in_ok-made.made.ends.items in
     IfErr-weaker c.write_billed.result _ _
-    (λ fault begun write. (
+    (λ fault started write. (
       are_posted ends,
       files,
       report_over ends billed.0,
@@ -46,8 +46,8 @@ returns-clause-begun g c =
         shows = record { ends = ends; of_uploads = ended; shown = refl };
         ends = ends;
         ended = ended;
-        is_well = refl;
+        succeeded = refl;
       },
-      begun write billed.0 billed.2,
+      started write billed.0 billed.2,
     ))
-    c.write_billed.ensures.begun
+    c.write_billed.ensures.started

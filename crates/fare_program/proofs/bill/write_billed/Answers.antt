@@ -44,8 +44,8 @@ returns-clause-ok g c = (
 )
 
 -- what a write that failed left
-pub returns-in_err-write_report-clause-begun : goal.returns-in_err-write_report-clause-begun
-returns-in_err-write_report-clause-begun g c =
+pub returns-in_err-write_report-clause-started : goal.returns-in_err-write_report-clause-started
+returns-in_err-write_report-clause-started g c =
     let p = err_from_is_err_and c.from_residual-in_err-write_report.result
     c.from_residual-in_err-write_report.ensures.1 in
     rw p.1 (λ write history is.
@@ -59,4 +59,4 @@ returns-in_err-write_report-clause-begun g c =
     ≡ report_over c.args.made.ends.items history =
     λ i. report (c.deref.ensures.value i) (one i) (two i) (is.tokens i) in
     subst (Begins (g.W.Write.contents c.args.out.now) (g.W.Write.contents c.write_report.new.out))
-    same (c.in_err-write_report.ensures.begun (of_write _ (sym p.2 ∙ write))))
+    same (c.in_err-write_report.ensures.started (of_write _ (sym p.2 ∙ write))))

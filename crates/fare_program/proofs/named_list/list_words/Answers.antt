@@ -3,13 +3,13 @@ use Rattle.std.specs.Prelude.{IfOk, option_map}
 use Rattle.std.proofs.lemmas.Result.{IfErr-weaker}
 use Rattle.clap.specs.Words.{Row}
 use Rattle.program_manners.proofs.Refusals.{only_memory}
-use Rattle.program_manners.specs.ListWords.{lacks_list, list_asked, view_of}
+use Rattle.program_manners.specs.ListWords.{lacks_list, list_request, view_of}
 use Rattle.fare_program.proofs.named_list.list_words.Goals as goal
 
 pub returns-in-Ok-clause-list : goal.returns-in-Ok-clause-list
 returns-in-Ok-clause-list c = λ parses.
     subst (λ (rows : List Row). IfOk c.of.result
-    (λ list. option_map view_of list ≡ list_asked rows)) c.in-Ok.ensures.rows c.of.ensures.list
+    (λ list. option_map view_of list ≡ list_request rows)) c.in-Ok.ensures.rows c.of.ensures.list
 
 pub returns-in-Ok-clause-right : goal.returns-in-Ok-clause-right
 returns-in-Ok-clause-right c = λ parses.

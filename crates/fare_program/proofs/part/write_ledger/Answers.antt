@@ -3,7 +3,7 @@ use Rattle.std.specs.Io.KnownBytes.{Appends}
 use Rattle.std.proofs.KnownBytes.{Appends-trans}
 use Rattle.sorted_bills.specs.Parts.{IsPartOf}
 use Rattle.part_texts.specs.Heads.{part_head}
-use Rattle.sorted_taps.specs.declared.places.FileSpan.{FileSpan}
+use Rattle.sorted_taps.specs.declared.positions.FileSpan.{FileSpan}
 use Rattle.fare_program.proofs.part.write_ledger.Goals as goal
 
 pub returns-in-Ok-write_part_ledger-clause-ok : goal.returns-in-Ok-write_part_ledger-clause-ok

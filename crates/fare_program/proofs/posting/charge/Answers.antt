@@ -4,13 +4,13 @@ use Rattle.std.proofs.lemmas.List.{length-map}
 use Rattle.std.proofs.lemmas.Result.{IfErr-weaker, IfOk-weaker}
 use Rattle.world.specs.Origins.{memory}
 use Rattle.world.specs.Run.{Run}
-use Rattle.fare_program.specs.inside.Options.{asked_of}
-use Rattle.fare_program.specs.Program.{ShowsAsked}
+use Rattle.fare_program.specs.inside.Options.{request_of}
+use Rattle.fare_program.specs.Program.{ShowsRequest}
 use Rattle.fare_program.specs.Settling.{ShowsSettled}
-use Rattle.fare_service.proofs.LentFiles.{known_files}
+use Rattle.fare_service.proofs.UploadFileSource.{known_files}
 use Rattle.settlement.specs.Reading.{AreRead}
 use Rattle.settlement.proofs.LoadedFiles.{loaded_files}
-use Rattle.fare_program.proofs.PostedTexts.{settled_asked}
+use Rattle.fare_program.proofs.PostedTexts.{settled_request}
 use Rattle.fare_program.proofs.posting.charge.Goals as goal
 
 abbrev bytes_in : Vec ℕ Global → List ℕ
@@ -27,31 +27,31 @@ read_files all files old new read =
 
 pub returns-clause-ok : goal.returns-clause-ok
 returns-clause-ok g c =
-    let asked = asked_of c.args.options.now in
+    let request = request_of c.args.options.now in
     let fares = c.args.table in
-    IfOk-weaker c.charge_lent.result _ _
-    (λ well is. (
+    IfOk-weaker c.charge_provided.result _ _
+    (λ success is. (
       is.1,
       is.2,
-      subst (λ fs. ShowsAsked asked fares fs is.1 c.args.token is.2 well)
-          (known_files bytes_in c.as_slice.result.now is.0 is.3.lent
+      subst (λ fs. ShowsRequest request fares fs is.1 c.args.token is.2 success)
+          (known_files bytes_in c.as_slice.result.now is.0 is.3.provided
           ∙ ap (map bytes_in) c.as_slice.ensures.value) is.4,
       is.5,
     ))
-    c.charge_lent.ensures.ok
+    c.charge_provided.ensures.ok
 
 pub returns-then-options-clause-ok : goal.returns-then-options-clause-ok
 returns-then-options-clause-ok g c =
-    let asked = asked_of c.args.options.now in
+    let request = request_of c.args.options.now in
     let fares = c.args.table in
     let all = map bytes_in c.deref.result.now in
     IfOk-weaker c.charge_settled.result _ _
-    (λ well is. (
+    (λ success is. (
       [],
       is.1,
-      settled_asked asked fares (map bytes_in c.args.files.items) [] c.args.token is.1 well
+      settled_request request fares (map bytes_in c.args.files.items) [] c.args.token is.1 success
           c.if-options.true
-          (subst (λ fs. ShowsSettled asked fares fs c.args.token is.1 well)
+          (subst (λ fs. ShowsSettled request fares fs c.args.token is.1 success)
           (read_files c.deref.result.now is.0 _ _ is.2 ∙ ap (map bytes_in) c.deref.ensures.value)
           is.3),
       is.4,
@@ -59,38 +59,38 @@ returns-then-options-clause-ok g c =
     c.charge_settled.ensures.ok
 
 -- ---- what a write that failed left
-pub returns-clause-begun : goal.returns-clause-begun
-returns-clause-begun g c =
-    let asked = asked_of c.args.options.now in
+pub returns-clause-started : goal.returns-clause-started
+returns-clause-started g c =
+    let request = request_of c.args.options.now in
     let fares = c.args.table in
-    IfErr-weaker c.charge_lent.result _ _
-    (λ fault begun write.
-    let is = begun write in (
+    IfErr-weaker c.charge_provided.result _ _
+    (λ fault started write.
+    let is = started write in (
       is.0,
       is.2,
       is.3,
-      subst (λ fs. ShowsAsked asked fares fs is.2 c.args.token is.3 is.0)
-          (known_files bytes_in c.as_slice.result.now is.1 is.4.lent
+      subst (λ fs. ShowsRequest request fares fs is.2 c.args.token is.3 is.0)
+          (known_files bytes_in c.as_slice.result.now is.1 is.4.provided
           ∙ ap (map bytes_in) c.as_slice.ensures.value) is.5,
       is.6,
     ))
-    c.charge_lent.ensures.begun
+    c.charge_provided.ensures.started
 
-pub returns-then-options-clause-begun : goal.returns-then-options-clause-begun
-returns-then-options-clause-begun g c =
-    let asked = asked_of c.args.options.now in
+pub returns-then-options-clause-started : goal.returns-then-options-clause-started
+returns-then-options-clause-started g c =
+    let request = request_of c.args.options.now in
     let fares = c.args.table in
     IfErr-weaker c.charge_settled.result _ _
-    (λ fault begun write.
-    let is = begun write in (
+    (λ fault started write.
+    let is = started write in (
       is.0,
       [],
       is.2,
-      settled_asked asked fares (map bytes_in c.args.files.items) [] c.args.token is.2 is.0
+      settled_request request fares (map bytes_in c.args.files.items) [] c.args.token is.2 is.0
           c.if-options.true
-          (subst (λ fs. ShowsSettled asked fares fs c.args.token is.2 is.0)
+          (subst (λ fs. ShowsSettled request fares fs c.args.token is.2 is.0)
           (read_files c.deref.result.now is.1 _ _ is.3 ∙ ap (map bytes_in) c.deref.ensures.value)
           is.4),
       is.5,
     ))
-    c.charge_settled.ensures.begun
+    c.charge_settled.ensures.started

@@ -8,7 +8,7 @@ use Rattle.program_manners.proofs.Refusals.{is_one_at}
 use Rattle.fare_program.proofs.Causes.{named_one, none_named}
 use Rattle.tap_views.proofs.Choices.{IfErr_handed_on}
 use Rattle.fare_program.specs.Causes.{IsRightFault}
-use Rattle.fare_program.specs.Options.{Asked}
+use Rattle.fare_program.specs.Options.{Request}
 use Rattle.fare_program.proofs.program.load_files.Goals as goal
 
 pub loop-name-preserved : goal.loop-name-preserved
@@ -39,21 +39,21 @@ pub returns-in_err-bytes-clause-right : goal.returns-in_err-bytes-clause-right
 returns-in_err-bytes-clause-right g c =
     let none : c.is_empty.result ≡ nat_eq (length c.args.names.now) 0 = c.is_empty.ensures in
     IfErr_handed_on c.from_residual.result c.in_err-bytes.field-0.0
-    (λ f. (asked : Asked) (under : List ℕ → Option (List ℕ)) (loaded after : Option (List Loaded))
-    → asked.files ≡ map (λ n. n.now) c.args.names.now
-    → IsRightFault asked under loaded after _ f)
+    (λ f. (request : Request) (under : List ℕ → Option (List ℕ)) (loaded after : Option (List Loaded))
+    → request.files ≡ map (λ n. n.now) c.args.names.now
+    → IsRightFault request under loaded after _ f)
     c.from_residual.ensures.1
-    (λ asked under loaded after are. c.in_err-bytes.ensures.right asked under loaded after
+    (λ request under loaded after are. c.in_err-bytes.ensures.right request under loaded after
     (are ∙ none_named c.args.names.now (sym none ∙ c.if-is_empty.true)))
 
 pub returns-in_err-bytes-2-clause-right : goal.returns-in_err-bytes-2-clause-right
 returns-in_err-bytes-2-clause-right g c =
     let no_name : Bor (List ℕ) = record { ref_ptr = (0, 0); now = [] } in
     IfErr_handed_on c.from_residual-in_err-bytes-2.result c.in_err-bytes-2.field-0.0
-    (λ f. (asked : Asked) (under : List ℕ → Option (List ℕ)) (loaded after : Option (List Loaded))
-    → asked.files ≡ map (λ n. n.now) c.args.names.now
-    → IsRightFault asked under loaded after _ f)
+    (λ f. (request : Request) (under : List ℕ → Option (List ℕ)) (loaded after : Option (List Loaded))
+    → request.files ≡ map (λ n. n.now) c.args.names.now
+    → IsRightFault request under loaded after _ f)
     c.from_residual-in_err-bytes-2.ensures.1
-    (λ asked under loaded after are. c.in_err-bytes-2.ensures.right asked under loaded after
-    (named_one asked _ _ are
+    (λ request under loaded after are. c.in_err-bytes-2.ensures.right request under loaded after
+    (named_one request _ _ are
     (is_one_at c.args.names.now c.loop-name.name-index no_name _ c.loop-name-test.true refl)))

@@ -4,7 +4,7 @@ use Rattle.program_manners.specs.TableViews.{names_of}
 use Rattle.tap_views.proofs.Choices.{IfErr_handed_on}
 use Rattle.fare_program.specs.Causes.{IsRightFault}
 use Rattle.fare_program.specs.Fault.{status_of}
-use Rattle.fare_program.specs.Options.{Asked}
+use Rattle.fare_program.specs.Options.{Request}
 use Rattle.fare_program.specs.declared.fault.Fault.TheVariants.{Write}
 use Rattle.fare_program.specs.inside.Fault.{unloaded_as}
 use Rattle.fare_program.proofs.TableCauses.{unloaded_is_right, unloaded_status, unloaded_unwritten}
@@ -14,10 +14,10 @@ pub returns-in_err-tables-clause-right : goal.returns-in_err-tables-clause-right
 returns-in_err-tables-clause-right g c =
     let fault = c.in_err-tables.field-0.0 in
     IfErr_handed_on c.from_residual.result (unloaded_as fault)
-    (λ f. (asked : Asked) (under : List ℕ → Option (List ℕ))
-    → asked.table ≡ option_map names_of c.args.words.now → IsRightFault asked under _ _ _ f)
+    (λ f. (request : Request) (under : List ℕ → Option (List ℕ))
+    → request.table ≡ option_map names_of c.args.words.now → IsRightFault request under _ _ _ f)
     c.from_residual.ensures.1
-    (λ asked under is. unloaded_is_right asked under _ _ _ (names_of c.in-Some.words)
+    (λ request under is. unloaded_is_right request under _ _ _ (names_of c.in-Some.words)
     (is ∙ ap (option_map names_of) c.in-Some.is) fault c.in_err-tables.ensures.right)
 
 pub returns-in_err-tables-clause-unwritten : goal.returns-in_err-tables-clause-unwritten

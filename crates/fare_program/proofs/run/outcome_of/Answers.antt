@@ -35,4 +35,4 @@ of_run-requires-clause-claims g c =
 
 pub returns-in-Err-run-clause-fault : goal.returns-in-Err-run-clause-fault
 returns-in-Err-run-clause-fault g c =
-    c.of_run.ensures (length (g.U.LentUploads.origins c.args.uploads))
+    c.of_run.ensures (length (g.U.UploadSource.origins c.args.uploads))

@@ -5,10 +5,10 @@ returns-clause-live g c =
     let run = c.in_ok-outcome.ensures.run in (
       run.files,
       record {
-        lent = run.lent;
+        provided = run.provided;
         run = run.run;
         loaded = run.loaded;
-        plain = λ asked token text posted shows.
-            c.shows_plain.ensures run.files _ _ _ asked token text run.run posted shows;
+        plain = λ request token text posted shows.
+            c.shows_plain.ensures run.files _ _ _ request token text run.run posted shows;
       },
     )

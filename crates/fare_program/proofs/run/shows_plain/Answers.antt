@@ -15,7 +15,7 @@ use Rattle.shard_book.specs.Book.{Book}
 use Rattle.fare_service.proofs.GatheredWork.{Given}
 use Rattle.fare_service.proofs.PlainSums.{own_all, same_report}
 use Rattle.fare_service.proofs.PlainUploads.{same_statement}
-use Rattle.tap_views.specs.Files.{HasOneReading}
+use Rattle.tap_views.specs.Files.{HasUniqueParse}
 use Rattle.tap_views.proofs.Reading.{one_list_of_batches}
 use Rattle.fare_service.specs.Explained.{IsExplainedOf}
 use Rattle.fare_texts.specs.Explained.{IsExplainedOver}
@@ -62,7 +62,7 @@ shown explain files outcome fares history (Some token) text report explained sta
     stated explain outcome fares history token text (explained token) (statement token) shows
 
 -- the ledger, or what is shown without it
-asked_for : (ledger : Bool) (explain : Bool) (files : List (List ℕ)) (outcome : OutcomeView)
+requested_of : (ledger : Bool) (explain : Bool) (files : List (List ℕ)) (outcome : OutcomeView)
     (fares : Fares) (history : List Entry) (token : Option Token) (text : List ℕ)
     → (IsLedgerOfBooks outcome.books token text → IsLedgerOver fares history token text)
     → (ShowsWith explain token outcome.ends outcome text
@@ -71,17 +71,17 @@ asked_for : (ledger : Bool) (explain : Bool) (files : List (List ℕ)) (outcome 
     (ShowsWith explain token outcome.ends outcome text)
     → MatchBool ledger (IsLedgerOver fares history token text)
     (IsTextOver explain token fares files history text)
-asked_for true explain files outcome fares history token text ledger other shows = ledger shows
-asked_for false explain files outcome fares history token text ledger other shows = other shows
+requested_of true explain files outcome fares history token text ledger other shows = ledger shows
+requested_of false explain files outcome fares history token text ledger other shows = other shows
 
 -- any bytes are read in one way at most
-read_once : (files : List (List ℕ)) → All HasOneReading files
-read_once [] = All-nil HasOneReading
+read_once : (files : List (List ℕ)) → All HasUniqueParse files
+read_once [] = All-nil HasUniqueParse
 read_once (file ∷ files) =
-    All-cons HasOneReading file files (one_list_of_batches file) (read_once files)
+    All-cons HasUniqueParse file files (one_list_of_batches file) (read_once files)
 
 pub returns : goal.returns
-returns c = λ files fares shards workers asked token text run posted shows history is apart.
+returns c = λ files fares shards workers request token text run posted shows history is apart.
     let outcome = c.args.outcome.now in
     let whole : IsUncutGathering fares shards files outcome history = record {
       works = run.0;
@@ -99,10 +99,10 @@ returns c = λ files fares shards workers asked token text run posted shows hist
     let same = own_all given outcome history some named here once whole in
     let table = λ (book : Book) (there : slice_get outcome.books 0 ≡ Some book).
     (whole.headline.books 0 book there).0 in
-    asked_for asked.ledger asked.explain files outcome fares history token text
+    requested_of request.ledger request.explain files outcome fares history token text
     (ledger_same fares outcome history token text same table)
-    (shown asked.explain files outcome fares history token text
-    (same_report given outcome history some named here once whole c.one_rising_list.ensures.numbers
-    c.one_rising_list.ensures.tokens)
+    (shown request.explain files outcome fares history token text
+    (same_report given outcome history some named here once whole c.one_increasing_list.ensures.numbers
+    c.one_increasing_list.ensures.tokens)
     (λ t. explained_same fares outcome history t text (same t) table)
     (λ t. (same_statement given outcome history some named once whole t text).0)) shows

@@ -55,22 +55,22 @@ returns-clause-ok g c =
       files,
       text,
       read,
-      λ asked ledger. record {
+      λ request ledger. record {
         history = history;
         is_settled = c.posted_taps.ensures.history fares files order made;
         shows = subst (λ (b : Bool). MatchBool b (IsLedgerOver fares history None text)
-            (IsTextOver asked.explain None fares files history text)) (sym ledger) is;
+            (IsTextOver request.explain None fares files history text)) (sym ledger) is;
         ends = c.in_ok-ends.field-0.ends.items;
         ended = ended;
-        is_well = c.are_posted.ensures ∙ ap are_posted c.deref-2.ensures.value;
+        succeeded = c.are_posted.ensures ∙ ap are_posted c.deref-2.ensures.value;
       },
       written.2,
     )
 
 -- what a write that failed left
-pub returns-in_err-write_settled_ledger-clause-begun :
-    goal.returns-in_err-write_settled_ledger-clause-begun
-returns-in_err-write_settled_ledger-clause-begun g c =
+pub returns-in_err-write_settled_ledger-clause-started :
+    goal.returns-in_err-write_settled_ledger-clause-started
+returns-in_err-write_settled_ledger-clause-started g c =
     let fares = c.args.table.now in
     let (files, read, ended, made) = c.in_ok-ends.ensures in
     let order = joined c.in_ok-ends.field-0.lists.items in
@@ -78,7 +78,7 @@ returns-in_err-write_settled_ledger-clause-begun g c =
     let p = err_from_is_err_and c.from_residual-in_err-write_settled_ledger.result
     c.from_residual-in_err-write_settled_ledger.ensures.1 in
     rw p.1 (λ write.
-    let written = c.in_err-write_settled_ledger.ensures.begun (of_write _ (sym p.2 ∙ write)) in
+    let written = c.in_err-write_settled_ledger.ensures.started (of_write _ (sym p.2 ∙ write)) in
     let text = written.0 in
     let is : IsLedgerOver fares history None text =
     subst (λ (ls : List (Vec TapFields Global)). IsLedgerOver fares (posted fares (joined ls)) None
@@ -88,14 +88,14 @@ returns-in_err-write_settled_ledger-clause-begun g c =
       files,
       text,
       read,
-      λ asked ledger. record {
+      λ request ledger. record {
         history = history;
         is_settled = c.posted_taps.ensures.history fares files order made;
         shows = subst (λ (b : Bool). MatchBool b (IsLedgerOver fares history None text)
-            (IsTextOver asked.explain None fares files history text)) (sym ledger) is;
+            (IsTextOver request.explain None fares files history text)) (sym ledger) is;
         ends = c.in_ok-ends.field-0.ends.items;
         ended = ended;
-        is_well = refl;
+        succeeded = refl;
       },
       written.2,
     ))

@@ -22,14 +22,14 @@ returns-clause-ok g c =
         shows = written.1 files history (own_is ∙ ap (posted fares) (sym c.deref-2.ensures.value));
         ends = c.in_ok-ends.field-0.ends.items;
         ended = ended;
-        is_well = c.are_posted.ensures ∙ ap are_posted c.deref-3.ensures.value;
+        succeeded = c.are_posted.ensures ∙ ap are_posted c.deref-3.ensures.value;
       },
       written.2,
     )
 
 -- what a write that failed left
-pub returns-in_err-write_text-clause-begun : goal.returns-in_err-write_text-clause-begun
-returns-in_err-write_text-clause-begun g c =
+pub returns-in_err-write_text-clause-started : goal.returns-in_err-write_text-clause-started
+returns-in_err-write_text-clause-started g c =
     let fares = c.args.table.now in
     let token = c.args.token in
     let (files, read, ended, made) = c.in_ok-ends.ensures.order in
@@ -39,7 +39,7 @@ returns-in_err-write_text-clause-begun g c =
     let p = err_from_is_err_and c.from_residual-in_err-write_text.result
     c.from_residual-in_err-write_text.ensures.1 in
     rw p.1 (λ write.
-    let written = c.in_err-write_text.ensures.begun (sym p.2 ∙ write) in (
+    let written = c.in_err-write_text.ensures.started (sym p.2 ∙ write) in (
       are_posted c.in_ok-ends.field-0.ends.items,
       files,
       written.0,
@@ -50,7 +50,7 @@ returns-in_err-write_text-clause-begun g c =
         shows = written.1 files history (own_is ∙ ap (posted fares) (sym c.deref-2.ensures.value));
         ends = c.in_ok-ends.field-0.ends.items;
         ended = ended;
-        is_well = refl;
+        succeeded = refl;
       },
       written.2,
     ))

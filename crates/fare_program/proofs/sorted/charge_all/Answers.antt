@@ -14,14 +14,14 @@ returns-clause-ok g c =
     c.write_report.ensures.ok
 
 -- ---- what a write that failed left
-pub returns-then-options-clause-begun : goal.returns-then-options-clause-begun
-returns-then-options-clause-begun g c =
+pub returns-then-options-clause-started : goal.returns-then-options-clause-started
+returns-then-options-clause-started g c =
     IfErr-weaker c.write_ledger.result _ _
-    (λ fault begun write bytes. begun write c.if-options.true (bytes c.if-options.true))
-    c.write_ledger.ensures.begun
+    (λ fault started write bytes. started write c.if-options.true (bytes c.if-options.true))
+    c.write_ledger.ensures.started
 
-pub returns-clause-begun : goal.returns-clause-begun
-returns-clause-begun g c =
+pub returns-clause-started : goal.returns-clause-started
+returns-clause-started g c =
     IfErr-weaker c.write_report.result _ _
-    (λ fault begun write bytes. begun write (λ ledger.
-    false≢true (sym c.if-options.false ∙ ledger))) c.write_report.ensures.begun
+    (λ fault started write bytes. started write (λ ledger.
+    false≢true (sym c.if-options.false ∙ ledger))) c.write_report.ensures.started

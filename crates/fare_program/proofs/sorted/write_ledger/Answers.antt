@@ -3,12 +3,12 @@ use Rattle.std.specs.Prelude.{MatchBool}
 use Rattle.std.proofs.KnownBytes.{Keeps-refl}
 use Rattle.fare_texts.specs.Ledger.{IsLedgerOver}
 use Rattle.fare_program.specs.Settling.{IsTextOver}
-use Rattle.fare_program.specs.inside.Options.{asked_of}
+use Rattle.fare_program.specs.inside.Options.{request_of}
 use Rattle.fare_program.proofs.sorted.write_ledger.Goals as goal
 
 pub returns-in-Ok-clause-ok : goal.returns-in-Ok-clause-ok
 returns-in-Ok-clause-ok g c = λ ledger.
-    let asked = asked_of c.args.options.now in
+    let request = request_of c.args.options.now in
     let fares = c.args.table.now in
     let (text, is, written) = c.in-Ok.ensures.ok in
     record {
@@ -19,10 +19,10 @@ returns-in-Ok-clause-ok g c = λ ledger.
             history = made.history;
             is_settled = made.is_settled;
             shows = subst (λ (b : Bool). MatchBool b (IsLedgerOver fares made.history None text)
-                (IsTextOver asked.explain None fares all made.history text)) (sym ledger) made.over;
+                (IsTextOver request.explain None fares all made.history text)) (sym ledger) made.over;
             ends = c.in-Ok._ends.items;
             ended = c.in-Ok.ensures.ended all are;
-            is_well = sym c.in-Ok.ensures.posted;
+            succeeded = sym c.in-Ok.ensures.posted;
           };
       written = written;
     }
@@ -33,25 +33,25 @@ returns-in-Err-clause-fault g c = λ write late.
     rw same (Keeps-refl _)
 
 -- ---- what a write that failed left
-pub returns-in-Err-clause-begun : goal.returns-in-Err-clause-begun
-returns-in-Err-clause-begun g c = λ write ledger bytes.
-    let asked = asked_of c.args.options.now in
+pub returns-in-Err-clause-started : goal.returns-in-Err-clause-started
+returns-in-Err-clause-started g c = λ write ledger bytes.
+    let request = request_of c.args.options.now in
     let fares = c.args.table.now in
     let unwritten = c.of_bill.ensures.write write in
-    let (text, is, begun) = c.in-Err.ensures.begun unwritten in
+    let (text, is, started) = c.in-Err.ensures.started unwritten in
     record {
       text = text;
       shows = λ all are.
           let made = is all are (bytes all are) in
-          let (ends, plain, well) = c.in-Err.ensures.sorted unwritten all are in
+          let (ends, plain, success) = c.in-Err.ensures.sorted unwritten all are in
           record {
             history = made.history;
             is_settled = made.is_settled;
             shows = subst (λ (b : Bool). MatchBool b (IsLedgerOver fares made.history None text)
-                (IsTextOver asked.explain None fares all made.history text)) (sym ledger) made.over;
+                (IsTextOver request.explain None fares all made.history text)) (sym ledger) made.over;
             ends = ends;
             ended = plain;
-            is_well = sym well;
+            succeeded = sym success;
           };
-      begun = begun;
+      started = started;
     }

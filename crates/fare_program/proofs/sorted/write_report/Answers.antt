@@ -1,6 +1,6 @@
 use Rattle.std.proofs.Common.{◌≡◌, ◌∙◌, Bool, None, false, refl, sym, true}
 use Rattle.std.proofs.lemmas.Result.{err_from_is_err_and}
-use Rattle.fare_program.specs.inside.Options.{asked_of}
+use Rattle.fare_program.specs.inside.Options.{request_of}
 use Rattle.fare_program.specs.Parts.{report_over}
 use Rattle.fare_program.proofs.Billed.{shows_bill}
 use Rattle.fare_program.proofs.sorted.write_report.Goals as goal
@@ -16,7 +16,7 @@ returns-in_ok-write_billed-in-Ok-clause-ok g c = λ report.
     let ends = c.in-Ok.made.ends.items in
     record {
       text = report_over ends history;
-      shows = λ all are. shows_bill (asked_of c.args.options.now) c.args.table.now all None
+      shows = λ all are. shows_bill (request_of c.args.options.now) c.args.table.now all None
           (report_over ends history) true report refl
           (record {
             history = history;
@@ -28,7 +28,7 @@ returns-in_ok-write_billed-in-Ok-clause-ok g c = λ report.
             };
             ends = ends;
             ended = c.in-Ok.ensures.ended all are;
-            is_well = sym c.in-Ok.ensures.posted;
+            succeeded = sym c.in-Ok.ensures.posted;
           });
       written = c.in_ok-write_billed-in-Ok.ensures.ok.1 history is;
     }
@@ -38,18 +38,18 @@ not_true : (b : Bool) → (b ≡ true → ⊥) → b ≡ false
 not_true true other = absurd (other refl)
 not_true false other = refl
 
-pub returns-in_err-write_billed-in-Ok-clause-begun :
-    goal.returns-in_err-write_billed-in-Ok-clause-begun
-returns-in_err-write_billed-in-Ok-clause-begun g c =
+pub returns-in_err-write_billed-in-Ok-clause-started :
+    goal.returns-in_err-write_billed-in-Ok-clause-started
+returns-in_err-write_billed-in-Ok-clause-started g c =
     let (history, is, few, settled) = c.in-Ok.ensures.billed in
-    let asked = asked_of c.args.options.now in
+    let request = request_of c.args.options.now in
     let p = err_from_is_err_and c.from_residual-in_err-write_billed-in-Ok.result
     c.from_residual-in_err-write_billed-in-Ok.ensures.1 in
     let ends = c.in-Ok.made.ends.items in
     rw p.1 (λ write other. record {
       text = report_over ends history;
-      shows = λ all are. shows_bill asked c.args.table.now all None (report_over ends history) true
-          (not_true asked.ledger other) refl
+      shows = λ all are. shows_bill request c.args.table.now all None (report_over ends history) true
+          (not_true request.ledger other) refl
           (record {
             history = history;
             is_settled = settled all are;
@@ -60,11 +60,11 @@ returns-in_err-write_billed-in-Ok-clause-begun g c =
             };
             ends = ends;
             ended = c.in-Ok.ensures.ended all are;
-            is_well = sym c.in-Ok.ensures.posted;
+            succeeded = sym c.in-Ok.ensures.posted;
           });
-      begun = c.in_err-write_billed-in-Ok.ensures.begun (sym p.2 ∙ write) history is;
+      started = c.in_err-write_billed-in-Ok.ensures.started (sym p.2 ∙ write) history is;
     })
 
-pub returns-in-Err-clause-begun : goal.returns-in-Err-clause-begun
-returns-in-Err-clause-begun g c = λ write other.
+pub returns-in-Err-clause-started : goal.returns-in-Err-clause-started
+returns-in-Err-clause-started g c = λ write other.
     absurd (c.in-Err.ensures.unwritten (c.of_bill.ensures.write write))

@@ -21,20 +21,20 @@ returns-in_ok-write_text-in-Ok-clause-ok g c =
             shows = shows all history (own_is ∙ ap (posted fares) (sym c.deref-in-Ok.ensures.value));
             ends = c.in-Ok.made.ends.items;
             ended = c.in-Ok.ensures.ended all are;
-            is_well = sym c.in-Ok.ensures.posted;
+            succeeded = sym c.in-Ok.ensures.posted;
           };
       written = written;
     }
 
 -- ---- what a write that failed left
-pub returns-in_err-write_text-in-Ok-clause-begun : goal.returns-in_err-write_text-in-Ok-clause-begun
-returns-in_err-write_text-in-Ok-clause-begun g c =
+pub returns-in_err-write_text-in-Ok-clause-started : goal.returns-in_err-write_text-in-Ok-clause-started
+returns-in_err-write_text-in-Ok-clause-started g c =
     let fares = c.args.table.now in
     let token = c.args.token in
     let p = err_from_is_err_and c.from_residual.result
     c.from_residual.ensures.1 in
     rw p.1 (λ write.
-    let (text, shows, begun) = c.in_err-write_text-in-Ok.ensures.begun (sym p.2 ∙ write) in
+    let (text, shows, started) = c.in_err-write_text-in-Ok.ensures.started (sym p.2 ∙ write) in
     record {
       text = text;
       shows = λ all are.
@@ -48,11 +48,11 @@ returns-in_err-write_text-in-Ok-clause-begun g c =
             shows = shows all history (own_is ∙ ap (posted fares) (sym c.deref-in-Ok.ensures.value));
             ends = c.in-Ok.made.ends.items;
             ended = c.in-Ok.ensures.ended all are;
-            is_well = sym c.in-Ok.ensures.posted;
+            succeeded = sym c.in-Ok.ensures.posted;
           };
-      begun = begun;
+      started = started;
     })
 
-pub returns-in-Err-clause-begun : goal.returns-in-Err-clause-begun
-returns-in-Err-clause-begun g c = λ write.
+pub returns-in-Err-clause-started : goal.returns-in-Err-clause-started
+returns-in-Err-clause-started g c = λ write.
     absurd (c.in-Err.ensures.unwritten (c.of_bill.ensures.write write))

@@ -35,24 +35,24 @@ returns-in-Ok-clause-names c =
     c.deref.ensures.value c.in-Ok.ensures.classes
 
 pub returns-clause-right : goal.returns-clause-right
-returns-clause-right c = λ asked under loaded after refused named traced loads.
-    classes_are_right asked under loaded after refused _ named traced _ _ loads
+returns-clause-right c = λ request under loaded after refused named traced loads.
+    classes_are_right request under loaded after refused _ named traced _ _ loads
     c.in-Err.wrong
     (wrong_in c.args.tables.texts.items c.deref.result.now c.deref.ensures.value c.in-Err.wrong
     c.in-Err.ensures.fault) c.of_names.result c.of_names.ensures.right
 
-pub of_names-requires-clause-place : goal.of_names-requires-clause-place
-of_names-requires-clause-place c =
+pub of_names-requires-clause-position : goal.of_names-requires-clause-position
+of_names-requires-clause-position c =
     let (texts, words) = tables_counted _ _ _ _ _ c.requires.2 in
     let at = wrong_in c.args.tables.texts.items c.deref.result.now c.deref.ensures.value
     c.in-Err.wrong c.in-Err.ensures.fault in
-    omega (arith, words, slice_get_within _ c.in-Err.wrong.place _ at.stands)
+    omega (arith, words, slice_get_within _ c.in-Err.wrong.position _ at.holds)
 
 -- each text is a fare table's, so that it names a default class
 pub of_names-requires-clause-fault : goal.of_names-requires-clause-fault
 of_names-requires-clause-fault c = λ is.
     let at = wrong_in c.args.tables.texts.items c.deref.result.now c.deref.ensures.value
     c.in-Err.wrong c.in-Err.ensures.fault in
-    let (utf8, found) = tables_read _ _ _ _ _ c.requires.2 c.in-Err.wrong.place at.text
-    at.stands in
+    let (utf8, found) = tables_read _ _ _ _ _ c.requires.2 c.in-Err.wrong.position at.text
+    at.holds in
     has_default at.text found.0 found.1 (subst (IsFaultOf at.text) is at.fault utf8)

@@ -3,7 +3,7 @@ use Rattle.std.proofs.Common.{append_assoc, append-nil, length-append, string_by
 use Rattle.std.proofs.lemmas.List.{length-map, map-append}
 use Rattle.std.specs.Option.{option_copied}
 use Rattle.tap_views.specs.Files.{IsReadAs, taps_of_batches}
-use Rattle.tap_views.proofs.ReadingLemmas.{few, read_end, read_on, room_on, taps_more}
+use Rattle.tap_views.proofs.ParseLemmas.{few, read_end, read_on, room_on, taps_more}
 use Rattle.fare_program.specs.Lines.{refused_line}
 use Rattle.fare_program.specs.Uploads.{listed, tap_lines}
 use Rattle.fare_program.proofs.Going.{lists_nothing, lists_on}
@@ -12,14 +12,14 @@ use Rattle.fare_program.proofs.uploads.list_upload.Goals as goal
 pub list_batch-requires-clause-numbers : goal.list_batch-requires-clause-numbers
 list_batch-requires-clause-numbers c =
     let before = c.loop-batch.invariant in
-    let room = room_on c.args.file.now c.loop-batch.yielded c.in-Some.batch c.loop-batch.good
+    let room = room_on c.args.file.now c.loop-batch.yielded c.in-Some.batch c.loop-batch.valid
     c.next.new.self before.read c.in-Some.ensures.steps in
     omega (arith, room.0, before.number)
 
 pub list_batch-requires-clause-taps : goal.list_batch-requires-clause-taps
 list_batch-requires-clause-taps c =
     let before = c.loop-batch.invariant in
-    let room = room_on c.args.file.now c.loop-batch.yielded c.in-Some.batch c.loop-batch.good
+    let room = room_on c.args.file.now c.loop-batch.yielded c.in-Some.batch c.loop-batch.valid
     c.next.new.self before.read c.in-Some.ensures.steps in
     omega (arith, room.0, before.taps, c.requires)
 
@@ -27,7 +27,7 @@ pub loop-batch-init : goal.loop-batch-init
 loop-batch-init c = record {
   may = tt;
   ends = tt;
-  read = c.good_batches-good.ensures;
+  read = c.valid_batches-valid.ensures;
   number = refl;
   taps = omega arith;
   lines = lists_nothing c.args.listing.now (string_bytes c.args.text.now) c.args.upload 0;
@@ -59,8 +59,8 @@ returns-in_default-fault-clause-lines c =
     record {
       reading = record { batches = c.loop-batch.yielded; fault = None };
       read = read_end _ _ _ _ _ end.read c.in_default.ensures.steps c.in_default-fault.ensures;
-      lines = λ before stands.
-          let (text, here) = end.lines before stands in
+      lines = λ before holds.
+          let (text, here) = end.lines before holds in
           (text ∙ ap (λ lines. string_bytes c.args.text.now ++ lines) (sym (append-nil _)), here);
       is_whole = refl;
     }
@@ -82,8 +82,8 @@ returns-clause-lines c =
         fault = Some (c.in-Some-fault.offset, c.in-Some-fault.fault);
       };
       read = read_end _ _ _ _ _ end.read c.in_default.ensures.steps c.in-Some-fault.ensures;
-      lines = λ before stands.
-          let (text, here) = end.lines before stands in
+      lines = λ before holds.
+          let (text, here) = end.lines before holds in
           let all = map (listed (option_copied c.args.table)) (taps_of_batches c.loop-batch.yielded)
           in (
             c.in_ok-write_refused.ensures ∙ rw text (

@@ -7,9 +7,9 @@ use Rattle.fare_program.proofs.uploads.list_upload.Given as goal
 
 abbrev pub invariant-loop-batch : goal.invariant-loop-batch
 invariant-loop-batch l = record {
-  may : (goal.iterator-loop-batch).can_next l.good;
-  ends : (goal.iterator-loop-batch).is_finite l.good;
-  read : IsReadAs l.file (l.yielded ++ l.good.batches) l.good.fault;
+  may : (goal.iterator-loop-batch).can_next l.valid;
+  ends : (goal.iterator-loop-batch).is_finite l.valid;
+  read : IsReadAs l.file (l.yielded ++ l.valid.batches) l.valid.fault;
   number : l.number ≡ length (taps_of_batches l.yielded);
   taps : l.listing.counts.taps
       ≡ l.fn.listing.counts.taps + length (taps_of_batches l.yielded);

@@ -22,12 +22,12 @@ returns-clause-ok g c =
       done.2,
     )
 
-pub returns-in_err-write_lines-clause-begun : goal.returns-in_err-write_lines-clause-begun
-returns-in_err-write_lines-clause-begun g c =
+pub returns-in_err-write_lines-clause-started : goal.returns-in_err-write_lines-clause-started
+returns-in_err-write_lines-clause-started g c =
     let first = c.table_of-table.ensures in
     let p = err_from_is_err_and c.from_residual-in_err-write_lines.result
     c.from_residual-in_err-write_lines.ensures.1 in
-    let done = c.in_err-write_lines.ensures.begun in
+    let done = c.in_err-write_lines.ensures.started in
     let along = subst
     (λ (spots : List Spot). AreLinesAlong c.table_of-table.result.now []
     (entries_at_spots c.args.books.now spots) done.0) c.as_slice.ensures.value done.1 in

@@ -4,8 +4,8 @@ use Rattle.fare_texts.proofs.Beginnings.{goes_then}
 use Rattle.fare_service.proofs.lines.write_lines.Goals as goal
 
 -- a beginning of what waited at last
-pub returns-in_err-pass_on-clause-begun : goal.returns-in_err-pass_on-clause-begun
-returns-in_err-pass_on-clause-begun g c =
+pub returns-in_err-pass_on-clause-started : goal.returns-in_err-pass_on-clause-started
+returns-in_err-pass_on-clause-started g c =
     let p = err_from_is_err_and c.from_residual-in_err-pass_on.result
     c.from_residual-in_err-pass_on.ensures.1 in
     let lines = c.in_ok-write_some.ensures.lines in
@@ -14,5 +14,5 @@ returns-in_err-pass_on-clause-begun g c =
       lines.1,
       goes_then (g.W.Write.contents c.args.out.now) (g.W.Write.contents c.write_some.new.out)
           (g.W.Write.contents c.pass_on.new.out) (string_bytes c.args.text.now)
-          (string_bytes c.write_some.new.text) lines.0 lines.2 c.in_err-pass_on.ensures.begun,
+          (string_bytes c.write_some.new.text) lines.0 lines.2 c.in_err-pass_on.ensures.started,
     )

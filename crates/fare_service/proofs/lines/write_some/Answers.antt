@@ -3,19 +3,19 @@ use Rattle.std.specs.Prelude.{slice_get}
 use Rattle.tariffs.specs.Fares.{Fares}
 use Rattle.shard_book.specs.Book.{Book}
 use Rattle.histories.specs.declared.entry.Entry.{Entry}
-use Rattle.fare_texts.specs.Lines.{AreLinesAlong, NoFallFrom}
+use Rattle.fare_texts.specs.Lines.{AreLinesAlong, NondecreasingFrom}
 use Rattle.fare_service.specs.declared.spot.Spot.{Spot}
 use Rattle.fare_texts.proofs.Beginnings.{goes_nothing}
 use Rattle.fare_service.specs.inside.Spots.{entries_at_spots}
-use Rattle.fare_service.proofs.SpotLines.{rise_first}
+use Rattle.fare_service.proofs.SpotLines.{ascend_first}
 use Rattle.fare_service.proofs.lines.write_some.Goals as goal
 
-pub write_pieces-requires-clause-no_fall : goal.write_pieces-requires-clause-no_fall
-write_pieces-requires-clause-no_fall g c =
-    subst (λ (e : Entry). NoFallFrom e.token (entries_at_spots c.args.books.now c.args.spots.now))
+pub write_pieces-requires-clause-nondecreasing : goal.write_pieces-requires-clause-nondecreasing
+write_pieces-requires-clause-nondecreasing g c =
+    subst (λ (e : Entry). NondecreasingFrom e.token (entries_at_spots c.args.books.now c.args.spots.now))
     (sym c.entry.ensures)
-    (rise_first c.args.books.now c.args.spots.now c.in-Some.first.now (sym c.in-Some.ensures.value)
-    c.requires.no_fall)
+    (ascend_first c.args.books.now c.args.spots.now c.in-Some.first.now (sym c.in-Some.ensures.value)
+    c.requires.nondecreasing)
 
 -- no entry has no line
 no_lines : (fares : Fares) (books : List Book) (spots : List Spot) → slice_get spots 0 ≡ None

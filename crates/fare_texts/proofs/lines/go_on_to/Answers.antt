@@ -3,16 +3,16 @@ use Rattle.std.proofs.lemmas.Bool.{not-true}
 use Rattle.tap_views.specs.Token.{token_eq}
 use Rattle.tap_views.specs.declared.token.Token.{Token}
 use Rattle.tap_views.specs.TokenOrder.{IsUpTo}
-use Rattle.fare_texts.proofs.PieceWriting.{come_on}
+use Rattle.fare_texts.proofs.PieceWriting.{consumed_on}
 use Rattle.fare_texts.proofs.lines.go_on_to.Goals as goal
 
 -- another token is gone_on to
-pub returns-then-ne-clause-come : goal.returns-then-ne-clause-come
-returns-then-ne-clause-come c = λ fares earlier come to.
+pub returns-then-ne-clause-consumed : goal.returns-then-ne-clause-consumed
+returns-then-ne-clause-consumed c = λ fares earlier consumed to.
     let old = c.args.explainer.now in
     let apart : token_eq old.token c.args.token ≡ false =
     not-true (token_eq old.token c.args.token) (sym c.ne.ensures ∙ c.if-ne.true) in
     let same = sym c.of.ensures.token in
-    come_on fares old c.of.result earlier come
+    consumed_on fares old c.of.result earlier consumed
     (subst (λ (t : Token). IsUpTo old.token t) same to)
     (subst (λ (t : Token). token_eq old.token t ≡ false) same apart) (c.of.ensures.explained fares)

@@ -3,13 +3,13 @@ use Rattle.fare_texts.proofs.Parts.{in_parts}
 use Rattle.fare_texts.proofs.StatementLines.{next_line}
 use Rattle.fare_texts.proofs.statement.write_lines.Goals as goal
 
-pub loop-place-preserved : goal.loop-place-preserved
-loop-place-preserved c =
-    let before = c.loop-place.invariant in
+pub loop-position-preserved : goal.loop-position-preserved
+loop-position-preserved c =
+    let before = c.loop-position.invariant in
     let line = c.in_ok-write_entry.ensures in (
       before.0 ++ line.0,
-      next_line c.args.table.now c.args.lines.now c.loop-place.place c.get.result.now before.0
+      next_line c.args.table.now c.args.lines.now c.loop-position.position c.get.result.now before.0
           line.0 c.get.ensures before.1 line.1,
-      in_parts (string_bytes c.args.text.now) (string_bytes c.loop-place.text)
+      in_parts (string_bytes c.args.text.now) (string_bytes c.loop-position.text)
           (string_bytes c.write_entry.new.text) before.0 line.0 before.2 line.2,
     )

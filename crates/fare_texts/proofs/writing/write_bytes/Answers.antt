@@ -1,6 +1,6 @@
 use Rattle.std.proofs.Common.{◌∙◌, ◌++◌, ℕ, Bor, List, ap, sym, take}
 use Rattle.std.proofs.KnownBytes.{Appends-kept, Appends-trans}
-use Rattle.fare_texts.proofs.Beginnings.{begun_more}
+use Rattle.fare_texts.proofs.Beginnings.{started_more}
 use Rattle.fare_texts.proofs.writing.write_bytes.Goals as goal
 use Rattle.fare_texts.proofs.writing.write_bytes.Goals.{in-Ok, in-Err+else-ne}
 
@@ -12,7 +12,7 @@ loop-write-preserved g c =
     elim c.match-write.branch [
       | in-Ok w ↦ record {
         front = before.front ++ take w.in-Ok.count rest;
-        whole = begun_more c.args.bytes.now before.front rest c.match-write.rest.now w.in-Ok.count
+        whole = started_more c.args.bytes.now before.front rest c.match-write.rest.now w.in-Ok.count
             before.whole (ap (λ (b : Bor (List ℕ)). b.now) w.rest-is);
         written = Appends-trans _ _ _ before.front (take w.in-Ok.count rest) before.written
             w.in-Ok.ensures.bytes;

@@ -12,13 +12,13 @@ loop-init g c = (refl, ([], no_answer, did_nothing (g.W.Inputs.run c.args.world.
 pub loop-preserved : goal.loop-preserved
 loop-preserved g c =
     let start = g.W.Inputs.run c.args.world.now in let t = c.next.new.self in
-    let asked = g.T.Task.asked c.loop.task in
+    let request = g.T.Task.request c.loop.task in
     let (loads, a, is, has) = c.loop.invariant.1 in
-    let (more, same, given) = goes_more (g.T.Task.has_given t) (g.T.Task.right asked)
-    (g.T.Task.names asked) start a (g.W.Inputs.run c.next.new.files) c.next.new.piece.items
+    let (more, same, given) = goes_more (g.T.Task.has_given t) (g.T.Task.right request)
+    (g.T.Task.names request) start a (g.W.Inputs.run c.next.new.files) c.next.new.piece.items
     c.in-Ok-More.field-0 c.in-Ok-More.use_of c.in-Ok-More.field-0-is
     (c.in-Ok-More.ensures.given start loads a has is) in (
-      c.in-Ok-More.ensures.asked ∙ c.loop.invariant.0,
+      c.in-Ok-More.ensures.request ∙ c.loop.invariant.0,
       (
         more,
         with_piece a c.in-Ok-More.use_of c.next.new.piece.items,
@@ -32,17 +32,17 @@ returns-in-Err-clause-halted g c =
     let start = g.W.Inputs.run c.args.world.now in
     let (loads, a, is, has) = c.loop.invariant.1 in
     let (more, leaves, started, named) = c.in-Err.ensures.given start loads a has is in
-    task_halts g.T.Task.right g.T.Task.names (g.T.Task.asked c.loop.task)
-    (g.T.Task.asked c.args.task.now) start (g.W.Inputs.run c.next.new.files) c.in-Err.why
+    task_halts g.T.Task.right g.T.Task.names (g.T.Task.request c.loop.task)
+    (g.T.Task.request c.args.task.now) start (g.W.Inputs.run c.next.new.files) c.in-Err.why
     c.loop.invariant.0 (more, a, leaves, started, named)
 
 pub returns-in-Ok-clause-done : goal.returns-in-Ok-clause-done
 returns-in-Ok-clause-done g c =
     let start = g.W.Inputs.run c.args.world.now in let t = c.next.new.self in
-    let asked = g.T.Task.asked c.loop.task in
+    let request = g.T.Task.request c.loop.task in
     let (loads, a, is, has) = c.loop.invariant.1 in
-    let (more, same, right) = goes_end (g.T.Task.has_given t) (g.T.Task.right asked)
-    (g.T.Task.names asked) start a (g.W.Inputs.run c.next.new.files) c.next.new.piece.items
+    let (more, same, right) = goes_end (g.T.Task.has_given t) (g.T.Task.right request)
+    (g.T.Task.names request) start a (g.W.Inputs.run c.next.new.files) c.next.new.piece.items
     c.in-Ok-End.field-0 c.in-Ok-End.status c.in-Ok-End.field-0-is
     (c.in-Ok-End.ensures.given start loads a has is) in
     record {
@@ -55,30 +55,30 @@ returns-in-Ok-clause-done g c =
 pub returns-in-Err-flush-clause-halted : goal.returns-in-Err-flush-clause-halted
 returns-in-Err-flush-clause-halted g c =
     let start = g.W.Inputs.run c.args.world.now in let t = c.next.new.self in
-    let asked = g.T.Task.asked c.loop.task in
+    let request = g.T.Task.request c.loop.task in
     let (loads, a, is, has) = c.loop.invariant.1 in
-    let (more, same, right) = goes_end (g.T.Task.has_given t) (g.T.Task.right asked)
-    (g.T.Task.names asked) start a (g.W.Inputs.run c.next.new.files) c.next.new.piece.items
+    let (more, same, right) = goes_end (g.T.Task.has_given t) (g.T.Task.right request)
+    (g.T.Task.names request) start a (g.W.Inputs.run c.next.new.files) c.next.new.piece.items
     c.in-Ok-End.field-0 c.in-Ok-End.status c.in-Ok-End.field-0-is
     (c.in-Ok-End.ensures.given start loads a has is) in
-    write_halts g.T.Task.right g.T.Task.names asked (g.T.Task.asked c.args.task.now) start
+    write_halts g.T.Task.right g.T.Task.names request (g.T.Task.request c.args.task.now) start
     (g.W.Inputs.run c.flush.new.self) more a (Unwritten c.in-Err-flush.why) c.loop.invariant.0
-    (right_started (g.T.Task.right asked) more a c.in-Ok-End.status right)
+    (right_started (g.T.Task.right request) more a c.in-Ok-End.status right)
     (flush_halts _ _ start more a c.in-Err-flush.why same c.in-Err-flush.ensures.cut)
 
 pub returns-in-Err-put-clause-halted : goal.returns-in-Err-put-clause-halted
 returns-in-Err-put-clause-halted g c =
     let start = g.W.Inputs.run c.args.world.now in let t = c.next.new.self in
-    let asked = g.T.Task.asked c.loop.task in
+    let request = g.T.Task.request c.loop.task in
     let (loads, a, is, has) = c.loop.invariant.1 in
-    let (more, same, given) = goes_more (g.T.Task.has_given t) (g.T.Task.right asked)
-    (g.T.Task.names asked) start a (g.W.Inputs.run c.next.new.files) c.next.new.piece.items
+    let (more, same, given) = goes_more (g.T.Task.has_given t) (g.T.Task.right request)
+    (g.T.Task.names request) start a (g.W.Inputs.run c.next.new.files) c.next.new.piece.items
     c.in-Ok-More.field-0 c.in-Ok-More.use_of c.in-Ok-More.field-0-is
     (c.in-Ok-More.ensures.given start loads a has is) in
-    write_halts g.T.Task.right g.T.Task.names (g.T.Task.asked t) (g.T.Task.asked c.args.task.now)
+    write_halts g.T.Task.right g.T.Task.names (g.T.Task.request t) (g.T.Task.request c.args.task.now)
     start (g.W.Inputs.run c.put.new.world) more
     (with_piece a c.in-Ok-More.use_of c.next.new.piece.items) c.in-Err-put.why
-    (c.in-Ok-More.ensures.asked ∙ c.loop.invariant.0) (g.met.T.Task.started t more
+    (c.in-Ok-More.ensures.request ∙ c.loop.invariant.0) (g.met.T.Task.started t more
     (with_piece a c.in-Ok-More.use_of c.next.new.piece.items) given)
     (rw c.deref.ensures.value at (c.in-Err-put.ensures.halted start more a same))
 
@@ -86,6 +86,6 @@ pub returns-clause-halted : goal.returns-clause-halted
 returns-clause-halted g c =
     let start = g.W.Inputs.run c.args.world.now in
     let (loads, a, is, has) = c.loop.invariant.1 in
-    task_halts g.T.Task.right g.T.Task.names (g.T.Task.asked c.loop.task)
-    (g.T.Task.asked c.args.task.now) start (g.W.Inputs.run c.loop.world) NoMemory
+    task_halts g.T.Task.right g.T.Task.names (g.T.Task.request c.loop.task)
+    (g.T.Task.request c.args.task.now) start (g.W.Inputs.run c.loop.world) NoMemory
     c.loop.invariant.0 (loads, a, is, g.met.T.Task.started c.loop.task loads a has, tt)

@@ -11,7 +11,7 @@ returns c = λ fares token history again few same one two.
     let uploads = map bytes_in c.args.uploads.now in
     let others = map bytes_in c.args.others.now in
     let (plain_too, is_too) = c.plain_history.ensures.some fares in
-    one_more fares token uploads others history again c.one_reading_each.ensures
-    c.one_reading_each-2.ensures few same one two
-    (named_order fares others c.one_reading_each-2.ensures plain_too is_too
+    one_more fares token uploads others history again c.unique_parse_each.ensures
+    c.unique_parse_each-2.ensures few same one two
+    (named_order fares others c.unique_parse_each-2.ensures plain_too is_too
     (c.plain_history.ensures.fields fares plain_too is_too) again two)

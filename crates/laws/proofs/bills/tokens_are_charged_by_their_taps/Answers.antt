@@ -12,9 +12,9 @@ returns c = λ fares token other history again terms same one two.
     let others = map bytes_in c.args.others.now in
     let (plain, is) = c.plain_history.ensures.some fares in
     let (plain_too, is_too) = c.plain_history-2.ensures.some fares in
-    renamed fares token other uploads others history again c.one_reading_each.ensures
-    c.one_reading_each-2.ensures terms same one two
-    (named_order fares uploads c.one_reading_each.ensures plain is
+    renamed fares token other uploads others history again c.unique_parse_each.ensures
+    c.unique_parse_each-2.ensures terms same one two
+    (named_order fares uploads c.unique_parse_each.ensures plain is
     (c.plain_history.ensures.fields fares plain is) history one)
-    (named_order fares others c.one_reading_each-2.ensures plain_too is_too
+    (named_order fares others c.unique_parse_each-2.ensures plain_too is_too
     (c.plain_history-2.ensures.fields fares plain_too is_too) again two)

@@ -18,8 +18,8 @@ abbrev bytes_in : Vec ℕ Global → List ℕ
 bytes_in upload = upload.items
 
 -- a text over a history, by what is asked for
-abbrev IsAsked : Bool → Bool → Option Token → Fares → List (List ℕ) → List Entry → List ℕ → Type 0
-IsAsked ledger explain token fares files history text =
+abbrev IsRequest : Bool → Bool → Option Token → Fares → List (List ℕ) → List Entry → List ℕ → Type 0
+IsRequest ledger explain token fares files history text =
     MatchBool ledger (IsLedgerOver fares history token text)
     (IsTextOver explain token fares files history text)
 
@@ -34,34 +34,34 @@ by_statement true token fares history a b is also =
 by_statement false token fares history a b is also =
     one_statement fares history token a b is also
 
-by_asked : (ledger explain : Bool) (token : Option Token) (fares : Fares)
+by_request : (ledger explain : Bool) (token : Option Token) (fares : Fares)
     (files others : List (List ℕ)) (history : List Entry) (a b : List ℕ)
     → (token ≡ None → IsTextOver explain None fares files history a
     → IsTextOver explain None fares others history b → DifferInUploads files others a b)
-    → IsAsked ledger explain token fares files history a
-    → IsAsked ledger explain token fares others history b
+    → IsRequest ledger explain token fares files history a
+    → IsRequest ledger explain token fares others history b
     → TextsAgree ledger token files others a b
-by_asked true explain token fares files others history a b reports is also =
+by_request true explain token fares files others history a b reports is also =
     one_ledger fares history token a b is also
-by_asked false explain None fares files others history a b reports is also =
+by_request false explain None fares files others history a b reports is also =
     reports refl is also
-by_asked false explain (Some token) fares files others history a b reports is also =
+by_request false explain (Some token) fares files others history a b reports is also =
     by_statement explain token fares history a b is also
 
 pub returns : goal.returns
-returns c = λ asked again fares token text other well ill same ledger explain one two.
+returns c = λ request again fares token text other success ill same ledger explain one two.
     let files = map bytes_in c.args.files.now in
     let others = map bytes_in c.args.others.now in
     let histories = c.same_history.ensures fares one.history two.history same
     one.is_settled two.is_settled in
-    let shown : IsAsked asked.ledger asked.explain token fares others two.history other =
-    subst (λ e. IsAsked asked.ledger e token fares others two.history other) (sym explain)
-    (subst (λ l. IsAsked l again.explain token fares others two.history other) (sym ledger)
+    let shown : IsRequest request.ledger request.explain token fares others two.history other =
+    subst (λ e. IsRequest request.ledger e token fares others two.history other) (sym explain)
+    (subst (λ l. IsRequest l again.explain token fares others two.history other) (sym ledger)
     two.shows) in
-    let moved : IsAsked asked.ledger asked.explain token fares files two.history text =
-    subst (λ h. IsAsked asked.ledger asked.explain token fares files h text) histories
+    let moved : IsRequest request.ledger request.explain token fares files two.history text =
+    subst (λ h. IsRequest request.ledger request.explain token fares files h text) histories
     one.shows in
     let one_too = subst (λ h. IsSettledHistory fares files h) histories one.is_settled in
-    by_asked asked.ledger asked.explain token fares files others two.history text other
+    by_request request.ledger request.explain token fares files others two.history text other
     (λ none report again. c.same_reports.ensures fares two.history two.history text other
     same one_too two.is_settled report again) moved shown

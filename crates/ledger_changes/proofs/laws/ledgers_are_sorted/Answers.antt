@@ -1,5 +1,5 @@
-use Rattle.ledger_changes.proofs.Readings.{rows_rise}
+use Rattle.ledger_changes.proofs.Readings.{rows_ascend}
 use Rattle.ledger_changes.proofs.laws.ledgers_are_sorted.Goals as goal
 
 pub returns : goal.returns
-returns c = rows_rise
+returns c = rows_ascend

@@ -12,13 +12,13 @@ use Rattle.ledger_check.proofs.balance_laws.differences_are_real.Goals as goal
 pub returns-clause-same : goal.returns-clause-same
 returns-clause-same c = λ tap other. (same_exact tap other, same_of tap other)
 
-differ : (good others : List TapFields) (difference : Difference)
-    → IsDifference good others (Some difference) → IsPermutation good others → ⊥
-differ good others (Missing tap) is moved = let e = times_permutation tap good others moved in
+differ : (valid others : List TapFields) (difference : Difference)
+    → IsDifference valid others (Some difference) → IsPermutation valid others → ⊥
+differ valid others (Missing tap) is moved = let e = times_permutation tap valid others moved in
     let fewer = is.fewer in
     absurd (omega (arith, fewer, e))
-differ good others (Surplus tap) is moved = let e = times_permutation tap good others moved in
-    let more = surplus_is_more good others tap is in
+differ valid others (Surplus tap) is moved = let e = times_permutation tap valid others moved in
+    let more = surplus_is_more valid others tap is in
     absurd (omega (arith, more, e))
 
 pub returns-clause-apart : goal.returns-clause-apart

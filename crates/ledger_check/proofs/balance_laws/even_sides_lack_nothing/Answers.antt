@@ -16,20 +16,20 @@ none_there (tap ∷ taps) none =
     absurd (omega (arith, here, whole, self))
 
 pub returns-clause-none : goal.returns-clause-none
-returns-clause-none c = λ good others missing surplus lacks lacks_too moved. (
+returns-clause-none c = λ valid others missing surplus lacks lacks_too moved. (
   none_there missing (λ tap.
       let here = lacks.copies tap in
-      let same = times_permutation tap good others moved in
+      let same = times_permutation tap valid others moved in
       omega (arith, here, same)),
   none_there surplus (λ tap.
       let here = lacks_too.copies tap in
-      let same = times_permutation tap good others moved in
+      let same = times_permutation tap valid others moved in
       omega (arith, here, same)),
 )
 
 pub returns-clause-even : goal.returns-clause-even
-returns-clause-even c = λ good others lacks lacks_too.
-    permutation_of_times good others (λ tap.
+returns-clause-even c = λ valid others lacks lacks_too.
+    permutation_of_times valid others (λ tap.
     let here = lacks.copies tap in
     let there = lacks_too.copies tap in
     omega (arith, here, there))

@@ -1,16 +1,16 @@
 use Rattle.std.proofs.Common.{◌≡◌, ◌^◌, ◌<◌, ◌∷◌, ◌++◌, [], ℕ, List, Option, Some, None, ap, sym, ◌∙◌, arith}
 use Rattle.std.proofs.Common.{decimal}
 use Rattle.line_forms.specs.Forms.{after}
-use Rattle.ledger_check.specs.Recounts.{IsCentsField}
+use Rattle.ledger_check.specs.FullChecks.{IsCentsField}
 use Rattle.ledger_check.proofs.FieldLemmas.{decimal_lacks}
 use Rattle.ledger_check.proofs.exact.exact_cents.Goals as goal
 use Rattle.tap_views.proofs.Choices.{MatchOption_none}
 
 -- what stands behind the comma
-behind_comma : (rest : List ℕ) (cents : ℕ) (is : IsCentsField rest cents)
+after_comma : (rest : List ℕ) (cents : ℕ) (is : IsCentsField rest cents)
     → after (44 ∷ []) rest
-    ≡ Some (is.mode ++ 44 ∷ (is.answer ++ 44 ∷ (decimal cents ++ 44 ∷ is.behind)))
-behind_comma rest cents is = ap (after (44 ∷ [])) is.shown
+    ≡ Some (is.mode ++ 44 ∷ (is.answer ++ 44 ∷ (decimal cents ++ 44 ∷ is.trailing)))
+after_comma rest cents is = ap (after (44 ∷ [])) is.shown
 
 same_rest : (text a b : List ℕ) → after (44 ∷ []) text ≡ Some a → after (44 ∷ []) text ≡ Some b
     → a ≡ b
@@ -23,14 +23,14 @@ pub returns-in_err-fields : goal.returns-in_err-fields
 returns-in_err-fields c =
     MatchOption_none _ _ c.from_residual.result c.from_residual.ensures
     (λ cents is. none_rest (after (44 ∷ []) c.args.rest.now) _ c.in_err-fields.ensures
-    (behind_comma c.args.rest.now cents is))
+    (after_comma c.args.rest.now cents is))
 
 pub returns-in_err-_mode : goal.returns-in_err-_mode
 returns-in_err-_mode c =
     MatchOption_none _ _ c.from_residual-in_err-_mode.result c.from_residual-in_err-_mode.ensures
     (λ cents is.
     let fields = same_rest c.args.rest.now c.in_ok-fields.fields.now _
-    c.in_ok-fields.ensures (behind_comma c.args.rest.now cents is) in
+    c.in_ok-fields.ensures (after_comma c.args.rest.now cents is) in
     absurd (c.in_err-_mode.ensures.found is.mode _ is.mode_field fields))
 
 pub returns-in_err-_answer : goal.returns-in_err-_answer
@@ -39,7 +39,7 @@ returns-in_err-_answer c =
     c.from_residual-in_err-_answer.ensures
     (λ cents is.
     let fields = same_rest c.args.rest.now c.in_ok-fields.fields.now _
-    c.in_ok-fields.ensures (behind_comma c.args.rest.now cents is) in
+    c.in_ok-fields.ensures (after_comma c.args.rest.now cents is) in
     let one = c.in_ok-_mode.ensures.found is.mode _ is.mode_field fields in
     absurd (c.in_err-_answer.ensures.found is.answer _ is.answer_field one.1))
 
@@ -49,10 +49,10 @@ returns-in_err-digits c =
     (λ cents is.
     let small : cents < 2 ^ 32 = is.small in
     let fields = same_rest c.args.rest.now c.in_ok-fields.fields.now _
-    c.in_ok-fields.ensures (behind_comma c.args.rest.now cents is) in
+    c.in_ok-fields.ensures (after_comma c.args.rest.now cents is) in
     let one = c.in_ok-_mode.ensures.found is.mode _ is.mode_field fields in
     let two = c.in_ok-_answer.ensures.found is.answer _ is.answer_field one.1 in
-    absurd (c.in_err-digits.ensures.found (decimal cents) is.behind
+    absurd (c.in_err-digits.ensures.found (decimal cents) is.trailing
     (decimal_lacks cents (omega arith)) two.1))
 
 pub returns-in_err-cents : goal.returns-in_err-cents
@@ -61,9 +61,9 @@ returns-in_err-cents c =
     (λ cents is.
     let small : cents < 2 ^ 32 = is.small in
     let fields = same_rest c.args.rest.now c.in_ok-fields.fields.now _
-    c.in_ok-fields.ensures (behind_comma c.args.rest.now cents is) in
+    c.in_ok-fields.ensures (after_comma c.args.rest.now cents is) in
     let one = c.in_ok-_mode.ensures.found is.mode _ is.mode_field fields in
     let two = c.in_ok-_answer.ensures.found is.answer _ is.answer_field one.1 in
-    let three = c.in_ok-digits.ensures.found (decimal cents) is.behind
+    let three = c.in_ok-digits.ensures.found (decimal cents) is.trailing
     (decimal_lacks cents (omega arith)) two.1 in
     c.in_err-cents.ensures cents is.small three.0)

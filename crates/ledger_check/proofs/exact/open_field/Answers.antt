@@ -2,23 +2,23 @@ use Rattle.std.proofs.Common.{◌≡◌, ◌∙◌, ◌++◌, ◌∷◌, ◌-◌
 use Rattle.std.proofs.Common.{sym, ap, subst, arith, take_all, length-append, length-drop}
 use Rattle.std.proofs.Math.Seq.{drop-append_seam}
 use Rattle.ledger_check.specs.Lines.{Lacks}
-use Rattle.ledger_check.specs.Recounts.{EndsField}
+use Rattle.ledger_check.specs.FullChecks.{EndsField}
 use Rattle.ledger_check.proofs.LineLemmas.{lacks-append, lacks-end, lacks-start}
 use Rattle.ledger_check.proofs.exact.open_field.Goals as goal
 
-rest_of : (text front behind : List ℕ) → text ≡ front ++ 44 ∷ behind
-    → take (length text - length front) (drop (length front) text) ≡ 44 ∷ behind
-rest_of text front behind is =
+rest_of : (text front trailing : List ℕ) → text ≡ front ++ 44 ∷ trailing
+    → take (length text - length front) (drop (length front) text) ≡ 44 ∷ trailing
+rest_of text front trailing is =
     take_all (length text - length front) (drop (length front) text)
     (omega (arith, length-drop (length front) text))
-    ∙ ap (λ (t : List ℕ). drop (length front) t) is ∙ drop-append_seam front (44 ∷ behind)
+    ∙ ap (λ (t : List ℕ). drop (length front) t) is ∙ drop-append_seam front (44 ∷ trailing)
 
 pub returns-in-Some-clause-some : goal.returns-in-Some-clause-some
 returns-in-Some-clause-some c =
     let parts = c.in-Some.ensures.some in
-    let rest = rest_of c.args.text.now c.in-Some.front.now c.in-Some._behind.now parts.1 in (
+    let rest = rest_of c.args.text.now c.in-Some.front.now c.in-Some._trailing.now parts.1 in (
       parts.0,
-      inl (c.in-Some._behind.now, rest),
+      inl (c.in-Some._trailing.now, rest),
       parts.1
           ∙ ap (λ (t : List ℕ). c.in-Some.front.now ++ t) (sym rest),
     )

@@ -8,11 +8,11 @@ use Rattle.ledger_check.proofs.wanted.write_wanted.Goals as goal
 
 pub explain_next-requires-clause-explained : goal.explain_next-requires-clause-explained
 explain_next-requires-clause-explained c =
-    (own c.args.explainer.now.token c.requires.stands.0, c.requires.stands.1.explained)
+    (own c.args.explainer.now.token c.requires.holds.0, c.requires.holds.1.explained)
 
 pub returns : goal.returns
 unfolding tap_of
-returns c = λ entries stands.
+returns c = λ entries holds.
     let fares = c.args.table.now in
     let explainer = c.args.explainer.now in
     let after = c.explain_next.new.self in
@@ -42,12 +42,12 @@ returns c = λ entries stands.
     (record {
       token = refl;
       is_tap = refl;
-      is_why = next.reason done stands.explained;
+      is_why = next.reason done holds.explained;
       is_reply = c.reply-reply.ensures;
-      explained = next.explained done stands.explained;
+      explained = next.explained done holds.explained;
       same_token = next.token;
       counted = next.number;
       shown = subst
           (λ (t : List ℕ). IsLedgerLine fares after.token after.number entry c.in_ok-reason.reason
           t) (sym written) line.1;
-    }) stands
+    }) holds

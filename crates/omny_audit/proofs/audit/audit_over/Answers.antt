@@ -4,7 +4,7 @@ use Rattle.std.proofs.Common.{option_map, refl, rules, subst, sym, take, tests}
 use Rattle.std.specs.Prelude.{◌⊎◌, unwrap_or}
 use Rattle.std.proofs.KnownBytes.{Appends-nil, Appends-trans, Consumes-nil, Consumes-trans}
 use Rattle.std.proofs.lemmas.List.{length-take-le}
-use Rattle.fare_texts.proofs.Beginnings.{begins_behind}
+use Rattle.fare_texts.proofs.Beginnings.{begins_after}
 use Rattle.fare_texts.specs.WrittenOut.{Begins}
 use Rattle.program_manners.specs.Refusals.{Refuses}
 use Rattle.program_manners.specs.declared.output.WriteEnd.{WriteEnd}
@@ -14,7 +14,7 @@ use Rattle.omny_audit.specs.Reports.{Given, IsAudit, IsAuditText}
 use Rattle.omny_audit.specs.declared.fault.Fault.TheVariants.{Ledger, NoMemory}
 use Rattle.omny_audit.specs.inside.Audits.{given_in}
 use Rattle.omny_audit.specs.inside.Fault.{IsWriteFault}
-use Rattle.omny_audit.proofs.Audits.{begun_of, broken_off, next_text, none_left, stream_of_write}
+use Rattle.omny_audit.proofs.Audits.{started_of, interrupted, next_text, none_left, stream_of_write}
 use Rattle.omny_audit.proofs.ReadLemmas.{is_front}
 use Rattle.omny_audit.proofs.audit.audit_over.Goals as goal
 
@@ -24,7 +24,7 @@ loop-piece-init g c = record {
   read = Consumes-nil _;
   name = refl;
   loaded = refl;
-  so_far = λ good has. ([], refl, has, Appends-nil _);
+  so_far = λ valid has. ([], refl, has, Appends-nil _);
 }
 
 pub next-requires : goal.next-requires
@@ -41,10 +41,10 @@ loop-piece-preserved g c =
           c.in-Ok.ensures.bytes.0;
       name = c.read_on.ensures.name ∙ before.name;
       loaded = c.read_on.ensures.loaded ∙ before.loaded;
-      so_far = λ good has.
-          let now = before.so_far good has in
+      so_far = λ valid has.
+          let now = before.so_far valid has in
           let none : c.in-Ok-next.next.1 ≡ None = first_of (cc, search (rules, tests)) in
-          let next = rw none at (c.in-Ok-next.ensures good before.file now.0 now.2) in (
+          let next = rw none at (c.in-Ok-next.ensures valid before.file now.0 now.2) in (
             now.0 ++ c.in-Ok-next.next.0.items,
             next.0 ∙ now.1,
             next.1,
@@ -59,7 +59,7 @@ loop-piece-preserved g c =
 pub returns-in_default-clause-ends : goal.returns-in_default-clause-ends
 returns-in_default-clause-ends g c =
     let before = c.loop-piece.invariant in
-    broken_off c.args.audit.now c.loop-piece.audit before.file _ _ _ _
+    interrupted c.args.audit.now c.loop-piece.audit before.file _ _ _ _
     (g.S.FileSource.refused c.read_on.new.source)
     (option_map (λ (n : Bor (List ℕ)). n.now) c.args.ledger.now.name) c.loop-piece.out.end Ledger
     before.read before.so_far
@@ -69,7 +69,7 @@ returns-in_default-clause-ends g c =
 pub returns-clause-ends : goal.returns-clause-ends
 returns-clause-ends g c =
     let before = c.loop-piece.invariant in
-    broken_off c.args.audit.now c.loop-piece.audit before.file _ _ _ _
+    interrupted c.args.audit.now c.loop-piece.audit before.file _ _ _ _
     (g.S.FileSource.refused c.loop-piece.source)
     (option_map (λ (n : Bor (List ℕ)). n.now) c.args.ledger.now.name) c.loop-piece.out.end NoMemory
     before.read before.so_far tt
@@ -77,7 +77,7 @@ returns-clause-ends g c =
 pub returns-in_default-next-clause-ends : goal.returns-in_default-next-clause-ends
 returns-in_default-next-clause-ends g c =
     let before = c.loop-piece.invariant in
-    broken_off c.args.audit.now c.loop-piece.audit before.file _ _ _ _
+    interrupted c.args.audit.now c.loop-piece.audit before.file _ _ _ _
     (g.S.FileSource.refused c.read_on.new.source)
     (option_map (λ (n : Bor (List ℕ)). n.now) c.args.ledger.now.name) c.loop-piece.out.end NoMemory
     before.read before.so_far tt
@@ -102,25 +102,25 @@ returns-in-Err-clause-ends g c =
       whole,
       is_front _ left (before.file ++ piece)
           (Consumes-trans _ _ _ before.file piece before.read got.0),
-      λ good has.
-          let now = before.so_far good has in (
+      λ valid has.
+          let now = before.so_far valid has in (
             stream_of_write (g.S.FileSource.refused c.read_on.new.source)
                 (option_map (λ (n : Bor (List ℕ)). n.now) c.args.ledger.now.name) c.put.new.self.end
                 c.of_end.result
                 (subst (λ (e : Option WriteEnd). IsWriteFault e c.of_end.result)
                 (sym c.in-Err.ensures.noted) c.of_end.ensures),
-            begun_of (IsAuditText (given_in c.args.audit.now good) whole) _ _ (now.0 ++ text)
+            started_of (IsAuditText (given_in c.args.audit.now valid) whole) _ _ (now.0 ++ text)
                 (subst (λ (x : Given). (now.0 ++ text ≡ []) ⊎ IsAuditText x whole (now.0 ++ text))
                 now.1
-                (next_text c.loop-piece.audit c.next.new.self good before.file piece (now.0 ++ text)
+                (next_text c.loop-piece.audit c.next.new.self valid before.file piece (now.0 ++ text)
                 c.in-Ok-next.next.1 more
                 (ended_at c.in-Ok.count c.read_on.new.piece left c.in-Ok.ensures.bound.0
                 (λ zero. got.1 zero (omega arith)))
-                (c.in-Ok-next.ensures good before.file now.0 now.2)))
-                (begins_behind _ _ _ now.0 text now.3
+                (c.in-Ok-next.ensures valid before.file now.0 now.2)))
+                (begins_after _ _ _ now.0 text now.3
                 (subst (λ (t : List ℕ). Begins (g.W.Write.contents c.loop-piece.out.writer)
                 (g.W.Write.contents c.put.new.self.writer) t) c.as_slice.ensures.value
-                c.in-Err.ensures.begun)),
+                c.in-Err.ensures.started)),
           ),
     )
 
@@ -138,14 +138,14 @@ returns-in-Some-clause-ends g c =
       whole,
       is_front _ left (before.file ++ piece)
           (Consumes-trans _ _ _ before.file piece before.read got.0),
-      λ good has.
-          let now = before.so_far good has in
-          let found = rw c.in-Some.is at (c.in-Ok-next.ensures good before.file now.0 now.2) more
+      λ valid has.
+          let now = before.so_far valid has in
+          let found = rw c.in-Some.is at (c.in-Ok-next.ensures valid before.file now.0 now.2) more
           (ended_at c.in-Ok.count c.read_on.new.piece left c.in-Ok.ensures.bound.0
           (λ zero. got.1 zero (omega arith))) in (
             now.0 ++ text,
             found.0,
-            subst (λ (x : Given). IsAudit x whole found.0 (now.0 ++ text) c.in-Some.is_well) now.1
+            subst (λ (x : Given). IsAudit x whole found.0 (now.0 ++ text) c.in-Some.succeeded) now.1
                 found.1,
             Appends-trans _ _ _ now.0 text now.3
                 (subst (λ (t : List ℕ). Appends (g.W.Write.contents c.loop-piece.out.writer)

@@ -13,16 +13,16 @@ finish-verdict-requires c = record {
 }
 
 pub returns-in_ok-found-in-Some-clause-found : goal.returns-in_ok-found-in-Some-clause-found
-returns-in_ok-found-in-Some-clause-found c = λ fares good text written has.
+returns-in_ok-found-in-Some-clause-found c = λ fares valid text written has.
     let known = rw c.in-Some.is at has in
     let is = subst (λ (t : List ℕ). IsVerdict fares t c.in-Some.verdict) (append-nil text)
     (known.0 []) in
-    let found = c.in_ok-found-in-Some.ensures.found fares text good is
+    let found = c.in_ok-found-in-Some.ensures.found fares text valid is
     (λ legal. absurd (true≢false (sym legal ∙ known.1))) in (
       found.0,
       found.1,
       subst (λ (w : List ℕ). IsFinding c.args.live fares text
-          (if c.args.strikes then Some good else None) (w ++ found.0)
+          (if c.args.subtracts then Some valid else None) (w ++ found.0)
           c.in_ok-found-in-Some.found.is_sound) (sym known.2) found.2,
       subst (λ (b : Bool). (b ≡ true) ↔ IsLedger fares text)
           (sym c.in_ok-found-in-Some.ensures.legal)
@@ -34,15 +34,15 @@ returns-in_ok-found-in-Some-clause-decided c = λ some given.
     c.in_ok-found-in-Some.ensures.legal ∙ (rw c.in-Some.is at given.4).1
 
 pub returns-in_ok-found-in-None-clause-found : goal.returns-in_ok-found-in-None-clause-found
-returns-in_ok-found-in-None-clause-found c = λ fares good text written has.
+returns-in_ok-found-in-None-clause-found c = λ fares valid text written has.
     let known = rw c.in-None.is at has in
     let is = c.finish-verdict.ensures.verdict fares text known.0.fed in
-    let found = c.in_ok-found-in-None.ensures.found fares text good is
-    (λ legal. c.finish-verdict.ensures.struck fares text c.args.balance.now good known.0 legal) in (
+    let found = c.in_ok-found-in-None.ensures.found fares text valid is
+    (λ legal. c.finish-verdict.ensures.subtracted fares text c.args.balance.now valid known.0 legal) in (
       found.0,
       found.1,
       subst (λ (w : List ℕ). IsFinding c.args.live fares text
-          (if c.args.strikes then Some good else None) (w ++ found.0)
+          (if c.args.subtracts then Some valid else None) (w ++ found.0)
           c.in_ok-found-in-None.found.is_sound) (sym known.1) found.2,
       subst (λ (b : Bool). (b ≡ true) ↔ IsLedger fares text)
           (sym c.in_ok-found-in-None.ensures.legal)

@@ -2,14 +2,14 @@ use Rattle.std.proofs.Common.{◌≡◌, ◌∙◌, ◌++◌, ℕ, Bool, List, a
 use Rattle.std.proofs.Common.{sym, true, nat_eq}
 use Rattle.std.specs.Prelude.{◌&&◌, ◌||◌, ◌↔◌}
 use Rattle.ledger_check.specs.Ledger.{IsLedger}
-use Rattle.ledger_check.specs.Recounts.{taps_from, wrong_count}
-use Rattle.omny_audit.proofs.FullFindingLemmas.{recount_legal}
+use Rattle.ledger_check.specs.FullChecks.{taps_from, wrong_count}
+use Rattle.omny_audit.proofs.FullFindingLemmas.{full_check_legal}
 use Rattle.omny_audit.proofs.check.full_finding.Goals as goal
 
 pub returns : goal.returns
-returns c = λ fares good text written has.
-    let recounted = c.in_ok-recounted.recounted in
-    let ended = c.in_ok-recounted.ensures fares c.args.strikes c.args.full.now text written good
+returns c = λ fares valid text written has.
+    let fully_checked = c.in_ok-fully_checked.fully_checked in
+    let ended = c.in_ok-fully_checked.ensures fares c.args.subtracts c.args.full.now text written valid
     has in
     let taken = ended.0 in
     let legal = nat_eq (wrong_count taken) 0 in
@@ -20,12 +20,12 @@ returns c = λ fares good text written has.
           ∙ append_assoc (string_bytes c.args.reported.now) ended.5 lacking.0,
       record {
         taken = taken;
-        recount = ended.1;
+        full_check = ended.1;
         rest = lacking.0;
         shown = sym (append_assoc written ended.5 lacking.0)
             ∙ ap (λ (t : List ℕ). t ++ lacking.0) ended.7;
         even = legal && even;
-        second = lacking.2 good (taps_from taken) legal ended.4;
+        second = lacking.2 valid (taps_from taken) legal ended.4;
         both = c.are_both.ensures
             ∙ ap (λ (b : Bool). b && c.is_either-in_order.result)
             (c.are_both-is_right.ensures ∙ ap (λ (b : Bool). b && even) ended.2)
@@ -33,5 +33,5 @@ returns c = λ fares good text written has.
             (c.is_either-in_order.ensures ∙ ap (λ (b : Bool). c.args.live || b) ended.3);
       },
       subst (λ (b : Bool). (b ≡ true) ↔ IsLedger fares text) (sym ended.2)
-          (recount_legal c.recounts_decide.ensures fares text taken ended.1),
+          (full_check_legal c.full_checks_decide.ensures fares text taken ended.1),
     )

@@ -4,7 +4,7 @@ use Rattle.omny_audit.proofs.ProgramLemmas.{each_push, ends_push, posted_push}
 use Rattle.omny_audit.proofs.program.add_upload.Goals as goal
 
 pub returns : goal.returns
-returns c = λ files good lists are.
+returns c = λ files valid lists are.
     let upload = c.args.upload.now in
     let added = c.in_ok-add_upload.ensures in
     let placed = c.in_ok-add_upload-2.ensures in
@@ -13,10 +13,10 @@ returns c = λ files good lists are.
       added.0,
       placed.0,
       record {
-        are_good = posted_push files good upload added.0 are.are_good added.1;
-        balance = added.2 good are.balance;
+        are_valid = posted_push files valid upload added.0 are.are_valid added.1;
+        balance = added.2 valid are.balance;
         are_lists = each_push files lists upload placed.0 are.are_lists placed.1;
-        places = placed.2 lists are.places;
+        positions = placed.2 lists are.positions;
         ends = subst (ArePlainEnds (files ++ upload ∷ [])) (sym c.in_ok-push.ensures.items)
             (ends_push files c.args.uploads.now.ends.items upload c.by_fault.result are.ends
             (record {

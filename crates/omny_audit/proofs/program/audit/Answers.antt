@@ -1,6 +1,6 @@
 use Rattle.std.proofs.Common.{◌∙◌, ℕ, Bor, List, None, Option, Some, [], ap, if◌then◌else◌}
 use Rattle.std.proofs.Common.{map, not, option_map, subst}
-use Rattle.ledger_check.specs.Places.{uploads_of}
+use Rattle.ledger_check.specs.Positions.{uploads_of}
 use Rattle.tap_views.specs.declared.encoder.TapFields.{TapFields}
 use Rattle.tap_views.specs.declared.upload_end.UploadEnd.{UploadEnd}
 use Rattle.omny_audit.specs.Options.{files_of, ledger_name, named_file}
@@ -10,10 +10,10 @@ use Rattle.omny_audit.specs.Reports.{Given}
 use Rattle.omny_audit.specs.declared.fault.Fault.TheVariants.{File}
 use Rattle.omny_audit.specs.inside.Audits.{EndsAs}
 use Rattle.omny_audit.specs.inside.Fault.{IsLoadFault}
-use Rattle.omny_audit.specs.inside.Options.{audit_asked_of}
+use Rattle.omny_audit.specs.inside.Options.{audit_request_of}
 use Rattle.omny_audit.specs.inside.Reports.{text_of}
 use Rattle.omny_audit.specs.inside.Traced.{uploads_in, wanted_by}
-use Rattle.omny_audit.proofs.Causes.{among_ledgers, among_reports, among_uploads, begun_none}
+use Rattle.omny_audit.proofs.Causes.{among_ledgers, among_reports, among_uploads, started_none}
 use Rattle.omny_audit.proofs.Causes.{class_cause, ends_audit, file_fault, load_cause, stream_cause}
 use Rattle.omny_audit.proofs.Causes.{tables_cause}
 use Rattle.omny_audit.proofs.ProgramLemmas.{compared_is, given_is, kept_as, loads_same, named_none}
@@ -23,77 +23,77 @@ use Rattle.omny_audit.proofs.program.audit.Goals as goal
 pub returns-in-Err : goal.returns-in-Err
 returns-in-Err g c = record {
   is_cause = rw c.of_tables.ensures
-      (tables_cause (audit_asked_of c.args.options.now) (g.S.FileSource.loaded c.args.source.now) (g.S.FileSource.loaded c.load_tables.new.source)
+      (tables_cause (audit_request_of c.args.options.now) (g.S.FileSource.loaded c.args.source.now) (g.S.FileSource.loaded c.load_tables.new.source)
       (g.S.FileSource.refused c.load_tables.new.source) c.args.out.now.end
       c.in-Err.fault c.in-Err.ensures.right);
-  begun = begun_none _ _;
+  started = started_none _ _;
 }
 
 pub returns-in_default : goal.returns-in_default
-returns-in_default g c = record { is_cause = tt; begun = begun_none _ _ }
+returns-in_default g c = record { is_cause = tt; started = started_none _ _ }
 
 pub returns-in-Err-load_uploads : goal.returns-in-Err-load_uploads
 returns-in-Err-load_uploads g c =
-    let asked = audit_asked_of c.args.options.now in record {
-      is_cause = load_cause asked (g.S.FileSource.loaded c.args.source.now) (g.S.FileSource.loaded c.load_uploads.new.source)
+    let request = audit_request_of c.args.options.now in record {
+      is_cause = load_cause request (g.S.FileSource.loaded c.args.source.now) (g.S.FileSource.loaded c.load_uploads.new.source)
           (g.S.FileSource.refused c.load_uploads.new.source) c.args.out.now.end
-          asked.uploads c.in-Err-load_uploads.fault
-          (among_uploads asked)
+          request.uploads c.in-Err-load_uploads.fault
+          (among_uploads request)
           (subst (λ (ns : List (Bor (List ℕ))). IsLoadFault (map (λ n. n.now) ns)
           (g.S.FileSource.loaded c.load_uploads.new.source)
           (g.S.FileSource.refused c.load_uploads.new.source) c.in-Err-load_uploads.fault) c.as_slice-names.ensures.value
           c.in-Err-load_uploads.ensures.fault);
-      begun = begun_none _ _;
+      started = started_none _ _;
     }
 
 pub returns-in-Err-load_report : goal.returns-in-Err-load_report
 returns-in-Err-load_report g c =
-    let asked = audit_asked_of c.args.options.now in record {
-      is_cause = load_cause asked (g.S.FileSource.loaded c.args.source.now) (g.S.FileSource.loaded c.load_report.new.source)
+    let request = audit_request_of c.args.options.now in record {
+      is_cause = load_cause request (g.S.FileSource.loaded c.args.source.now) (g.S.FileSource.loaded c.load_report.new.source)
           (g.S.FileSource.refused c.load_report.new.source) c.args.out.now.end
-          (named_file asked.report) c.in-Err-load_report.fault
-          (among_reports asked) c.in-Err-load_report.ensures.fault;
-      begun = begun_none _ _;
+          (named_file request.report) c.in-Err-load_report.fault
+          (among_reports request) c.in-Err-load_report.ensures.fault;
+      started = started_none _ _;
     }
 
 pub returns-in-Err-open_ledger : goal.returns-in-Err-open_ledger
 returns-in-Err-open_ledger g c =
-    let asked = audit_asked_of c.args.options.now in record {
-      is_cause = load_cause asked (g.S.FileSource.loaded c.args.source.now) (g.S.FileSource.loaded c.open_ledger.new.source)
+    let request = audit_request_of c.args.options.now in record {
+      is_cause = load_cause request (g.S.FileSource.loaded c.args.source.now) (g.S.FileSource.loaded c.open_ledger.new.source)
           (g.S.FileSource.refused c.open_ledger.new.source) c.args.out.now.end
-          (files_of asked) (File c.in-Err-open_ledger.file) (λ name is. is)
-          (file_fault (g.S.FileSource.refused c.open_ledger.new.source) (ledger_name asked)
-          c.in-Err-open_ledger.file (files_of asked)
+          (files_of request) (File c.in-Err-open_ledger.file) (λ name is. is)
+          (file_fault (g.S.FileSource.refused c.open_ledger.new.source) (ledger_name request)
+          c.in-Err-open_ledger.file (files_of request)
           (g.S.FileSource.loaded c.open_ledger.new.source)
-          c.in-Err-open_ledger.ensures.fault (among_ledgers asked));
-      begun = begun_none _ _;
+          c.in-Err-open_ledger.ensures.fault (among_ledgers request));
+      started = started_none _ _;
     }
 
 pub returns-in-Err-read_head : goal.returns-in-Err-read_head
 returns-in-Err-read_head g c = record {
-  is_cause = stream_cause (audit_asked_of c.args.options.now) (g.S.FileSource.loaded c.args.source.now) (g.S.FileSource.loaded c.read_head.new.source)
+  is_cause = stream_cause (audit_request_of c.args.options.now) (g.S.FileSource.loaded c.args.source.now) (g.S.FileSource.loaded c.read_head.new.source)
       (g.S.FileSource.refused c.read_head.new.source) c.args.out.now.end
       c.in-Err-read_head.fault
       (c.in-Err-read_head.ensures.fault _);
-  begun = begun_none _ _;
+  started = started_none _ _;
 }
 
 pub returns-in-Err-trace_of : goal.returns-in-Err-trace_of
 returns-in-Err-trace_of g c = record {
-  is_cause = class_cause (audit_asked_of c.args.options.now) (g.S.FileSource.loaded c.args.source.now) (g.S.FileSource.loaded c.read_head.new.source)
+  is_cause = class_cause (audit_request_of c.args.options.now) (g.S.FileSource.loaded c.args.source.now) (g.S.FileSource.loaded c.read_head.new.source)
       (g.S.FileSource.refused c.read_head.new.source) c.args.out.now.end
       (g.S.FileSource.loaded c.load_tables.new.source)
       (map (λ t. t.items) c.in-Ok.tables.texts.items) c.in-Ok.tables.fares
       c.in-Err-trace_of.fault c.in-Ok.ensures.ok c.in-Err-trace_of.ensures.fault;
-  begun = begun_none _ _;
+  started = started_none _ _;
 }
 
-pub trace_of-requires-clause-places : goal.trace_of-requires-clause-places
-trace_of-requires-clause-places g c =
+pub trace_of-requires-clause-positions : goal.trace_of-requires-clause-positions
+trace_of-requires-clause-positions g c =
     let are = c.in-Ok-load_uploads.ensures.ok.4 in
     rw c.kept_if-kept.ensures
-    (named_none (not c.is_empty-has_uploads.result) c.in-Ok-load_uploads.uploads.places
-    c.in-Ok-load_uploads.ensures.ok.2 are.places)
+    (named_none (not c.is_empty-has_uploads.result) c.in-Ok-load_uploads.uploads.positions
+    c.in-Ok-load_uploads.ensures.ok.2 are.positions)
 
 pub audit_over-requires : goal.audit_over-requires
 audit_over-requires g c =
@@ -114,7 +114,7 @@ audit_over-requires g c =
 pub returns : goal.returns
 returns g c =
     let options = c.args.options.now in
-    let asked = audit_asked_of options in
+    let request = audit_request_of options in
     let tables = c.in-Ok.tables in
     let loaded = c.in-Ok-load_uploads.ensures.ok in
     let has = not c.is_empty-has_uploads.result in
@@ -123,19 +123,19 @@ returns g c =
     let texts = map (λ t. t.items) tables.texts.items in
     let audited = c.audit_over.ensures.ends in
     let lists = ap uploads_in c.kept_if-kept.ensures
-    ∙ kept_as uploads_of has c.in-Ok-load_uploads.uploads.places
-    ∙ ap (λ (l : List (List TapFields)). if has then Some l else None) loaded.4.places.taps
+    ∙ kept_as uploads_of has c.in-Ok-load_uploads.uploads.positions
+    ∙ ap (λ (l : List (List TapFields)). if has then Some l else None) loaded.4.positions.taps
     ∙ compared_is c.as_slice-names.result.now loaded.2 has named
     ∙ ap (λ (ns : List (Bor (List ℕ))). compared (map (λ n. n.now) ns) loaded.2) names in
-    let reads = reads_ledger _ _ _ _ _ _ c.in-Ok-read_head.head.items c.as_slice-begun.result.now
+    let reads = reads_ledger _ _ _ _ _ _ c.in-Ok-read_head.head.items c.as_slice-started.result.now
     tables.fares texts audited.0 (uploads_in c.kept_if-kept.result)
-    (compared asked.uploads loaded.2) (wanted_by c.in-Ok-trace_of.trace)
+    (compared request.uploads loaded.2) (wanted_by c.in-Ok-trace_of.trace)
     c.in-Ok-open_ledger.ensures.ok
     (c.audit_over.ensures.loaded ∙ c.read_head.ensures.loaded)
-    c.in-Ok-read_head.ensures.read c.in-Ok-read_head.ensures.enough c.as_slice-begun.ensures.value
+    c.in-Ok-read_head.ensures.read c.in-Ok-read_head.ensures.enough c.as_slice-started.ensures.value
     lists audited.1 c.in-Ok-trace_of.ensures.wanted in
     let ends = c.in-Ok-load_uploads.uploads.ends.items in
-    let files : HasLoaded asked (g.S.FileSource.loaded c.args.source.now)
+    let files : HasLoaded request (g.S.FileSource.loaded c.args.source.now)
     (g.S.FileSource.loaded c.audit_over.new.source) = record {
       after_table = g.S.FileSource.loaded c.load_tables.new.source;
       after_uploads = g.S.FileSource.loaded c.load_uploads.new.source;
@@ -146,8 +146,8 @@ returns g c =
       uploads = loaded.0;
       loads_uploads = loads_same c.as_slice-names.result.now options.uploads.items _ _ loaded.0 names
           loaded.3;
-      good = loaded.1;
-      are_good = loaded.4.are_good;
+      valid = loaded.1;
+      are_valid = loaded.4.are_valid;
       lists = loaded.2;
       are_lists = loaded.4.are_lists;
       report = text_of c.in-Ok-load_report.report;
@@ -161,7 +161,7 @@ returns g c =
       wanted = wanted_by c.in-Ok-trace_of.trace;
       are_wanted = reads.are_wanted;
     } in
-    let good = compared_is c.as_slice-names.result.now loaded.1 has named
+    let valid = compared_is c.as_slice-names.result.now loaded.1 has named
     ∙ ap (λ (ns : List (Bor (List ℕ))). compared (map (λ n. n.now) ns) loaded.1) names in
     let known = ap (λ (e : Option (Bor (List UploadEnd))). option_map (λ e. e.now) e)
     c.kept_if.ensures
@@ -177,11 +177,11 @@ returns g c =
       out = g.W.Write.contents c.args.out.now.writer;
       out' = g.W.Write.contents c.audit_over.new.out.writer;
     } in
-    ends_audit asked run c.audit_over.result c.audits_decide.ensures files
-    (subst (λ (x : Given). EndsAs x audited.0 run.refused asked.ledger run.ended run.out run.out'
+    ends_audit request run c.audit_over.result c.audits_decide.ensures files
+    (subst (λ (x : Given). EndsAs x audited.0 run.refused request.ledger run.ended run.out run.out'
     c.audit_over.result)
-    (given_is _ options.all (compared asked.uploads loaded.1) (compared asked.uploads ends)
-    c.new.ensures.all good known)
+    (given_is _ options.all (compared request.uploads loaded.1) (compared request.uploads ends)
+    c.new.ensures.all valid known)
     (audited.2 loaded.1 (record {
       text = [];
       as_text = c.in-Ok-trace_of.ensures.read;

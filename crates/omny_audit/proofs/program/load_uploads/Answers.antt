@@ -23,10 +23,10 @@ loop-name-init g c = (
     is_loaded = reports_none (g.S.FileSource.loaded c.args.source.now);
   },
   record {
-    are_good = refl;
+    are_valid = refl;
     balance = c.new.ensures;
     are_lists = refl;
-    places = c.new-2.ensures;
+    positions = c.new-2.ensures;
     ends = subst (ArePlainEnds []) (sym c.new-3.ensures.items) tt;
   },
 )

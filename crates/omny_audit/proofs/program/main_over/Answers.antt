@@ -9,9 +9,9 @@ use Rattle.clap.specs.declared.error.kind.ErrorKind.TheVariants.{DisplayHelp, Di
 use Rattle.program_manners.proofs.Refusals.{only_memory}
 use Rattle.program_manners.specs.Words.{IsRequest}
 use Rattle.omny_audit.specs.Ends.{EndsAnswer, Run, Said}
-use Rattle.omny_audit.specs.Options.{AuditAsked, audit_asked_by}
+use Rattle.omny_audit.specs.Options.{AuditRequest, audit_request_by}
 use Rattle.omny_audit.specs.declared.fault.Fault.TheVariants.{NoMemory}
-use Rattle.omny_audit.specs.inside.Options.{audit_asked_of}
+use Rattle.omny_audit.specs.inside.Options.{audit_request_of}
 use Rattle.omny_audit.proofs.Causes.{answer_cause}
 use Rattle.omny_audit.proofs.program.main_over.Goals as goal
 
@@ -25,7 +25,7 @@ returns-in-Err-clause-ends g c = λ parses dated.
       NoMemory,
       record {
         is_cause = tt;
-        begun = record {
+        started = record {
           front = [];
           grown = Appends-kept (g.W.Write.contents c.args.out.now.writer)
               (g.W.Write.contents c.args.out.now.writer) (g.W.Write.contents c.show.new.out.writer) []
@@ -39,36 +39,36 @@ returns-in-Err-clause-ends g c = λ parses dated.
 
 pub returns-clause-ends : goal.returns-clause-ends
 returns-clause-ends g c = λ parses dated.
-    rw (sym c.in-Ok.ensures.asked)
-    (c.end_run.ensures.ends (audit_asked_of c.in-Ok.options)
+    rw (sym c.in-Ok.ensures.request)
+    (c.end_run.ensures.ends (audit_request_of c.in-Ok.options)
     (g.S.FileSource.loaded c.args.source.now) (g.S.FileSource.loaded c.audit-ended.new.source)
     (g.S.FileSource.refused c.audit-ended.new.source) (g.W.Write.contents c.args.out.now.writer)
     c.audit-ended.ensures)
 
 -- help or the version is asked for
-asked_for : (kinds : Kinds) (e : Error) → HasKind kinds e → IsRequest (kind_of e)
+requested_of : (kinds : Kinds) (e : Error) → HasKind kinds e → IsRequest (kind_of e)
     → IsAmong DisplayHelp kinds ⊎ IsAmong DisplayVersion kinds
-asked_for kinds e has (inl help) = elim has [
+requested_of kinds e has (inl help) = elim has [
   | inl memory ↦ absurd (cc)
   | inr among ↦ inl (subst (λ (k : ErrorKind). IsAmong k kinds) help among)
 ]
-asked_for kinds e has (inr version) = elim has [
+requested_of kinds e has (inr version) = elim has [
   | inl memory ↦ absurd (cc)
   | inr among ↦ inr (subst (λ (k : ErrorKind). IsAmong k kinds) version among)
 ]
 
-answer_is : (words : List Text) (asked : AuditAsked) (run : Run) (said : Said) (n : ℕ) → n ≤ 2
-    → (n ≡ 0 → EndsAnswer words asked run said 0) → (n ≡ 1 → EndsAnswer words asked run said 1)
-    → (n ≡ 2 → EndsAnswer words asked run said 2) → EndsAnswer words asked run said n
-answer_is words asked run said zero few none one two = none refl
-answer_is words asked run said (suc zero) few none one two = one refl
-answer_is words asked run said (suc (suc zero)) few none one two = two refl
-answer_is words asked run said (suc (suc (suc n))) few none one two = absurd (omega (arith, few))
+answer_is : (words : List Text) (request : AuditRequest) (run : Run) (said : Said) (n : ℕ) → n ≤ 2
+    → (n ≡ 0 → EndsAnswer words request run said 0) → (n ≡ 1 → EndsAnswer words request run said 1)
+    → (n ≡ 2 → EndsAnswer words request run said 2) → EndsAnswer words request run said n
+answer_is words request run said zero few none one two = none refl
+answer_is words request run said (suc zero) few none one two = one refl
+answer_is words request run said (suc (suc zero)) few none one two = two refl
+answer_is words request run said (suc (suc (suc n))) few none one two = absurd (omega (arith, few))
 
 pub returns-in-Err-clause-answers : goal.returns-in-Err-clause-answers
 returns-in-Err-clause-answers g c = λ unread.
     answer_is (map string_bytes c.args.words.now)
-    (audit_asked_by (map string_bytes c.args.words.now)) (record {
+    (audit_request_by (map string_bytes c.args.words.now)) (record {
       loaded = g.S.FileSource.loaded c.args.source.now;
       loaded' = g.S.FileSource.loaded c.args.source.now;
       refused = g.S.FileSource.refused c.args.source.now;
@@ -82,18 +82,18 @@ returns-in-Err-clause-answers g c = λ unread.
       flushed = c.show.new.out.is_flushed;
     }) c.show.result c.show.ensures.status
     (λ none. (
-      asked_for _ c.in-Err.error c.in-Err.ensures.kinds (c.show.ensures.help none).0,
+      requested_of _ c.in-Err.error c.in-Err.ensures.kinds (c.show.ensures.help none).0,
       ap (λ e. g.E.Write.contents e.writer) (c.show.ensures.help none).1,
     ))
     (λ one.
     let failed = c.show.ensures.fault one in (
       failed.0,
-      answer_cause (audit_asked_by (map string_bytes c.args.words.now)) (g.S.FileSource.loaded c.args.source.now)
+      answer_cause (audit_request_by (map string_bytes c.args.words.now)) (g.S.FileSource.loaded c.args.source.now)
           (g.S.FileSource.loaded c.args.source.now) (g.S.FileSource.refused c.args.source.now)
           c.show.new.out.end failed.0 failed.1,
       failed.2,
     ))
-    (λ two. (c.show.ensures.mistake two).1)
+    (λ two. (c.show.ensures.usage_error two).1)
 
 pub returns-in-Err-clause-dated : goal.returns-in-Err-clause-dated
 returns-in-Err-clause-dated g c = λ parses dated none.
@@ -104,14 +104,14 @@ returns-in-Err-clause-dated g c = λ parses dated none.
     apart : ◌≡◌ {A = ℕ} 0 1 → ⊥
     apart is = omega (arith, is)
 
-pub returns-in-Err-clause-mistaken : goal.returns-in-Err-clause-mistaken
-returns-in-Err-clause-mistaken g c = λ two. (
+pub returns-in-Err-clause-misused : goal.returns-in-Err-clause-misused
+returns-in-Err-clause-misused g c = λ two. (
   inl (λ parses.
       let refused = c.show.ensures.memory
       (only_memory _ c.in-Err.error parses c.in-Err.ensures.kinds) in
       absurd (apart (sym two ∙ refused.0))),
   refl,
-  (c.show.ensures.mistake two).1,
+  (c.show.ensures.usage_error two).1,
 )
   where
     apart : ◌≡◌ {A = ℕ} 2 1 → ⊥

@@ -20,14 +20,14 @@ pub returns-in-Name-3 : goal.returns-in-Name-3
 returns-in-Name-3 c =
     let first = c.args.words.now.first.now in
     let words = c.args.words.now.later.items in
-    let place = c.args.wrong.place in
+    let position = c.args.wrong.position in
     let counted = length-map words (λ (w : Bor (List ℕ)). w.now) in
-    let within : place - 1 < length words =
+    let within : position - 1 < length words =
     omega (arith, counted, c.requires, c.if-wrong-eq0.false) in (
       c.in-Name-3.is,
       subst (λ (n : List ℕ). Contains (first ∷ map file_named (map (λ w. w.now) words)) n)
           (sym (c.of.ensures.name
           ∙ ap (λ (w : Bor (List ℕ)). file_named w.now) c.index-word.ensures))
           (one_of _ (first ∷ map file_named (map (λ w. w.now) words))
-          (file_at first words (place - 1) c.index-word.result.now within)),
+          (file_at first words (position - 1) c.index-word.result.now within)),
     )

@@ -25,9 +25,9 @@ of_texts-requires c =
 pub of_names-requires : goal.of_names-requires
 of_names-requires c =
     let counted = tables_counted (names_of c.args.words.now) _ _ _ _ c.requires.loaded.2 in
-    let lent = c.deref.result.now in
-    let within = slice_get_within _ c.in-Err.wrong.place _ c.in-Err.ensures.fault.stands in
-    let one = length-map lent (λ (t : Vec ℕ Global). t.items) in
+    let provided = c.deref.result.now in
+    let within = slice_get_within _ c.in-Err.wrong.position _ c.in-Err.ensures.fault.holds in
+    let one = length-map provided (λ (t : Vec ℕ Global). t.items) in
     let two = length-map c.args.tables.now.texts.items (λ (t : Vec ℕ Global). t.items) in
     let same = ap (λ (ts : List (Vec ℕ Global)). length ts) c.deref.ensures.value in
     omega (arith, within, one, two, same, counted.1)
@@ -37,7 +37,7 @@ returns-in-Ok-clause-wanted c =
     let traced : has_traced_head c.args.head.now ≡ true =
     sym c.has_traced_head.ensures ∙ (first_of (cc, search (rules, tests))) in
     let named = c.in-Ok.ensures.classes in
-    let uploads = uploads_in c.args.places in
+    let uploads = uploads_in c.args.positions in
     let fares = c.args.tables.now.fares in
     let texts = map (λ t. t.items) c.args.tables.now.texts.items in
     subst (λ (b : Bool). AreWanted fares texts b uploads (Some (wanted_of c.new.result.so_far)))

@@ -1,5 +1,5 @@
 use Rattle.std.proofs.Common.{◌≡◌, None, Some, map, string_bytes}
-use Rattle.fare_program.specs.Options.{asked_by}
+use Rattle.fare_program.specs.Options.{request_by}
 use Rattle.fare_program.specs.Runs.{IsRun}
 use Rattle.program_manners.specs.Refusals.{refusal_of}
 use Rattle.world.specs.Origins.{file}
@@ -20,11 +20,11 @@ returns-clause-run g c =
     c.run_beside_line.ensures
 
 pub returns-clause-charged : goal.returns-clause-charged
-returns-clause-charged g c parses well names =
-    charges_named (asked_by (map string_bytes c.args.words.now))
+returns-clause-charged g c parses success names =
+    charges_named (request_by (map string_bytes c.args.words.now))
     c.run_beside_line.new.source.from.loads.trace.run.loads
     (Some c.run_beside_line.new.out.writer.to.trace.run.written) names
-    ((returns-clause-run g c).done parses well)
+    ((returns-clause-run g c).done parses success)
 
 pub returns-clause-refused : goal.returns-clause-refused
 returns-clause-refused g c = c.run_beside_line.new.source.from.loads.shown

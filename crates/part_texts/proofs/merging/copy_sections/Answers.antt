@@ -9,7 +9,7 @@ loop-part-init g c = record {
   may = tt;
   ends = tt;
   all = c.into_iter-part-iterator.ensures.into_iter_gives.0;
-  place = refl;
+  position = refl;
   copies = copies_none g.R.Read.remaining c.args.opens.items _ (g.W.Write.contents c.args.out.now)
       c.into_iter-part-iterator.ensures.into_iter_gives.0;
 }
@@ -17,7 +17,7 @@ loop-part-init g c = record {
 pub returns-in_err-last : goal.returns-in_err-last
 returns-in_err-last g c =
     let p = err_from_is_err_and c.from_residual.result c.from_residual.ensures.1 in
-    rw (p.1, p.2) (copies_fault g.R.Read.remaining c.args.opens.items c.loop-part.place
+    rw (p.1, p.2) (copies_fault g.R.Read.remaining c.args.opens.items c.loop-part.position
     c.loop-part.last c.loop-part.part-iterator.rest.items c.next.new.self.rest.items c.in-Some.part
     (g.W.Write.contents c.args.out.now) (g.W.Write.contents c.loop-part.out)
     (g.W.Write.contents c.copy_section.new.out) c.in_err-last.field-0.0
@@ -29,18 +29,18 @@ loop-part-preserved g c =
     let whole : length c.loop-part.yielded + length c.loop-part.part-iterator.rest.items ≡ length c.args.opens.items =
     sym (length-append c.loop-part.yielded c.loop-part.part-iterator.rest.items) ∙ ap length c.loop-part.invariant.all in
     let one : length c.loop-part.part-iterator.rest.items ≡ 1 + length c.next.new.self.rest.items = ap length split ∙ omega arith in
-    let next : c.saturating_add-place.result ≡ c.loop-part.place + 1 =
-    omega (arith, whole, one, c.args.opens.ok.0, c.args.opens.small, c.loop-part.invariant.place, c.saturating_add-place.ensures) in
+    let next : c.saturating_add-position.result ≡ c.loop-part.position + 1 =
+    omega (arith, whole, one, c.args.opens.ok.0, c.args.opens.small, c.loop-part.invariant.position, c.saturating_add-position.ensures) in
     record {
       may = tt;
       ends = tt;
       all = append_assoc c.loop-part.yielded (c.in-Some.part ∷ []) c.next.new.self.rest.items
           ∙ ap (λ left. c.loop-part.yielded ++ left) (sym split) ∙ c.loop-part.invariant.all;
-      place = next ∙ omega (arith, c.loop-part.invariant.place, length-append c.loop-part.yielded (c.in-Some.part ∷ []));
-      copies = subst (λ place. CopiesAt g.R.Read.remaining c.args.opens.items place
+      position = next ∙ omega (arith, c.loop-part.invariant.position, length-append c.loop-part.yielded (c.in-Some.part ∷ []));
+      copies = subst (λ position. CopiesAt g.R.Read.remaining c.args.opens.items position
           c.in_ok-last.last c.next.new.self.rest.items (g.W.Write.contents c.args.out.now)
           (g.W.Write.contents c.copy_section.new.out)) (sym next)
-          (copies_more g.R.Read.remaining c.args.opens.items c.loop-part.place c.loop-part.last
+          (copies_more g.R.Read.remaining c.args.opens.items c.loop-part.position c.loop-part.last
           c.in_ok-last.last c.loop-part.part-iterator.rest.items c.next.new.self.rest.items
           c.in-Some.part (g.W.Write.contents c.args.out.now) (g.W.Write.contents c.loop-part.out)
           (g.W.Write.contents c.copy_section.new.out) split c.loop-part.invariant.copies
@@ -51,7 +51,7 @@ pub returns : goal.returns
 returns g c =
     let none : length c.loop-part.part-iterator.rest.items ≡ 0 =
     omega (arith, c.loop-part.part-iterator.rest.ok.0, c.in-None.ensures.steps.0) in
-    copies_all g.R.Read.remaining c.args.opens.items c.loop-part.place c.loop-part.last
+    copies_all g.R.Read.remaining c.args.opens.items c.loop-part.position c.loop-part.last
     c.loop-part.part-iterator.rest.items (g.W.Write.contents c.args.out.now)
     (g.W.Write.contents c.loop-part.out)
     (nil_from_length c.loop-part.part-iterator.rest.items none) c.loop-part.invariant.copies

@@ -7,7 +7,7 @@ invariant-loop-part g l = record {
   may : (goal.iterator-loop-part g).can_next l.part-iterator;
   ends : (goal.iterator-loop-part g).is_finite l.part-iterator;
   all : l.yielded ++ l.part-iterator.rest.items ≡ l.fn.opens.items;
-  place : l.place ≡ length l.yielded;
-  copies : CopiesAt g.R.Read.remaining l.fn.opens.items l.place l.last l.part-iterator.rest.items
+  position : l.position ≡ length l.yielded;
+  copies : CopiesAt g.R.Read.remaining l.fn.opens.items l.position l.last l.part-iterator.rest.items
       (g.W.Write.contents l.fn.out) (g.W.Write.contents l.out);
 }

@@ -27,4 +27,4 @@ returns-in-Err g c = λ views are.
     let front : c.in_ok-text.text.items ≡ whole_front (fronts_view c.args.fronts) = c.in_ok-text.ensures in
     whole_unwritten (fronts_view c.args.fronts) views (g.W.Write.contents c.args.out.now)
     (g.W.Write.contents c.write_out.new.out) c.deref.result.now (c.deref.ensures.value ∙ front)
-    c.in-Err.ensures.begun
+    c.in-Err.ensures.started

@@ -2,7 +2,7 @@ use Rattle.std.proofs.Common.{◌≡◌, Bool, List, ℕ, Ok, Err, false, refl, 
 use Rattle.std.specs.Io.KnownBytes.{Appends}
 use Rattle.std.proofs.KnownBytes.{Appends-nil}
 use Rattle.line_folds.specs.Folds.{AppendsPrefix, line_text}
-use Rattle.line_folds.proofs.Runs.{at_broken, at_more, at_wrong, stops_in, written_in}
+use Rattle.line_folds.proofs.Runs.{at_interrupted, at_more, at_wrong, stops_in, written_in}
 use Rattle.part_texts.specs.Sections.{SectionView, section_step}
 use Rattle.part_texts.specs.inside.Sections.{section_view}
 use Rattle.report_texts.specs.declared.wrong.Wrong.TheVariants.{Form}
@@ -61,8 +61,8 @@ returns-in-Err-write_out-clause-written g c =
     c.in-Ok.ensures in
     let some : AppendsPrefix old new items =
     subst (AppendsPrefix old new) c.deref-in-loop-number.ensures.value
-    (begins_prefix old new c.deref-in-loop-number.result.now c.in-Err-write_out.ensures.begun) in
-    at_broken never Form section_step itself c.args.first (section_view c.args.section.now)
+    (begins_prefix old new c.deref-in-loop-number.result.now c.in-Err-write_out.ensures.started) in
+    at_interrupted never Form section_step itself c.args.first (section_view c.args.section.now)
     (g.R.Read.remaining c.args.from.now) c.loop-number.number now
     (g.R.Read.remaining c.loop-number.from) (g.W.Write.contents c.args.out.now) old new
     (g.R.Read.remaining c.next_line.new.from) items c.loop-number.invariant refl

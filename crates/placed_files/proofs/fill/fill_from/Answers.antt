@@ -1,6 +1,6 @@
 use Rattle.std.proofs.Common.{◌≡◌, ◌-◌, IfSome, length, subst, sym, arith, ◌∙◌}
 use borrow.Rule.Slice.PartMut.{put_mid}
-use Rattle.placed_files.specs.inside.Begun.{IsBegunFrom}
+use Rattle.placed_files.specs.inside.Started.{IsStartedFrom}
 use Rattle.placed_files.proofs.Filling.{kept, grown, long_put}
 use Rattle.placed_files.proofs.fill.fill_from.Goals.{in-Ok, in-Err}
 use Rattle.placed_files.proofs.fill.fill_from.Goals as goal
@@ -23,14 +23,14 @@ loop-preserved g c =
         | in-Err w ↦ let e = w.at-is in omega (arith, e, same, most)
       ];
       long = same ∙ c.loop.invariant.long;
-      begun = elim c.match-read_from.branch [
+      started = elim c.match-read_from.branch [
         | in-Ok w ↦ subst (λ n. IfSome (g.F.Placed.bytes c.args.file.now)
-            (λ all. IsBegunFrom all c.args.offset (put_mid at k buffer part) n)) (sym w.at-is)
+            (λ all. IsStartedFrom all c.args.offset (put_mid at k buffer part) n)) (sym w.at-is)
             (grown (g.F.Placed.bytes c.args.file.now) c.args.offset at k w.in-Ok.count buffer part
-            most w.in-Ok.ensures.bound.0 c.loop.invariant.begun w.in-Ok.ensures.bytes)
+            most w.in-Ok.ensures.bound.0 c.loop.invariant.started w.in-Ok.ensures.bytes)
         | in-Err w ↦ subst (λ n. IfSome (g.F.Placed.bytes c.args.file.now)
-            (λ all. IsBegunFrom all c.args.offset (put_mid at k buffer part) n)) (sym w.at-is)
+            (λ all. IsStartedFrom all c.args.offset (put_mid at k buffer part) n)) (sym w.at-is)
             (kept (g.F.Placed.bytes c.args.file.now) c.args.offset at k buffer part most
-            c.loop.invariant.begun)
+            c.loop.invariant.started)
       ];
     }

@@ -8,15 +8,15 @@ use Rattle.program_manners.proofs.file_list.names_of_list.Goals as goal
 
 -- a text is split at its first end of a name
 abbrev Split : List ℕ → List ℕ → List ℕ → ℕ → Type 0
-Split rest piece behind end =
-    Lacks end piece × ((rest ≡ piece ++ end ∷ behind) ⊎ ((rest ≡ piece) × (behind ≡ [])))
+Split rest piece trailing end =
+    Lacks end piece × ((rest ≡ piece ++ end ∷ trailing) ⊎ ((rest ≡ piece) × (trailing ≡ [])))
 
 pub returns-in-Err-clause-refused : goal.returns-in-Err-clause-refused
 returns-in-Err-clause-refused c =
     let rest = c.loop-rest.rest.now in
     let piece = c.split_name.result.0.now in
-    let behind = c.split_name.result.1.now in
-    let split = subst (Split rest piece behind) c.byte.ensures
+    let trailing = c.split_name.result.1.now in
+    let split = subst (Split rest piece trailing) c.byte.ensures
     (c.split_name.ensures.first, c.split_name.ensures.whole) in
     let counted : c.len.result + 1
     ≡ length (map (λ (n : Bor (List ℕ)). n.now) c.loop-rest.names.items) + 1 =
@@ -25,7 +25,7 @@ returns-in-Err-clause-refused c =
       c.len.ensures,
       length-map c.loop-rest.names.items (λ (n : Bor (List ℕ)). n.now),
     ) in
-    wrong_read _ c.args.text.now _ rest piece behind _ c.in-Err.wrong c.loop-rest.invariant
+    wrong_read _ c.args.text.now _ rest piece trailing _ c.in-Err.wrong c.loop-rest.invariant
     (some_left rest (sym c.is_empty-in-loop-rest.ensures ∙ c.loop-rest-test.true)) counted split.0
     c.in-Err.ensures.wrong split.1
 
@@ -33,9 +33,9 @@ pub loop-rest-preserved : goal.loop-rest-preserved
 loop-rest-preserved c =
     let rest = c.loop-rest.rest.now in
     let piece = c.split_name.result.0.now in
-    let behind = c.split_name.result.1.now in
+    let trailing = c.split_name.result.1.now in
     let now : Bor (List ℕ) → List ℕ = λ n. n.now in
-    let split = subst (Split rest piece behind) c.byte.ensures
+    let split = subst (Split rest piece trailing) c.byte.ensures
     (c.split_name.ensures.first, c.split_name.ensures.whole) in
     let is_name : IsListedName (end_byte c.args.end) piece = record {
       some = c.in-Ok.ensures.right.0;
@@ -48,6 +48,6 @@ loop-rest-preserved c =
     ∙ map-append now c.loop-rest.names.items (c.in-Ok.name ∷ [])
     ∙ ap (λ (n : List ℕ). map now c.loop-rest.names.items ++ n ∷ []) c.in-Ok.ensures.name in
     subst (λ (names : List (List ℕ)). AreReadFrom (end_byte c.args.end) c.args.text.now names
-    behind) (sym more)
-    (name_read _ c.args.text.now _ rest piece behind c.loop-rest.invariant
+    trailing) (sym more)
+    (name_read _ c.args.text.now _ rest piece trailing c.loop-rest.invariant
     (some_left rest (sym c.is_empty-in-loop-rest.ensures ∙ c.loop-rest-test.true)) is_name split.1)

@@ -3,7 +3,7 @@ use Rattle.std.proofs.Common.{◌≡◌, ◌∙◌, ◌==◌, Bor, List, ℕ, ap
 use Rattle.tap_views.proofs.Choices.{IfErr_handed_on}
 use Rattle.program_manners.specs.Refusals.{IsFirstTableFault}
 use Rattle.program_manners.specs.TableViews.{names_of}
-use Rattle.program_manners.specs.TablesFaults.{IsTablesFault, KeepsRefusals}
+use Rattle.program_manners.specs.TablesFaults.{IsTablesFault, SameRefusals}
 use Rattle.program_manners.specs.declared.table_loads.TablesFault.TheVariants.{File, NoMemory}
 use Rattle.program_manners.proofs.AnyWord.{any_word}
 use Rattle.program_manners.proofs.Refusals.{first_table_fault}
@@ -28,7 +28,7 @@ returns-clause-right g c =
 
 pub returns-clause-kept : goal.returns-clause-kept
 returns-clause-kept g c =
-    named_kept _ _ c.in_ok-text.ensures.well _ _ c.in-Err.fault c.of_table.result c.of_table.ensures
+    named_kept _ _ c.in_ok-text.ensures.success _ _ c.in-Err.fault c.of_table.result c.of_table.ensures
 
 pub returns-in_err-text-clause-right : goal.returns-in_err-text-clause-right
 returns-in_err-text-clause-right g c =
@@ -46,10 +46,10 @@ returns-in_err-text-clause-right g c =
 
 pub returns-in_err-text-clause-kept : goal.returns-in_err-text-clause-kept
 returns-in_err-text-clause-kept g c =
-    IfErr_handed_on c.from_residual.result (File c.in_err-text.field-0.0) (KeepsRefusals _ _)
+    IfErr_handed_on c.from_residual.result (File c.in_err-text.field-0.0) (SameRefusals _ _)
     c.from_residual.ensures.1 tt
 
 pub returns-in_err-push-in-Ok-clause-kept : goal.returns-in_err-push-in-Ok-clause-kept
 returns-in_err-push-in-Ok-clause-kept g c =
-    IfErr_handed_on c.from_residual-in_err-push-in-Ok.result NoMemory (KeepsRefusals _ _)
-    c.from_residual-in_err-push-in-Ok.ensures.1 c.in_ok-text.ensures.well
+    IfErr_handed_on c.from_residual-in_err-push-in-Ok.result NoMemory (SameRefusals _ _)
+    c.from_residual-in_err-push-in-Ok.ensures.1 c.in_ok-text.ensures.success

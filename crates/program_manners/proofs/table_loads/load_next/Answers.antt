@@ -6,7 +6,7 @@ use Rattle.program_manners.specs.NextFaults.{IsRightNext}
 use Rattle.program_manners.specs.Refusals.{IsOneOf}
 use Rattle.program_manners.specs.TableLoads.{LoadsTables}
 use Rattle.program_manners.specs.TableWords.{TableNames, table_files}
-use Rattle.program_manners.specs.TablesFaults.{IsTablesFault, KeepsRefusals}
+use Rattle.program_manners.specs.TablesFaults.{IsTablesFault, SameRefusals}
 use Rattle.program_manners.specs.declared.table_loads.TablesFault.TheVariants.{File, NoMemory}
 use Rattle.program_manners.specs.inside.TableLoads.{IsRightLater}
 use Rattle.program_manners.proofs.TablesFaults.{later_file, later_kept, next_is_right, unloaded}
@@ -14,12 +14,12 @@ use Rattle.program_manners.proofs.table_loads.load_next.Goals as goal
 
 pub returns-clause-right : goal.returns-clause-right
 returns-clause-right g c =
-    λ reported words before behind texts stands loads.
+    λ reported words before trailing texts holds loads.
     let word = c.args.word.now in
     let dated = sym c.in-Some.is ∙ c.of-parts.ensures.date in
     next_is_right words reported (g.S.FileSource.loaded c.args.source.now)
     (g.S.FileSource.loaded c.load_named.new.source) (g.S.FileSource.refused c.load_named.new.source)
-    before behind word c.in_ok-text.text.items stands texts c.args.tables.fares loads
+    before trailing word c.in_ok-text.text.items holds texts c.args.tables.fares loads
     (subst (λ (n : List ℕ). LoadsOne (g.S.FileSource.loaded c.args.source.now)
     (g.S.FileSource.loaded c.load_named.new.source) (Some n) c.in_ok-text.text.items)
     c.of-parts.ensures.name c.in_ok-text.ensures.ok)
@@ -32,32 +32,32 @@ returns-clause-right g c =
 
 pub returns-clause-kept : goal.returns-clause-kept
 returns-clause-kept g c =
-    later_kept _ _ c.in_ok-text.ensures.well _ _ c.in-Err.fault c.of_next.result c.of_next.ensures
+    later_kept _ _ c.in_ok-text.ensures.success _ _ c.in-Err.fault c.of_next.result c.of_next.ensures
 
 pub returns-in_err-text-clause-right : goal.returns-in_err-text-clause-right
 returns-in_err-text-clause-right g c =
     let file = c.in_err-text.field-0.0 in
     IfErr_handed_on c.from_residual.result (File file)
     (λ fault. (loaded : Option (List Loaded)) (words : TableNames)
-    (before behind texts : List (List ℕ)) → words.later ≡ before ++ c.args.word.now ∷ behind
+    (before trailing texts : List (List ℕ)) → words.later ≡ before ++ c.args.word.now ∷ trailing
     → LoadsTables (record { first = words.first; later = before }) loaded
     (g.S.FileSource.loaded c.args.source.now) texts c.args.tables.fares
     → IsTablesFault words loaded (g.S.FileSource.loaded c.load_named.new.source)
     (g.S.FileSource.refused c.load_named.new.source) fault)
     c.from_residual.ensures.1
-    (λ loaded words before behind texts stands loads.
+    (λ loaded words before trailing texts holds loads.
     unloaded words loaded loaded (g.S.FileSource.loaded c.load_named.new.source)
     (g.S.FileSource.refused c.load_named.new.source) c.of-parts.result.name.now
     (subst (λ (n : List ℕ). IsOneOf n (table_files words)) (sym c.of-parts.ensures.name)
-    (later_file words before behind c.args.word.now stands))
+    (later_file words before trailing c.args.word.now holds))
     file c.in_err-text.ensures.named c.in_err-text.ensures.refused)
 
 pub returns-in_err-text-clause-kept : goal.returns-in_err-text-clause-kept
 returns-in_err-text-clause-kept g c =
-    IfErr_handed_on c.from_residual.result (File c.in_err-text.field-0.0) (KeepsRefusals _ _)
+    IfErr_handed_on c.from_residual.result (File c.in_err-text.field-0.0) (SameRefusals _ _)
     c.from_residual.ensures.1 tt
 
 pub returns-in_err-push-in-Ok-clause-kept : goal.returns-in_err-push-in-Ok-clause-kept
 returns-in_err-push-in-Ok-clause-kept g c =
-    IfErr_handed_on c.from_residual-in_err-push-in-Ok.result NoMemory (KeepsRefusals _ _)
-    c.from_residual-in_err-push-in-Ok.ensures.1 c.in_ok-text.ensures.well
+    IfErr_handed_on c.from_residual-in_err-push-in-Ok.result NoMemory (SameRefusals _ _)
+    c.from_residual-in_err-push-in-Ok.ensures.1 c.in_ok-text.ensures.success

@@ -5,7 +5,7 @@ use Rattle.tap_views.proofs.Choices.{IfErr_handed_on}
 use Rattle.program_manners.specs.TableLoads.{LoadsTables}
 use Rattle.program_manners.specs.TableViews.{names_of}
 use Rattle.program_manners.specs.TableWords.{wrong_later}
-use Rattle.program_manners.specs.TablesFaults.{IsTablesFault, KeepsRefusals}
+use Rattle.program_manners.specs.TablesFaults.{IsTablesFault, SameRefusals}
 use Rattle.program_manners.proofs.DatedWords.{later_right, tables_right}
 use Rattle.program_manners.proofs.NextTables.{tables_on, words_at, words_to}
 use Rattle.program_manners.proofs.TablesFaults.{kept_on}
@@ -24,15 +24,15 @@ load_next-requires g c =
 pub loop-word-init : goal.loop-word-init
 loop-word-init g c = record {
   loads = c.in_ok-tables.ensures.ok;
-  refused = c.in_ok-tables.ensures.well;
+  refused = c.in_ok-tables.ensures.success;
 }
 
 pub loop-word-preserved : goal.loop-word-preserved
 loop-word-preserved g c =
     let first = c.args.words.now.first.now in
-    let lent = c.deref-word-items.result.now in
-    let same : lent ≡ c.args.words.now.later.items = c.deref-word-items.ensures.value in
-    let place = c.loop-word.word-index in
+    let provided = c.deref-word-items.result.now in
+    let same : provided ≡ c.args.words.now.later.items = c.deref-word-items.ensures.value in
+    let position = c.loop-word.word-index in
     let next = c.in_ok-tables-2.ensures.ok in
     let before = g.S.FileSource.loaded c.args.source.now in
     let between = g.S.FileSource.loaded c.loop-word.source in
@@ -41,34 +41,34 @@ loop-word-preserved g c =
     let more = map (λ (t : Vec ℕ Global). t.items) c.in_ok-tables-2.tables.texts.items in
     record {
       loads = subst
-          (λ (ws : List (Bor (List ℕ))). LoadsTables (words_to first ws (place + 1)) before after
+          (λ (ws : List (Bor (List ℕ))). LoadsTables (words_to first ws (position + 1)) before after
           more c.in_ok-tables-2.tables.fares) same
-          (tables_on first lent place no_word c.loop-word-test.true before between after texts more
+          (tables_on first provided position no_word c.loop-word-test.true before between after texts more
           next.0 c.loop-word.tables.fares c.in_ok-tables-2.tables.fares
-          (subst (λ (ws : List (Bor (List ℕ))). LoadsTables (words_to first ws place) before between
+          (subst (λ (ws : List (Bor (List ℕ))). LoadsTables (words_to first ws position) before between
           texts c.loop-word.tables.fares) (sym same) c.loop-word.invariant.loads)
           next.1 next.2 next.3);
-      refused = c.in_ok-tables-2.ensures.well ∙ c.loop-word.invariant.refused;
+      refused = c.in_ok-tables-2.ensures.success ∙ c.loop-word.invariant.refused;
     }
 
 -- the next table is refused, for the right reason
 pub returns-in_err-tables-2-clause-right : goal.returns-in_err-tables-2-clause-right
 returns-in_err-tables-2-clause-right g c =
     let first = c.args.words.now.first.now in
-    let lent = c.deref-word-items.result.now in
-    let same : lent ≡ c.args.words.now.later.items = c.deref-word-items.ensures.value in
-    let place = c.loop-word.word-index in
-    let stands = ap (map (λ (w : Bor (List ℕ)). w.now)) (sym same)
-    ∙ words_at lent place no_word c.loop-word-test.true in
+    let provided = c.deref-word-items.result.now in
+    let same : provided ≡ c.args.words.now.later.items = c.deref-word-items.ensures.value in
+    let position = c.loop-word.word-index in
+    let holds = ap (map (λ (w : Bor (List ℕ)). w.now)) (sym same)
+    ∙ words_at provided position no_word c.loop-word-test.true in
     IfErr_handed_on c.from_residual-in_err-tables-2.result c.in_err-tables-2.field-0.0
     (IsTablesFault (names_of c.args.words.now) (g.S.FileSource.loaded c.args.source.now)
     (g.S.FileSource.loaded c.load_next.new.source) (g.S.FileSource.refused c.load_next.new.source))
     c.from_residual-in_err-tables-2.ensures.1
     (c.in_err-tables-2.ensures.right (g.S.FileSource.loaded c.args.source.now)
-    (names_of c.args.words.now) (map (λ w. w.now) (take place lent))
-    (map (λ w. w.now) (drop (place + 1) lent))
-    (map (λ (t : Vec ℕ Global). t.items) c.loop-word.tables.texts.items) stands
-    (subst (λ (ws : List (Bor (List ℕ))). LoadsTables (words_to first ws place)
+    (names_of c.args.words.now) (map (λ w. w.now) (take position provided))
+    (map (λ w. w.now) (drop (position + 1) provided))
+    (map (λ (t : Vec ℕ Global). t.items) c.loop-word.tables.texts.items) holds
+    (subst (λ (ws : List (Bor (List ℕ))). LoadsTables (words_to first ws position)
     (g.S.FileSource.loaded c.args.source.now) (g.S.FileSource.loaded c.loop-word.source)
     (map (λ (t : Vec ℕ Global). t.items) c.loop-word.tables.texts.items) c.loop-word.tables.fares)
     (sym same) c.loop-word.invariant.loads))
@@ -76,6 +76,6 @@ returns-in_err-tables-2-clause-right g c =
 pub returns-in_err-tables-2-clause-kept : goal.returns-in_err-tables-2-clause-kept
 returns-in_err-tables-2-clause-kept g c =
     let fault = c.in_err-tables-2.field-0.0 in
-    IfErr_handed_on c.from_residual-in_err-tables-2.result fault (KeepsRefusals _ _)
+    IfErr_handed_on c.from_residual-in_err-tables-2.result fault (SameRefusals _ _)
     c.from_residual-in_err-tables-2.ensures.1
     (kept_on _ _ _ fault c.loop-word.invariant.refused c.in_err-tables-2.ensures.kept)

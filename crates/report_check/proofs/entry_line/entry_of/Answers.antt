@@ -42,7 +42,7 @@ returns-in_err-answer-clause-found c = λ earlier entry is.
     (subst (λ (t : Token). HasRideTerms fares t c.in_ok-moment.moment
     c.in_ok-moment.validator) one.0 c.ride_terms_at-terms.ensures)) in
     let most = cents_most fares earlier entry terms is.replied in
-    absurd (c.in_err-answer.ensures entry.answer entry.cents line.behind
+    absurd (c.in_err-answer.ensures entry.answer entry.cents line.trailing
     (omega (arith, most))
     (shown_by _ _ _ _ two.2 mode))
 
@@ -64,7 +64,7 @@ returns-clause-found c = λ earlier entry is.
     (subst (λ (t : Token). HasRideTerms fares t c.in_ok-moment.moment
     c.in_ok-moment.validator) one.0 c.ride_terms_at-terms.ensures)) in
     let most = cents_most fares earlier entry terms is.replied in
-    let three = c.in_ok-answer.ensures entry.answer entry.cents line.behind
+    let three = c.in_ok-answer.ensures entry.answer entry.cents line.trailing
     (omega (arith, most))
     (shown_by _ _ _ _ two.2 mode) in
     (cc)

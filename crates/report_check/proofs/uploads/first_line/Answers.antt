@@ -5,13 +5,13 @@ use Rattle.ledger_check.proofs.LineLemmas.{lines-part}
 use Rattle.report_check.proofs.EndLines.{line_first}
 use Rattle.report_check.proofs.uploads.first_line.Goals as goal
 
-shorter : (text line behind : List ℕ) → IsLine line → text ≡ line ++ behind
-    → length behind < length text
-shorter text line behind is whole =
+shorter : (text line trailing : List ℕ) → IsLine line → text ≡ line ++ trailing
+    → length trailing < length text
+shorter text line trailing is whole =
     omega (
       arith,
       ap (λ (t : List ℕ). length t) whole,
-      length-append line behind,
+      length-append line trailing,
       ap (λ (t : List ℕ). length t) is.shown,
       length-append is.front (10 ∷ []),
     )

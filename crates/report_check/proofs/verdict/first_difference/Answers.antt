@@ -1,6 +1,6 @@
 use Rattle.std.proofs.Common.{◌∙◌, ◌≤◌, ◌<◌, length, arith, rules, tests}
 use Rattle.std.proofs.lemmas.Bool.Decides.{nat_tests}
-use Rattle.report_check.proofs.Differences.{more_behind, none_behind}
+use Rattle.report_check.proofs.Differences.{more_after, none_after}
 use Rattle.report_check.proofs.verdict.first_difference.Goals as goal
 
 pub returns-then-is_empty : goal.returns-then-is_empty
@@ -10,7 +10,7 @@ returns-then-is_empty c =
     let over : length c.loop-left.rest.now ≤ 0 =
     first_of (omega arith, grind (arith, nat_tests), search (rules, tests)) in
     c.loop-left.invariant.same
-    ∙ none_behind c.loop-left.number c.loop-left.left.now c.loop-left.rest.now none over
+    ∙ none_after c.loop-left.number c.loop-left.left.now c.loop-left.rest.now none over
 
 pub returns : goal.returns
 returns c =
@@ -19,4 +19,4 @@ returns c =
     let some : 0 < length c.loop-left.rest.now =
     first_of (omega arith, grind (arith, nat_tests), search (rules, tests)) in
     c.loop-left.invariant.same
-    ∙ more_behind c.loop-left.number c.loop-left.left.now c.loop-left.rest.now none some
+    ∙ more_after c.loop-left.number c.loop-left.left.now c.loop-left.rest.now none some

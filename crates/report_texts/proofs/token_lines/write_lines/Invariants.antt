@@ -4,9 +4,9 @@ use Rattle.fare_texts.specs.WrittenOut.{GoesOut}
 use Rattle.fare_texts.specs.ReportLines.{token_line}
 use Rattle.report_texts.proofs.token_lines.write_lines.Given as goal
 
-abbrev pub invariant-loop-place : goal.invariant-loop-place
-invariant-loop-place g l = record {
+abbrev pub invariant-loop-position : goal.invariant-loop-position
+invariant-loop-position g l = record {
   room : 384 ≤ vec_capacity l.text;
   lines : GoesOut (g.W.Write.contents l.fn.out) l.fn.text.items (g.W.Write.contents l.out)
-      l.text.items (flat_map token_line (take l.place l.sums));
+      l.text.items (flat_map token_line (take l.position l.sums));
 }

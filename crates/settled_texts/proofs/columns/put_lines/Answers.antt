@@ -12,19 +12,19 @@ pub loop-byte-preserved : goal.loop-byte-preserved
 loop-byte-preserved c =
     let inv = c.loop-byte.invariant in
     let byte = c.in-Some.byte.now in
-    let behind = c.in-Some.behind.now in
+    let trailing = c.in-Some.trailing.now in
     let rest = c.loop-byte.rest.now in
     let left = c.loop-byte.left.now in
-    let all : rest ≡ byte ∷ behind = c.in-Some.ensures.cases.0 in
+    let all : rest ≡ byte ∷ trailing = c.in-Some.ensures.cases.0 in
     let columns = columns_by (class_by c.args.names.now) left in
     let skip = if byte == 10 then 1 else 0 in
     record {
       put = inv.put
           ∙ ap (λ (t : List ℕ). c.loop-byte.text.items ++ with_columns t columns) all
-          ∙ c.in_ok-left.ensures.put behind;
-      left = ap (drop (feeds behind)) c.in_ok-left.ensures.left
-          ∙ drop-drop (feeds behind) skip left
-          ∙ ap (λ (n : ℕ). drop n left) (feeds_first byte behind)
+          ∙ c.in_ok-left.ensures.put trailing;
+      left = ap (drop (feeds trailing)) c.in_ok-left.ensures.left
+          ∙ drop-drop (feeds trailing) skip left
+          ∙ ap (λ (n : ℕ). drop n left) (feeds_first byte trailing)
           ∙ ap (λ (t : List ℕ). drop (feeds t) left) (sym all) ∙ inv.left;
     }
 

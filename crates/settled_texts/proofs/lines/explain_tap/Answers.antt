@@ -10,14 +10,14 @@ pub write_posted-requires-clause-explained : goal.write_posted-requires-clause-e
 write_posted-requires-clause-explained c =
     let up = subst (λ (t : Token). IsUpTo c.args.explainer.now.token t) (sym c.token_of.ensures)
     c.requires.up in
-    let come = c.go_on_to.ensures.come c.args.table.now c.requires.come.0 c.requires.come.1 up in
-    (own c.go_on_to.new.explainer.token c.requires.come.0, come.explained)
+    let consumed = c.go_on_to.ensures.consumed c.args.table.now c.requires.consumed.0 c.requires.consumed.1 up in
+    (own c.go_on_to.new.explainer.token c.requires.consumed.0, consumed.explained)
 
 pub returns-clause-explained : goal.returns-clause-explained
-returns-clause-explained c = λ earlier come.
+returns-clause-explained c = λ earlier consumed.
     let up = subst (λ (t : Token). IsUpTo c.args.explainer.now.token t) (sym c.token_of.ensures)
     c.requires.up in
-    let gone = c.go_on_to.ensures.come c.args.table.now earlier come up in
+    let gone = c.go_on_to.ensures.consumed c.args.table.now earlier consumed up in
     let own_earlier = own c.go_on_to.new.explainer.token earlier in
     let line = c.in_ok-write_posted.ensures.line own_earlier gone.explained in (
       line.0,

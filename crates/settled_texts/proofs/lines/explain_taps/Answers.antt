@@ -5,15 +5,15 @@ use Rattle.std.proofs.lemmas.List.{take_more}
 use Rattle.tap_views.specs.declared.encoder.TapFields.{TapFields}
 use Rattle.settlement.specs.Posted.{posted_after}
 use Rattle.settled_texts.specs.ExplainedTaps.{AreExplained, last_token}
-use Rattle.settled_texts.proofs.TapsExplained.{fall_here, last_append, none_reported}
+use Rattle.settled_texts.proofs.TapsExplained.{nondecreasing_here, last_append, none_reported}
 use Rattle.settled_texts.proofs.TapsExplained.{reported_append}
 use Rattle.settled_texts.proofs.lines.explain_taps.Goals as goal
 
 pub loop-tap-init : goal.loop-tap-init
 loop-tap-init c = record {
-  explained = λ earlier come. (
+  explained = λ earlier consumed. (
     [],
-    none_reported c.args.table.now earlier c.args.explainer.now come,
+    none_reported c.args.table.now earlier c.args.explainer.now consumed,
     sym (append-nil (string_bytes c.args.text.now)),
   );
   token = refl;
@@ -22,16 +22,16 @@ loop-tap-init c = record {
 
 pub explain_tap-requires-clause-up : goal.explain_tap-requires-clause-up
 explain_tap-requires-clause-up c =
-    fall_here c.args.explainer.now.token c.loop-tap.explainer.token c.args.taps.now
+    nondecreasing_here c.args.explainer.now.token c.loop-tap.explainer.token c.args.taps.now
     c.loop-tap.tap-index _
-    c.loop-tap-test.true c.requires.no_fall c.loop-tap.invariant.token
+    c.loop-tap-test.true c.requires.nondecreasing c.loop-tap.invariant.token
 
-pub explain_tap-requires-clause-come : goal.explain_tap-requires-clause-come
-explain_tap-requires-clause-come c =
-    let earlier = c.requires.come.0 in
+pub explain_tap-requires-clause-consumed : goal.explain_tap-requires-clause-consumed
+explain_tap-requires-clause-consumed c =
+    let earlier = c.requires.consumed.0 in
     let done = take c.loop-tap.tap-index c.args.taps.now in (
       earlier ++ posted_after c.args.table.now earlier done,
-      (c.loop-tap.invariant.explained earlier c.requires.come.1).1.come,
+      (c.loop-tap.invariant.explained earlier c.requires.consumed.1).1.consumed,
     )
 
 pub loop-tap-preserved : goal.loop-tap-preserved
@@ -43,11 +43,11 @@ loop-tap-preserved c =
     let inv = c.loop-tap.invariant in
     let more = take_more taps i _ c.loop-tap-test.true in
     record {
-      explained = λ earlier come.
-          let so_far = inv.explained earlier come in
+      explained = λ earlier consumed.
+          let so_far = inv.explained earlier consumed in
           let line = c.in_ok-explain_tap.ensures.explained
           (earlier ++ posted_after fares earlier done)
-          so_far.1.come in (
+          so_far.1.consumed in (
             so_far.0 ++ line.0,
             subst (λ (ts : List TapFields). AreExplained fares earlier ts
                 c.explain_tap.new.explainer

@@ -13,8 +13,8 @@ use Rattle.tap_views.specs.declared.encoder.TapFields.{TapFields}
 use Rattle.tap_views.proofs.Lists.{all_done}
 use Rattle.settlement.specs.Posted.{posted_after}
 use Rattle.settled_texts.specs.ExplainedTaps.{AreExplained, last_token}
-use Rattle.settled_texts.proofs.TapsExplained.{fall_within, halves_of, last_append, none_reported}
-use Rattle.settled_texts.proofs.TapsExplained.{reported_append, explained_begun}
+use Rattle.settled_texts.proofs.TapsExplained.{nondecreasing_within, halves_of, last_append, none_reported}
+use Rattle.settled_texts.proofs.TapsExplained.{reported_append, explained_started}
 use Rattle.settled_texts.proofs.lines.write_taps.Goals as goal
 
 abbrev Early : TapFields → Type 0
@@ -25,9 +25,9 @@ loop-rest-init g c = record {
   done = [];
   whole = refl;
   early = c.requires.early;
-  explained = λ earlier come. (
+  explained = λ earlier consumed. (
     [],
-    none_reported c.args.table.now earlier c.args.explainer.now come,
+    none_reported c.args.table.now earlier c.args.explainer.now consumed,
     goes_nothing (g.W.Write.contents c.args.out.now) (string_bytes c.args.text.now),
   );
   token = refl;
@@ -49,21 +49,21 @@ explain_taps-requires-clause-early g c =
     All-same Early _ _ c.split_at.ensures.front
     (All-take Early c.min.result c.loop-rest.rest.now c.loop-rest.invariant.early)
 
-pub explain_taps-requires-clause-no_fall : goal.explain_taps-requires-clause-no_fall
-explain_taps-requires-clause-no_fall g c =
+pub explain_taps-requires-clause-nondecreasing : goal.explain_taps-requires-clause-nondecreasing
+explain_taps-requires-clause-nondecreasing g c =
     let inv = c.loop-rest.invariant in
     let halves = halves_of c.min.result c.loop-rest.rest.now c.split_at.result.0.now
     c.split_at.result.1.now c.split_at.ensures.front c.split_at.ensures.back in
-    fall_within c.args.explainer.now.token c.loop-rest.explainer.token inv.done
+    nondecreasing_within c.args.explainer.now.token c.loop-rest.explainer.token inv.done
     c.split_at.result.0.now
     c.split_at.result.1.now c.args.taps.now (ap (λ ts. inv.done ++ ts) halves ∙ inv.whole)
-    c.requires.no_fall inv.token
+    c.requires.nondecreasing inv.token
 
-pub explain_taps-requires-clause-come : goal.explain_taps-requires-clause-come
-explain_taps-requires-clause-come g c =
-    let earlier = c.requires.come.0 in (
+pub explain_taps-requires-clause-consumed : goal.explain_taps-requires-clause-consumed
+explain_taps-requires-clause-consumed g c =
+    let earlier = c.requires.consumed.0 in (
       earlier ++ posted_after c.args.table.now earlier c.loop-rest.invariant.done,
-      (c.loop-rest.invariant.explained earlier c.requires.come.1).1.come,
+      (c.loop-rest.invariant.explained earlier c.requires.consumed.1).1.consumed,
     )
 
 pub explain_taps-requires-clause-room : goal.explain_taps-requires-clause-room
@@ -82,20 +82,20 @@ loop-rest-preserved g c =
     let fares = c.args.table.now in
     let inv = c.loop-rest.invariant in
     let stride = c.split_at.result.0.now in
-    let behind = c.split_at.result.1.now in
-    let halves = halves_of c.min.result c.loop-rest.rest.now stride behind c.split_at.ensures.front
+    let trailing = c.split_at.result.1.now in
+    let halves = halves_of c.min.result c.loop-rest.rest.now stride trailing c.split_at.ensures.front
     c.split_at.ensures.back in
     let next = c.in-Ok.ensures in
     let parts = length-append inv.done stride in
     record {
       done = inv.done ++ stride;
-      whole = append_assoc inv.done stride behind ∙ ap (λ ts. inv.done ++ ts) halves ∙ inv.whole;
+      whole = append_assoc inv.done stride trailing ∙ ap (λ ts. inv.done ++ ts) halves ∙ inv.whole;
       early = All-same Early _ _ c.split_at.ensures.back
           (All-drop Early c.min.result c.loop-rest.rest.now inv.early);
-      explained = λ earlier come.
-          let so_far = inv.explained earlier come in
+      explained = λ earlier consumed.
+          let so_far = inv.explained earlier consumed in
           let more = next.explained (earlier ++ posted_after fares earlier inv.done)
-          so_far.1.come in (
+          so_far.1.consumed in (
             so_far.0 ++ more.0,
             reported_append fares earlier inv.done stride c.loop-rest.explainer
                 c.explain_taps.new.explainer
@@ -113,9 +113,9 @@ loop-rest-preserved g c =
     }
 
 pub returns-clause-explained : goal.returns-clause-explained
-returns-clause-explained g c = λ earlier come.
+returns-clause-explained g c = λ earlier consumed.
     let inv = c.loop-rest.invariant in
-    let so_far = inv.explained earlier come in
+    let so_far = inv.explained earlier consumed in
     let same = all_done inv.done c.loop-rest.rest.now _ inv.whole
     (sym c.is_empty.ensures ∙ c.loop-rest-test.false) in (
       so_far.0,
@@ -140,24 +140,24 @@ returns-clause-few g c =
     omega (arith, inv.few, same)
 
 -- ---- what a write that failed left
-pub returns-in_err-pass_piece-clause-begun : goal.returns-in_err-pass_piece-clause-begun
-returns-in_err-pass_piece-clause-begun g c =
+pub returns-in_err-pass_piece-clause-started : goal.returns-in_err-pass_piece-clause-started
+returns-in_err-pass_piece-clause-started g c =
     let inv = c.loop-rest.invariant in
     let p = err_from_is_err_and c.from_residual.result c.from_residual.ensures.1 in
-    rw p.1 (λ earlier come.
-    let so_far = inv.explained earlier come in
-    explained_begun c.args.table.now earlier inv.done c.loop-rest.rest.now c.args.taps.now
+    rw p.1 (λ earlier consumed.
+    let so_far = inv.explained earlier consumed in
+    explained_started c.args.table.now earlier inv.done c.loop-rest.rest.now c.args.taps.now
     c.loop-rest.explainer so_far.0 (g.W.Write.contents c.args.out.now)
     (g.W.Write.contents c.loop-rest.out) (g.W.Write.contents c.pass_piece.new.out)
     (string_bytes c.args.text.now) (string_bytes c.loop-rest.text) inv.whole so_far.1 so_far.2
-    c.in_err-pass_piece.ensures.begun)
+    c.in_err-pass_piece.ensures.started)
 
-pub returns-in_default-clause-begun : goal.returns-in_default-clause-begun
-returns-in_default-clause-begun g c = λ earlier come.
+pub returns-in_default-clause-started : goal.returns-in_default-clause-started
+returns-in_default-clause-started g c = λ earlier consumed.
     let inv = c.loop-rest.invariant in
-    let so_far = inv.explained earlier come in
+    let so_far = inv.explained earlier consumed in
     let out = g.W.Write.contents c.pass_piece.new.out in
-    explained_begun c.args.table.now earlier inv.done c.loop-rest.rest.now c.args.taps.now
+    explained_started c.args.table.now earlier inv.done c.loop-rest.rest.now c.args.taps.now
     c.loop-rest.explainer so_far.0 (g.W.Write.contents c.args.out.now) out out
     (string_bytes c.args.text.now) (string_bytes c.pass_piece.new.text) inv.whole so_far.1
     (goes_passed _ (g.W.Write.contents c.loop-rest.out) _ _ (string_bytes c.loop-rest.text) _

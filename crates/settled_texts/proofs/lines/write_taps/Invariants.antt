@@ -2,7 +2,7 @@ use Rattle.std.proofs.Common.{◌≡◌, ℕ, ◌+◌, ◌≤◌, List, ◌++◌
 use Rattle.tap_views.specs.Encoding.{AreEarly}
 use Rattle.tap_views.specs.declared.encoder.TapFields.{TapFields}
 use Rattle.histories.specs.declared.entry.Entry.{Entry}
-use Rattle.fare_texts.specs.Lines.{HasCome}
+use Rattle.fare_texts.specs.Lines.{HasConsumed}
 use Rattle.fare_texts.specs.WrittenOut.{GoesOut}
 use Rattle.settled_texts.specs.ExplainedTaps.{AreExplained, last_token}
 use Rattle.settled_texts.proofs.lines.write_taps.Given as goal
@@ -13,7 +13,7 @@ invariant-loop-rest g l = record {
   done : List TapFields;
   whole : done ++ l.rest ≡ l.fn.taps;
   early : AreEarly (λ tap. tap.moment) l.rest;
-  explained : (earlier : List Entry) → HasCome l.table l.fn.explainer earlier
+  explained : (earlier : List Entry) → HasConsumed l.table l.fn.explainer earlier
       → (lines : List ℕ) × AreExplained l.table earlier done l.explainer lines
       × GoesOut (g.W.Write.contents l.fn.out) (string_bytes l.fn.text)
       (g.W.Write.contents l.out) (string_bytes l.text) lines;

@@ -14,7 +14,7 @@ pub loop-tap-init : goal.loop-tap-init
 unfolding posted_after own
 loop-tap-init c = record {
   token = c.of-replay.ensures.token;
-  stands = c.of-replay.ensures.none c.args.table.now [] refl;
+  holds = c.of-replay.ensures.none c.args.table.now [] refl;
   entries = c.in_ok-entries.ensures.items;
 }
 
@@ -28,14 +28,14 @@ loop-tap-preserved c =
     let done = posted fares (take i taps) in
     let tap = get_or taps i no_tap in
     let entry = c.next.result in
-    let is : entry ≡ answered fares done (unposted tap) = c.next.ensures.entry done inv.stands in
+    let is : entry ≡ answered fares done (unposted tap) = c.next.ensures.entry done inv.holds in
     let more : posted fares (take (i + 1) taps) ≡ done ++ entry ∷ [] =
     posted_more fares taps i tap inside (get_or_default taps i tap no_tap inside)
     ∙ ap (λ (e : Entry). done ++ e ∷ []) (sym is) in
     record {
       token = c.next.ensures.token ∙ inv.token;
-      stands = subst (λ (es : List Entry). HasPosted fares c.next.new.self es) (sym more)
-          (c.next.ensures.posted done inv.stands);
+      holds = subst (λ (es : List Entry). HasPosted fares c.next.new.self es) (sym more)
+          (c.next.ensures.posted done inv.holds);
       entries = c.in_ok-push.ensures.items
           ∙ ap (λ (es : List Entry). es ++ entry ∷ []) inv.entries ∙ sym more;
     }

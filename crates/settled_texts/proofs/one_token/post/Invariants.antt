@@ -7,6 +7,6 @@ use Rattle.settled_texts.proofs.one_token.post.Given as goal
 abbrev pub invariant-loop-tap : goal.invariant-loop-tap
 invariant-loop-tap l = record {
   token : l.replay.token ≡ l.fn.token;
-  stands : HasPosted l.table l.replay (posted l.table (take l.tap-index l.taps));
+  holds : HasPosted l.table l.replay (posted l.table (take l.tap-index l.taps));
   entries : l.entries.items ≡ posted l.table (take l.tap-index l.taps);
 }

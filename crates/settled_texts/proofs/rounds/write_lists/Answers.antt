@@ -12,21 +12,21 @@ use Rattle.tap_views.proofs.Lists.{All-split}
 use Rattle.settlement.specs.Posted.{posted_after}
 use Rattle.settled_texts.specs.ExplainedTaps.{AreExplained, last_token}
 use Rattle.settled_texts.proofs.Joined.{Early, joined, joined_append}
-use Rattle.settled_texts.proofs.TapsExplained.{fall_within, halves_of, last_append, none_reported}
-use Rattle.settled_texts.proofs.TapsExplained.{reported_append, explained_begun_on}
+use Rattle.settled_texts.proofs.TapsExplained.{nondecreasing_within, halves_of, last_append, none_reported}
+use Rattle.settled_texts.proofs.TapsExplained.{reported_append, explained_started_on}
 use Rattle.std.proofs.lemmas.Result.{err_from_is_err_and}
 use Rattle.settled_texts.proofs.rounds.write_lists.Goals as goal
 
 -- the taps of a round, and of the lists behind it
-joined_halves : (rest round behind : List (Vec TapFields Global)) → round ++ behind ≡ rest
-    → joined round ++ joined behind ≡ joined rest
-joined_halves rest round behind whole =
-    sym (joined_append round behind) ∙ ap (λ lists. joined lists) whole
+joined_halves : (rest round trailing : List (Vec TapFields Global)) → round ++ trailing ≡ rest
+    → joined round ++ joined trailing ≡ joined rest
+joined_halves rest round trailing whole =
+    sym (joined_append round trailing) ∙ ap (λ lists. joined lists) whole
 
-joined_whole : (done rest round behind lists : List (Vec TapFields Global)) → done ++ rest ≡ lists
-    → round ++ behind ≡ rest → joined done ++ (joined round ++ joined behind) ≡ joined lists
-joined_whole done rest round behind lists all whole =
-    ap (λ taps. joined done ++ taps) (joined_halves rest round behind whole)
+joined_whole : (done rest round trailing lists : List (Vec TapFields Global)) → done ++ rest ≡ lists
+    → round ++ trailing ≡ rest → joined done ++ (joined round ++ joined trailing) ≡ joined lists
+joined_whole done rest round trailing lists all whole =
+    ap (λ taps. joined done ++ taps) (joined_halves rest round trailing whole)
     ∙ sym (joined_append done rest) ∙ ap (λ each. joined each) all
 
 pub loop-rest-init : goal.loop-rest-init
@@ -34,9 +34,9 @@ loop-rest-init g c = record {
   done = [];
   whole = refl;
   early = c.requires.early;
-  explained = λ earlier come. (
+  explained = λ earlier consumed. (
     [],
-    none_reported c.args.table.now earlier c.args.explainer.now come,
+    none_reported c.args.table.now earlier c.args.explainer.now consumed,
     goes_nothing (g.W.Write.contents c.args.out.now) (string_bytes c.args.text.now),
   );
   token = refl;
@@ -46,44 +46,44 @@ loop-rest-init g c = record {
 pub write_round-requires-clause-early : goal.write_round-requires-clause-early
 write_round-requires-clause-early g c κs within =
     let round = c.split_at.result.0.now in
-    let behind = c.split_at.result.1.now in
-    let halves = halves_of c.min.result c.loop-rest.rest.now round behind c.split_at.ensures.front
+    let trailing = c.split_at.result.1.now in
+    let halves = halves_of c.min.result c.loop-rest.rest.now round trailing c.split_at.ensures.front
     c.split_at.ensures.back in
-    (All-split Early (joined round) (joined behind)
+    (All-split Early (joined round) (joined trailing)
     (subst (λ (taps : List TapFields). All Early taps)
-    (sym (joined_halves c.loop-rest.rest.now round behind halves)) c.loop-rest.invariant.early)).0
+    (sym (joined_halves c.loop-rest.rest.now round trailing halves)) c.loop-rest.invariant.early)).0
 
-pub write_round-requires-clause-no_fall : goal.write_round-requires-clause-no_fall
-write_round-requires-clause-no_fall g c κs within =
+pub write_round-requires-clause-nondecreasing : goal.write_round-requires-clause-nondecreasing
+write_round-requires-clause-nondecreasing g c κs within =
     let inv = c.loop-rest.invariant in
     let round = c.split_at.result.0.now in
-    let behind = c.split_at.result.1.now in
-    let halves = halves_of c.min.result c.loop-rest.rest.now round behind c.split_at.ensures.front
+    let trailing = c.split_at.result.1.now in
+    let halves = halves_of c.min.result c.loop-rest.rest.now round trailing c.split_at.ensures.front
     c.split_at.ensures.back in
-    fall_within c.args.explainer.now.token c.loop-rest.explainer.token (joined inv.done)
+    nondecreasing_within c.args.explainer.now.token c.loop-rest.explainer.token (joined inv.done)
     (joined round)
-    (joined behind) (joined c.args.lists.now)
-    (joined_whole inv.done c.loop-rest.rest.now round behind c.args.lists.now inv.whole halves)
-    c.requires.no_fall inv.token
+    (joined trailing) (joined c.args.lists.now)
+    (joined_whole inv.done c.loop-rest.rest.now round trailing c.args.lists.now inv.whole halves)
+    c.requires.nondecreasing inv.token
 
-pub write_round-requires-clause-come : goal.write_round-requires-clause-come
-write_round-requires-clause-come g c κs within =
-    let earlier = c.requires.come.0 in (
+pub write_round-requires-clause-consumed : goal.write_round-requires-clause-consumed
+write_round-requires-clause-consumed g c κs within =
+    let earlier = c.requires.consumed.0 in (
       earlier ++ posted_after c.args.table.now earlier (joined c.loop-rest.invariant.done),
-      (c.loop-rest.invariant.explained earlier c.requires.come.1).1.come,
+      (c.loop-rest.invariant.explained earlier c.requires.consumed.1).1.consumed,
     )
 
 pub write_round-requires-clause-room : goal.write_round-requires-clause-room
 write_round-requires-clause-room g c κs within =
     let inv = c.loop-rest.invariant in
     let round = c.split_at.result.0.now in
-    let behind = c.split_at.result.1.now in
-    let halves = halves_of c.min.result c.loop-rest.rest.now round behind c.split_at.ensures.front
+    let trailing = c.split_at.result.1.now in
+    let halves = halves_of c.min.result c.loop-rest.rest.now round trailing c.split_at.ensures.front
     c.split_at.ensures.back in
-    let all = ap length (joined_whole inv.done c.loop-rest.rest.now round behind c.args.lists.now
+    let all = ap length (joined_whole inv.done c.loop-rest.rest.now round trailing c.args.lists.now
     inv.whole halves) in
-    let parts = length-append (joined inv.done) (joined round ++ joined behind) in
-    let rest = length-append (joined round) (joined behind) in
+    let parts = length-append (joined inv.done) (joined round ++ joined trailing) in
+    let rest = length-append (joined round) (joined trailing) in
     omega (arith, all, parts, rest, inv.few, c.requires.room)
 
 pub loop-rest-preserved : goal.loop-rest-preserved
@@ -91,8 +91,8 @@ loop-rest-preserved g c =
     let fares = c.args.table.now in
     let inv = c.loop-rest.invariant in
     let round = c.split_at.result.0.now in
-    let behind = c.split_at.result.1.now in
-    let halves = halves_of c.min.result c.loop-rest.rest.now round behind c.split_at.ensures.front
+    let trailing = c.split_at.result.1.now in
+    let halves = halves_of c.min.result c.loop-rest.rest.now round trailing c.split_at.ensures.front
     c.split_at.ensures.back in
     let next = c.in_ok-write_round.ensures in
     let more = joined_append inv.done round in
@@ -100,15 +100,15 @@ loop-rest-preserved g c =
     let parts = length-append (joined inv.done) (joined round) in
     record {
       done = inv.done ++ round;
-      whole = append_assoc inv.done round behind ∙ ap (λ lists. inv.done ++ lists) halves
+      whole = append_assoc inv.done round trailing ∙ ap (λ lists. inv.done ++ lists) halves
           ∙ inv.whole;
-      early = (All-split Early (joined round) (joined behind)
+      early = (All-split Early (joined round) (joined trailing)
           (subst (λ (taps : List TapFields). All Early taps)
-          (sym (joined_halves c.loop-rest.rest.now round behind halves)) inv.early)).1;
-      explained = λ earlier come.
-          let so_far = inv.explained earlier come in
+          (sym (joined_halves c.loop-rest.rest.now round trailing halves)) inv.early)).1;
+      explained = λ earlier consumed.
+          let so_far = inv.explained earlier consumed in
           let lines = next.explained (earlier ++ posted_after fares earlier (joined inv.done))
-          so_far.1.come in (
+          so_far.1.consumed in (
             so_far.0 ++ lines.0,
             subst (λ (taps : List TapFields). AreExplained fares earlier taps
                 c.write_round.new.explainer
@@ -132,9 +132,9 @@ all_done done left lists all test =
     ∙ ap (λ more. done ++ more) (sym (nil_from_length left (eqb-true (length left) 0 test))) ∙ all
 
 pub returns-clause-explained : goal.returns-clause-explained
-returns-clause-explained g c = λ earlier come.
+returns-clause-explained g c = λ earlier consumed.
     let inv = c.loop-rest.invariant in
-    let so_far = inv.explained earlier come in
+    let so_far = inv.explained earlier consumed in
     let same = all_done inv.done c.loop-rest.rest.now _ inv.whole
     (sym c.is_empty.ensures ∙ c.loop-rest-test.false) in (
       so_far.0,
@@ -145,23 +145,23 @@ returns-clause-explained g c = λ earlier come.
     )
 
 -- ---- what a write that failed left
-pub returns-in_err-write_round-clause-begun : goal.returns-in_err-write_round-clause-begun
-returns-in_err-write_round-clause-begun g c =
+pub returns-in_err-write_round-clause-started : goal.returns-in_err-write_round-clause-started
+returns-in_err-write_round-clause-started g c =
     let fares = c.args.table.now in
     let inv = c.loop-rest.invariant in
     let round = c.split_at.result.0.now in
-    let behind = c.split_at.result.1.now in
-    let halves = halves_of c.min.result c.loop-rest.rest.now round behind c.split_at.ensures.front
+    let trailing = c.split_at.result.1.now in
+    let halves = halves_of c.min.result c.loop-rest.rest.now round trailing c.split_at.ensures.front
     c.split_at.ensures.back in
     let p = err_from_is_err_and c.from_residual.result c.from_residual.ensures.1 in
-    rw p.1 (λ earlier come.
-    let so_far = inv.explained earlier come in
-    let next = c.in_err-write_round.ensures.begun
-    (earlier ++ posted_after fares earlier (joined inv.done)) so_far.1.come in
-    explained_begun_on fares earlier (joined inv.done) (joined round) (joined behind)
+    rw p.1 (λ earlier consumed.
+    let so_far = inv.explained earlier consumed in
+    let next = c.in_err-write_round.ensures.started
+    (earlier ++ posted_after fares earlier (joined inv.done)) so_far.1.consumed in
+    explained_started_on fares earlier (joined inv.done) (joined round) (joined trailing)
     (joined c.args.lists.now) c.loop-rest.explainer so_far.0 next.0
     (g.W.Write.contents c.args.out.now)
     (g.W.Write.contents c.loop-rest.out) (g.W.Write.contents c.write_round.new.out)
     (string_bytes c.args.text.now) (string_bytes c.loop-rest.text)
-    (joined_whole inv.done c.loop-rest.rest.now round behind c.args.lists.now inv.whole halves)
+    (joined_whole inv.done c.loop-rest.rest.now round trailing c.args.lists.now inv.whole halves)
     so_far.1 next.1 so_far.2 next.2)

@@ -13,7 +13,7 @@ loop-tap-preserved c =
       ends = tt;
       all = append_assoc yielded (tap ∷ []) c.next.new.self
           ∙ ap (λ ts. yielded ++ ts) (sym c.in-Some.ensures.steps) ∙ inv.all;
-      added = numbered_push c.args.upload c.args.place c.loop-tap.next c.args.taps.now.items
+      added = numbered_push c.args.upload c.args.position c.loop-tap.next c.args.taps.now.items
           c.loop-tap.taps.items c.push.new.self.items yielded tap c.of-tap.result inv.added
           inv.count
           c.of-tap.ensures c.in_ok-push.ensures.items;

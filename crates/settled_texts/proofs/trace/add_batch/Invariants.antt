@@ -8,6 +8,6 @@ invariant-loop-tap l = record {
   may : (goal.iterator-loop-tap).can_next l.tap-iterator;
   ends : (goal.iterator-loop-tap).is_finite l.tap-iterator;
   all : l.yielded ++ l.tap-iterator ≡ l.fn.batch;
-  added : l.taps.items ≡ l.fn.taps.items ++ numbered l.upload l.place (map fields_of l.yielded);
-  count : l.next ≡ l.place + length l.yielded;
+  added : l.taps.items ≡ l.fn.taps.items ++ numbered l.upload l.position (map fields_of l.yielded);
+  count : l.next ≡ l.position + length l.yielded;
 }

@@ -1,6 +1,6 @@
 use Rattle.std.proofs.Common.{length, ap, sym, refl, append-nil, arith, length-append, is_some}
 use Rattle.tap_views.specs.Files.{taps_of_batches}
-use Rattle.tap_views.proofs.ReadingLemmas.{read_end, read_on, taps_more}
+use Rattle.tap_views.proofs.ParseLemmas.{read_end, read_on, taps_more}
 use Rattle.settled_texts.proofs.Numbering.{not_back, numbered_batch}
 use Rattle.settled_texts.proofs.trace.add_upload.Goals as goal
 
@@ -8,7 +8,7 @@ pub loop-batch-init : goal.loop-batch-init
 loop-batch-init c = record {
   may = tt;
   ends = tt;
-  read = c.good_batches-good.ensures;
+  read = c.valid_batches-valid.ensures;
   added = sym (append-nil c.args.taps.now.items);
   count = refl;
 }
@@ -23,14 +23,14 @@ loop-batch-preserved c =
       ends = tt;
       read = read_on _ _ _ _ _ before.read c.in-Some.ensures.steps;
       added = numbered_batch c.args.upload c.args.taps.now.items c.loop-batch.taps.items
-          c.add_batch.new.taps.items done batch c.loop-batch.place before.added before.count
-          c.in_ok-place.ensures.added;
+          c.add_batch.new.taps.items done batch c.loop-batch.position before.added before.count
+          c.in_ok-position.ensures.added;
       count = omega (
         arith,
         before.count,
         ap length (taps_more done batch),
         length-append (taps_of_batches done) batch,
-        c.in_ok-place.ensures.next,
+        c.in_ok-position.ensures.next,
       );
     }
 

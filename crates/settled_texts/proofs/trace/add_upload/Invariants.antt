@@ -6,10 +6,10 @@ use Rattle.settled_texts.proofs.trace.add_upload.Given as goal
 
 abbrev pub invariant-loop-batch : goal.invariant-loop-batch
 invariant-loop-batch l = record {
-  may : (goal.iterator-loop-batch).can_next l.good;
-  ends : (goal.iterator-loop-batch).is_finite l.good;
-  read : IsReadAs l.bytes (l.yielded ++ l.good.batches) l.good.fault;
+  may : (goal.iterator-loop-batch).can_next l.valid;
+  ends : (goal.iterator-loop-batch).is_finite l.valid;
+  read : IsReadAs l.bytes (l.yielded ++ l.valid.batches) l.valid.fault;
   added : l.taps.items
       ≡ l.fn.taps.items ++ numbered l.upload 1 (map fields_of (taps_of_batches l.yielded));
-  count : l.place ≡ 1 + length (taps_of_batches l.yielded);
+  count : l.position ≡ 1 + length (taps_of_batches l.yielded);
 }

@@ -3,7 +3,7 @@ use Rattle.std.proofs.Common.{sym, subst, arith, length-append, refl, Bool}
 use Rattle.std.specs.Prelude.{◌&&◌}
 use Rattle.std.specs.List.{list_all}
 use Rattle.std.proofs.lemmas.List.{map-append, take_more}
-use Rattle.settled_texts.specs.Traces.{AreReadAs, good_fields, is_whole, numbered}
+use Rattle.settled_texts.specs.Traces.{AreReadAs, valid_fields, is_whole, numbered}
 use Rattle.settled_texts.specs.declared.trace.TracedTap.{TracedTap}
 use Rattle.settled_texts.proofs.Numbering.{read_push, traced_push, whole_push}
 use Rattle.settled_texts.proofs.trace.collected.Goals as goal
@@ -40,7 +40,7 @@ loop-upload-preserved c =
           (read_push (map bytes_in (take at uploads)) inv.readings c.deref.result.now reading
           inv.read read);
       added = added ∙ ap
-          (λ (ts : List TracedTap). ts ++ numbered c.loop-upload.number 1 (good_fields reading))
+          (λ (ts : List TracedTap). ts ++ numbered c.loop-upload.number 1 (valid_fields reading))
           inv.added
           ∙ sym (traced_push 0 c.loop-upload.number inv.readings reading
           (omega (arith, inv.count)));

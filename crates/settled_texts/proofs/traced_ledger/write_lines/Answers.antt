@@ -11,7 +11,7 @@ use Rattle.tap_views.specs.declared.encoder.TapFields.{TapFields}
 use Rattle.tap_views.specs.declared.token.Token.{Token}
 use Rattle.settlement.specs.Posted.{posted_after}
 use Rattle.settled_texts.specs.ExplainedTaps.{AreExplained, last_token}
-use Rattle.settled_texts.proofs.TapsExplained.{fall_within, halves_of, last_append, none_reported}
+use Rattle.settled_texts.proofs.TapsExplained.{nondecreasing_within, halves_of, last_append, none_reported}
 use Rattle.settled_texts.proofs.TapsExplained.{reported_all}
 use Rattle.settled_texts.proofs.TapsExplained.{reported_append, reported_then}
 use Rattle.std.proofs.lemmas.Result.{err_from_is_err_and}
@@ -32,7 +32,7 @@ loop-rest-init g c = record {
   whole = refl;
   early = c.requires.early;
   lines = [];
-  explained = none_reported c.args.table.now [] c.args.explainer.now c.requires.come;
+  explained = none_reported c.args.table.now [] c.args.explainer.now c.requires.consumed;
   left = refl;
   appended = Appends-nil (g.W.Write.contents c.args.out.now);
   token = refl;
@@ -57,21 +57,21 @@ explain-requires-clause-early g c =
     (early_parts c.split_at.result.0.now c.split_at.result.1.now c.loop-rest.rest.now halves
     c.loop-rest.invariant.early).0
 
-pub explain-requires-clause-no_fall : goal.explain-requires-clause-no_fall
-explain-requires-clause-no_fall g c =
+pub explain-requires-clause-nondecreasing : goal.explain-requires-clause-nondecreasing
+explain-requires-clause-nondecreasing g c =
     let inv = c.loop-rest.invariant in
     let halves = halves_of c.min.result c.loop-rest.rest.now c.split_at.result.0.now
     c.split_at.result.1.now c.split_at.ensures.front c.split_at.ensures.back in
-    fall_within c.args.explainer.now.token c.loop-rest.explainer.token (taps_of_trace inv.done)
+    nondecreasing_within c.args.explainer.now.token c.loop-rest.explainer.token (taps_of_trace inv.done)
     (taps_of_trace c.split_at.result.0.now) (taps_of_trace c.split_at.result.1.now)
     (taps_of_trace c.args.trace.now)
     (taps_whole inv.done c.split_at.result.0.now c.split_at.result.1.now c.loop-rest.rest.now
-    c.args.trace.now halves inv.whole) c.requires.no_fall inv.token
+    c.args.trace.now halves inv.whole) c.requires.nondecreasing inv.token
 
-pub explain-requires-clause-come : goal.explain-requires-clause-come
-explain-requires-clause-come g c =
+pub explain-requires-clause-consumed : goal.explain-requires-clause-consumed
+explain-requires-clause-consumed g c =
     let inv = c.loop-rest.invariant in
-    (posted_after c.args.table.now [] (taps_of_trace inv.done), inv.explained.come)
+    (posted_after c.args.table.now [] (taps_of_trace inv.done), inv.explained.consumed)
 
 pub explain-requires-clause-room : goal.explain-requires-clause-room
 explain-requires-clause-room g c =
@@ -94,21 +94,21 @@ loop-rest-preserved g c =
     let fares = c.args.table.now in
     let inv = c.loop-rest.invariant in
     let stride = c.split_at.result.0.now in
-    let behind = c.split_at.result.1.now in
+    let trailing = c.split_at.result.1.now in
     let trace = c.args.trace.now in
     let classes = class_by c.args.names.now in
-    let halves = halves_of c.min.result c.loop-rest.rest.now stride behind c.split_at.ensures.front
+    let halves = halves_of c.min.result c.loop-rest.rest.now stride trailing c.split_at.ensures.front
     c.split_at.ensures.back in
     let next = c.in_ok-explain.ensures in
     let made = c.explain.new.self.lines.items in
     let parts = length-append inv.done stride in
     let long = taps_length stride in
     let explained = next.explained (posted_after fares [] (taps_of_trace inv.done))
-    inv.explained.come in
+    inv.explained.consumed in
     record {
       done = inv.done ++ stride;
-      whole = append_assoc inv.done stride behind ∙ ap (λ ts. inv.done ++ ts) halves ∙ inv.whole;
-      early = (early_parts stride behind c.loop-rest.rest.now halves inv.early).1;
+      whole = append_assoc inv.done stride trailing ∙ ap (λ ts. inv.done ++ ts) halves ∙ inv.whole;
+      early = (early_parts stride trailing c.loop-rest.rest.now halves inv.early).1;
       lines = inv.lines ++ made;
       explained = subst
           (λ (ts : List TapFields). AreExplained fares [] ts c.explain.new.explainer
@@ -150,8 +150,8 @@ returns-clause-explained g c =
     )
 
 -- ---- what a write that failed left
-pub returns-in_err-explain-clause-begun : goal.returns-in_err-explain-clause-begun
-returns-in_err-explain-clause-begun g c =
+pub returns-in_err-explain-clause-started : goal.returns-in_err-explain-clause-started
+returns-in_err-explain-clause-started g c =
     let fares = c.args.table.now in
     let inv = c.loop-rest.invariant in
     let trace = c.args.trace.now in
@@ -170,24 +170,24 @@ returns-in_err-explain-clause-begun g c =
           (begins_front _ _ _ _ (begins_whole _ _ _ inv.appended)),
     )
 
-pub returns-in_err-left-clause-begun : goal.returns-in_err-left-clause-begun
-returns-in_err-left-clause-begun g c =
+pub returns-in_err-left-clause-started : goal.returns-in_err-left-clause-started
+returns-in_err-left-clause-started g c =
     let fares = c.args.table.now in
     let inv = c.loop-rest.invariant in
     let stride = c.split_at.result.0.now in
-    let behind = c.split_at.result.1.now in
+    let trailing = c.split_at.result.1.now in
     let trace = c.args.trace.now in
     let left = c.loop-rest.left.now in
     let classes = class_by c.args.names.now in
-    let halves = halves_of c.min.result c.loop-rest.rest.now stride behind c.split_at.ensures.front
+    let halves = halves_of c.min.result c.loop-rest.rest.now stride trailing c.split_at.ensures.front
     c.split_at.ensures.back in
     let made = c.explain.new.self.lines.items in
     let explained = c.in_ok-explain.ensures.explained
     (posted_after fares [] (taps_of_trace inv.done))
-    inv.explained.come in
+    inv.explained.consumed in
     let all = reported_then fares [] (taps_of_trace inv.done) (taps_of_trace stride)
-    (taps_of_trace behind) (taps_of_trace trace) c.loop-rest.explainer inv.lines made
-    (taps_whole inv.done stride behind c.loop-rest.rest.now trace halves inv.whole) inv.explained
+    (taps_of_trace trailing) (taps_of_trace trace) c.loop-rest.explainer inv.lines made
+    (taps_whole inv.done stride trailing c.loop-rest.rest.now trace halves inv.whole) inv.explained
     explained.are in
     let p = err_from_is_err_and c.from_residual-in_err-left.result
     c.from_residual-in_err-left.ensures.1 in
@@ -199,5 +199,5 @@ returns-in_err-left-clause-begun g c =
           (sym (columns_on classes inv.lines (made ++ all.0) trace left inv.left
           ∙ ap (λ (bs : List ℕ). with_columns inv.lines (columns_by classes trace) ++ bs)
           (columns_on classes made all.0 left (drop (feeds made) left) refl)))
-          (begins_more _ _ _ _ _ _ inv.appended c.in_err-left.ensures.begun),
+          (begins_more _ _ _ _ _ _ inv.appended c.in_err-left.ensures.started),
     )

@@ -2,30 +2,30 @@
 use Rattle.std.proofs.Common.{◌≡◌, ℕ, List, [], ◌∷◌, ◌++◌, refl, sym, ap, subst, ◌∙◌}
 use Rattle.std.proofs.lemmas.Result.{err_from_is_err_and}
 use Rattle.fare_texts.specs.WrittenOut.{Begins}
-use Rattle.fare_texts.proofs.Beginnings.{begins_behind, begins_front}
+use Rattle.fare_texts.proofs.Beginnings.{begins_after, begins_front}
 use Rattle.fare_texts.proofs.TextsExist.{along_exist}
 use Rattle.std.specs.Prelude.{codes}
 use Rattle.std.specs.Io.KnownBytes.{Appends}
 use Rattle.std.proofs.KnownBytes.{Appends-trans}
 use Rattle.fare_texts.specs.LedgerLines.{head_text}
 use Rattle.fare_texts.proofs.Along.{ledger_along}
-use Rattle.fare_texts.proofs.PieceWriting.{come_first}
+use Rattle.fare_texts.proofs.PieceWriting.{consumed_first}
 use Rattle.settlement.specs.Posted.{posted}
-use Rattle.settled_texts.proofs.Rows.{canonical_falls, posted_falls}
+use Rattle.settled_texts.proofs.Rows.{canonical_nondecreasing, posted_nondecreasing}
 use Rattle.settled_texts.specs.Columns.{columns_by, head_columns, with_columns}
 use Rattle.class_names.specs.Names.{class_by}
 use Rattle.settled_texts.specs.Traces.{taps_of_trace}
 use Rattle.settled_texts.proofs.TracedLines.{head_on}
 use Rattle.settled_texts.proofs.traced_ledger.write_trace.Goals as goal
 
-pub write_lines-requires-clause-no_fall : goal.write_lines-requires-clause-no_fall
-write_lines-requires-clause-no_fall g c =
-    canonical_falls c.of-explainer.result.token (taps_of_trace c.args.trace.now)
+pub write_lines-requires-clause-nondecreasing : goal.write_lines-requires-clause-nondecreasing
+write_lines-requires-clause-nondecreasing g c =
+    canonical_nondecreasing c.of-explainer.result.token (taps_of_trace c.args.trace.now)
     (c.of-explainer.ensures.token ∙ c.least_token.ensures) c.requires.named c.requires.sorted
 
-pub write_lines-requires-clause-come : goal.write_lines-requires-clause-come
-write_lines-requires-clause-come g c =
-    come_first c.args.table.now c.of-explainer.result
+pub write_lines-requires-clause-consumed : goal.write_lines-requires-clause-consumed
+write_lines-requires-clause-consumed g c =
+    consumed_first c.args.table.now c.of-explainer.result
     (c.of-explainer.ensures.explained c.args.table.now)
 
 pub returns-clause-ok : goal.returns-clause-ok
@@ -34,12 +34,12 @@ returns-clause-ok g c =
     let taps = taps_of_trace c.args.trace.now in
     let columns = columns_by (class_by c.args.names.now) c.args.trace.now in
     let explained = c.in_ok-write_lines.ensures.explained in
-    let no_fall = canonical_falls c.of-explainer.result.token taps
+    let nondecreasing = canonical_nondecreasing c.of-explainer.result.token taps
     (c.of-explainer.ensures.token ∙ c.least_token.ensures) c.requires.named c.requires.sorted in (
       head_text ++ explained.0,
       ledger_along fares (posted fares taps) explained.0
-          (posted_falls fares c.of-explainer.result.token taps
-          no_fall) explained.1.are,
+          (posted_nondecreasing fares c.of-explainer.result.token taps
+          nondecreasing) explained.1.are,
       subst (λ (bs : List ℕ). Appends (g.W.Write.contents c.args.out.now)
           (g.W.Write.contents c.write_lines.new.out) bs)
           (ap (λ (h : List ℕ). (h ++ c.as_bytes-2.result.now) ++ with_columns explained.0 columns)
@@ -72,12 +72,12 @@ with_head head more lines columns one other =
     ++ with_columns lines columns) other
     ∙ sym (head_on lines columns)
 
-pub returns-in_err-write_out-clause-begun : goal.returns-in_err-write_out-clause-begun
-returns-in_err-write_out-clause-begun g c =
+pub returns-in_err-write_out-clause-started : goal.returns-in_err-write_out-clause-started
+returns-in_err-write_out-clause-started g c =
     let fares = c.args.table.now in
     let taps = taps_of_trace c.args.trace.now in
     let columns = columns_by (class_by c.args.names.now) c.args.trace.now in
-    let no_fall = canonical_falls c.of-explainer.result.token taps
+    let nondecreasing = canonical_nondecreasing c.of-explainer.result.token taps
     (c.of-explainer.ensures.token ∙ c.least_token.ensures) c.requires.named c.requires.sorted in
     let lines = along_exist fares [] (posted fares taps) in
     let p = err_from_is_err_and c.from_residual-in_err-write_out.result
@@ -85,20 +85,20 @@ returns-in_err-write_out-clause-begun g c =
     rw p.1 (λ write. (
       head_text ++ lines.0,
       ledger_along fares (posted fares taps) lines.0
-          (posted_falls fares c.of-explainer.result.token taps no_fall) lines.1,
+          (posted_nondecreasing fares c.of-explainer.result.token taps nondecreasing) lines.1,
       subst (λ (bs : List ℕ). Begins (g.W.Write.contents c.args.out.now)
           (g.W.Write.contents c.write_out.new.out) bs)
           (with_head c.as_bytes.result.now (codes ",class,upload,place\n") lines.0 columns
           c.as_bytes.ensures.value refl)
-          (begins_front _ _ _ _ (begins_front _ _ _ _ c.in_err-write_out.ensures.begun)),
+          (begins_front _ _ _ _ (begins_front _ _ _ _ c.in_err-write_out.ensures.started)),
     ))
 
-pub returns-in_err-write_out-2-clause-begun : goal.returns-in_err-write_out-2-clause-begun
-returns-in_err-write_out-2-clause-begun g c =
+pub returns-in_err-write_out-2-clause-started : goal.returns-in_err-write_out-2-clause-started
+returns-in_err-write_out-2-clause-started g c =
     let fares = c.args.table.now in
     let taps = taps_of_trace c.args.trace.now in
     let columns = columns_by (class_by c.args.names.now) c.args.trace.now in
-    let no_fall = canonical_falls c.of-explainer.result.token taps
+    let nondecreasing = canonical_nondecreasing c.of-explainer.result.token taps
     (c.of-explainer.ensures.token ∙ c.least_token.ensures) c.requires.named c.requires.sorted in
     let lines = along_exist fares [] (posted fares taps) in
     let p = err_from_is_err_and c.from_residual-in_err-write_out-2.result
@@ -106,33 +106,33 @@ returns-in_err-write_out-2-clause-begun g c =
     rw p.1 (λ write. (
       head_text ++ lines.0,
       ledger_along fares (posted fares taps) lines.0
-          (posted_falls fares c.of-explainer.result.token taps no_fall) lines.1,
+          (posted_nondecreasing fares c.of-explainer.result.token taps nondecreasing) lines.1,
       subst (λ (bs : List ℕ). Begins (g.W.Write.contents c.args.out.now)
           (g.W.Write.contents c.write_out-2.new.out) bs)
           (with_head c.as_bytes.result.now c.as_bytes-2.result.now lines.0 columns
           c.as_bytes.ensures.value c.as_bytes-2.ensures.value)
-          (begins_front _ _ _ _ (begins_behind _ _ _ _ _ c.in_ok-write_out.ensures.ok
-          c.in_err-write_out-2.ensures.begun)),
+          (begins_front _ _ _ _ (begins_after _ _ _ _ _ c.in_ok-write_out.ensures.ok
+          c.in_err-write_out-2.ensures.started)),
     ))
 
-pub returns-in_err-write_lines-clause-begun : goal.returns-in_err-write_lines-clause-begun
-returns-in_err-write_lines-clause-begun g c =
+pub returns-in_err-write_lines-clause-started : goal.returns-in_err-write_lines-clause-started
+returns-in_err-write_lines-clause-started g c =
     let fares = c.args.table.now in
     let taps = taps_of_trace c.args.trace.now in
     let columns = columns_by (class_by c.args.names.now) c.args.trace.now in
-    let no_fall = canonical_falls c.of-explainer.result.token taps
+    let nondecreasing = canonical_nondecreasing c.of-explainer.result.token taps
     (c.of-explainer.ensures.token ∙ c.least_token.ensures) c.requires.named c.requires.sorted in
-    let lines = c.in_err-write_lines.ensures.begun in
+    let lines = c.in_err-write_lines.ensures.started in
     let p = err_from_is_err_and c.from_residual-in_err-write_lines.result
     c.from_residual-in_err-write_lines.ensures.1 in
     rw p.1 (λ write. (
       head_text ++ lines.0,
       ledger_along fares (posted fares taps) lines.0
-          (posted_falls fares c.of-explainer.result.token taps no_fall) lines.1,
+          (posted_nondecreasing fares c.of-explainer.result.token taps nondecreasing) lines.1,
       subst (λ (bs : List ℕ). Begins (g.W.Write.contents c.args.out.now)
           (g.W.Write.contents c.write_lines.new.out) bs)
           (with_head c.as_bytes.result.now c.as_bytes-2.result.now lines.0 columns
           c.as_bytes.ensures.value c.as_bytes-2.ensures.value)
-          (begins_behind _ _ _ _ _ (Appends-trans _ _ _ _ _ c.in_ok-write_out.ensures.ok
+          (begins_after _ _ _ _ _ (Appends-trans _ _ _ _ _ c.in_ok-write_out.ensures.ok
           c.in_ok-write_out-2.ensures.ok) lines.2),
     ))

@@ -21,7 +21,7 @@ bytes_in upload = upload.items
 pub write_trace-requires-clause-sorted : goal.write_trace-requires-clause-sorted
 write_trace-requires-clause-sorted g c =
     let settled = trace_settled (map bytes_in c.args.uploads.now) c.in_ok-trace.trace.taps.items
-    c.in_ok-trace.trace.whole c.in_ok-trace.ensures c.one_reading_each.ensures
+    c.in_ok-trace.trace.whole c.in_ok-trace.ensures c.unique_parse_each.ensures
     c.plain_history.ensures.some c.plain_history.ensures.fields in
     subst (λ (ts : List TracedTap). IsSorted tap_cmp (taps_of_trace ts)) (sym c.deref.ensures.value)
     settled.canonical.sorted
@@ -29,7 +29,7 @@ write_trace-requires-clause-sorted g c =
 pub write_trace-requires-clause-early : goal.write_trace-requires-clause-early
 write_trace-requires-clause-early g c =
     let settled = trace_settled (map bytes_in c.args.uploads.now) c.in_ok-trace.trace.taps.items
-    c.in_ok-trace.trace.whole c.in_ok-trace.ensures c.one_reading_each.ensures
+    c.in_ok-trace.trace.whole c.in_ok-trace.ensures c.unique_parse_each.ensures
     c.plain_history.ensures.some c.plain_history.ensures.fields in
     subst (λ (ts : List TracedTap). AreEarly (λ (tap : TapFields). tap.moment) (taps_of_trace ts))
     (sym c.deref.ensures.value) settled.early
@@ -37,7 +37,7 @@ write_trace-requires-clause-early g c =
 pub write_trace-requires-clause-named : goal.write_trace-requires-clause-named
 write_trace-requires-clause-named g c =
     let settled = trace_settled (map bytes_in c.args.uploads.now) c.in_ok-trace.trace.taps.items
-    c.in_ok-trace.trace.whole c.in_ok-trace.ensures c.one_reading_each.ensures
+    c.in_ok-trace.trace.whole c.in_ok-trace.ensures c.unique_parse_each.ensures
     c.plain_history.ensures.some c.plain_history.ensures.fields in
     subst (λ (ts : List TracedTap). All HasName (taps_of_trace ts)) (sym c.deref.ensures.value)
     settled.named
@@ -49,7 +49,7 @@ returns-clause-ok g c =
     let trace = c.in_ok-trace.trace.taps.items in
     let classes = class_by c.args.names.now in
     let settled = trace_settled files trace
-    c.in_ok-trace.trace.whole c.in_ok-trace.ensures c.one_reading_each.ensures
+    c.in_ok-trace.trace.whole c.in_ok-trace.ensures c.unique_parse_each.ensures
     c.plain_history.ensures.some c.plain_history.ensures.fields in
     let explained = c.in_ok-write_trace.ensures.ok in (
       with_columns explained.0 (head_columns ∷ columns_by classes trace),
@@ -71,19 +71,19 @@ returns-clause-ok g c =
     )
 
 -- what a write that failed left
-pub returns-in_err-write_trace-clause-begun : goal.returns-in_err-write_trace-clause-begun
-returns-in_err-write_trace-clause-begun g c =
+pub returns-in_err-write_trace-clause-started : goal.returns-in_err-write_trace-clause-started
+returns-in_err-write_trace-clause-started g c =
     let fares = c.args.table.now in
     let files = map bytes_in c.args.uploads.now in
     let trace = c.in_ok-trace.trace.taps.items in
     let classes = class_by c.args.names.now in
     let settled = trace_settled files trace
-    c.in_ok-trace.trace.whole c.in_ok-trace.ensures c.one_reading_each.ensures
+    c.in_ok-trace.trace.whole c.in_ok-trace.ensures c.unique_parse_each.ensures
     c.plain_history.ensures.some c.plain_history.ensures.fields in
     let p = err_from_is_err_and c.from_residual-in_err-write_trace.result
     c.from_residual-in_err-write_trace.ensures.1 in
     rw p.1 (λ write.
-    let explained = c.in_err-write_trace.ensures.begun (sym p.2 ∙ write) in (
+    let explained = c.in_err-write_trace.ensures.started (sym p.2 ∙ write) in (
       with_columns explained.0 (head_columns ∷ columns_by classes trace),
       c.in_ok-trace.trace.whole,
       record {

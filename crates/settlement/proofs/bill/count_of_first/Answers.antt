@@ -14,9 +14,9 @@ use Rattle.settlement.proofs.bill.count_of_first.Goals as goal
 pub returns-then-ne-clause-next : goal.returns-then-ne-clause-next
 returns-then-ne-clause-next c = λ tap inside same.
     let taps = c.args.taps.now in
-    let place = c.loop-place.place in
-    let here : token_of_tap (get_or taps place no_tap) ≡ c.args.token =
-    ap token_of_tap (sym (get_or_default taps place tap no_tap inside)) ∙ same in
+    let position = c.loop-position.position in
+    let here : token_of_tap (get_or taps position no_tap) ≡ c.args.token =
+    ap token_of_tap (sym (get_or_default taps position tap no_tap inside)) ∙ same in
     let apart : token_eq c.token_of.result c.args.token ≡ false =
     not-true (token_eq c.token_of.result c.args.token) (sym c.ne.ensures ∙ c.if-ne.true) in
     let one : token_eq c.token_of.result c.args.token ≡ true =
@@ -24,19 +24,19 @@ returns-then-ne-clause-next c = λ tap inside same.
     ∙ token_eq-refl c.args.token in
     false≢true (sym apart ∙ one)
 
-pub loop-place-preserved : goal.loop-place-preserved
-loop-place-preserved c = λ i tap below. by_place i tap below (cases_lt i c.loop-place.place)
+pub loop-position-preserved : goal.loop-position-preserved
+loop-position-preserved c = λ i tap below. by_position i tap below (cases_lt i c.loop-position.position)
   where
-    by_place : (i : ℕ) (tap : TapFields) → i < c.loop-place.place + 1
-        → (i < c.loop-place.place) ⊎ (c.loop-place.place ≤ i)
+    by_position : (i : ℕ) (tap : TapFields) → i < c.loop-position.position + 1
+        → (i < c.loop-position.position) ⊎ (c.loop-position.position ≤ i)
         → token_of_tap (get_or c.args.taps.now i tap) ≡ c.args.token
-    by_place i tap below (inl before) = c.loop-place.invariant i tap before
-    by_place i tap below (inr least) =
+    by_position i tap below (inl before) = c.loop-position.invariant i tap before
+    by_position i tap below (inr least) =
         let taps = c.args.taps.now in
-        let place = c.loop-place.place in
-        let same : i ≡ place = omega (arith, below, least) in
+        let position = c.loop-position.position in
+        let same : i ≡ position = omega (arith, below, least) in
         let one : token_eq c.token_of.result c.args.token ≡ true =
         not-false (token_eq c.token_of.result c.args.token) (sym c.ne.ensures ∙ c.if-ne.false) in
         ap (λ n. token_of_tap (get_or taps n tap)) same
-        ∙ ap token_of_tap (get_or_default taps place tap no_tap c.loop-place-test.true)
+        ∙ ap token_of_tap (get_or_default taps position tap no_tap c.loop-position-test.true)
         ∙ sym c.token_of.ensures ∙ same_token c.token_of.result c.args.token one

@@ -8,4 +8,4 @@ bytes_in upload = upload.items
 pub returns : goal.returns
 returns c = λ fares history again same one other.
     same_history fares (map bytes_in c.args.uploads.now) (map bytes_in c.args.others.now) history
-    again c.one_reading_each.ensures c.one_reading_each-2.ensures same one other
+    again c.unique_parse_each.ensures c.unique_parse_each-2.ensures same one other

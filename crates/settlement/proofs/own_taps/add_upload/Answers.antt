@@ -1,6 +1,6 @@
 use Rattle.std.proofs.Common.{length, ap, ◌∙◌, sym, refl, append-nil, arith, length-append}
 use Rattle.tap_views.specs.Files.{taps_of_batches}
-use Rattle.tap_views.proofs.ReadingLemmas.{good_taps, read_end, read_on, room_on, taps_more}
+use Rattle.tap_views.proofs.ParseLemmas.{valid_taps, read_end, read_on, room_on, taps_more}
 use Rattle.tap_views.specs.UploadEnds.{end_by}
 use Rattle.settlement.proofs.OnlyTaps.{only_batch}
 use Rattle.settlement.proofs.own_taps.add_upload.Goals as goal
@@ -9,7 +9,7 @@ pub loop-batch-init : goal.loop-batch-init
 loop-batch-init c = record {
   may = tt;
   ends = tt;
-  read = c.good_batches-good.ensures;
+  read = c.valid_batches-valid.ensures;
   added = sym (append-nil c.args.taps.now.items);
   count = refl;
 }
@@ -37,7 +37,7 @@ loop-batch-preserved c =
 pub overflow_add-number : goal.overflow_add-number
 overflow_add-number c =
     let before = c.loop-batch.invariant in
-    let room = room_on c.args.upload.now c.loop-batch.yielded c.in-Some.batch c.loop-batch.good
+    let room = room_on c.args.upload.now c.loop-batch.yielded c.in-Some.batch c.loop-batch.valid
     c.next.new.self before.read c.in-Some.ensures.steps in
     omega (arith, room.0, before.count, c.len.ensures.number)
 
@@ -47,7 +47,7 @@ returns c =
     let read = read_end _ _ _ _ _ end.read c.in_default.ensures.steps c.fault.ensures in
     record {
       taps = taps_of_batches c.loop-batch.yielded;
-      of_upload = good_taps _ _ _ read;
+      of_upload = valid_taps _ _ _ read;
       added = end.added;
       ended = record {
         batches = c.loop-batch.yielded;

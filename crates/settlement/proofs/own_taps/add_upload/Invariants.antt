@@ -6,9 +6,9 @@ use Rattle.settlement.proofs.own_taps.add_upload.Given as goal
 
 abbrev pub invariant-loop-batch : goal.invariant-loop-batch
 invariant-loop-batch l = record {
-  may : (goal.iterator-loop-batch).can_next l.good;
-  ends : (goal.iterator-loop-batch).is_finite l.good;
-  read : IsReadAs l.upload (l.yielded ++ l.good.batches) l.good.fault;
+  may : (goal.iterator-loop-batch).can_next l.valid;
+  ends : (goal.iterator-loop-batch).is_finite l.valid;
+  read : IsReadAs l.upload (l.yielded ++ l.valid.batches) l.valid.fault;
   added : l.taps.items
       ≡ l.fn.taps.items ++ only l.token (map fields_of (taps_of_batches l.yielded));
   count : l.number ≡ length (taps_of_batches l.yielded);

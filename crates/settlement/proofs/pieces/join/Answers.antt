@@ -17,15 +17,15 @@ loop-piece-preserved c =
     let yielded = c.loop-piece.yielded in
     let now = c.loop-piece.parts in
     let old = c.args.parts.now in
-    let at = c.loop-piece.place in
+    let at = c.loop-piece.position in
     let pushed = c.push.new.self in
-    let target = c.index-parts-place.result in
+    let target = c.index-parts-position.result in
     let within : at < length now =
     omega (
       arith,
       inv.number,
       c.requires,
-      inv.place,
+      inv.position,
       ap length inv.left,
       ap length (sym steps.0),
       length-append yielded
@@ -38,7 +38,7 @@ loop-piece-preserved c =
     map-append taps_in yielded (piece ∷ []) in
     let of_piece : get_or (ys ++ piece.items ∷ []) at [] ≡ piece.items =
     ap (λ n. get_or (ys ++ piece.items ∷ []) n []) (let e : at
-    ≡ length ys + 0 = omega (arith, inv.place, length-map yielded taps_in) in
+    ≡ length ys + 0 = omega (arith, inv.position, length-map yielded taps_in) in
     e) ∙ get_or-append-add ys (piece.items ∷ []) 0 [] in
     record {
       may = tt;
@@ -46,29 +46,29 @@ loop-piece-preserved c =
       left = append_assoc yielded (piece ∷ []) (into_iter_items c.next.new.self)
           ∙ ap (λ us. yielded ++ us) (sym steps.0) ∙ inv.left;
       left_len = omega (arith, steps.1, inv.left_len, ap length steps.0);
-      place = omega (arith, inv.place, length-append yielded (piece ∷ []));
+      position = omega (arith, inv.position, length-append yielded (piece ∷ []));
       number = length-set now at pushed ∙ inv.number;
       joined = λ part below.
-          by_place part (cases_lt part at) below (get_or-set_same now at pushed [] within)
+          by_position part (cases_lt part at) below (get_or-set_same now at pushed [] within)
           (c.in_ok-push.ensures ∙ ap (λ ts. ts ++ piece.items) was) of_piece
           ∙ ap (λ (ts : List (List TapFields)). get_or old part [] ++ get_or ts part []) (sym more);
       rest = λ part above. get_or-set_other now at part pushed [] (λ e. omega (arith, e, above))
           ∙ inv.rest part (omega (arith, above));
     }
   where
-    by_place : (part : ℕ) → (part < c.loop-piece.place) ⊎ (c.loop-piece.place ≤ part)
-        → part < c.loop-piece.place + 1
-        → get_or (set c.loop-piece.parts c.loop-piece.place c.push.new.self) c.loop-piece.place []
+    by_position : (part : ℕ) → (part < c.loop-piece.position) ⊎ (c.loop-piece.position ≤ part)
+        → part < c.loop-piece.position + 1
+        → get_or (set c.loop-piece.parts c.loop-piece.position c.push.new.self) c.loop-piece.position []
         ≡ c.push.new.self
-        → c.push.new.self ≡ get_or c.args.parts.now c.loop-piece.place [] ++ c.in-Some.piece.items
-        → get_or (map taps_in c.loop-piece.yielded ++ c.in-Some.piece.items ∷ []) c.loop-piece.place
+        → c.push.new.self ≡ get_or c.args.parts.now c.loop-piece.position [] ++ c.in-Some.piece.items
+        → get_or (map taps_in c.loop-piece.yielded ++ c.in-Some.piece.items ∷ []) c.loop-piece.position
         []
         ≡ c.in-Some.piece.items
-        → get_or (set c.loop-piece.parts c.loop-piece.place c.push.new.self) part []
+        → get_or (set c.loop-piece.parts c.loop-piece.position c.push.new.self) part []
         ≡ get_or c.args.parts.now part []
         ++ get_or (map taps_in c.loop-piece.yielded ++ c.in-Some.piece.items ∷ []) part []
-    by_place part (inl less) below there pushed of_piece =
-        get_or-set_other c.loop-piece.parts c.loop-piece.place part c.push.new.self [] (λ e.
+    by_position part (inl less) below there pushed of_piece =
+        get_or-set_other c.loop-piece.parts c.loop-piece.position part c.push.new.self [] (λ e.
         omega (arith, e, less))
         ∙ c.loop-piece.invariant.joined part less
         ∙ ap (λ ts. get_or c.args.parts.now part [] ++ ts)
@@ -77,13 +77,13 @@ loop-piece-preserved c =
         (omega (
           arith,
           less,
-          c.loop-piece.invariant.place,
+          c.loop-piece.invariant.position,
           length-map c.loop-piece.yielded taps_in,
         ))))
-    by_place part (inr above) below there pushed of_piece =
-        let e : part ≡ c.loop-piece.place = omega (arith, above, below) in
-        ap (λ n. get_or (set c.loop-piece.parts c.loop-piece.place c.push.new.self) n []) e
+    by_position part (inr above) below there pushed of_piece =
+        let e : part ≡ c.loop-piece.position = omega (arith, above, below) in
+        ap (λ n. get_or (set c.loop-piece.parts c.loop-piece.position c.push.new.self) n []) e
         ∙ there ∙ pushed
-        ∙ ap (λ ts. get_or c.args.parts.now c.loop-piece.place [] ++ ts) (sym of_piece)
+        ∙ ap (λ ts. get_or c.args.parts.now c.loop-piece.position [] ++ ts) (sym of_piece)
         ∙ ap (λ n. get_or c.args.parts.now n []
         ++ get_or (map taps_in c.loop-piece.yielded ++ c.in-Some.piece.items ∷ []) n []) (sym e)

@@ -8,10 +8,10 @@ invariant-loop-piece l = record {
   ends : (goal.iterator-loop-piece).is_finite l.piece-iterator;
   left : l.yielded ++ into_iter_items l.piece-iterator ≡ l.fn.lists.items;
   left_len : into_iter_len l.piece-iterator ≡ length (into_iter_items l.piece-iterator);
-  place : l.place ≡ length l.yielded;
+  position : l.position ≡ length l.yielded;
   number : length l.parts ≡ length l.fn.parts;
-  joined : (part : ℕ) → part < l.place
+  joined : (part : ℕ) → part < l.position
       → get_or l.parts part []
       ≡ get_or l.fn.parts part [] ++ get_or (map (λ list. list.items) l.yielded) part [];
-  rest : (part : ℕ) → l.place ≤ part → get_or l.parts part [] ≡ get_or l.fn.parts part [];
+  rest : (part : ℕ) → l.position ≤ part → get_or l.parts part [] ≡ get_or l.fn.parts part [];
 }

@@ -49,5 +49,5 @@ loop-number-preserved g c =
           c.add_upload.new.self c.loop-number.ends.items upload.items added c.by_fault.result
           c.args.calls.now.run c.loop-number.calls.run c.read.new.calls.run
           inv.run
-          c.in_ok-upload.ensures c.good_tokens.ensures one c.by_fault.ensures);
+          c.in_ok-upload.ensures c.valid_tokens.ensures one c.by_fault.ensures);
     }

@@ -34,10 +34,10 @@ returns c = λ token.
     let limits = terms_at book.table.meaning bytes in
     record {
       alone = λ one. record {
-        rides = λ place window there. c.windows_keep_limits.ensures.rides rules taps limits.rides
-            place window there (λ n ride is. one_ride_limit book.table bytes _ one);
-        ceiling = λ place window there. c.windows_keep_limits.ensures.ceiling rules taps
-            limits.ceiling place window there (λ n ride is. one_ceiling book.table bytes _ one);
+        rides = λ position window there. c.windows_keep_limits.ensures.rides rules taps limits.rides
+            position window there (λ n ride is. one_ride_limit book.table bytes _ one);
+        ceiling = λ position window there. c.windows_keep_limits.ensures.ceiling rules taps
+            limits.ceiling position window there (λ n ride is. one_ceiling book.table bytes _ one);
       };
       each = c.windows_grow_within_limits.ensures rules taps;
       shared = ap (λ (replied : List Reply). filter is_ride replied)

@@ -5,17 +5,17 @@ use Rattle.shard_book.proofs.packed.bits_of.Goals as goal
 
 pub returns-clause-moment : goal.returns-clause-moment
 returns-clause-moment c =
-    moment-back c.from.result c.place_of-number.result c.args.moment c.requires.early
+    moment-back c.from.result c.position_of-number.result c.args.moment c.requires.early
 
 pub returns-clause-answer : goal.returns-clause-answer
 returns-clause-answer c =
     ap (λ number. bits_answer ((c.from.result * 8 + number) * 4398046511104 + c.args.moment))
-    c.place_of-number.ensures.place
+    c.position_of-number.ensures.position
     ∙ answer-in_bits c.from.result c.args.moment c.args.reply.answer c.requires.early
 
 pub returns-clause-cents : goal.returns-clause-cents
 returns-clause-cents c =
     ap (λ number. bits_cents ((c.from.result * 8 + number) * 4398046511104 + c.args.moment))
-    c.place_of-number.ensures.place
+    c.position_of-number.ensures.position
     ∙ cents-in_bits c.from.result c.args.moment c.args.reply.answer c.requires.early
     ∙ c.from.ensures

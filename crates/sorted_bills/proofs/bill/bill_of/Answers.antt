@@ -37,13 +37,13 @@ returns-clause-billed g c =
       few = omega (arith, few, long);
       settled = λ all are. c.posted_taps.ensures.history fares all made.taps
           (c.taken_taps_are_settled.ensures all begin new made.taps
-          (c.in_ok-taker.ensures.begun all are) (made.taken.taken all are) at_end made.taken.named);
+          (c.in_ok-taker.ensures.started all are) (made.taken.taken all are) at_end made.taken.named);
       ended = λ all are.
           subst (λ (ends : List UploadEnd). ArePlainEnds all ends)
           (sym (c.in_ok-ends.ensures.ends ∙ ap (map Posted) c.deref-2.ensures.value))
           (counted_ends all c.in_ok-numbers.numbers.items
           (passed_counts all begin new made.taps c.in_ok-numbers.numbers.items
-          (c.in_ok-taker.ensures.begun all are) (made.taken.taken all are) at_end
+          (c.in_ok-taker.ensures.started all are) (made.taken.taken all are) at_end
           c.in_ok-numbers.ensures));
     }
 
@@ -75,7 +75,7 @@ returns-in_err-_counted-clause-fault g c =
     let new = c.charge.new.taker.merge.readers.items in
     rw (p.1, p.2, many.0) (λ all are. too_many all c.in_ok-numbers.numbers.items
     (passed_counts all begin new made.taps c.in_ok-numbers.numbers.items
-    (c.in_ok-taker.ensures.begun all are) (made.taken.taken all are)
+    (c.in_ok-taker.ensures.started all are) (made.taken.taken all are)
     (c.in_ok-charge.ensures.end refl) c.in_ok-numbers.ensures)
     (subst (λ (ns : List ℕ). 2 ^ 46 < sum ns) c.deref.ensures.value many.1))
 

@@ -4,11 +4,11 @@ use Rattle.std.proofs.Common.{length-append}
 use Rattle.std.proofs.lemmas.Result.{err_from_is_err_and}
 use Rattle.tap_views.specs.declared.encoder.TapFields.{TapFields}
 use Rattle.tap_views.specs.declared.token.Token.{Token}
-use Rattle.settled_texts.specs.ExplainedTaps.{NoTapFallsFrom, last_token}
+use Rattle.settled_texts.specs.ExplainedTaps.{TapsNondecreasingFrom, last_token}
 use Rattle.settled_texts.proofs.TapsExplained.{last_append}
 use Rattle.sorted_bills.specs.inside.OpenBills.{IsOpenBill}
 use Rattle.sorted_bills.proofs.Counted.{late_no_write, late_says_nothing}
-use Rattle.sorted_bills.proofs.Takings.{Early, both_taken, fall_both, last_taken, none_taken}
+use Rattle.sorted_bills.proofs.Takings.{Early, both_taken, nondecreasing_both, last_taken, none_taken}
 use Rattle.sorted_bills.proofs.Takings.{none_there}
 use Rattle.sorted_bills.proofs.charges.charge.Goals as goal
 
@@ -18,7 +18,7 @@ loop-round-init g c = record {
   done = [];
   taken = none_taken (map g.F.Placed.bytes c.args.files.now) c.args.taker.now.merge.readers.items;
   bill = c.requires.none;
-  no_fall = tt;
+  nondecreasing = tt;
   token = refl;
   few = omega arith;
 }
@@ -31,12 +31,12 @@ add-requires-clause-early g c =
     subst (λ (taps : List TapFields). All Early taps) (sym c.deref.ensures.value)
     c.in_ok-take.ensures.taken.early
 
-pub add-requires-clause-no_fall : goal.add-requires-clause-no_fall
-add-requires-clause-no_fall g c =
-    subst (λ (taps : List TapFields). NoTapFallsFrom c.loop-round.so_far.replay.token taps)
+pub add-requires-clause-nondecreasing : goal.add-requires-clause-nondecreasing
+add-requires-clause-nondecreasing g c =
+    subst (λ (taps : List TapFields). TapsNondecreasingFrom c.loop-round.so_far.replay.token taps)
     (sym c.deref.ensures.value)
-    (subst (λ (t : Token). NoTapFallsFrom t c.take.new.self.taps.items) c.token.ensures
-    c.in_ok-take.ensures.no_fall)
+    (subst (λ (t : Token). TapsNondecreasingFrom t c.take.new.self.taps.items) c.token.ensures
+    c.in_ok-take.ensures.nondecreasing)
 
 pub add-requires-clause-bill : goal.add-requires-clause-bill
 add-requires-clause-bill g c =
@@ -65,9 +65,9 @@ loop-round-preserved g c =
       bill = subst
           (λ (ts : List TapFields). IsOpenBill c.args.table.now (inv.done ++ ts) c.add.new.self)
           c.deref.ensures.value (c.in_ok-add.ensures.bill inv.done inv.bill);
-      no_fall = fall_both from inv.done taps inv.no_fall
-          (subst (λ (t : Token). NoTapFallsFrom t taps) (c.token.ensures ∙ inv.token)
-          c.in_ok-take.ensures.no_fall);
+      nondecreasing = nondecreasing_both from inv.done taps inv.nondecreasing
+          (subst (λ (t : Token). TapsNondecreasingFrom t taps) (c.token.ensures ∙ inv.token)
+          c.in_ok-take.ensures.nondecreasing);
       token = c.in_ok-add.ensures.token
           ∙ ap (last_token c.loop-round.so_far.replay.token) c.deref.ensures.value
           ∙ ap (λ (t : Token). last_token t taps) inv.token
@@ -91,7 +91,7 @@ returns-then-is_empty-clause-charged g c =
       taken = last_taken known begin mid new inv.done taps.items none inv.taken
           c.in_ok-take.ensures.taken;
       bill_is = inv.bill;
-      no_fall = inv.no_fall;
+      nondecreasing = inv.nondecreasing;
       last = inv.token;
       few = omega (arith, few, test);
     }

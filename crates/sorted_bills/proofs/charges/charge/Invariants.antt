@@ -1,6 +1,6 @@
 use Rattle.std.proofs.Common.{◌≡◌, ◌*◌, ◌≤◌, List, length, map}
 use Rattle.tap_views.specs.declared.encoder.TapFields.{TapFields}
-use Rattle.settled_texts.specs.ExplainedTaps.{NoTapFallsFrom, last_token}
+use Rattle.settled_texts.specs.ExplainedTaps.{TapsNondecreasingFrom, last_token}
 use Rattle.sorted_bills.specs.inside.OpenBills.{IsOpenBill}
 use Rattle.sorted_bills.specs.inside.Taken.{AreTapsTaken, IsReady}
 use Rattle.sorted_bills.proofs.charges.charge.Given as goal
@@ -13,7 +13,7 @@ invariant-loop-round g l = record {
   taken : AreTapsTaken (map g.F.Placed.bytes l.files) l.fn.taker.merge.readers.items done
       l.taker.merge.readers.items;
   bill : IsOpenBill l.table done l.so_far;
-  no_fall : NoTapFallsFrom l.fn.so_far.replay.token done;
+  nondecreasing : TapsNondecreasingFrom l.fn.so_far.replay.token done;
   token : l.so_far.replay.token ≡ last_token l.fn.so_far.replay.token done;
   few : length done ≤ l._round * 512;
 }

@@ -6,30 +6,30 @@ use Rattle.sorted_taps.proofs.Files.{known_number}
 use Rattle.sorted_bills.proofs.OwnTaps.{known_slice}
 use Rattle.sorted_bills.proofs.file_checks.all_of.Goals as goal
 
-pub loop-place-init : goal.loop-place-init
-loop-place-init g c = λ all are.
+pub loop-position-init : goal.loop-position-init
+loop-position-init g c = λ all are.
     subst (λ (ns : List ℕ). AreCounted all 0 ns) (sym c.in_ok-all.ensures.items) (counted_none all)
 
-pub loop-place-preserved : goal.loop-place-preserved
-loop-place-preserved g c = λ all are.
-    let place = c.loop-place.place in
+pub loop-position-preserved : goal.loop-position-preserved
+loop-position-preserved g c = λ all are.
+    let position = c.loop-position.position in
     let files = c.args.files.now in
     let numbers = c.args.numbers.now in
-    let test = c.loop-place-test.true in
+    let test = c.loop-position-test.true in
     let long = c.requires.len in
-    let there : slice_get numbers place ≡ Some (Some c.in-Some.number) =
-    slice_get-get_or numbers place _ test ∙ ap Some c.in-Some.is in
-    let made = c.requires.each place (Some c.in-Some.number) (Some (get_or all place [])) there
-    (known_slice g.F.Placed.bytes files all place are (omega (arith, long, test))) in
-    counted_more all place c.loop-place.all.items c.push.new.self.items made.0
-    (c.loop-place.invariant all are) made.1
-    (c.in_ok-push-in-Some.ensures.items ∙ ap (λ (n : ℕ). c.loop-place.all.items ++ n ∷ []) made.2)
+    let there : slice_get numbers position ≡ Some (Some c.in-Some.number) =
+    slice_get-get_or numbers position _ test ∙ ap Some c.in-Some.is in
+    let made = c.requires.each position (Some c.in-Some.number) (Some (get_or all position [])) there
+    (known_slice g.F.Placed.bytes files all position are (omega (arith, long, test))) in
+    counted_more all position c.loop-position.all.items c.push.new.self.items made.0
+    (c.loop-position.invariant all are) made.1
+    (c.in_ok-push-in-Some.ensures.items ∙ ap (λ (n : ℕ). c.loop-position.all.items ++ n ∷ []) made.2)
 
 pub returns : goal.returns
 returns g c = λ all are.
     let number = known_number g.F.Placed.bytes c.args.files.now all are in
-    let most = c.loop-place.auto.place-end in
-    let past = c.loop-place-test.false in
+    let most = c.loop-position.auto.position-end in
+    let past = c.loop-position-test.false in
     let long = c.requires.len in
-    counted_all all c.loop-place.place c.loop-place.all.items (c.loop-place.invariant all are)
+    counted_all all c.loop-position.position c.loop-position.all.items (c.loop-position.invariant all are)
     (omega (arith, number, most, past, long))

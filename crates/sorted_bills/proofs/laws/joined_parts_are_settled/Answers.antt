@@ -5,8 +5,8 @@ use Rattle.sorted_bills.proofs.JoinedParts.{parts_ended, settled_parts}
 use Rattle.sorted_bills.proofs.laws.joined_parts_are_settled.Goals as goal
 
 pub returns-clause-settled : goal.returns-clause-settled
-returns-clause-settled c = λ fares files parts are whole rise.
-    let all = settled_parts fares files parts are whole rise in
+returns-clause-settled c = λ fares files parts are whole increase.
+    let all = settled_parts fares files parts are whole increase in
     subst (λ (history : List Entry). IsSettledHistory fares files history) (sym all.are)
     (c.posted_taps.ensures.history fares files all.taps all.settled)
 

@@ -10,16 +10,16 @@ use Rattle.tap_views.specs.declared.upload_end.UploadEnd.TheVariants.{Posted}
 use Rattle.fare_texts.specs.LedgerLines.{head_text}
 use Rattle.fare_texts.proofs.Along.{ledger_along}
 use Rattle.fare_texts.proofs.Beginnings.{goes_last}
-use Rattle.fare_texts.proofs.PieceWriting.{come_first}
+use Rattle.fare_texts.proofs.PieceWriting.{consumed_first}
 use Rattle.settlement.specs.Posted.{posted}
-use Rattle.settled_texts.proofs.Rows.{posted_falls}
+use Rattle.settled_texts.proofs.Rows.{posted_nondecreasing}
 use Rattle.sorted_taps.proofs.Spans.{at_end_too}
 use Rattle.sorted_bills.specs.declared.range.Range.{Range}
 use Rattle.sorted_bills.specs.inside.Ranges.{IsRange}
 use Rattle.sorted_bills.proofs.Counted.{counted_ends, late_no_write, late_says_nothing, too_many}
-use Rattle.sorted_bills.proofs.Explained.{begun_waiting, explained_begun}
-use Rattle.sorted_bills.proofs.LedgerBegun.{ledger_begun}
-use Rattle.sorted_bills.specs.inside.Explained.{IsBegunSoFar}
+use Rattle.sorted_bills.proofs.Explained.{started_waiting, explained_started}
+use Rattle.sorted_bills.proofs.LedgerStarted.{ledger_started}
+use Rattle.sorted_bills.specs.inside.Explained.{IsStartedSoFar}
 use Rattle.sorted_bills.proofs.ledger.write_sorted_ledger.Goals as goal
 
 pub write_ranges-requires-clause-room : goal.write_ranges-requires-clause-room
@@ -40,8 +40,8 @@ write_ranges-requires-clause-explained g c κs within =
       explainer.token,
       bytes,
       waits,
-      explained_begun fares (map g.F.Placed.bytes c.args.files.now) [] readers explainer bytes waits
-          (come_first fares explainer (c.of-explainer.ensures.explained fares)),
+      explained_started fares (map g.F.Placed.bytes c.args.files.now) [] readers explainer bytes waits
+          (consumed_first fares explainer (c.of-explainer.ensures.explained fares)),
     )
 
 pub write_ranges-requires-clause-ranges : goal.write_ranges-requires-clause-ranges
@@ -55,25 +55,25 @@ pub returns-clause-ok : goal.returns-clause-ok
 returns-clause-ok g c =
     let fares = c.args.table.now in
     let explainer = c.of-explainer.result in
-    let begun = c.in_ok-taker.taker.merge.readers.items in
+    let started = c.in_ok-taker.taker.merge.readers.items in
     let end = c.write_ranges.new.taker.merge.readers.items in
     let bytes = g.W.Write.contents c.args.out.now in
     let waits = string_bytes c.in_ok-text.text in
-    let explained = c.in_ok-write_ranges.ensures.explained [] begun explainer.token bytes waits
-    (explained_begun fares (map g.F.Placed.bytes c.args.files.now) [] begun explainer bytes waits
-    (come_first fares explainer (c.of-explainer.ensures.explained fares))) in
+    let explained = c.in_ok-write_ranges.ensures.explained [] started explainer.token bytes waits
+    (explained_started fares (map g.F.Placed.bytes c.args.files.now) [] started explainer bytes waits
+    (consumed_first fares explainer (c.of-explainer.ensures.explained fares))) in
     let history = posted fares explained.taps in (
       head_text ++ explained.lines,
       λ all are.
-          let way = explained.come all are in
+          let way = explained.consumed all are in
           record {
             history = history;
             is_settled = c.posted_taps.ensures.history fares all explained.taps
-                (c.taken_taps_are_settled.ensures all begun way.to explained.taps
-                (c.in_ok-taker.ensures.begun all are) way.taken
-                (at_end_too way.to end way.stand c.in_ok-write_ranges.ensures.end) explained.named);
+                (c.taken_taps_are_settled.ensures all started way.to explained.taps
+                (c.in_ok-taker.ensures.started all are) way.taken
+                (at_end_too way.to end way.aligned c.in_ok-write_ranges.ensures.end) explained.named);
             over = ledger_along fares history explained.lines
-                (posted_falls fares explainer.token explained.taps explained.no_fall)
+                (posted_nondecreasing fares explainer.token explained.taps explained.nondecreasing)
                 explained.explained.are;
           },
       subst (λ (head : List ℕ). Appends (g.W.Write.contents c.args.out.now)
@@ -106,56 +106,56 @@ returns-in_err-taker-clause-fault g c =
     rw (p.1, p.2) (λ all are. late_says_nothing all c.in_err-taker.field-0.0)
 
 -- ---- a beginning was written
-pub returns-in_err-write_ranges-clause-begun : goal.returns-in_err-write_ranges-clause-begun
-returns-in_err-write_ranges-clause-begun g c =
+pub returns-in_err-write_ranges-clause-started : goal.returns-in_err-write_ranges-clause-started
+returns-in_err-write_ranges-clause-started g c =
     let p = err_from_is_err_and c.from_residual-in_err-write_ranges.result
     c.from_residual-in_err-write_ranges.ensures.1 in
     let fares = c.args.table.now in
     let known = map g.F.Placed.bytes c.args.files.now in
     let explainer = c.of-explainer.result in
-    let begun = c.in_ok-taker.taker.merge.readers.items in
+    let started = c.in_ok-taker.taker.merge.readers.items in
     let bytes = g.W.Write.contents c.args.out.now in
     let waits = string_bytes c.in_ok-text.text in
     rw (p.1) (λ is_write.
-    ledger_begun fares known c.in_ok-numbers.numbers.items begun explainer.token bytes
+    ledger_started fares known c.in_ok-numbers.numbers.items started explainer.token bytes
     (g.W.Write.contents c.write_ranges.new.out) c.merged_is_canonical.ensures
     c.in_ok-numbers.ensures.sorted
-    c.in_ok-taker.ensures.begun
+    c.in_ok-taker.ensures.started
     (c.of-explainer.ensures.token ∙ c.least_token.ensures)
     (λ all taps settled. c.posted_taps.ensures.history fares all taps settled)
-    (subst (λ head. IsBegunSoFar fares known [] begun explainer.token bytes head
+    (subst (λ head. IsStartedSoFar fares known [] started explainer.token bytes head
     (g.W.Write.contents c.write_ranges.new.out)) c.in_ok-text.ensures
-    (c.in_err-write_ranges.ensures.begun [] begun explainer.token bytes waits
-    (explained_begun fares known [] begun explainer bytes waits
-    (come_first fares explainer (c.of-explainer.ensures.explained fares))))))
+    (c.in_err-write_ranges.ensures.started [] started explainer.token bytes waits
+    (explained_started fares known [] started explainer bytes waits
+    (consumed_first fares explainer (c.of-explainer.ensures.explained fares))))))
 
-pub returns-in_err-pass_on-clause-begun : goal.returns-in_err-pass_on-clause-begun
-returns-in_err-pass_on-clause-begun g c =
+pub returns-in_err-pass_on-clause-started : goal.returns-in_err-pass_on-clause-started
+returns-in_err-pass_on-clause-started g c =
     let p = err_from_is_err_and c.from_residual-in_err-pass_on.result
     c.from_residual-in_err-pass_on.ensures.1 in
     let fares = c.args.table.now in
     let known = map g.F.Placed.bytes c.args.files.now in
     let explainer = c.of-explainer.result in
-    let begun = c.in_ok-taker.taker.merge.readers.items in
+    let started = c.in_ok-taker.taker.merge.readers.items in
     let bytes = g.W.Write.contents c.args.out.now in
     let waits = string_bytes c.in_ok-text.text in
     rw (p.1) (λ is_write.
-    ledger_begun fares known c.in_ok-numbers.numbers.items begun explainer.token bytes
+    ledger_started fares known c.in_ok-numbers.numbers.items started explainer.token bytes
     (g.W.Write.contents c.pass_on.new.out) c.merged_is_canonical.ensures
     c.in_ok-numbers.ensures.sorted
-    c.in_ok-taker.ensures.begun
+    c.in_ok-taker.ensures.started
     (c.of-explainer.ensures.token ∙ c.least_token.ensures)
     (λ all taps settled. c.posted_taps.ensures.history fares all taps settled)
-    (subst (λ head. IsBegunSoFar fares known [] begun explainer.token bytes head
+    (subst (λ head. IsStartedSoFar fares known [] started explainer.token bytes head
     (g.W.Write.contents c.pass_on.new.out)) c.in_ok-text.ensures
-    (begun_waiting fares known [] begun explainer.token bytes waits
+    (started_waiting fares known [] started explainer.token bytes waits
     c.write_ranges.new.taker.merge.readers.items c.write_ranges.new.explainer
     (g.W.Write.contents c.write_ranges.new.out) (g.W.Write.contents c.pass_on.new.out)
     (string_bytes c.write_ranges.new.text)
-    (c.in_ok-write_ranges.ensures.explained [] begun explainer.token bytes waits
-    (explained_begun fares known [] begun explainer bytes waits
-    (come_first fares explainer (c.of-explainer.ensures.explained fares))))
-    c.in_err-pass_on.ensures.begun)))
+    (c.in_ok-write_ranges.ensures.explained [] started explainer.token bytes waits
+    (explained_started fares known [] started explainer bytes waits
+    (consumed_first fares explainer (c.of-explainer.ensures.explained fares))))
+    c.in_err-pass_on.ensures.started)))
 
 pub returns-in_err-write_ranges-clause-sorted : goal.returns-in_err-write_ranges-clause-sorted
 returns-in_err-write_ranges-clause-sorted g c =
@@ -195,8 +195,8 @@ returns-in_err-counted-clause-sorted g c =
     let many = c.in_err-counted.ensures.many in
     rw (p.1, p.2, many.0) (λ is_write all are. absurd (cc))
 
-pub returns-in_err-taker-clause-begun : goal.returns-in_err-taker-clause-begun
-returns-in_err-taker-clause-begun g c =
+pub returns-in_err-taker-clause-started : goal.returns-in_err-taker-clause-started
+returns-in_err-taker-clause-started g c =
     let p = err_from_is_err_and c.from_residual-in_err-taker.result
     c.from_residual-in_err-taker.ensures.1 in
     rw (p.1, p.2) (λ is_write. absurd (late_no_write c.in_err-taker.field-0.0 is_write))

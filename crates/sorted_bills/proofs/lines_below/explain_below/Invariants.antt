@@ -12,13 +12,13 @@ abbrev pub invariant-loop : goal.invariant-loop
 invariant-loop g l = record {
   ready : IsReady (length l.files) l.taker;
   few : l.explainer.number + l.left ≤ l.fn.explainer.number + l.fn.left;
-  explained : (earlier : List Entry) (begun : List TapReader) (from : Token)
+  explained : (earlier : List Entry) (started : List TapReader) (from : Token)
       (start : Option (List ℕ))
       (waited : List ℕ)
-      → AreExplainedSoFar l.table (map g.F.Placed.bytes l.files) earlier begun from start waited
+      → AreExplainedSoFar l.table (map g.F.Placed.bytes l.files) earlier started from start waited
       l.fn.taker.merge.readers.items l.fn.explainer
       (g.W.Write.contents l.fn.out) (string_bytes l.fn.text)
-      → AreExplainedSoFar l.table (map g.F.Placed.bytes l.files) earlier begun from start waited
+      → AreExplainedSoFar l.table (map g.F.Placed.bytes l.files) earlier started from start waited
       l.taker.merge.readers.items l.explainer
       (g.W.Write.contents l.out) (string_bytes l.text);
 }

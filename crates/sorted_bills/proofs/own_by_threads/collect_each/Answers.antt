@@ -7,10 +7,10 @@ use Rattle.sorted_bills.specs.inside.OwnTaps.{IsOwnAt}
 use Rattle.sorted_bills.proofs.own_by_threads.collect_each.Goals as goal
 
 pub returns-clause-each : goal.returns-clause-each
-returns-clause-each g c = λ place own there.
-    let inside = slice_get_within c.for_each_mut.new.s place own there in
+returns-clause-each g c = λ position own there.
+    let inside = slice_get_within c.for_each_mut.new.s position own there in
     let long = c.for_each_mut.auto.s in
-    let at = (c.for_each_mut.ensures place own (omega (arith, inside, long))).1 in
-    let left = at.left ∙ get_or_from_slice_get c.for_each_mut.new.s place own own there in
+    let at = (c.for_each_mut.ensures position own (omega (arith, inside, long))).1 in
+    let left = at.left ∙ get_or_from_slice_get c.for_each_mut.new.s position own own there in
     subst (λ (o : Option OwnTaps). IfSome o
-    (IsOwnAt c.args.token (map g.F.Placed.bytes c.args.files.now) place)) left at.call
+    (IsOwnAt c.args.token (map g.F.Placed.bytes c.args.files.now) position)) left at.call

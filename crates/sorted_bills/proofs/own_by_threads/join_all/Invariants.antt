@@ -4,9 +4,9 @@ use Rattle.sorted_bills.proofs.OwnTaps.{AreOwnSoFar}
 use Rattle.sorted_bills.proofs.own_by_threads.join_all.Given as goal
 
 -- the token's taps of the files so far were added
-abbrev pub invariant-loop-place : goal.invariant-loop-place
-invariant-loop-place g l = record {
+abbrev pub invariant-loop-position : goal.invariant-loop-position
+invariant-loop-position g l = record {
   sound : AreSound l.fn.token l.taps.items;
   own : (all : List (List ℕ)) → map g.F.Placed.bytes l.files ≡ map Some all
-      → AreOwnSoFar l.fn.token all l.place l.taps.items l.numbers.items;
+      → AreOwnSoFar l.fn.token all l.position l.taps.items l.numbers.items;
 }

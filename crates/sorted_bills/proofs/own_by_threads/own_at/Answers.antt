@@ -13,17 +13,17 @@ add_file-requires-clause-sound g c =
 pub returns-in-Ok-add_file : goal.returns-in-Ok-add_file
 returns-in-Ok-add_file g c =
     let token = c.args.token in
-    let file = c.index-files-place.result in
+    let file = c.index-files-position.result in
     let taps = c.add_file.new.taps.items in
     let numbers = c.add_file.new.numbers.items in
-    let within = c.if-place-files.false in
+    let within = c.if-position-files.false in
     record {
       sound = c.in-Ok-add_file.ensures.sound;
       added = λ known there. subst (λ (bytes : Option (List ℕ)). IfSome bytes
           (λ all. AreOwnAdded token all [] taps [] numbers))
-          (known_there g.F.Placed.bytes c.args.files.now c.args.place file known
+          (known_there g.F.Placed.bytes c.args.files.now c.args.position file known
           (omega (arith, within))
-          c.index-files-place.is there)
+          c.index-files-position.is there)
           (subst (λ (ns : List ℕ). IfSome (g.F.Placed.bytes file)
           (λ all. AreOwnAdded token all [] taps ns numbers)) c.new-numbers.ensures.items
           (subst (λ (ts : List TapFields). IfSome (g.F.Placed.bytes file)

@@ -1,6 +1,6 @@
 use Rattle.std.proofs.Common.{◌≡◌, ℕ, [], ◌∷◌, ◌++◌, ap, arith, ◌∙◌, refl, Vec, Global}
 use Rattle.std.proofs.lemmas.Result.{err_from_is_err_and}
-use Rattle.sorted_taps.specs.Readers.{ahead, IsAdvanced, IsBehindFault, IsStepFault, StandsIn}
+use Rattle.sorted_taps.specs.Readers.{ahead, IsAdvanced, IsAfterFault, IsStepFault, IsPositionedIn}
 use Rattle.sorted_taps.specs.Sorted.{IsSortedFault}
 use Rattle.sorted_taps.proofs.Known.{at_none, known_all, known_map, known_map2}
 use Rattle.sorted_taps.proofs.Standing.{opening_fault, step_fault}
@@ -11,7 +11,7 @@ pub returns-in_err-reader-clause-fault : goal.returns-in_err-reader-clause-fault
 returns-in_err-reader-clause-fault g c =
     let p = err_from_is_err_and c.from_residual.result c.from_residual.ensures.1 in
     let fault = c.in_err-reader.field-0.0 in
-    rw (p.1, p.2) (known_map (λ all. IsBehindFault all 0 fault) (λ all. IsSortedFault all fault)
+    rw (p.1, p.2) (known_map (λ all. IsAfterFault all 0 fault) (λ all. IsSortedFault all fault)
     (g.F.Placed.bytes c.args.file.now) (λ all is. opening_fault all fault is)
     c.in_err-reader.ensures.fault)
 
@@ -26,10 +26,10 @@ loop-init g c =
       window = omega (arith, long, room);
       sound = c.requires.sound;
       numbers = refl;
-      read = known_map (λ all. StandsIn all 0 [] reader)
+      read = known_map (λ all. IsPositionedIn all 0 [] reader)
           (λ all. IsOwnRead token all taps taps reader)
-          (g.F.Placed.bytes c.args.file.now) (λ all stands. none_read token all taps reader stands)
-          c.in_ok-reader.ensures.stands;
+          (g.F.Placed.bytes c.args.file.now) (λ all holds. none_read token all taps reader holds)
+          c.in_ok-reader.ensures.holds;
     }
 
 pub returns-then-is_none-clause-own : goal.returns-then-is_none-clause-own
@@ -88,5 +88,5 @@ returns-in_err-advance-clause-fault g c =
     rw (p.1, p.2) (known_map2 (λ all. IsOwnRead token all begin now old)
     (λ all. IsStepFault all old fault) (λ all. IsSortedFault all fault)
     (g.F.Placed.bytes c.args.file.now)
-    (λ all read is. step_fault all read.passed old fault read.stands is)
+    (λ all read is. step_fault all read.passed old fault read.holds is)
     c.loop.invariant.read c.in_err-advance.ensures.fault)

@@ -12,10 +12,10 @@ no_head ahead tap rest P none some =
 
 pub returns-in_ok-push_own-in-Some-clause-pushed : goal.returns-in_ok-push_own-in-Some-clause-pushed
 returns-in_ok-push_own-in-Some-clause-pushed c = λ tap rest is.
-    let (more, stands) = c.in-Some.ensures in
+    let (more, holds) = c.in-Some.ensures in
     subst (λ (t : TapFields). IsOwnPushed c.args.token t c.args.taps.now.items
     c.push_own.new.taps.items)
-    (same_head (ahead c.args.reader.now) c.in-Some.tap.now tap more rest stands is)
+    (same_head (ahead c.args.reader.now) c.in-Some.tap.now tap more rest holds is)
     c.in_ok-push_own-in-Some.ensures.pushed
 
 pub returns-in-None-clause-pushed : goal.returns-in-None-clause-pushed

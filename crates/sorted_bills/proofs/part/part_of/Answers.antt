@@ -1,10 +1,10 @@
 use Rattle.std.proofs.Common.{List, All, sym, subst, arith, ◌∙◌, Vec, Global}
 use Rattle.tap_views.specs.declared.token.Token.{Token}
 use Rattle.tap_views.specs.TokenOrder.{IsUpTo}
-use Rattle.sorted_taps.specs.Stands.{StandAs}
+use Rattle.sorted_taps.specs.Represents.{AreAlignedWith}
 use Rattle.sorted_taps.specs.declared.reader.TapReader.{TapReader}
-use Rattle.sorted_taps.proofs.Spans.{stand_alone}
-use Rattle.sorted_bills.proofs.Parts.{From, UpTo, fall_between}
+use Rattle.sorted_taps.proofs.Spans.{are_self_aligned}
+use Rattle.sorted_bills.proofs.Parts.{From, UpTo, nondecreasing_between}
 use Rattle.sorted_bills.proofs.part.part_of.Goals as goal
 
 pub charge-requires-clause-none : goal.charge-requires-clause-none
@@ -21,7 +21,7 @@ returns g c =
     let made = c.in_ok-charge.ensures.charged in
     let taps = made.taps in
     let from = c.new-so_far.result.replay.token in
-    let between = fall_between from taps made.no_fall in
+    let between = nondecreasing_between from taps made.nondecreasing in
     let first = c.new-so_far.ensures.token in
     let last = c.token-last.ensures ∙ made.last in
     let end = c.charge.new.taker.merge.readers in
@@ -29,13 +29,13 @@ returns g c =
       taps = taps;
       spanned = λ files are. record {
         from = c.in_ok-taker.taker.merge.readers.items;
-        begins = subst (λ (rs : List TapReader). StandAs rs c.in_ok-begin.begin.items)
+        begins = subst (λ (rs : List TapReader). AreAlignedWith rs c.in_ok-begin.begin.items)
             c.readers.ensures c.in_ok-begin.ensures;
-        come = record {
+        consumed = record {
           to = end.items;
           taken = made.taken.taken files are;
-          stand = subst (λ (v : Vec TapReader Global). StandAs end.items v.items)
-              (sym c.into_readers-end.ensures) (stand_alone end.items);
+          aligned = subst (λ (v : Vec TapReader Global). AreAlignedWith end.items v.items)
+              (sym c.into_readers-end.ensures) (are_self_aligned end.items);
         };
       };
       named = made.taken.named;

@@ -1,5 +1,5 @@
 use Rattle.std.proofs.Common.{◌≡◌, ◌<◌, ℕ, get_or}
-use Rattle.sorted_taps.specs.declared.places.FileSpan.{FileSpan}
+use Rattle.sorted_taps.specs.declared.positions.FileSpan.{FileSpan}
 use Rattle.sorted_bills.proofs.part_ledger.are_spans.Given as goal
 
 abbrev pub invariant-loop-at : goal.invariant-loop-at

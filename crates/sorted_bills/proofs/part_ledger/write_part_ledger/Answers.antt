@@ -7,17 +7,17 @@ use Rattle.fare_texts.specs.LedgerLines.{head_text}
 use Rattle.fare_texts.specs.WrittenOut.{Begins}
 use Rattle.fare_texts.proofs.Along.{ledger_along}
 use Rattle.fare_texts.proofs.Beginnings.{goes_last}
-use Rattle.fare_texts.proofs.PieceWriting.{come_first}
+use Rattle.fare_texts.proofs.PieceWriting.{consumed_first}
 use Rattle.settlement.specs.Posted.{posted}
-use Rattle.settled_texts.proofs.Rows.{posted_falls}
-use Rattle.sorted_taps.specs.Places.{DoSpan}
-use Rattle.sorted_taps.specs.declared.places.FileSpan.{FileSpan}
-use Rattle.sorted_taps.specs.declared.places.Place.{Place}
+use Rattle.settled_texts.proofs.Rows.{posted_nondecreasing}
+use Rattle.sorted_taps.specs.Positions.{DoSpan}
+use Rattle.sorted_taps.specs.declared.positions.FileSpan.{FileSpan}
+use Rattle.sorted_taps.specs.declared.positions.Position.{Position}
 use Rattle.sorted_taps.specs.declared.reader.TapReader.{TapReader}
 use Rattle.sorted_taps.proofs.Files.{known_number}
 use Rattle.sorted_taps.proofs.Placing.{span_alike, taken_between}
 use Rattle.sorted_bills.proofs.Counted.{late_no_write, late_says_nothing}
-use Rattle.sorted_bills.proofs.Explained.{begun_waiting, explained_begun}
+use Rattle.sorted_bills.proofs.Explained.{started_waiting, explained_started}
 use Rattle.sorted_bills.proofs.part_ledger.write_part_ledger.Goals as goal
 
 pub explain_below-requires-clause-room : goal.explain_below-requires-clause-room
@@ -28,7 +28,7 @@ pub explain_below-requires-clause-explained : goal.explain_below-requires-clause
 explain_below-requires-clause-explained g c =
     let fares = c.args.table.now in
     let explainer = c.of-explainer.result in
-    let readers = c.in_ok-begun.begun.taker.merge.readers.items in
+    let readers = c.in_ok-started.started.taker.merge.readers.items in
     let bytes = g.W.Write.contents c.args.out.now in
     let waits = string_bytes c.in_ok-text.text in (
       [],
@@ -36,8 +36,8 @@ explain_below-requires-clause-explained g c =
       explainer.token,
       bytes,
       waits,
-      explained_begun fares (map g.F.Placed.bytes c.args.files.now) [] readers explainer bytes waits
-          (come_first fares explainer (c.of-explainer.ensures.explained fares)),
+      explained_started fares (map g.F.Placed.bytes c.args.files.now) [] readers explainer bytes waits
+          (consumed_first fares explainer (c.of-explainer.ensures.explained fares)),
     )
 
 pub returns-clause-ok : goal.returns-clause-ok
@@ -45,36 +45,36 @@ returns-clause-ok g c =
     let fares = c.args.table.now in
     let known = map g.F.Placed.bytes c.args.files.now in
     let explainer = c.of-explainer.result in
-    let begin = c.in_ok-begun.begun.taker.merge.readers.items in
+    let begin = c.in_ok-started.started.taker.merge.readers.items in
     let end = c.explain_below.new.taker.merge.readers.items in
-    let places = c.in_ok-begun.begun.places.items in
+    let positions = c.in_ok-started.started.positions.items in
     let bytes = g.W.Write.contents c.args.out.now in
     let waits = string_bytes c.in_ok-text.text in
     let spans = c.args.spans.now in
     let same = sym c.deref-2.ensures.value ∙ c.if-not-are_spans.ensures refl in
     let explained = c.in_ok-explain_below.ensures.explained [] begin explainer.token bytes waits
-    (explained_begun fares known [] begin explainer bytes waits
-    (come_first fares explainer (c.of-explainer.ensures.explained fares))) in
+    (explained_started fares known [] begin explainer bytes waits
+    (consumed_first fares explainer (c.of-explainer.ensures.explained fares))) in
     let history = posted fares explained.taps in (
       head_text ++ explained.lines,
       λ all are.
-          let way = explained.come all are in
+          let way = explained.consumed all are in
           let number = known_number g.F.Placed.bytes c.args.files.now all are in
-          let readers = c.in_ok-begun.ensures.ready.readers in
+          let readers = c.in_ok-started.ensures.ready.readers in
           let after = c.in_ok-explain_below.ensures.ready.readers in
-          let stand = way.stand.number in
+          let aligned = way.aligned.number in
           let many = c.in_ok-made.ensures.number in
           let made = c.in_ok-made.made.items in
-          let ends : DoSpan all places end made =
-          subst (λ (rs : List TapReader). DoSpan all places rs made) c.readers-readers.ensures
-          (subst (λ (ps : List Place). DoSpan all ps c.readers-readers.result.now made)
+          let ends : DoSpan all positions end made =
+          subst (λ (rs : List TapReader). DoSpan all positions rs made) c.readers-readers.ensures
+          (subst (λ (ps : List Position). DoSpan all ps c.readers-readers.result.now made)
           c.deref.ensures.value (c.in_ok-made.ensures.spanned all are)) in
-          let between = taken_between all places begin way.to spans explained.taps
+          let between = taken_between all positions begin way.to spans explained.taps
           (omega (arith, number, readers))
           (ap length (sym same) ∙ many ∙ number)
-          (c.in_ok-begun.ensures.placed all are) way.taken
-          (subst (λ (ss : List FileSpan). DoSpan all places way.to ss) same
-          (span_alike all places way.to end made way.stand (omega (arith, stand, after, many))
+          (c.in_ok-started.ensures.placed all are) way.taken
+          (subst (λ (ss : List FileSpan). DoSpan all positions way.to ss) same
+          (span_alike all positions way.to end made way.aligned (omega (arith, aligned, after, many))
           ends)) in (
             between.lists,
             history,
@@ -86,7 +86,7 @@ returns-clause-ok g c =
               posted_are = refl;
             },
             ledger_along fares history explained.lines
-                (posted_falls fares explainer.token explained.taps explained.no_fall)
+                (posted_nondecreasing fares explainer.token explained.taps explained.nondecreasing)
                 explained.explained.are,
           ),
       subst (λ (head : List ℕ). Appends bytes
@@ -98,18 +98,18 @@ returns-clause-ok g c =
     )
 
 -- ---- a beginning was written
-pub returns-in_err-explain_below-clause-begun : goal.returns-in_err-explain_below-clause-begun
-returns-in_err-explain_below-clause-begun g c =
+pub returns-in_err-explain_below-clause-started : goal.returns-in_err-explain_below-clause-started
+returns-in_err-explain_below-clause-started g c =
     let p = err_from_is_err_and c.from_residual-in_err-explain_below.result
     c.from_residual-in_err-explain_below.ensures.1 in
     let fares = c.args.table.now in
     let explainer = c.of-explainer.result in
-    let begin = c.in_ok-begun.begun.taker.merge.readers.items in
+    let begin = c.in_ok-started.started.taker.merge.readers.items in
     let bytes = g.W.Write.contents c.args.out.now in
     let waits = string_bytes c.in_ok-text.text in
-    let some = c.in_err-explain_below.ensures.begun [] begin explainer.token bytes waits
-    (explained_begun fares (map g.F.Placed.bytes c.args.files.now) [] begin explainer bytes waits
-    (come_first fares explainer (c.of-explainer.ensures.explained fares))) in
+    let some = c.in_err-explain_below.ensures.started [] begin explainer.token bytes waits
+    (explained_started fares (map g.F.Placed.bytes c.args.files.now) [] begin explainer bytes waits
+    (consumed_first fares explainer (c.of-explainer.ensures.explained fares))) in
     rw (p.1) (λ is_write. (
       some.taps,
       some.lines,
@@ -118,24 +118,24 @@ returns-in_err-explain_below-clause-begun g c =
           (head ++ some.lines)) c.in_ok-text.ensures some.written,
     ))
 
-pub returns-in_err-pass_on-clause-begun : goal.returns-in_err-pass_on-clause-begun
-returns-in_err-pass_on-clause-begun g c =
+pub returns-in_err-pass_on-clause-started : goal.returns-in_err-pass_on-clause-started
+returns-in_err-pass_on-clause-started g c =
     let p = err_from_is_err_and c.from_residual-in_err-pass_on.result
     c.from_residual-in_err-pass_on.ensures.1 in
     let fares = c.args.table.now in
     let known = map g.F.Placed.bytes c.args.files.now in
     let explainer = c.of-explainer.result in
-    let begin = c.in_ok-begun.begun.taker.merge.readers.items in
+    let begin = c.in_ok-started.started.taker.merge.readers.items in
     let bytes = g.W.Write.contents c.args.out.now in
     let waits = string_bytes c.in_ok-text.text in
-    let some = begun_waiting fares known [] begin explainer.token bytes waits
+    let some = started_waiting fares known [] begin explainer.token bytes waits
     c.explain_below.new.taker.merge.readers.items c.explain_below.new.explainer
     (g.W.Write.contents c.explain_below.new.out) (g.W.Write.contents c.pass_on.new.out)
     (string_bytes c.explain_below.new.text)
     (c.in_ok-explain_below.ensures.explained [] begin explainer.token bytes waits
-    (explained_begun fares known [] begin explainer bytes waits
-    (come_first fares explainer (c.of-explainer.ensures.explained fares))))
-    c.in_err-pass_on.ensures.begun in
+    (explained_started fares known [] begin explainer bytes waits
+    (consumed_first fares explainer (c.of-explainer.ensures.explained fares))))
+    c.in_err-pass_on.ensures.started in
     rw (p.1) (λ is_write. (
       some.taps,
       some.lines,
@@ -145,14 +145,14 @@ returns-in_err-pass_on-clause-begun g c =
     ))
 
 -- ---- other faults
-pub returns-in_err-begun-clause-begun : goal.returns-in_err-begun-clause-begun
-returns-in_err-begun-clause-begun g c =
-    let p = err_from_is_err_and c.from_residual-in_err-begun.result
-    c.from_residual-in_err-begun.ensures.1 in
-    rw (p.1, p.2) (λ is_write. absurd (late_no_write c.in_err-begun.field-0.0 is_write))
+pub returns-in_err-started-clause-started : goal.returns-in_err-started-clause-started
+returns-in_err-started-clause-started g c =
+    let p = err_from_is_err_and c.from_residual-in_err-started.result
+    c.from_residual-in_err-started.ensures.1 in
+    rw (p.1, p.2) (λ is_write. absurd (late_no_write c.in_err-started.field-0.0 is_write))
 
-pub returns-in_err-begun-clause-fault : goal.returns-in_err-begun-clause-fault
-returns-in_err-begun-clause-fault g c =
-    let p = err_from_is_err_and c.from_residual-in_err-begun.result
-    c.from_residual-in_err-begun.ensures.1 in
-    rw (p.1, p.2) (λ all are. late_says_nothing all c.in_err-begun.field-0.0)
+pub returns-in_err-started-clause-fault : goal.returns-in_err-started-clause-fault
+returns-in_err-started-clause-fault g c =
+    let p = err_from_is_err_and c.from_residual-in_err-started.result
+    c.from_residual-in_err-started.ensures.1 in
+    rw (p.1, p.2) (λ all are. late_says_nothing all c.in_err-started.field-0.0)

@@ -2,13 +2,13 @@
 -- fresh.
 use Rattle.std.proofs.Common.{ℕ, List, [], Some, Vec, Global, map, string_bytes, sym, subst, arith}
 use Rattle.fare_texts.proofs.Beginnings.{goes_last}
-use Rattle.fare_texts.proofs.PieceWriting.{come_first}
+use Rattle.fare_texts.proofs.PieceWriting.{consumed_first}
 use Rattle.settled_texts.specs.ExplainedTaps.{AreExplained}
-use Rattle.settled_texts.proofs.TapsExplained.{come_fresh}
-use Rattle.sorted_taps.specs.Spans.{HaveCome}
-use Rattle.sorted_taps.specs.Stands.{StandAs}
+use Rattle.settled_texts.proofs.TapsExplained.{consumed_fresh}
+use Rattle.sorted_taps.specs.Spans.{HaveConsumed}
+use Rattle.sorted_taps.specs.Represents.{AreAlignedWith}
 use Rattle.sorted_taps.specs.declared.reader.TapReader.{TapReader}
-use Rattle.sorted_bills.proofs.Explained.{all_out, explained_begun}
+use Rattle.sorted_bills.proofs.Explained.{all_out, explained_started}
 use Rattle.sorted_bills.proofs.range.explain_span.Goals as goal
 
 pub explain_below-requires-clause-explained : goal.explain_below-requires-clause-explained
@@ -23,8 +23,8 @@ explain_below-requires-clause-explained g c =
       explainer.token,
       bytes,
       waits,
-      explained_begun fares (map g.F.Placed.bytes c.args.files.now) [] readers explainer bytes waits
-          (come_first fares explainer (c.requires.fresh fares)),
+      explained_started fares (map g.F.Placed.bytes c.args.files.now) [] readers explainer bytes waits
+          (consumed_first fares explainer (c.requires.fresh fares)),
     )
 
 pub explain_below-requires-clause-room : goal.explain_below-requires-clause-room
@@ -48,8 +48,8 @@ returns-clause-lines g c = λ earlier none up.
     let bytes = Some c.args.lines.now.items in
     let waits = string_bytes c.args.text.now in
     let explained = c.in_ok-explain_below.ensures.explained earlier readers explainer.token bytes
-    waits (explained_begun fares known earlier readers explainer bytes waits
-    (come_fresh fares explainer earlier none up (c.requires.fresh fares))) in
+    waits (explained_started fares known earlier readers explainer bytes waits
+    (consumed_fresh fares explainer earlier none up (c.requires.fresh fares))) in
     let all = all_out c.args.lines.now.items (string_bytes c.args.text.now) c.pass_on.new.out.items
     explained.lines c.requires.none.0 c.requires.none.1
     (goes_last (Some c.args.lines.now.items) (Some c.explain_below.new.out.items)
@@ -60,14 +60,14 @@ returns-clause-lines g c = λ earlier none up.
       taps = explained.taps;
       spanned = λ files are. record {
         from = readers;
-        begins = subst (λ (rs : List TapReader). StandAs rs c.in_ok-begin.begin.items)
+        begins = subst (λ (rs : List TapReader). AreAlignedWith rs c.in_ok-begin.begin.items)
             c.readers.ensures c.in_ok-begin.ensures;
-        come = subst (λ (v : Vec TapReader Global). HaveCome files readers explained.taps v.items)
-            (sym c.into_readers-end.ensures) (explained.come files are);
+        consumed = subst (λ (v : Vec TapReader Global). HaveConsumed files readers explained.taps v.items)
+            (sym c.into_readers-end.ensures) (explained.consumed files are);
       };
       lines_are = record {
         named = explained.named;
-        no_fall = explained.no_fall;
+        nondecreasing = explained.nondecreasing;
         explained = subst
             (λ (ls : List ℕ). AreExplained fares earlier explained.taps
             c.explain_below.new.explainer ls)

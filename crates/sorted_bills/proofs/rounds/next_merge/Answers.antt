@@ -8,4 +8,4 @@ returns-clause-follows g c = λ known range_is.
     range_follows c known g.args.merge.now.readers.items g.args.token g.args.left g.args.range.now
     g.in_ok-span.span g.in_ok-next.next (sym g.in_ok-span.ensures.value)
     (g.if-not-is_below.ensures refl)
-    g.if-range-left.false g.in_ok-next.ensures.behind range_is
+    g.if-range-left.false g.in_ok-next.ensures.trailing range_is

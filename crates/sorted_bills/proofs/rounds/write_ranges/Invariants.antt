@@ -9,18 +9,18 @@ use Rattle.sorted_bills.specs.inside.Explained.{AreExplainedSoFar}
 use Rattle.sorted_bills.proofs.rounds.write_ranges.Given as goal
 
 -- the taps of the ranges before the place were explained
-abbrev pub invariant-loop-place : goal.invariant-loop-place
-invariant-loop-place g l = record {
+abbrev pub invariant-loop-position : goal.invariant-loop-position
+invariant-loop-position g l = record {
   ready : IsReady (length l.files) l.taker;
   few : l.explainer.number + l.left ≤ l.fn.explainer.number + l.counted;
   ranges : All (IsRange l.table (map g.F.Placed.bytes l.files)) l.ranges;
-  explained : (earlier : List Entry) (begun : List TapReader) (from : Token)
+  explained : (earlier : List Entry) (started : List TapReader) (from : Token)
       (start : Option (List ℕ))
       (waited : List ℕ)
-      → AreExplainedSoFar l.table (map g.F.Placed.bytes l.files) earlier begun from start waited
+      → AreExplainedSoFar l.table (map g.F.Placed.bytes l.files) earlier started from start waited
       l.fn.taker.merge.readers.items l.fn.explainer
       (g.W.Write.contents l.fn.out) (string_bytes l.fn.text)
-      → AreExplainedSoFar l.table (map g.F.Placed.bytes l.files) earlier begun from start waited
+      → AreExplainedSoFar l.table (map g.F.Placed.bytes l.files) earlier started from start waited
       l.taker.merge.readers.items l.explainer
       (g.W.Write.contents l.out) (string_bytes l.text);
 }

@@ -5,10 +5,10 @@ use Rattle.std.proofs.lemmas.List.{length-drop, take_all}
 use Rattle.std.proofs.Math.Seq.{drop-append_seam}
 use Rattle.tap_views.specs.declared.encoder.TapFields.{TapFields}
 use Rattle.tap_views.specs.declared.token.Token.{Token}
-use Rattle.settled_texts.specs.ExplainedTaps.{NoTapFallsFrom, last_token}
+use Rattle.settled_texts.specs.ExplainedTaps.{TapsNondecreasingFrom, last_token}
 use Rattle.settled_texts.proofs.TapsExplained.{last_append}
 use Rattle.sorted_bills.specs.inside.Taken.{AreFollowing, AreTapsTaken}
-use Rattle.sorted_bills.proofs.Takings.{both_taken, fall_both, run_taken}
+use Rattle.sorted_bills.proofs.Takings.{both_taken, nondecreasing_both, run_taken}
 use Rattle.sorted_bills.proofs.taker.take_some.Goals as goal
 
 pub returns-then-len-before-clause-taken : goal.returns-then-len-before-clause-taken
@@ -25,12 +25,12 @@ returns-then-len-before-clause-taken g c =
     let start = c.len-before.result in
     let all = c.deref.result.now in
     let size = length-drop start all in
-    let behind : take (length all - start) (drop start all) ≡ takes.more =
+    let trailing : take (length all - start) (drop start all) ≡ takes.more =
     take_all (length all - start) (drop start all) (omega (arith, size))
     ∙ ap (λ (ts : List TapFields). drop start ts) (c.deref.ensures.value ∙ takes.items)
     ∙ ap (λ n. drop n (taps ++ takes.more)) before ∙ drop-append_seam taps takes.more in
     let follow = subst (λ (ts : List TapFields). AreFollowing c.loop-run.last ts c.in-Some.token)
-    behind c.in-Some.ensures in
+    trailing c.in-Some.ensures in
     subst (λ (ts : List TapFields). AreTapsTaken known begin ts new) (sym takes.items)
     (both_taken known begin old new taps takes.more inv.taken
     (run_taken known old new taps c.take_run.new.taps.items c.loop-run.last c.in-Some.token takes
@@ -55,12 +55,12 @@ loop-run-preserved g c =
     let start = c.len-before.result in
     let all = c.deref.result.now in
     let size = length-drop start all in
-    let behind : take (length all - start) (drop start all) ≡ takes.more =
+    let trailing : take (length all - start) (drop start all) ≡ takes.more =
     take_all (length all - start) (drop start all) (omega (arith, size))
     ∙ ap (λ (ts : List TapFields). drop start ts) (c.deref.ensures.value ∙ takes.items)
     ∙ ap (λ n. drop n (taps ++ takes.more)) before ∙ drop-append_seam taps takes.more in
     let follow = subst (λ (ts : List TapFields). AreFollowing c.loop-run.last ts token)
-    behind c.in-Some.ensures in
+    trailing c.in-Some.ensures in
     let long = length-append taps takes.more in
     let more = ap length takes.items in
     let apart = c.if-len-before.false in
@@ -74,9 +74,9 @@ loop-run-preserved g c =
       taken = subst (λ (ts : List TapFields). AreTapsTaken known begin ts new) (sym takes.items)
           (both_taken known begin old new taps takes.more inv.taken
           (run_taken known old new taps after c.loop-run.last token takes follow));
-      no_fall = subst (λ (ts : List TapFields). NoTapFallsFrom from ts) (sym takes.items)
-          (fall_both from taps takes.more inv.no_fall
-          (subst (λ (t : Token). NoTapFallsFrom t takes.more) inv.last follow.no_fall));
+      nondecreasing = subst (λ (ts : List TapFields). TapsNondecreasingFrom from ts) (sym takes.items)
+          (nondecreasing_both from taps takes.more inv.nondecreasing
+          (subst (λ (t : Token). TapsNondecreasingFrom t takes.more) inv.last follow.nondecreasing));
       last = follow.is_last ∙ ap (λ (t : Token). last_token t takes.more) inv.last
           ∙ sym (ap (λ (ts : List TapFields). last_token from ts) takes.items
           ∙ last_append from taps takes.more);

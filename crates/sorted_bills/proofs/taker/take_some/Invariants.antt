@@ -1,5 +1,5 @@
 use Rattle.std.proofs.Common.{◌≡◌, ◌≤◌, length, map}
-use Rattle.settled_texts.specs.ExplainedTaps.{NoTapFallsFrom, last_token}
+use Rattle.settled_texts.specs.ExplainedTaps.{TapsNondecreasingFrom, last_token}
 use Rattle.sorted_taps.specs.Heads.{IsRanked}
 use Rattle.sorted_taps.specs.Reading.{window_bytes}
 use Rattle.sorted_bills.specs.inside.Taken.{AreTapsTaken}
@@ -13,7 +13,7 @@ invariant-loop-run g l = record {
   ranked : IsRanked l.merge.readers.items l.merge.heads.items;
   taken : AreTapsTaken (map g.F.Placed.bytes l.files) l.fn.merge.readers.items l.taps.items
       l.merge.readers.items;
-  no_fall : NoTapFallsFrom l.fn.from l.taps.items;
+  nondecreasing : TapsNondecreasingFrom l.fn.from l.taps.items;
   last : l.last ≡ last_token l.fn.from l.taps.items;
   some : l._run ≤ length l.taps.items;
   few : length l.taps.items ≤ 512;

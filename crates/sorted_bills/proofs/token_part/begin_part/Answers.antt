@@ -1,5 +1,5 @@
 use Rattle.std.proofs.Common.{ℕ, sym, subst, Vec, Global}
-use Rattle.sorted_taps.specs.Places.{ArePlaced}
+use Rattle.sorted_taps.specs.Positions.{ArePlaced}
 use Rattle.sorted_taps.specs.declared.reader.TapReader.{TapReader}
 use Rattle.sorted_bills.specs.inside.Taken.{IsReady}
 use Rattle.sorted_bills.proofs.token_part.begin_part.Goals as goal
@@ -12,5 +12,5 @@ returns-clause-ready g c =
 pub returns-clause-placed : goal.returns-clause-placed
 returns-clause-placed g c = λ all are.
     subst
-    (λ (v : Vec TapReader Global). ArePlaced all c.in_ok-placed.placed.places.items v.items)
+    (λ (v : Vec TapReader Global). ArePlaced all c.in_ok-placed.placed.positions.items v.items)
     (sym c.in_ok-taker.ensures.readers) (c.in_ok-placed.ensures.placed all are)

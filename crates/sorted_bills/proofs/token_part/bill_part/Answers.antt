@@ -4,8 +4,8 @@ use Rattle.std.proofs.lemmas.Result.{err_from_is_err_and}
 use Rattle.tap_views.specs.declared.upload_end.UploadEnd.TheVariants.{Posted}
 use Rattle.settlement.specs.Posted.{posted}
 use Rattle.settlement.proofs.TokenRuns.{posted_length}
-use Rattle.sorted_taps.specs.Places.{DoSpan}
-use Rattle.sorted_taps.specs.declared.places.Place.{Place}
+use Rattle.sorted_taps.specs.Positions.{DoSpan}
+use Rattle.sorted_taps.specs.declared.positions.Position.{Position}
 use Rattle.sorted_taps.specs.declared.reader.TapReader.{TapReader}
 use Rattle.sorted_taps.proofs.Files.{known_number}
 use Rattle.sorted_taps.proofs.Placing.{taken_between}
@@ -25,7 +25,7 @@ pub returns-clause-billed : goal.returns-clause-billed
 returns-clause-billed g c =
     let made = c.in_ok-charge.ensures.charged in
     let fares = c.args.table.now in
-    let begin = c.in_ok-begun.begun.taker.merge.readers.items in
+    let begin = c.in_ok-started.started.taker.merge.readers.items in
     let new = c.charge.new.taker.merge.readers.items in
     let spans = c.in_ok-spans.spans.items in
     let few = made.few in
@@ -35,14 +35,14 @@ returns-clause-billed g c =
       omega (arith, few, long),
       λ all are.
           let number = known_number g.F.Placed.bytes c.args.files.now all are in
-          let readers = c.in_ok-begun.ensures.ready.readers in
+          let readers = c.in_ok-started.ensures.ready.readers in
           let many = c.in_ok-spans.ensures.number in
-          let between = taken_between all c.in_ok-begun.begun.places.items begin new spans made.taps
+          let between = taken_between all c.in_ok-started.started.positions.items begin new spans made.taps
           (omega (arith, number, readers)) (omega (arith, number, many))
-          (c.in_ok-begun.ensures.placed all are) (made.taken.taken all are)
-          (subst (λ (rs : List TapReader). DoSpan all c.in_ok-begun.begun.places.items rs spans)
+          (c.in_ok-started.ensures.placed all are) (made.taken.taken all are)
+          (subst (λ (rs : List TapReader). DoSpan all c.in_ok-started.started.positions.items rs spans)
           c.readers-readers.ensures
-          (subst (λ (ps : List Place). DoSpan all ps c.readers-readers.result.now spans)
+          (subst (λ (ps : List Position). DoSpan all ps c.readers-readers.result.now spans)
           c.deref-2.ensures.value (c.in_ok-spans.ensures.spanned all are))) in (
             between.lists,
             record {
@@ -58,17 +58,17 @@ returns-clause-billed g c =
     )
 
 -- ---- faults
-pub returns-in_err-begun-clause-fault : goal.returns-in_err-begun-clause-fault
-returns-in_err-begun-clause-fault g c =
-    let p = err_from_is_err_and c.from_residual-in_err-begun.result
-    c.from_residual-in_err-begun.ensures.1 in
-    rw (p.1, p.2) (λ all. late_says_nothing all c.in_err-begun.field-0.0)
+pub returns-in_err-started-clause-fault : goal.returns-in_err-started-clause-fault
+returns-in_err-started-clause-fault g c =
+    let p = err_from_is_err_and c.from_residual-in_err-started.result
+    c.from_residual-in_err-started.ensures.1 in
+    rw (p.1, p.2) (λ all. late_says_nothing all c.in_err-started.field-0.0)
 
-pub returns-in_err-begun-clause-unwritten : goal.returns-in_err-begun-clause-unwritten
-returns-in_err-begun-clause-unwritten g c =
-    let p = err_from_is_err_and c.from_residual-in_err-begun.result
-    c.from_residual-in_err-begun.ensures.1 in
-    rw (p.1, p.2) (late_no_write c.in_err-begun.field-0.0)
+pub returns-in_err-started-clause-unwritten : goal.returns-in_err-started-clause-unwritten
+returns-in_err-started-clause-unwritten g c =
+    let p = err_from_is_err_and c.from_residual-in_err-started.result
+    c.from_residual-in_err-started.ensures.1 in
+    rw (p.1, p.2) (late_no_write c.in_err-started.field-0.0)
 
 pub returns-in_err-numbers-clause-fault : goal.returns-in_err-numbers-clause-fault
 returns-in_err-numbers-clause-fault g c =

@@ -1,17 +1,17 @@
 use Rattle.std.proofs.Common.{◌≡◌, List, arith, ◌∙◌, ◌++◌, ◌∷◌, []}
 use Rattle.std.proofs.lemmas.Result.{err_from_is_err_and}
 use Rattle.tap_views.specs.declared.encoder.TapFields.{TapFields}
-use Rattle.sorted_taps.specs.Readers.{ahead, StandsIn, IsAdvanced, IsBehindFault, IsStepFault}
+use Rattle.sorted_taps.specs.Readers.{ahead, IsPositionedIn, IsAdvanced, IsAfterFault, IsStepFault}
 use Rattle.sorted_taps.specs.Sorted.{IsSortedFault}
 use Rattle.sorted_taps.proofs.Known.{at_none, known_map, known_map2}
-use Rattle.sorted_taps.proofs.Standing.{stands_on, sorted_at_end, opening_fault, step_fault}
+use Rattle.sorted_taps.proofs.Standing.{holds_on, sorted_at_end, opening_fault, step_fault}
 use Rattle.sorted_taps.proofs.check.check_file.Goals as goal
 
 pub returns-in_err-reader-clause-fault : goal.returns-in_err-reader-clause-fault
 returns-in_err-reader-clause-fault g c =
     let p = err_from_is_err_and c.from_residual.result c.from_residual.ensures.1 in
     let fault = c.in_err-reader.field-0.0 in
-    rw (p.1, p.2) (known_map (λ all. IsBehindFault all 0 fault) (λ all. IsSortedFault all fault)
+    rw (p.1, p.2) (known_map (λ all. IsAfterFault all 0 fault) (λ all. IsSortedFault all fault)
     (g.F.Placed.bytes c.args.file.now) (λ all is. opening_fault all fault is)
     c.in_err-reader.ensures.fault)
 
@@ -19,13 +19,13 @@ pub returns-then-is_none-clause-sorted : goal.returns-then-is_none-clause-sorted
 returns-then-is_none-clause-sorted g c =
     let reader = c.loop.reader in
     let none = at_none (ahead reader ≡ []) _ c.head.result c.if-is_none.ensures c.head.ensures in
-    known_map (λ all. (passed : List TapFields) × StandsIn all 0 passed reader) _
+    known_map (λ all. (passed : List TapFields) × IsPositionedIn all 0 passed reader) _
     (g.F.Placed.bytes c.args.file.now)
-    (λ all stands. (
-      stands.0,
-      sorted_at_end all stands.0 reader stands.1 none,
-      c.passed.ensures ∙ stands.1.number,
-    )) c.loop.invariant.stands
+    (λ all holds. (
+      holds.0,
+      sorted_at_end all holds.0 reader holds.1 none,
+      c.passed.ensures ∙ holds.1.number,
+    )) c.loop.invariant.holds
 
 pub returns-in_err-advance-clause-fault : goal.returns-in_err-advance-clause-fault
 returns-in_err-advance-clause-fault g c =
@@ -33,11 +33,11 @@ returns-in_err-advance-clause-fault g c =
     c.from_residual-in_err-advance.ensures.1 in
     let fault = c.in_err-advance.field-0.0 in
     let old = c.loop.reader in
-    rw (p.1, p.2) (known_map2 (λ all. (passed : List TapFields) × StandsIn all 0 passed old)
+    rw (p.1, p.2) (known_map2 (λ all. (passed : List TapFields) × IsPositionedIn all 0 passed old)
     (λ all. IsStepFault all old fault) (λ all. IsSortedFault all fault)
     (g.F.Placed.bytes c.args.file.now)
-    (λ all stands is. step_fault all stands.0 old fault stands.1 is)
-    c.loop.invariant.stands c.in_err-advance.ensures.fault)
+    (λ all holds is. step_fault all holds.0 old fault holds.1 is)
+    c.loop.invariant.holds c.in_err-advance.ensures.fault)
 
 pub loop-preserved : goal.loop-preserved
 loop-preserved g c =
@@ -47,10 +47,10 @@ loop-preserved g c =
     let room = c.loop.invariant.room in
     record {
       room = omega (arith, long, room);
-      stands = known_map2 (λ all. (passed : List TapFields) × StandsIn all 0 passed old)
+      holds = known_map2 (λ all. (passed : List TapFields) × IsPositionedIn all 0 passed old)
           (λ all. IsAdvanced all old new)
-          (λ all. (passed : List TapFields) × StandsIn all 0 passed new)
+          (λ all. (passed : List TapFields) × IsPositionedIn all 0 passed new)
           (g.F.Placed.bytes c.args.file.now)
-          (λ all stands is. (stands.0 ++ is.tap ∷ [], stands_on all 0 stands.0 old new stands.1 is))
-          c.loop.invariant.stands c.in_ok-advance.ensures.kept;
+          (λ all holds is. (holds.0 ++ is.tap ∷ [], holds_on all 0 holds.0 old new holds.1 is))
+          c.loop.invariant.holds c.in_ok-advance.ensures.kept;
     }

@@ -3,12 +3,12 @@ use Rattle.sorted_taps.specs.Heads.{HasLeaves}
 use Rattle.sorted_taps.proofs.Ranking.{AreChosenFrom}
 use Rattle.sorted_taps.proofs.heads.choose_all.Given as goal
 
-abbrev pub invariant-loop-place : goal.invariant-loop-place
-invariant-loop-place l = record {
+abbrev pub invariant-loop-position : goal.invariant-loop-position
+invariant-loop-position l = record {
   leaves : HasLeaves l.readers l.tree;
-  chosen : AreChosenFrom (length l.readers) l.tree l.place;
-  most : l.place ≤ length l.readers;
+  chosen : AreChosenFrom (length l.readers) l.tree l.position;
+  most : l.position ≤ length l.readers;
 }
 
-abbrev pub decreases-loop-place : goal.decreases-loop-place
-decreases-loop-place l = l.place
+abbrev pub decreases-loop-position : goal.decreases-loop-position
+decreases-loop-position l = l.position

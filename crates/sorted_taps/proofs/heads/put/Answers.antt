@@ -7,8 +7,8 @@ use Rattle.sorted_taps.proofs.Ranking.{AreChosenBut, chosen_above, leaves_kept, 
 use Rattle.sorted_taps.proofs.Ranking.{put_leaf}
 use Rattle.sorted_taps.proofs.heads.put.Goals as goal
 
-pub loop-place-init : goal.loop-place-init
-loop-place-init c =
+pub loop-position-init : goal.loop-position-init
+loop-position-init c =
     let (was, is) = c.requires.ranked in
     let readers = c.args.readers.now in
     let tree = c.args.tree.now in
@@ -33,35 +33,35 @@ loop-place-init c =
 
 pub choose-requires : goal.choose-requires
 choose-requires c =
-    let inv = c.loop-place.invariant in
+    let inv = c.loop-position.invariant in
     let within = inv.within in
     let size = inv.size in
     omega (arith, within, size)
 
-pub loop-place-preserved : goal.loop-place-preserved
-loop-place-preserved c =
-    let inv = c.loop-place.invariant in
+pub loop-position-preserved : goal.loop-position-preserved
+loop-position-preserved c =
+    let inv = c.loop-position.invariant in
     let readers = c.args.readers.now in
-    let tree = c.loop-place.tree in
-    let place = c.loop-place.place in
+    let tree = c.loop-position.tree in
+    let position = c.loop-position.position in
     let head = c.args.head in
     let anew = c.choose.ensures in
     let within = inv.within in
     let size = inv.size in
-    let more = c.loop-place-test.true in
-    let long = length-set tree (place / 2) anew.head in
+    let more = c.loop-position-test.true in
+    let long = length-set tree (position / 2) anew.head in
     subst (λ t. record {
       leaves : (is : TapReader) → head.tap ≡ head_of is → HasLeaves (set readers head.at is) t;
-      chosen : AreChosenBut (length readers) t (place / 2);
+      chosen : AreChosenBut (length readers) t (position / 2);
       size : length t ≡ 2 * length readers;
-      within : place / 2 < length t;
+      within : position / 2 < length t;
     }) (sym anew.put)
     (record {
       leaves = λ is tap.
           let same = length-set readers head.at is in
-          leaves_kept (set readers head.at is) tree (place / 2) anew.head
+          leaves_kept (set readers head.at is) tree (position / 2) anew.head
           (omega (arith, within, size, same)) (inv.leaves is tap);
-      chosen = chosen_above (length readers) tree place (place / 2) anew.head refl
+      chosen = chosen_above (length readers) tree position (position / 2) anew.head refl
           (omega (arith, more))
           (omega (arith, within)) inv.chosen anew.chosen;
       size = omega (arith, long, size);

@@ -5,14 +5,14 @@ use Rattle.sorted_taps.specs.declared.reader.TapReader.{TapReader}
 use Rattle.sorted_taps.proofs.Ranking.{AreChosenBut}
 use Rattle.sorted_taps.proofs.heads.put.Given as goal
 
-abbrev pub invariant-loop-place : goal.invariant-loop-place
-invariant-loop-place l = record {
+abbrev pub invariant-loop-position : goal.invariant-loop-position
+invariant-loop-position l = record {
   leaves : (is : TapReader) → l.fn.head.tap ≡ head_of is
       → HasLeaves (set l.readers l.fn.head.at is) l.tree;
-  chosen : AreChosenBut (length l.readers) l.tree l.place;
+  chosen : AreChosenBut (length l.readers) l.tree l.position;
   size : length l.tree ≡ 2 * length l.readers;
-  within : l.place < length l.tree;
+  within : l.position < length l.tree;
 }
 
-abbrev pub decreases-loop-place : goal.decreases-loop-place
-decreases-loop-place l = l.place
+abbrev pub decreases-loop-position : goal.decreases-loop-position
+decreases-loop-position l = l.position

@@ -9,14 +9,14 @@ memory_only stop is wrong = let h : NoMemory ≡ Write = sym is ∙ wrong in cc
 refused_only : (stop : MergeStop) → stop ≡ Refused → stop ≢ Write
 refused_only stop is wrong = let h : Refused ≡ Write = sym is ∙ wrong in cc
 
-pub returns-in-Err-NoMemory-clause-begun : goal.returns-in-Err-NoMemory-clause-begun
-returns-in-Err-NoMemory-clause-begun g c = λ other.
-    c.in-Err-NoMemory.ensures.begun (memory_only _ c.in-Err-NoMemory.field-0-is)
+pub returns-in-Err-NoMemory-clause-started : goal.returns-in-Err-NoMemory-clause-started
+returns-in-Err-NoMemory-clause-started g c = λ other.
+    c.in-Err-NoMemory.ensures.started (memory_only _ c.in-Err-NoMemory.field-0-is)
 
-pub returns-in-Ok-check_files-clause-begun : goal.returns-in-Ok-check_files-clause-begun
-returns-in-Ok-check_files-clause-begun g c = λ other.
-    c.in-Err-Refused.ensures.begun (refused_only _ c.in-Err-Refused.field-0-is)
+pub returns-in-Ok-check_files-clause-started : goal.returns-in-Ok-check_files-clause-started
+returns-in-Ok-check_files-clause-started g c = λ other.
+    c.in-Err-Refused.ensures.started (refused_only _ c.in-Err-Refused.field-0-is)
 
-pub returns-clause-begun : goal.returns-clause-begun
-returns-clause-begun g c = λ other.
-    c.in-Err-Refused.ensures.begun (refused_only _ c.in-Err-Refused.field-0-is)
+pub returns-clause-started : goal.returns-clause-started
+returns-clause-started g c = λ other.
+    c.in-Err-Refused.ensures.started (refused_only _ c.in-Err-Refused.field-0-is)

@@ -1,7 +1,7 @@
 use Rattle.std.proofs.Common.{◌≡◌, ◌≤◌, List, ℕ, Some, map, length}
 use Rattle.tap_views.specs.declared.encoder.TapFields.{TapFields}
 use Rattle.sorted_taps.specs.Heads.{IsRanked}
-use Rattle.sorted_taps.specs.Merges.{AreBegun, AreTaken}
+use Rattle.sorted_taps.specs.Merges.{AreStarted, AreTaken}
 use Rattle.sorted_taps.specs.Reading.{window_bytes}
 use Rattle.sorted_taps.specs.declared.reader.TapReader.{TapReader}
 use Rattle.sorted_taps.specs.inside.Waiting.{HasPut, MayWait}
@@ -16,6 +16,6 @@ invariant-loop g l = record {
   taps : List TapFields;
   put : HasPut (g.W.Write.contents l.fn.out) (g.W.Write.contents l.out) taps l.waiting.items;
   taken : (all : List (List ℕ)) → map g.F.Placed.bytes l.files ≡ map Some all
-      → (begun : List TapReader) × AreBegun all begun
-      × AreTaken all begun taps l.merge.readers.items;
+      → (started : List TapReader) × AreStarted all started
+      × AreTaken all started taps l.merge.readers.items;
 }

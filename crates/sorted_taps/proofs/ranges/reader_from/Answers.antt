@@ -1,9 +1,9 @@
 use Rattle.std.proofs.Common.{List, [], ◌∷◌, ◌++◌, arith, ap, subst, sym, ◌∙◌, length}
 use Rattle.tap_views.specs.declared.encoder.TapFields.{TapFields}
-use Rattle.sorted_taps.specs.Readers.{IsAdvanced, StandsIn}
+use Rattle.sorted_taps.specs.Readers.{IsAdvanced, IsPositionedIn}
 use Rattle.sorted_taps.specs.declared.reader.TapReader.{TapReader}
 use Rattle.sorted_taps.proofs.Known.{known_map, known_map2}
-use Rattle.sorted_taps.proofs.Standing.{stands_on}
+use Rattle.sorted_taps.proofs.Standing.{holds_on}
 use Rattle.sorted_taps.proofs.Taking.{lies_of}
 use Rattle.sorted_taps.proofs.ranges.reader_from.Goals as goal
 
@@ -16,29 +16,29 @@ loop-preserved g c =
     let room = c.loop.invariant.room in
     record {
       room = omega (arith, long, room);
-      stands = known_map2 (λ all. (passed : List TapFields) × StandsIn all offset passed old)
+      holds = known_map2 (λ all. (passed : List TapFields) × IsPositionedIn all offset passed old)
           (λ all. IsAdvanced all old new)
-          (λ all. (passed : List TapFields) × StandsIn all offset passed new)
+          (λ all. (passed : List TapFields) × IsPositionedIn all offset passed new)
           (g.F.Placed.bytes c.args.file.now)
-          (λ all stands is.
-          (stands.0 ++ is.tap ∷ [], stands_on all offset stands.0 old new stands.1 is))
-          c.loop.invariant.stands c.in_ok-advance.ensures.kept;
+          (λ all holds is.
+          (holds.0 ++ is.tap ∷ [], holds_on all offset holds.0 old new holds.1 is))
+          c.loop.invariant.holds c.in_ok-advance.ensures.kept;
     }
 
 pub returns-in_default : goal.returns-in_default
 returns-in_default g c =
     let offset = c.in_ok-offset.offset in
     let old = c.loop.reader in
-    known_map (λ all. (passed : List TapFields) × StandsIn all offset passed old) _
+    known_map (λ all. (passed : List TapFields) × IsPositionedIn all offset passed old) _
     (g.F.Placed.bytes c.args.file.now)
-    (λ all stands. (
+    (λ all holds. (
       record {
-        passed = stands.0;
-        skip = c.passed-skip.ensures ∙ stands.1.number;
-        stands = subst
-            (λ (r : TapReader). StandsIn all offset stands.0
-            (record r { passed = length stands.0 })) (sym c.count_anew.ensures)
-            (lies_of all offset stands.0 old stands.1);
+        passed = holds.0;
+        skip = c.passed-skip.ensures ∙ holds.1.number;
+        holds = subst
+            (λ (r : TapReader). IsPositionedIn all offset holds.0
+            (record r { passed = length holds.0 })) (sym c.count_anew.ensures)
+            (lies_of all offset holds.0 old holds.1);
       },
       ap (λ (r : TapReader). r.passed) c.count_anew.ensures,
-    )) c.loop.invariant.stands
+    )) c.loop.invariant.holds

@@ -6,13 +6,13 @@ use Rattle.std.proofs.Math.Seq.{get_or-append_seam}
 use Rattle.std.proofs.lemmas.Bool.{cases_lt}
 use Rattle.tap_views.specs.Token.{token_cmp}
 use Rattle.tap_views.specs.declared.token.Token.{Token}
-use Rattle.sorted_taps.specs.Ranges.{DoTokensRise}
+use Rattle.sorted_taps.specs.Ranges.{AreTokensIncreasing}
 
 -- tokens that rise, and one above the last of them
-rise_more : (xs : List Token) (x : Token) → DoTokensRise xs
+ascend_more : (xs : List Token) (x : Token) → AreTokensIncreasing xs
     → ((d : Token) → 0 < length xs → token_cmp (get_or xs (length xs - 1) d) x ≡ Less)
-    → DoTokensRise (xs ++ x ∷ [])
-rise_more xs x up above = λ k d inside. by_case k d inside (cases_lt (k + 1) (length xs))
+    → AreTokensIncreasing (xs ++ x ∷ [])
+ascend_more xs x up above = λ k d inside. by_case k d inside (cases_lt (k + 1) (length xs))
   where
     by_case : (k : ℕ) (d : Token) → k + 1 < length (xs ++ x ∷ [])
         → (k + 1 < length xs) ⊎ (length xs ≤ k + 1)

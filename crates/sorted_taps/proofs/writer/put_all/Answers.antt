@@ -4,10 +4,10 @@ use Rattle.std.proofs.lemmas.Result.{err_from_is_err_and}
 use Rattle.sorted_taps.specs.inside.Waiting.{HasPut}
 use Rattle.sorted_taps.proofs.writer.put_all.Goals as goal
 
-pub returns-in_err-put-clause-begun : goal.returns-in_err-put-clause-begun
-returns-in_err-put-clause-begun g c =
+pub returns-in_err-put-clause-started : goal.returns-in_err-put-clause-started
+returns-in_err-put-clause-started g c =
     let p = err_from_is_err_and c.from_residual.result c.from_residual.ensures.1 in
-    rw (p.1, p.2) (λ is begin earlier put. c.in_err-put.ensures.begun is begin
+    rw (p.1, p.2) (λ is begin earlier put. c.in_err-put.ensures.started is begin
     (earlier ++ take c.loop-tap.tap-index c.args.taps.now)
     (c.loop-tap.invariant.put begin earlier put))
 

@@ -3,14 +3,14 @@ use Rattle.std.proofs.lemmas.Result.{err_from_is_err_and}
 use Rattle.tap_views.specs.Encoding.{AreEarly}
 use Rattle.tap_views.specs.declared.encoder.TapFields.{TapFields}
 use Rattle.sorted_taps.specs.inside.Waiting.{HasPut}
-use Rattle.sorted_taps.proofs.Putting.{early_at, if_any, list_more, may_wait_none, put_begun}
+use Rattle.sorted_taps.proofs.Putting.{early_at, if_any, list_more, may_wait_none, put_started}
 use Rattle.sorted_taps.proofs.Putting.{put_none}
 use Rattle.sorted_taps.proofs.writer.write_taps.Goals as goal
 
-pub returns-in_err-waiting-clause-begun : goal.returns-in_err-waiting-clause-begun
-returns-in_err-waiting-clause-begun g c =
+pub returns-in_err-waiting-clause-started : goal.returns-in_err-waiting-clause-started
+returns-in_err-waiting-clause-started g c =
     let old = g.W.Write.contents c.args.out.now in
-    if_any _ c.from_residual.result (λ fault is. put_begun old old [] [] (put_none old))
+    if_any _ c.from_residual.result (λ fault is. put_started old old [] [] (put_none old))
 
 pub loop-list-init : goal.loop-list-init
 loop-list-init g c =
@@ -31,12 +31,12 @@ put_all-requires-clause-early g c =
     (ap (λ list. list.items) (sym c.list-item.is))
     (early_at (λ list. list.items) lists i c.list-item.result c.requires c.loop-list-test.true))
 
-pub returns-in_err-put_all-clause-begun : goal.returns-in_err-put_all-clause-begun
-returns-in_err-put_all-clause-begun g c =
+pub returns-in_err-put_all-clause-started : goal.returns-in_err-put_all-clause-started
+returns-in_err-put_all-clause-started g c =
     let old = g.W.Write.contents c.args.out.now in
     let p = err_from_is_err_and c.from_residual-in_err-put_all.result
     c.from_residual-in_err-put_all.ensures.1 in
-    rw (p.1, p.2) (λ is. c.in_err-put_all.ensures.begun is old _ c.loop-list.invariant.put)
+    rw (p.1, p.2) (λ is. c.in_err-put_all.ensures.started is old _ c.loop-list.invariant.put)
 
 pub loop-list-preserved : goal.loop-list-preserved
 loop-list-preserved g c =

@@ -5,13 +5,13 @@ use Rattle.std.specs.Io.KnownBytes.{Appends}
 use Rattle.tap_views.specs.Encoding.{fields_of}
 use Rattle.tap_views.specs.Layout.{Tap}
 use Rattle.tap_views.specs.Files.{taps_of_batches}
-use Rattle.tap_views.proofs.ReadingLemmas.{read_end, read_on, taps_more}
+use Rattle.tap_views.proofs.ParseLemmas.{read_end, read_on, taps_more}
 use Rattle.tap_rows.specs.Decoded.{fields_in}
 use Rattle.tap_rows.specs.Rows.{rows_text}
 use Rattle.std.proofs.lemmas.Result.{err_from_is_err_and}
 use Rattle.fare_texts.specs.WrittenOut.{Begins}
 use Rattle.fare_texts.proofs.Beginnings.{begins_nothing}
-use Rattle.tap_rows.proofs.BegunLemmas.{rows_begun}
+use Rattle.tap_rows.proofs.StartedLemmas.{rows_started}
 use Rattle.tap_rows.proofs.RowLemmas.{rows_joined}
 use Rattle.tap_rows.proofs.into_table.decode.Goals as goal
 
@@ -28,7 +28,7 @@ pub loop-batch-init : goal.loop-batch-init
 loop-batch-init g c = record {
   may = tt;
   ends = tt;
-  read = c.good_batches-good.ensures;
+  read = c.valid_batches-valid.ensures;
   written = Appends-nil (g.W.Write.contents c.args.out.now);
 }
 
@@ -60,8 +60,8 @@ returns-clause-rows g c =
       end.written,
     )
 
-pub returns-in_err-fill-clause-begun : goal.returns-in_err-fill-clause-begun
-returns-in_err-fill-clause-begun g c =
+pub returns-in_err-fill-clause-started : goal.returns-in_err-fill-clause-started
+returns-in_err-fill-clause-started g c =
     let done = c.loop-batch.yielded in
     let batch = c.in-Some.batch in
     let left = c.next.new.self in
@@ -77,12 +77,12 @@ returns-in_err-fill-clause-begun g c =
         read = read_on _ _ _ _ _ c.loop-batch.invariant.read c.in-Some.ensures.steps;
         rows = refl;
       },
-      rows_begun done batch left.batches old here here c.loop-batch.invariant.written
+      rows_started done batch left.batches old here here c.loop-batch.invariant.written
           (begins_nothing here (rows_text (map fields_of batch))),
     )
 
-pub returns-in_err-put-clause-begun : goal.returns-in_err-put-clause-begun
-returns-in_err-put-clause-begun g c =
+pub returns-in_err-put-clause-started : goal.returns-in_err-put-clause-started
+returns-in_err-put-clause-started g c =
     let done = c.loop-batch.yielded in
     let batch = c.in-Some.batch in
     let left = c.next.new.self in
@@ -102,6 +102,6 @@ returns-in_err-put-clause-begun g c =
         read = read_on _ _ _ _ _ c.loop-batch.invariant.read c.in-Some.ensures.steps;
         rows = refl;
       },
-      rows_begun done batch left.batches old here new c.loop-batch.invariant.written
-          (subst (λ text. Begins here new text) bytes c.in_err-put.ensures.begun),
+      rows_started done batch left.batches old here new c.loop-batch.invariant.written
+          (subst (λ text. Begins here new text) bytes c.in_err-put.ensures.started),
     )

@@ -7,9 +7,9 @@ use Rattle.tap_rows.proofs.into_table.decode.Given as goal
 
 abbrev pub invariant-loop-batch : goal.invariant-loop-batch
 invariant-loop-batch g l = record {
-  may : (goal.iterator-loop-batch g).can_next l.good;
-  ends : (goal.iterator-loop-batch g).is_finite l.good;
-  read : IsReadAs l.file (l.yielded ++ l.good.batches) l.good.fault;
+  may : (goal.iterator-loop-batch g).can_next l.valid;
+  ends : (goal.iterator-loop-batch g).is_finite l.valid;
+  read : IsReadAs l.file (l.yielded ++ l.valid.batches) l.valid.fault;
   written : Appends (g.W.Write.contents l.fn.out) (g.W.Write.contents l.out)
       (rows_text (fields_in l.yielded));
 }

@@ -1,7 +1,7 @@
 use Rattle.std.proofs.Common.{◌≡◌}
 use Rattle.std.proofs.lemmas.Option.{IfSome_then}
 use Rattle.std.proofs.lemmas.Result.{err_from_is_err_and}
-use Rattle.tap_rows.proofs.BegunLemmas.{begun_encoded, begun_known}
+use Rattle.tap_rows.proofs.StartedLemmas.{started_encoded, started_known}
 use Rattle.tap_rows.proofs.TableLemmas.{same_count, no_change}
 use Rattle.tap_rows.specs.declared.fault.RowsFault.TheVariants.{Changed}
 use Rattle.tap_rows.proofs.into_upload.encode.Goals as goal
@@ -22,14 +22,14 @@ returns-in-Err-clause-same g c = λ changed some same.
     c.when_read_again.ensures.changed c.when_read_again.ensures.other is some same
     c.in_ok-count.ensures.table c.in-Err.ensures.refused
 
-pub returns-in_err-count-clause-begun : goal.returns-in_err-count-clause-begun
-returns-in_err-count-clause-begun g c =
+pub returns-in_err-count-clause-started : goal.returns-in_err-count-clause-started
+returns-in_err-count-clause-started g c =
     let p = err_from_is_err_and c.from_residual.result c.from_residual.ensures.1 in
     rw p.1
-    (begun_known (g.S.Read.remaining c.args.again.now) (g.W.Write.contents c.args.out.now))
+    (started_known (g.S.Read.remaining c.args.again.now) (g.W.Write.contents c.args.out.now))
 
-pub returns-else-written-count-clause-begun : goal.returns-else-written-count-clause-begun
-returns-else-written-count-clause-begun g c =
+pub returns-else-written-count-clause-started : goal.returns-else-written-count-clause-started
+returns-else-written-count-clause-started g c =
     IfSome_then (g.S.Read.remaining c.args.again.now) c.in-Ok.ensures.upload (λ text encoded.
-    begun_encoded text (g.W.Write.contents c.args.out.now)
+    started_encoded text (g.W.Write.contents c.args.out.now)
     (g.W.Write.contents c.write_taps.new.out) c.in-Ok.written encoded)

@@ -28,13 +28,13 @@ returns-in-Ok-write_bytes-clause-upload g c = (
       c.in-Ok-write_bytes.ensures.whole,
 )
 
-pub returns-in-Ok-clause-begun : goal.returns-in-Ok-clause-begun
-returns-in-Ok-clause-begun g c = inr (
+pub returns-in-Ok-clause-started : goal.returns-in-Ok-clause-started
+returns-in-Ok-clause-started g c = inr (
   c.in-Ok.bytes.items,
   more_text [] c.in-Ok.bytes.items [] c.args.taps.now no_text c.in-Ok.ensures.batch,
   subst (λ bytes. Begins (g.W.Write.contents c.args.out.now)
       (g.W.Write.contents c.write_bytes.new.out) bytes) c.deref.ensures.value
-      c.in-Err-write_bytes.ensures.begun,
+      c.in-Err-write_bytes.ensures.started,
 )
 
 pub why-requires : goal.why-requires

@@ -5,103 +5,103 @@ use Rattle.std.proofs.lemmas.Result.{err_from_is_err_and}
 use Rattle.std.proofs.lemmas.Bool.Decides.{nat_tests}
 use Rattle.std.proofs.lemmas.Option.{IfSome_then}
 use Rattle.tap_views.specs.declared.encoder.TapFields.{TapFields}
-use Rattle.tap_rows.specs.TapTables.{IsBegun}
-use Rattle.tap_rows.specs.inside.TapTables.{IsBegunAs, IsEncodedAs}
+use Rattle.tap_rows.specs.TapTables.{IsPartlyWritten}
+use Rattle.tap_rows.specs.inside.TapTables.{IsStartedAs, IsEncodedAs}
 use Rattle.tap_rows.proofs.TableLemmas.{Ready, next_of, reached_fault, writing_first, writing_row}
 use Rattle.tap_rows.proofs.TableLemmas.{writing_batch, writing_end, ready_written, ready_same}
 use Rattle.tap_rows.proofs.TableLemmas.{ready_early}
-use Rattle.tap_rows.proofs.BegunLemmas.{begun_batch, begun_known, begun_writing}
+use Rattle.tap_rows.proofs.StartedLemmas.{started_batch, started_known, started_writing}
 use Rattle.tap_rows.proofs.into_upload.write_taps.Goals as goal
 use Rattle.tap_rows.proofs.into_upload.write_taps.Goals.{then-len-eq-MAX_TAPS+in_ok-write_batch-in-Some}
 use Rattle.tap_rows.proofs.into_upload.write_taps.Goals.{else-len-eq-MAX_TAPS}
 
-pub returns-in_err-taps-clause-begun : goal.returns-in_err-taps-clause-begun
-returns-in_err-taps-clause-begun g c =
+pub returns-in_err-taps-clause-started : goal.returns-in_err-taps-clause-started
+returns-in_err-taps-clause-started g c =
     let p = err_from_is_err_and c.from_residual.result c.from_residual.ensures.1 in
     rw p.1
-    (begun_known (g.R.Read.remaining c.args.table.now) (g.W.Write.contents c.args.out.now))
+    (started_known (g.R.Read.remaining c.args.table.now) (g.W.Write.contents c.args.out.now))
 
-pub returns-in_err-read_head-clause-begun : goal.returns-in_err-read_head-clause-begun
-returns-in_err-read_head-clause-begun g c =
+pub returns-in_err-read_head-clause-started : goal.returns-in_err-read_head-clause-started
+returns-in_err-read_head-clause-started g c =
     let p = err_from_is_err_and c.from_residual-in_err-read_head.result
     c.from_residual-in_err-read_head.ensures.1 in
     rw p.1
-    (begun_known (g.R.Read.remaining c.args.table.now) (g.W.Write.contents c.args.out.now))
+    (started_known (g.R.Read.remaining c.args.table.now) (g.W.Write.contents c.args.out.now))
 
-pub returns-in_err-tap-clause-begun : goal.returns-in_err-tap-clause-begun
-returns-in_err-tap-clause-begun g c =
+pub returns-in_err-tap-clause-started : goal.returns-in_err-tap-clause-started
+returns-in_err-tap-clause-started g c =
     let p = err_from_is_err_and c.from_residual-in_err-tap.result
     c.from_residual-in_err-tap.ensures.1 in
     rw p.1
     (IfSome_then (g.R.Read.remaining c.args.table.now) c.loop-count.invariant.writing
     (λ text writing.
-    begun_writing text (g.R.Read.remaining c.loop-count.table) c.loop-count.count
+    started_writing text (g.R.Read.remaining c.loop-count.table) c.loop-count.count
     c.loop-count.taps.items (g.W.Write.contents c.args.out.now)
     (g.W.Write.contents c.loop-count.out) writing))
 
-pub returns-in_err-write_batch-in-Some-clause-begun :
-    goal.returns-in_err-write_batch-in-Some-clause-begun
-returns-in_err-write_batch-in-Some-clause-begun g c =
+pub returns-in_err-write_batch-in-Some-clause-started :
+    goal.returns-in_err-write_batch-in-Some-clause-started
+returns-in_err-write_batch-in-Some-clause-started g c =
     let here = g.W.Write.contents c.loop-count.out in
     let new = g.W.Write.contents c.write_batch.new.out in
-    let P : List TapFields → Type 0 = λ taps. IsBegunAs taps here new in
-    let begun = subst P c.deref.ensures.value c.in_err-write_batch-in-Some.ensures.begun in
+    let P : List TapFields → Type 0 = λ taps. IsStartedAs taps here new in
+    let started = subst P c.deref.ensures.value c.in_err-write_batch-in-Some.ensures.started in
     let p = err_from_is_err_and c.from_residual-in_err-write_batch-in-Some.result
     c.from_residual-in_err-write_batch-in-Some.ensures.1 in
     rw p.1
     (IfSome_then (g.R.Read.remaining c.args.table.now) c.loop-count.invariant.writing
     (λ text writing.
-    begun_batch text (g.R.Read.remaining c.loop-count.table) c.loop-count.count
-    c.loop-count.taps.items (g.W.Write.contents c.args.out.now) here new writing begun))
+    started_batch text (g.R.Read.remaining c.loop-count.table) c.loop-count.count
+    c.loop-count.taps.items (g.W.Write.contents c.args.out.now) here new writing started))
 
-pub returns-in_err-write_batch-in-None-clause-begun :
-    goal.returns-in_err-write_batch-in-None-clause-begun
-returns-in_err-write_batch-in-None-clause-begun g c =
+pub returns-in_err-write_batch-in-None-clause-started :
+    goal.returns-in_err-write_batch-in-None-clause-started
+returns-in_err-write_batch-in-None-clause-started g c =
     let here = g.W.Write.contents c.loop-count.out in
     let new = g.W.Write.contents c.write_batch-in-None.new.out in
-    let P : List TapFields → Type 0 = λ taps. IsBegunAs taps here new in
-    let begun = subst P c.deref-in-None.ensures.value c.in_err-write_batch-in-None.ensures.begun in
+    let P : List TapFields → Type 0 = λ taps. IsStartedAs taps here new in
+    let started = subst P c.deref-in-None.ensures.value c.in_err-write_batch-in-None.ensures.started in
     let p = err_from_is_err_and c.from_residual-in_err-write_batch-in-None.result
     c.from_residual-in_err-write_batch-in-None.ensures.1 in
     rw p.1
     (IfSome_then (g.R.Read.remaining c.args.table.now) c.loop-count.invariant.writing
     (λ text writing.
-    begun_batch text (g.R.Read.remaining c.loop-count.table) c.loop-count.count
-    c.loop-count.taps.items (g.W.Write.contents c.args.out.now) here new writing begun))
+    started_batch text (g.R.Read.remaining c.loop-count.table) c.loop-count.count
+    c.loop-count.taps.items (g.W.Write.contents c.args.out.now) here new writing started))
 
-pub returns-in_err-push-in-Some-clause-begun : goal.returns-in_err-push-in-Some-clause-begun
-returns-in_err-push-in-Some-clause-begun g c =
+pub returns-in_err-push-in-Some-clause-started : goal.returns-in_err-push-in-Some-clause-started
+returns-in_err-push-in-Some-clause-started g c =
     let old = g.R.Read.remaining c.args.table.now in
     let now = g.R.Read.remaining c.loop-count.table in
     let out0 = g.W.Write.contents c.args.out.now in
     let here = g.W.Write.contents c.loop-count.out in
     let out = g.W.Write.contents c.if-len-eq-MAX_TAPS.out in
     let count = c.loop-count.count in
-    let begun : IfSome old (λ text. IsBegun text out0 out) = elim c.if-len-eq-MAX_TAPS.branch [
+    let started : IfSome old (λ text. IsPartlyWritten text out0 out) = elim c.if-len-eq-MAX_TAPS.branch [
       | then-len-eq-MAX_TAPS+in_ok-write_batch-in-Some w ↦
           let there = g.W.Write.contents w.write_batch.new.out in
           let P : List TapFields → Type 0 = λ taps. IsEncodedAs taps here there in
-          subst (λ o. IfSome old (λ text. IsBegun text out0 o))
+          subst (λ o. IfSome old (λ text. IsPartlyWritten text out0 o))
           (sym (ap g.W.Write.contents w.out-is))
           (IfSome_then old c.loop-count.invariant.writing (λ text writing.
-          begun_writing text now count [] out0 there
+          started_writing text now count [] out0 there
           (writing_batch text now count c.loop-count.taps.items out0 here there writing
           (subst P w.deref.ensures.value w.in_ok-write_batch-in-Some.ensures.upload))))
       | else-len-eq-MAX_TAPS w ↦
-          subst (λ o. IfSome old (λ text. IsBegun text out0 o))
+          subst (λ o. IfSome old (λ text. IsPartlyWritten text out0 o))
           (sym (ap g.W.Write.contents w.out-is))
           (IfSome_then old c.loop-count.invariant.writing (λ text writing.
-          begun_writing text now count c.loop-count.taps.items out0 here writing))
+          started_writing text now count c.loop-count.taps.items out0 here writing))
     ] in
     let p = err_from_is_err_and c.from_residual-in_err-push-in-Some.result
     c.from_residual-in_err-push-in-Some.ensures.1 in
-    rw p.1 begun
+    rw p.1 started
 
-pub returns-clause-begun : goal.returns-clause-begun
-returns-clause-begun g c =
+pub returns-clause-started : goal.returns-clause-started
+returns-clause-started g c =
     IfSome_then (g.R.Read.remaining c.args.table.now) c.loop-count.invariant.writing
     (λ text writing.
-    begun_writing text (g.R.Read.remaining c.loop-count.table) c.loop-count.count
+    started_writing text (g.R.Read.remaining c.loop-count.table) c.loop-count.count
     c.loop-count.taps.items (g.W.Write.contents c.args.out.now)
     (g.W.Write.contents c.loop-count.out) writing)
 

@@ -13,6 +13,6 @@ no_fault upload rest (Some (offset, fault)) none is =
 
 pub returns : goal.returns
 returns c = λ taps batches fault file read.
-    let (same, rest) = c.one_reading.ensures batches file.batches read.rest [] read.is_file
+    let (same, rest) = c.unique_parse.ensures batches file.batches read.rest [] read.is_file
     file.is_file in
     (ap fields_in same ∙ file.read, no_fault c.args.upload.now read.rest fault rest read.is_end)

@@ -7,5 +7,5 @@ pub returns : goal.returns
 returns c = record {
   taps = λ text taps others table also. one_list (drop_through 10 text) taps others table.rows
       also.rows;
-  good = λ text taps number column table bad. no_fault text taps (Row number column) table tt bad;
+  valid = λ text taps number column table bad. no_fault text taps (Row number column) table tt bad;
 }

@@ -3,7 +3,7 @@ use Rattle.std.proofs.Common.{length-append}
 use Rattle.std.proofs.lemmas.List.{map-append}
 use Rattle.tap_views.specs.Files.{taps_of_batches}
 use Rattle.tap_views.specs.Facts.{IsSpan, moment_of}
-use Rattle.tap_views.proofs.ReadingLemmas.{read_end, read_on, room_on, taps_more}
+use Rattle.tap_views.proofs.ParseLemmas.{read_end, read_on, room_on, taps_more}
 use Rattle.tap_views.proofs.facts.facts_of.Goals as goal
 
 pub loop-batch-preserved : goal.loop-batch-preserved
@@ -33,14 +33,14 @@ loop-batch-preserved c =
 pub overflow_add-taps : goal.overflow_add-taps
 overflow_add-taps c =
     let before = c.loop-batch.invariant in
-    let room = room_on c.args.upload.now c.loop-batch.yielded c.in-Some.batch c.loop-batch.good
+    let room = room_on c.args.upload.now c.loop-batch.yielded c.in-Some.batch c.loop-batch.valid
     c.next.new.self before.read c.in-Some.ensures.steps in
     omega (arith, room.0, before.taps, c.len.ensures.number)
 
 pub overflow_add-count : goal.overflow_add-count
 overflow_add-count c =
     let before = c.loop-batch.invariant in
-    let room = room_on c.args.upload.now c.loop-batch.yielded c.in-Some.batch c.loop-batch.good
+    let room = room_on c.args.upload.now c.loop-batch.yielded c.in-Some.batch c.loop-batch.valid
     c.next.new.self before.read c.in-Some.ensures.steps in
     omega (arith, room.1, before.number)
 

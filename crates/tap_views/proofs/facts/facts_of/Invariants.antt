@@ -5,9 +5,9 @@ use Rattle.tap_views.proofs.facts.facts_of.Given as goal
 
 abbrev pub invariant-loop-batch : goal.invariant-loop-batch
 invariant-loop-batch l = record {
-  may : (goal.iterator-loop-batch).can_next l.good;
-  ends : (goal.iterator-loop-batch).is_finite l.good;
-  read : IsReadAs l.upload (l.yielded ++ l.good.batches) l.good.fault;
+  may : (goal.iterator-loop-batch).can_next l.valid;
+  ends : (goal.iterator-loop-batch).is_finite l.valid;
+  read : IsReadAs l.upload (l.yielded ++ l.valid.batches) l.valid.fault;
   number : l.count ≡ length l.yielded;
   taps : l.taps ≡ length (taps_of_batches l.yielded);
   span : IsSpan (map moment_of (taps_of_batches l.yielded)) l.span;

@@ -1,7 +1,7 @@
 use Rattle.std.proofs.Common.{◌≡◌, ◌<◌, ◌++◌, ◌∷◌, [], suc, length, ap, sym, ◌∙◌, arith, get_or}
 use Rattle.std.proofs.lemmas.List.{length-append, length-set, get_or_default, append_assoc}
 use Rattle.tap_views.specs.Shards.{shard_of_token}
-use Rattle.tap_views.proofs.Sorted.{places_few, hold_more}
+use Rattle.tap_views.proofs.Sorted.{positions_few, hold_more}
 use Rattle.tap_views.proofs.runs.sort_in.Goals as goal
 
 pub push-requires : goal.push-requires
@@ -9,7 +9,7 @@ push-requires c =
     let shard = c.shard_of-shard.result in
     let within : shard < length c.loop-tap.lists =
     omega (arith, c.shard_of-shard.ensures.below, c.loop-tap.invariant.number) in
-    let few = places_few shard (length c.args.lists.now) 0 c.loop-tap.yielded in
+    let few = positions_few shard (length c.args.lists.now) 0 c.loop-tap.yielded in
     let all : length (c.loop-tap.yielded ++ c.loop-tap.tap-iterator) ≡ length c.args.batch.now =
     ap length c.loop-tap.invariant.all in
     let next : length c.loop-tap.tap-iterator ≡ suc (length c.next.new.self) =
@@ -38,15 +38,15 @@ loop-tap-preserved c =
       ends = tt;
       all = append_assoc c.loop-tap.yielded _ _
           ∙ ap (λ left. c.loop-tap.yielded ++ left) (sym c.in-Some.ensures.steps) ∙ was.all;
-      place = rw length-append (omega (arith, was.place));
+      position = rw length-append (omega (arith, was.position));
       number = rw length-set was.number;
       runs = hold_more _ c.loop-tap.lists c.loop-tap.yielded c.in-Some.tap shard c.push.new.self
           was.number
           (c.shard_of-shard.ensures.value
           ∙ ap (λ token. shard_of_token token (length c.args.lists.now)) c.token.ensures.bytes)
           c.shard_of-shard.ensures.below
-          (c.push.ensures ∙ ap (λ list. list ++ c.loop-tap.place ∷ [])
+          (c.push.ensures ∙ ap (λ list. list ++ c.loop-tap.position ∷ [])
           (get_or_default c.loop-tap.lists shard _ [] within)
-          ∙ ap (λ n. get_or c.loop-tap.lists shard [] ++ n ∷ []) was.place)
+          ∙ ap (λ n. get_or c.loop-tap.lists shard [] ++ n ∷ []) was.position)
           was.runs;
     }

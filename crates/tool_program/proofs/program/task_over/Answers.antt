@@ -1,11 +1,11 @@
 use Rattle.std.proofs.Common.{◌≡◌, ◌∙◌, Bor, List, None, ap, arith, false, inl, inr, map, refl}
 use Rattle.std.proofs.Common.{subst, sym, ℕ}
 use Rattle.program_manners.specs.LineWritten.{LineWritten}
-use Rattle.tool_words.specs.Mistakes.{mistake_text}
-use Rattle.tool_words.specs.Tasks.{asked_of}
+use Rattle.tool_words.specs.UsageErrors.{usage_error_text}
+use Rattle.tool_words.specs.Tasks.{request_of}
 use Rattle.tool_words.proofs.Entered.{some_is}
-use Rattle.tool_program.specs.Merge.{GivesUpMerge}
-use Rattle.tool_program.specs.Program.{mistake_line}
+use Rattle.tool_program.specs.Merge.{AbortsMerge}
+use Rattle.tool_program.specs.Program.{usage_error_line}
 use Rattle.tool_program.proofs.program.task_over.Goals as goal
 
 pub returns-in-Sort-clause-done : goal.returns-in-Sort-clause-done
@@ -16,17 +16,17 @@ pub returns-in-Sort-clause-partly : goal.returns-in-Sort-clause-partly
 returns-in-Sort-clause-partly g c = λ three.
     rw c.in-Sort.is (c.sort_task.ensures.partly None None None false three)
 
-pub returns-in-Sort-clause-given_up : goal.returns-in-Sort-clause-given_up
-returns-in-Sort-clause-given_up g c = λ one.
-    rw c.in-Sort.is (c.sort_task.ensures.given_up None None None false one)
+pub returns-in-Sort-clause-aborted : goal.returns-in-Sort-clause-aborted
+returns-in-Sort-clause-aborted g c = λ one.
+    rw c.in-Sort.is (c.sort_task.ensures.aborted None None None false one)
 
-pub returns-in-Merge-clause-given_up : goal.returns-in-Merge-clause-given_up
-returns-in-Merge-clause-given_up g c = λ one.
+pub returns-in-Merge-clause-aborted : goal.returns-in-Merge-clause-aborted
+returns-in-Merge-clause-aborted g c = λ one.
     let (fault, reported, gives) = c.merge_over.ensures.faults one in
     rw c.in-Merge.is (
       fault,
       reported,
-      (λ kept keeps. subst (λ (ps : List (Bor (List ℕ))). GivesUpMerge (map (λ w. w.now) ps)
+      (λ kept keeps. subst (λ (ps : List (Bor (List ℕ))). AbortsMerge (map (λ w. w.now) ps)
           (g.S.Source.loaded c.args.source.now) (g.S.Source.loaded c.merge_over.new.source)
           (g.S.Source.refused c.merge_over.new.source) c.merge_over.new.out.end fault)
           c.deref-in-Merge.ensures.value (gives kept keeps)),
@@ -46,42 +46,42 @@ returns-in-EncodeRows-clause-partly g c = λ three. rw c.in-EncodeRows.is (
   c.encode_rows_over.ensures.flushed (λ one. absurd (omega (arith, three, one))),
 )
 
-pub returns-in-EncodeRows-clause-given_up : goal.returns-in-EncodeRows-clause-given_up
-returns-in-EncodeRows-clause-given_up g c = λ one. rw c.in-EncodeRows.is (
+pub returns-in-EncodeRows-clause-aborted : goal.returns-in-EncodeRows-clause-aborted
+returns-in-EncodeRows-clause-aborted g c = λ one. rw c.in-EncodeRows.is (
     elim (c.encode_rows_over.ensures.faults one) [
       | inl empty ↦ inl (λ kept keeps. (c.in-EncodeRows.words, refl, empty kept keeps))
       | inr stopped ↦ inr (stopped.0, stopped.1, (c.in-EncodeRows.words, refl, stopped.2))
     ]
     )
 
-pub returns-in-GoodPart-clause-done : goal.returns-in-GoodPart-clause-done
-returns-in-GoodPart-clause-done g c = λ zero.
-    let done = c.good_part_over.ensures.done zero in
-    rw c.in-GoodPart.is (c.in-GoodPart.words, refl, done.0, done.1, done.2)
+pub returns-in-ValidPrefix-clause-done : goal.returns-in-ValidPrefix-clause-done
+returns-in-ValidPrefix-clause-done g c = λ zero.
+    let done = c.valid_prefix_over.ensures.done zero in
+    rw c.in-ValidPrefix.is (c.in-ValidPrefix.words, refl, done.0, done.1, done.2)
 
-pub returns-in-GoodPart-clause-given_up : goal.returns-in-GoodPart-clause-given_up
-returns-in-GoodPart-clause-given_up g c = λ one.
-    rw c.in-GoodPart.is (c.in-GoodPart.words, refl, c.good_part_over.ensures.faults one)
+pub returns-in-ValidPrefix-clause-aborted : goal.returns-in-ValidPrefix-clause-aborted
+returns-in-ValidPrefix-clause-aborted g c = λ one.
+    rw c.in-ValidPrefix.is (c.in-ValidPrefix.words, refl, c.valid_prefix_over.ensures.faults one)
 
-pub returns-in-Mistake-clause-mistaken : goal.returns-in-Mistake-clause-mistaken
-returns-in-Mistake-clause-mistaken g c = λ line is.
-    let same = some_is (mistake_text c.in-Mistake.mistake) line
-    (sym (ap mistake_line (ap asked_of c.in-Mistake.is)) ∙ is) in
+pub returns-in-UsageError-clause-misused : goal.returns-in-UsageError-clause-misused
+returns-in-UsageError-clause-misused g c = λ line is.
+    let same = some_is (usage_error_text c.in-UsageError.usage_error) line
+    (sym (ap usage_error_line (ap request_of c.in-UsageError.is)) ∙ is) in
     inl (
-      c.report_mistake.ensures.status,
+      c.report_usage_error.ensures.status,
       subst (λ (l : List ℕ). LineWritten
           (g.E.Write.contents c.args.err.now.writer)
-          (g.E.Write.contents c.report_mistake.new.err.writer) c.report_mistake.new.err.failed l)
+          (g.E.Write.contents c.report_usage_error.new.err.writer) c.report_usage_error.new.err.failed l)
           same
-          c.report_mistake.ensures.line,
+          c.report_usage_error.ensures.line,
     )
 
-pub returns-in-Mistake-clause-right : goal.returns-in-Mistake-clause-right
-returns-in-Mistake-clause-right g c = λ two.
-    inr (mistake_text c.in-Mistake.mistake, ap mistake_line (ap asked_of c.in-Mistake.is))
+pub returns-in-UsageError-clause-right : goal.returns-in-UsageError-clause-right
+returns-in-UsageError-clause-right g c = λ two.
+    inr (usage_error_text c.in-UsageError.usage_error, ap usage_error_line (ap request_of c.in-UsageError.is))
 
 pub returns-in-Unshown-clause-right : goal.returns-in-Unshown-clause-right
-returns-in-Unshown-clause-right g c = λ two. inl (ap asked_of c.in-Unshown.is)
+returns-in-Unshown-clause-right g c = λ two. inl (ap request_of c.in-Unshown.is)
 
 pub returns-in-WrongDate-clause-right : goal.returns-in-WrongDate-clause-right
-returns-in-WrongDate-clause-right g c = λ two. inl (ap asked_of c.in-WrongDate.is)
+returns-in-WrongDate-clause-right g c = λ two. inl (ap request_of c.in-WrongDate.is)

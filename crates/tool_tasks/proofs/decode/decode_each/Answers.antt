@@ -6,8 +6,8 @@ use Rattle.std.proofs.lemmas.Result.{err_from_is_err_and}
 use Rattle.program_manners.specs.Loads.{Loaded}
 use Rattle.program_manners.proofs.NextTables.{words_at}
 use Rattle.tool_tasks.specs.Decode.{are_whole}
-use Rattle.tool_tasks.specs.inside.Decode.{DecodesEach, DecodesOne, StopsOne}
-use Rattle.tool_tasks.proofs.Decoding.{each_more, each_none, each_stops, whole_more}
+use Rattle.tool_tasks.specs.inside.Decode.{DecodesEach, DecodesOne, FailsOne}
+use Rattle.tool_tasks.proofs.Decoding.{each_more, each_none, each_fails, whole_more}
 use Rattle.tool_tasks.proofs.Opened.{words_more}
 use Rattle.tool_tasks.proofs.decode.decode_each.Goals as goal
 
@@ -19,22 +19,22 @@ loop-number-init g c = record {
         (g.E.Write.contents c.args.err.now.writer) c.args.err.now.failed,
     refl,
   );
-  quiet = λ well. refl;
+  quiet = λ success. refl;
 }
 
 pub loop-number-preserved : goal.loop-number-preserved
 loop-number-preserved g c =
     let words = c.args.words.now in
     let no_word : Bor (List ℕ) = record { ref_ptr = (0, 0); now = [] } in
-    let place = c.loop-number.number in
-    let word = (get_or words place no_word).now in
-    let front = map (λ w. w.now) (take place words) in
+    let position = c.loop-number.number in
+    let word = (get_or words position no_word).now in
+    let front = map (λ w. w.now) (take position words) in
     let loaded = g.S.Source.loaded c.args.source.now in
     let out = g.W.Write.contents c.args.out.now.writer in
     let out'' = g.W.Write.contents c.decode_one.new.out.writer in
     let said = g.E.Write.contents c.args.err.now.writer in
-    let said'' = g.E.Write.contents c.report_layout-is_well.new.err.writer in
-    let failed'' = c.report_layout-is_well.new.err.failed in
+    let said'' = g.E.Write.contents c.report_layout-succeeded.new.err.writer in
+    let failed'' = c.report_layout-succeeded.new.err.failed in
     let so_far = c.loop-number.invariant.each in
     let fault = c.in_ok-fault.fault in
     let one = subst (λ (l : Option (List Loaded)). DecodesOne word l
@@ -45,50 +45,50 @@ loop-number-preserved g c =
     (g.S.Source.loaded c.decode_one.new.source) out
     (g.W.Write.contents c.loop-number.out.writer) out'' said
     (g.E.Write.contents c.loop-number.err.writer) said'' c.loop-number.err.failed failed''
-    so_far.0 fault so_far.1 one c.report_layout-is_well.ensures.line
-    c.report_layout-is_well.ensures.kept in
-    let whole : (c.loop-number.is_well && c.report_layout-is_well.result) ≡ are_whole decoded =
-    ap (λ (b : Bool). b && c.report_layout-is_well.result) so_far.2
+    so_far.0 fault so_far.1 one c.report_layout-succeeded.ensures.line
+    c.report_layout-succeeded.ensures.kept in
+    let whole : (c.loop-number.succeeded && c.report_layout-succeeded.result) ≡ are_whole decoded =
+    ap (λ (b : Bool). b && c.report_layout-succeeded.result) so_far.2
     ∙ ap (λ (b : Bool). are_whole so_far.0 && b)
-    (c.report_layout-is_well.ensures.whole ∙ ap is_none (sym one.fault_is))
+    (c.report_layout-succeeded.ensures.whole ∙ ap is_none (sym one.fault_is))
     ∙ sym (whole_more so_far.0 one.one) in
     record {
       each = (
         decoded,
         subst (λ (l : Option (List Loaded)). DecodesEach
-            (map (λ w. w.now) (take (place + 1) words)) loaded l out out'' said said'' failed''
-            decoded) (sym c.report_layout-is_well.ensures.loaded)
+            (map (λ w. w.now) (take (position + 1) words)) loaded l out out'' said said'' failed''
+            decoded) (sym c.report_layout-succeeded.ensures.loaded)
             (subst (λ (ws : List (List ℕ)). DecodesEach ws loaded
             (g.S.Source.loaded c.decode_one.new.source) out out'' said said'' failed''
             decoded)
-            (sym (words_more words place no_word c.loop-number-test.true)) each),
+            (sym (words_more words position no_word c.loop-number-test.true)) each),
         whole,
       );
-      quiet = λ well.
-          let parts = and_parts c.loop-number.is_well c.report_layout-is_well.result well in
-          c.report_layout-is_well.ensures.quiet parts.1 ∙ c.loop-number.invariant.quiet parts.0;
+      quiet = λ success.
+          let parts = and_parts c.loop-number.succeeded c.report_layout-succeeded.result success in
+          c.report_layout-succeeded.ensures.quiet parts.1 ∙ c.loop-number.invariant.quiet parts.0;
     }
 
 pub returns-in_err-fault-clause-stops : goal.returns-in_err-fault-clause-stops
 returns-in_err-fault-clause-stops g c =
     let words = c.args.words.now in
     let no_word : Bor (List ℕ) = record { ref_ptr = (0, 0); now = [] } in
-    let place = c.loop-number.number in
-    let word = (get_or words place no_word).now in
+    let position = c.loop-number.number in
+    let word = (get_or words position no_word).now in
     let so_far = c.loop-number.invariant.each in
     let p = err_from_is_err_and c.from_residual.result c.from_residual.ensures.1 in
     rw (p.1, p.2)
-    (each_stops (map (λ w. w.now) words) (map (λ w. w.now) (take place words))
-    (map (λ w. w.now) (drop (place + 1) words)) word (g.S.Source.loaded c.args.source.now)
+    (each_fails (map (λ w. w.now) words) (map (λ w. w.now) (take position words))
+    (map (λ w. w.now) (drop (position + 1) words)) word (g.S.Source.loaded c.args.source.now)
     (g.S.Source.loaded c.loop-number.source) (g.S.Source.loaded c.decode_one.new.source)
     (g.S.Source.refused c.decode_one.new.source) c.decode_one.new.out.end
     c.in_err-fault.field-0.0 (g.W.Write.contents c.args.out.now.writer)
     (g.W.Write.contents c.loop-number.out.writer)
     (g.W.Write.contents c.decode_one.new.out.writer)
     (g.E.Write.contents c.args.err.now.writer) (g.E.Write.contents c.loop-number.err.writer)
-    c.loop-number.err.failed so_far.0 (words_at words place no_word c.loop-number-test.true)
+    c.loop-number.err.failed so_far.0 (words_at words position no_word c.loop-number-test.true)
     so_far.1
-    (subst (λ (l : Option (List Loaded)). StopsOne word l
+    (subst (λ (l : Option (List Loaded)). FailsOne word l
     (g.S.Source.loaded c.decode_one.new.source) (g.S.Source.refused c.decode_one.new.source)
     c.decode_one.new.out.end c.in_err-fault.field-0.0 (g.W.Write.contents c.loop-number.out.writer)
     (g.W.Write.contents c.decode_one.new.out.writer)) c.show_count.ensures.loaded

@@ -10,6 +10,6 @@ invariant-loop-number g l = record {
       (g.S.Source.loaded l.fn.source) (g.S.Source.loaded l.source)
       (g.W.Write.contents l.fn.out.writer) (g.W.Write.contents l.out.writer)
       (g.E.Write.contents l.fn.err.writer) (g.E.Write.contents l.err.writer) l.err.failed decoded
-      × (l.is_well ≡ are_whole decoded);
-  quiet : l.is_well ≡ true → l.err ≡ l.fn.err;
+      × (l.succeeded ≡ are_whole decoded);
+  quiet : l.succeeded ≡ true → l.err ≡ l.fn.err;
 }

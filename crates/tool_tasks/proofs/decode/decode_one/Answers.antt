@@ -40,20 +40,20 @@ returns-clause-stops g c =
     let word = c.args.word.now in
     let before = g.S.Source.loaded c.args.source.now in
     let after = g.S.Source.loaded c.load_upload.new.source in
-    let begun = c.in-Err.ensures.begun in
+    let started = c.in-Err.ensures.started in
     inr (
       subst (λ end. IsOfWriting end c.fault_of.result) c.end.ensures c.fault_of.ensures,
       record {
         one = record {
           word = word;
           upload = c.deref.result.now;
-          rows = begun.0;
-          fault = begun.1;
-          is_decoded = begun.2;
+          rows = started.0;
+          fault = started.1;
+          is_decoded = started.2;
         };
         named = refl;
         is_loaded = subst (λ (bytes : List ℕ). LoadsOne before after (file_named word) bytes)
             (sym c.deref.ensures.value) c.in_ok-upload.ensures.reported;
-        begun = begun.3;
+        started = started.3;
       },
     )

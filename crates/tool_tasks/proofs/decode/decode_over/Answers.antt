@@ -1,13 +1,13 @@
 use Rattle.std.proofs.Common.{◌∙◌, inl, inr, map, sym}
-use Rattle.tool_tasks.proofs.DecodedTables.{decodes_kept, gives_up, stops_again, stops_kept}
+use Rattle.tool_tasks.proofs.DecodedTables.{decodes_kept, aborts, stops_again, stops_kept}
 use Rattle.tool_tasks.proofs.DecodedTables.{whole_stops}
 use Rattle.tool_tasks.proofs.EncodedRows.{of_ok}
 use Rattle.tool_tasks.proofs.Faults.{ended_after}
 use Rattle.tool_tasks.proofs.decode.decode_over.Goals as goal
 
-pub returns-then-well-clause-done : goal.returns-then-well-clause-done
-returns-then-well-clause-done g c = λ zero.
-    let all = of_ok c.decode_table-decoded.result c.in-Ok.well _ c.in-Ok.ensures.same
+pub returns-then-success-clause-done : goal.returns-then-success-clause-done
+returns-then-success-clause-done g c = λ zero.
+    let all = of_ok c.decode_table-decoded.result c.in-Ok.success _ c.in-Ok.ensures.same
     c.decode_table-decoded.ensures.done in (
       all.0,
       decodes_kept (map (λ w. w.now) c.args.words.now) (g.S.Source.loaded c.args.source.now)
@@ -16,17 +16,17 @@ returns-then-well-clause-done g c = λ zero.
           (g.W.Write.contents c.decode_table-decoded.new.out.writer)
           (g.W.Write.contents c.finish_after.new.out.writer) all.0 all.1
           c.finish_after.ensures.kept,
-      sym all.2 ∙ c.if-well.true,
+      sym all.2 ∙ c.if-success.true,
     )
 
-pub returns-then-well-clause-quiet : goal.returns-then-well-clause-quiet
-returns-then-well-clause-quiet g c = λ zero.
-    of_ok c.decode_table-decoded.result c.in-Ok.well _ c.in-Ok.ensures.same
-    c.decode_table-decoded.ensures.quiet c.if-well.true
+pub returns-then-success-clause-quiet : goal.returns-then-success-clause-quiet
+returns-then-success-clause-quiet g c = λ zero.
+    of_ok c.decode_table-decoded.result c.in-Ok.success _ c.in-Ok.ensures.same
+    c.decode_table-decoded.ensures.quiet c.if-success.true
 
-pub returns-else-well-clause-faults : goal.returns-else-well-clause-faults
-returns-else-well-clause-faults g c = λ one.
-    let all = of_ok c.decode_table-decoded.result c.in-Ok.well _ c.in-Ok.ensures.same
+pub returns-else-success-clause-faults : goal.returns-else-success-clause-faults
+returns-else-success-clause-faults g c = λ one.
+    let all = of_ok c.decode_table-decoded.result c.in-Ok.success _ c.in-Ok.ensures.same
     c.decode_table-decoded.ensures.done in
     inl (
       record {
@@ -38,7 +38,7 @@ returns-else-well-clause-faults g c = λ one.
             (g.W.Write.contents c.decode_table-decoded.new.out.writer)
             (g.W.Write.contents c.finish_after.new.out.writer) all.0 all.1
             c.finish_after.ensures.kept;
-        faulty = sym all.2 ∙ c.if-well.false;
+        faulty = sym all.2 ∙ c.if-success.false;
         reported = all.3;
       },
       c.in-Ok.ensures.flushed,
@@ -62,12 +62,12 @@ returns-in-Err-clause-faults g c = λ one.
     let kept = c.finish_after.ensures.kept in
     inr (
       fault,
-      gives_up words loaded refused end' fault out out' said said'
+      aborts words loaded refused end' fault out out' said said'
           (g.E.Write.contents c.say.new.err.writer) failed c.say.new.err.failed
           (ended_after c.decode_table-decoded.result fault end end' _ _ _
           c.decode_table-decoded.ensures.done c.decode_table-decoded.ensures.stops
           c.in-Err.ensures.fault
-          (λ well all is. whole_stops words loaded loaded' refused end' fault out mid out' said
+          (λ success all is. whole_stops words loaded loaded' refused end' fault out mid out' said
           said' failed all.0 all.1 kept is all.3)
           (λ first stops is. stops_again words loaded refused end end' first fault out mid out' said
           said' failed stops kept is)

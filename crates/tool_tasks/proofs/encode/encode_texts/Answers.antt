@@ -2,10 +2,10 @@ use Rattle.std.proofs.Common.{◌∙◌, ℕ, Err, List, Option, Some, ap, refl,
 use Rattle.std.specs.Prelude.{IfSome, IsSome}
 use Rattle.std.proofs.KnownBytes.{Keeps-refl}
 use Rattle.std.specs.Io.KnownBytes.{Keeps}
-use Rattle.tap_rows.specs.TapTables.{IsBegun, IsEncoded, IsOfTapTable, IsRowsFault}
+use Rattle.tap_rows.specs.TapTables.{IsPartlyWritten, IsEncoded, IsOfTapTable, IsRowsFault}
 use Rattle.tool_tasks.specs.inside.Fault.{IsEncodeFault}
-use Rattle.tap_rows.proofs.BegunLemmas.{begun_encoded}
-use Rattle.tool_tasks.proofs.Encoded.{begun_kept, encoded_kept, right_encode}
+use Rattle.tap_rows.proofs.StartedLemmas.{started_encoded}
+use Rattle.tool_tasks.proofs.Encoded.{started_kept, encoded_kept, right_encode}
 use Rattle.tool_tasks.proofs.Encoded.{right_encode_write}
 use Rattle.tool_tasks.proofs.encode.encode_texts.Goals as goal
 
@@ -30,7 +30,7 @@ returns-in-Err-finish-clause-fault g c = λ text again of_text of_again.
     record {
       right = right_encode_write c.args.word.now text again c.finish.new.out.end
           c.in-Err-finish.unwritten old new c.in-Err-finish.ensures.fault;
-      begun = begun_kept again old mid new (begun_encoded again old mid count encoded)
+      started = started_kept again old mid new (started_encoded again old mid count encoded)
           c.in-Err-finish.ensures.kept;
     }
 
@@ -42,8 +42,8 @@ returns-in-Ok-finish-2-clause-fault g c = λ text again of_text of_again.
     let new = g.W.Write.contents c.finish-in-Err.new.out.writer in
     let fault = c.in-Err.fault in
     let reported = c.fault_of.result in
-    let begun = subst (λ (o : Option (List ℕ)). IfSome o (λ t. IsBegun t old mid)) of_again
-    c.in-Err.ensures.begun in
+    let started = subst (λ (o : Option (List ℕ)). IfSome o (λ t. IsPartlyWritten t old mid)) of_again
+    c.in-Err.ensures.started in
     record {
       right = right_encode word text again c.finish-in-Err.new.out.end fault reported old new
           (subst (λ end. IsEncodeFault word end fault reported) c.end.ensures c.fault_of.ensures)
@@ -55,7 +55,7 @@ returns-in-Ok-finish-2-clause-fault g c = λ text again of_text of_again.
           (λ changed same. c.in-Err.ensures.same (ap (λ f. Err f) changed)
           (subst (λ (o : Option (List ℕ)). IsSome o) (sym of_text) refl)
           (of_text ∙ ap (λ (t : List ℕ). Some t) same ∙ sym of_again));
-      begun = begun_kept again old mid new begun c.in-Ok-finish-2.ensures.kept;
+      started = started_kept again old mid new started c.in-Ok-finish-2.ensures.kept;
     }
 
 pub returns-in-Err-finish-2-clause-fault : goal.returns-in-Err-finish-2-clause-fault
@@ -63,10 +63,10 @@ returns-in-Err-finish-2-clause-fault g c = λ text again of_text of_again.
     let old = g.W.Write.contents c.args.out.now.writer in
     let mid = g.W.Write.contents c.encode.new.out.writer in
     let new = g.W.Write.contents c.finish-in-Err.new.out.writer in
-    let begun = subst (λ (o : Option (List ℕ)). IfSome o (λ t. IsBegun t old mid)) of_again
-    c.in-Err.ensures.begun in
+    let started = subst (λ (o : Option (List ℕ)). IfSome o (λ t. IsPartlyWritten t old mid)) of_again
+    c.in-Err.ensures.started in
     record {
       right = right_encode_write c.args.word.now text again c.finish-in-Err.new.out.end
           c.in-Err-finish-2.unwritten old new c.in-Err-finish-2.ensures.fault;
-      begun = begun_kept again old mid new begun c.in-Err-finish-2.ensures.kept;
+      started = started_kept again old mid new started c.in-Err-finish-2.ensures.kept;
     }

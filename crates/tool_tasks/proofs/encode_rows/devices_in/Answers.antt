@@ -1,6 +1,6 @@
 use Rattle.std.proofs.Common.{Bor, List, Option, ℕ, subst, sym}
 use Rattle.tap_rows.specs.Devices.{devices_of}
-use Rattle.tool_tasks.specs.EncodeRows.{StopsDevices, word_in}
+use Rattle.tool_tasks.specs.EncodeRows.{FailsDevices, word_in}
 use Rattle.tool_tasks.proofs.EncodedRows.{no_devices, some_devices}
 use Rattle.tool_tasks.proofs.encode_rows.devices_in.Goals as goal
 
@@ -12,7 +12,7 @@ returns-in-Ok-clause-table g c =
 
 pub returns-in-Err-clause-stops : goal.returns-in-Err-clause-stops
 returns-in-Err-clause-stops g c =
-    subst (λ (d : Option (Bor (List ℕ))). StopsDevices (word_in d) c.args.words.now.separator
+    subst (λ (d : Option (Bor (List ℕ))). FailsDevices (word_in d) c.args.words.now.separator
     (g.S.Source.loaded c.args.source.now) (g.S.Source.loaded c.load_devices.new.source)
     (g.S.Source.refused c.load_devices.new.source) c.in-Err.fault) (sym c.in-Some.is)
     c.in-Err.ensures.stops

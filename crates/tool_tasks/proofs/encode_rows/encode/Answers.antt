@@ -52,6 +52,6 @@ returns-clause-stops g c =
             c.as_ref.ensures.value c.choice-choice.ensures;
         between = g.S.Source.loaded c.devices_in.new.source;
         of_devices = has;
-        gives_up = stops now.0 now.1;
+        aborts = stops now.0 now.1;
       }),
     )) c.encode_text.ensures.kept c.encode_text.ensures.stops

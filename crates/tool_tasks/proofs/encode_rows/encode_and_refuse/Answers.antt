@@ -1,16 +1,16 @@
 use Rattle.std.proofs.Common.{◌∙◌, inl, inr, refl}
 use Rattle.std.proofs.KnownBytes.{Keeps-refl}
 use Rattle.tool_tasks.specs.EncodeRows.{IsRightRowsFault}
-use Rattle.tool_tasks.proofs.EncodedRows.{not_begun, once_stops, refused_made, stopped}
+use Rattle.tool_tasks.proofs.EncodedRows.{not_started, once_fails, refused_made, stopped}
 use Rattle.tool_tasks.proofs.EncodedRows.{unfinished}
-use Rattle.tap_rows.proofs.AgencyBegunLemmas.{whole_begun}
+use Rattle.tap_rows.proofs.AgencyStartedLemmas.{whole_started}
 use Rattle.tool_tasks.proofs.encode_rows.encode_and_refuse.Goals as goal
 
 pub returns-in-Err-clause-stops : goal.returns-in-Err-clause-stops
 returns-in-Err-clause-stops g c = λ kept is.
-    not_begun c.args.words.now c.args.refused.now c.args.word.now c.args.choice.now
+    not_started c.args.words.now c.args.refused.now c.args.word.now c.args.choice.now
     (g.S.Source.loaded c.args.source.now) (g.S.Source.loaded c.args.source.now)
-    (g.S.Source.refused c.args.source.now) (g.K.Sink.unbegun c.begin_new.new.self)
+    (g.S.Source.refused c.args.source.now) (g.K.Sink.unstarted c.begin_new.new.self)
     (g.K.Sink.failed c.begin_new.new.self) c.args.out.now.end c.in-Err.fault c.fault_of_new.result
     (g.W.Write.contents c.args.out.now.writer) c.fault_of_new.ensures c.in-Err.ensures.refused
 
@@ -52,7 +52,7 @@ returns-in-Err-finish-clause-stops g c = λ kept is.
             once.text c.encode_some.new.out.end (g.K.Sink.failed c.finish.new.self)
             c.in-Err-finish.fault c.fault_of_unfinished.result _ _ c.fault_of_unfinished.ensures
             c.in-Err-finish.ensures.failed;
-        begun = whole_begun c.args.choice.now once.text (g.W.Write.contents c.args.out.now.writer)
+        started = whole_started c.args.choice.now once.text (g.W.Write.contents c.args.out.now.writer)
             (g.W.Write.contents c.encode_some.new.out.writer) (contents c.in-Ok.file.writer)
             (contents c.encode_some.new.refused.writer) once.summary once.encoded;
       };
@@ -60,9 +60,9 @@ returns-in-Err-finish-clause-stops g c = λ kept is.
 
 pub returns-in-Err-encode_some-clause-stops : goal.returns-in-Err-encode_some-clause-stops
 returns-in-Err-encode_some-clause-stops g c = λ kept is.
-    once_stops c.args.words.now c.args.refused.now c.args.word.now c.args.choice.now
+    once_fails c.args.words.now c.args.refused.now c.args.word.now c.args.choice.now
     (g.S.Source.loaded c.args.source.now) (g.S.Source.loaded c.encode_some.new.source)
-    (g.S.Source.refused c.encode_some.new.source) (g.K.Sink.unbegun c.fail.new.self)
+    (g.S.Source.refused c.encode_some.new.source) (g.K.Sink.unstarted c.fail.new.self)
     (g.K.Sink.failed c.fail.new.self) c.encode_some.new.out.end c.encode_some.new.refused.end
     c.in-Err-encode_some.fault (g.W.Write.contents c.args.out.now.writer)
     (g.W.Write.contents c.encode_some.new.out.writer)

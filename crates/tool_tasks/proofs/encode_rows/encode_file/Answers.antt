@@ -10,7 +10,7 @@ use Rattle.tool_tasks.proofs.encode_rows.encode_file.Goals as goal
 pub returns-in_err-text-clause-stops : goal.returns-in_err-text-clause-stops
 returns-in_err-text-clause-stops g c =
     let p = err_from_is_err_and c.from_residual.result c.from_residual.ensures.1 in
-    rw (p.1, p.2) (λ kept unbegun failed is. inl (
+    rw (p.1, p.2) (λ kept unstarted failed is. inl (
       inl (c.in_err-text.ensures.refusal (c.args.word.now ∷ []) (inl refl)),
       Keeps-refl (g.W.Write.contents c.args.out.now.writer),
     ))
@@ -19,7 +19,7 @@ pub returns-in_err-again-clause-stops : goal.returns-in_err-again-clause-stops
 returns-in_err-again-clause-stops g c =
     let p = err_from_is_err_and c.from_residual-in_err-again.result
     c.from_residual-in_err-again.ensures.1 in
-    rw (p.1, p.2) (λ kept unbegun failed is. inl (
+    rw (p.1, p.2) (λ kept unstarted failed is. inl (
       inl (c.in_err-again.ensures.refusal (c.args.word.now ∷ []) (inl refl)),
       Keeps-refl (g.W.Write.contents c.args.out.now.writer),
     ))
@@ -58,7 +58,7 @@ returns-clause-done g c =
 
 pub returns-clause-stops : goal.returns-clause-stops
 returns-clause-stops g c =
-    IfErr-weaker c.encode_twice-done.result _ _ (λ fault stops kept unbegun failed is.
+    IfErr-weaker c.encode_twice-done.result _ _ (λ fault stops kept unstarted failed is.
     let word = c.args.word.now in
     let loaded = g.S.Source.loaded c.args.source.now in
     let mid = g.S.Source.loaded c.open_text_shown.new.source in

@@ -8,7 +8,7 @@ use Rattle.tool_tasks.proofs.encode_rows.encode_loaded.Goals as goal
 pub returns-in_err-text-clause-stops : goal.returns-in_err-text-clause-stops
 returns-in_err-text-clause-stops g c =
     let p = err_from_is_err_and c.from_residual.result c.from_residual.ensures.1 in
-    rw (p.1, p.2) (λ kept unbegun failed is. inl (
+    rw (p.1, p.2) (λ kept unstarted failed is. inl (
       inl (c.in_err-text.ensures.refusal (c.args.word.now ∷ []) (inl refl)),
       Keeps-refl (g.W.Write.contents c.args.out.now.writer),
     ))
@@ -46,7 +46,7 @@ returns-clause-done g c =
 pub returns-clause-stops : goal.returns-clause-stops
 returns-clause-stops g c =
     let bytes = c.in_ok-text.text.items in
-    IfErr-weaker c.encode_twice.result _ _ (λ fault stops kept unbegun failed is. inr (record {
+    IfErr-weaker c.encode_twice.result _ _ (λ fault stops kept unstarted failed is. inr (record {
       text = bytes;
       again = bytes;
       reads = inl (

@@ -2,7 +2,7 @@ use Rattle.std.proofs.Common.{◌≡◌, ◌≢◌, ◌∙◌, ℕ, List, None, 
 use Rattle.std.specs.Io.KnownBytes.{Keeps}
 use Rattle.std.proofs.lemmas.Result.{IfErr-weaker, IfOk-weaker}
 use Rattle.tap_rows.specs.Agencies.{IsAgencyFault, IsRowsEncoded}
-use Rattle.tool_tasks.proofs.EncodedRows.{begun_so, of_err, of_ok, of_some, right_end, rows_kept}
+use Rattle.tool_tasks.proofs.EncodedRows.{started_so, of_err, of_ok, of_some, right_end, rows_kept}
 use Rattle.tool_tasks.proofs.encode_rows.encode_once.Goals as goal
 
 pub returns-clause-done : goal.returns-clause-done
@@ -49,7 +49,7 @@ returns-clause-stops g c =
             of_err encoded why _ is c.encode_some_rows-encoded.ensures.once,
           ))
           (λ some none. some (c.end.ensures ∙ none));
-      begun = begun_so choice (g.R.Read.remaining c.args.text) bytes old mid new empty written
+      started = started_so choice (g.R.Read.remaining c.args.text) bytes old mid new empty written
           encoded known c.encode_some_rows-encoded.ensures.upload
-          c.encode_some_rows-encoded.ensures.begun c.end_rows.ensures.kept;
+          c.encode_some_rows-encoded.ensures.started c.end_rows.ensures.kept;
     }) c.end_rows.ensures.fault

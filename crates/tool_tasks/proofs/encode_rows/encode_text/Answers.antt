@@ -1,6 +1,6 @@
 use Rattle.std.proofs.Common.{Bor, List, Option, ℕ, subst, sym}
 use Rattle.std.proofs.lemmas.Result.{IfErr-weaker, IfOk-weaker}
-use Rattle.tool_tasks.specs.EncodeRows.{EncodesText, GivesUpText, word_in}
+use Rattle.tool_tasks.specs.EncodeRows.{EncodesText, AbortsText, word_in}
 use Rattle.tool_tasks.proofs.encode_rows.encode_text.Goals as goal
 
 pub returns-in-Some-clause-done : goal.returns-in-Some-clause-done
@@ -19,11 +19,11 @@ returns-in-Some-clause-done g c =
 pub returns-in-Some-clause-stops : goal.returns-in-Some-clause-stops
 returns-in-Some-clause-stops g c =
     IfErr-weaker c.encode_and_refuse.result _ _ (λ fault stops kept is.
-    subst (λ (r : Option (Bor (List ℕ))). GivesUpText c.args.words.now (word_in r)
+    subst (λ (r : Option (Bor (List ℕ))). AbortsText c.args.words.now (word_in r)
     c.args.word.now c.args.choice.now (g.S.Source.loaded c.args.source.now)
     (g.S.Source.loaded c.encode_and_refuse.new.source)
     (g.S.Source.refused c.encode_and_refuse.new.source)
-    (g.K.Sink.unbegun c.encode_and_refuse.new.sink) (g.K.Sink.failed c.encode_and_refuse.new.sink)
+    (g.K.Sink.unstarted c.encode_and_refuse.new.sink) (g.K.Sink.failed c.encode_and_refuse.new.sink)
     c.encode_and_refuse.new.out.end fault (g.W.Write.contents c.args.out.now.writer)
     (g.W.Write.contents c.encode_and_refuse.new.out.writer)) (sym c.in-Some.is) (stops kept is))
     c.encode_and_refuse.ensures.stops
@@ -44,11 +44,11 @@ returns-in-None-clause-done g c =
 pub returns-in-None-clause-stops : goal.returns-in-None-clause-stops
 returns-in-None-clause-stops g c =
     IfErr-weaker c.encode_all.result _ _ (λ fault stops kept is.
-    subst (λ (r : Option (Bor (List ℕ))). GivesUpText c.args.words.now (word_in r)
+    subst (λ (r : Option (Bor (List ℕ))). AbortsText c.args.words.now (word_in r)
     c.args.word.now c.args.choice.now (g.S.Source.loaded c.args.source.now)
     (g.S.Source.loaded c.encode_all.new.source) (g.S.Source.refused c.encode_all.new.source)
-    (g.K.Sink.unbegun c.args.sink.now) (g.K.Sink.failed c.args.sink.now)
+    (g.K.Sink.unstarted c.args.sink.now) (g.K.Sink.failed c.args.sink.now)
     c.encode_all.new.out.end fault (g.W.Write.contents c.args.out.now.writer)
     (g.W.Write.contents c.encode_all.new.out.writer)) (sym c.in-None.is)
-    (stops kept (g.K.Sink.unbegun c.args.sink.now) (g.K.Sink.failed c.args.sink.now) is))
+    (stops kept (g.K.Sink.unstarted c.args.sink.now) (g.K.Sink.failed c.args.sink.now) is))
     c.encode_all.ensures.stops

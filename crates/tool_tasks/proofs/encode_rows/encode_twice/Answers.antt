@@ -4,7 +4,7 @@ use Rattle.std.specs.Prelude.{IfSome, IsSome}
 use Rattle.std.specs.Io.KnownBytes.{Keeps}
 use Rattle.std.proofs.lemmas.Result.{IfErr-weaker, IfOk-weaker}
 use Rattle.tap_rows.specs.Agencies.{IsAgencyFault, IsOfRows, IsRowsEncoded}
-use Rattle.tool_tasks.proofs.EncodedRows.{begun_so, of_err, of_ok, of_some, right_end, rows_kept}
+use Rattle.tool_tasks.proofs.EncodedRows.{started_so, of_err, of_ok, of_some, right_end, rows_kept}
 use Rattle.tool_tasks.proofs.encode_rows.encode_twice.Goals as goal
 
 pub returns-clause-done : goal.returns-clause-done
@@ -49,7 +49,7 @@ returns-clause-stops g c =
                 (of_bytes ∙ ap (λ (t : List ℕ). Some t) same ∙ sym of_later),
           ))
           (λ some. some refl);
-      begun = begun_so choice (g.T.Read.remaining c.args.again) later old mid new None None encoded
-          of_later c.encode_rows-encoded.ensures.upload c.encode_rows-encoded.ensures.begun
+      started = started_so choice (g.T.Read.remaining c.args.again) later old mid new None None encoded
+          of_later c.encode_rows-encoded.ensures.upload c.encode_rows-encoded.ensures.started
           c.end_rows.ensures.kept;
     }) c.end_rows.ensures.fault

@@ -11,7 +11,7 @@ returns-in-Ok-make_both-clause-done g c =
     let made = g.K.Sink.made in
     let words = c.args.words.now in
     let ends = c.deref.result.now in
-    let begun = c.in-Ok.file in
+    let started = c.in-Ok.file in
     let contents = g.K.File.Write.contents in
     let written = contents c.merge_all.new.file.writer in
     let last = made c.make_both.new.sink in
@@ -28,10 +28,10 @@ returns-in-Ok-make_both-clause-done g c =
           let file = merged.2.written.file in
           let bytes = subst (λ (b : Option (List Made)). HasBytes b written file)
           (sym c.in-Ok.ensures.made)
-          (has_bytes (made c.args.sink.now) (contents begun.writer) written
+          (has_bytes (made c.args.sink.now) (contents started.writer) written
           file c.in-Ok.ensures.empty merged.2.written.appended) in (
             file,
-            merge_of uploads merged.0 ends (contents begun.writer) written merged.2
+            merge_of uploads merged.0 ends (contents started.writer) written merged.2
                 (c.deref.ensures.value ∙ merged.1),
             subst (λ (b : Option (List Made)). Makes b last (files_of words ends file))
                 c.in-Ok.ensures.made (c.in-Ok-make_both.ensures.made file bytes),

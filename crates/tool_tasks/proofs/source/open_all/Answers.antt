@@ -18,11 +18,11 @@ pub loop-word-preserved : goal.loop-word-preserved
 loop-word-preserved g c = λ kept is.
     let words = c.args.words.now in
     let no_word : Bor (List ℕ) = record { ref_ptr = (0, 0); now = [] } in
-    let place = c.loop-word.word-index in
+    let position = c.loop-word.word-index in
     let reader = c.in_ok-text.text in
     let remaining = g.S.Text.Read.remaining in
     let so_far = c.loop-word.invariant kept is in
-    let more = opened_word words place no_word kept (g.S.Source.loaded c.args.source.now)
+    let more = opened_word words position no_word kept (g.S.Source.loaded c.args.source.now)
     (g.S.Source.loaded c.loop-word.source) (g.S.Source.loaded c.open_text.new.source) so_far.0
     (remaining reader) c.loop-word-test.true is so_far.1 c.in_ok-text.ensures.reported in (
       so_far.0 ++ more.0 ∷ [],
@@ -41,8 +41,8 @@ pub returns-in_err-text-clause-refusal : goal.returns-in_err-text-clause-refusal
 returns-in_err-text-clause-refusal g c =
     let words = c.args.words.now in
     let no_word : Bor (List ℕ) = record { ref_ptr = (0, 0); now = [] } in
-    let place = c.loop-word.word-index in
-    let word = (get_or words place no_word).now in
+    let position = c.loop-word.word-index in
+    let word = (get_or words position no_word).now in
     let p = err_from_is_err_and c.from_residual.result c.from_residual.ensures.1 in
     rw (p.1, p.2) (c.in_err-text.ensures.refusal (map (λ w. w.now) words)
-    (is_one_at words place no_word word c.loop-word-test.true refl))
+    (is_one_at words position no_word word c.loop-word-test.true refl))

@@ -1,5 +1,5 @@
 use Rattle.std.proofs.Common.{◌≡◌, map, take}
-use Rattle.tool_words.specs.Asked.{inputs_in}
+use Rattle.tool_words.specs.Request.{inputs_in}
 use Rattle.tool_words.proofs.reading.inputs_in.Given as goal
 
 -- so many of the words so far stand for standard input

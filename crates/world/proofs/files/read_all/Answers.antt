@@ -9,9 +9,9 @@ pub returns-then-end-gt-LOAD_LIMIT_BYTES-clause-refused :
 returns-then-end-gt-LOAD_LIMIT_BYTES-clause-refused g c =
     let before = c.args.trace.now.reading in
     let end = c.loop.end in
-    let bytes = c.read_behind.new.bytes in
+    let bytes = c.read_after.new.bytes in
     let same : take end c.loop.bytes.items ≡ take end bytes.items =
-    sym (c.read_behind.ensures.kept ∙ c.in_ok-make_room.ensures.kept) in
+    sym (c.read_after.ensures.kept ∙ c.in_ok-make_room.ensures.kept) in
     let was : c.loop.trace.reading ≡ record { name = before.name; bytes = take end bytes.items } =
     c.loop.invariant.3 ∙ ap (λ ys. record { name = before.name; bytes = ys }) same in
     subst (λ (old : Run). IsRefused old c.note_too_long.new.trace.run before.name
@@ -24,12 +24,12 @@ loop-preserved g c =
     let before = c.args.trace.now.reading in
     let name = before.name in
     let end = c.loop.end in
-    let bytes = c.read_behind.new.bytes in
+    let bytes = c.read_after.new.bytes in
     let same : take end c.loop.bytes.items ≡ take end bytes.items =
-    sym (c.read_behind.ensures.kept ∙ c.in_ok-make_room.ensures.kept) in
+    sym (c.read_after.ensures.kept ∙ c.in_ok-make_room.ensures.kept) in
     let was : c.loop.trace.reading ≡ record { name = name; bytes = take end bytes.items } =
     c.loop.invariant.3 ∙ ap (λ ys. record { name = name; bytes = ys }) same in
-    elim c.match-read_behind.branch [
+    elim c.match-read_after.branch [
       | in-Ok+else-end-gt-LOAD_LIMIT_BYTES w ↦ (
         omega (arith, w.end-is, w.in-Ok.ensures.bound),
         omega (arith, w.end-is, w.if-end-gt-LOAD_LIMIT_BYTES.false),
@@ -38,7 +38,7 @@ loop-preserved g c =
             ∙ ap (λ n. record { name = name; bytes = take n bytes.items }) (sym w.end-is)),
       )
       | in-Err w ↦ (
-        omega (arith, w.end-is, c.read_behind.ensures.len, c.in_ok-make_room.ensures.len),
+        omega (arith, w.end-is, c.read_after.ensures.len, c.in_ok-make_room.ensures.len),
         omega (arith, w.end-is, c.loop.invariant.1),
         ap (λ t. t.run) w.trace-is ∙ c.loop.invariant.2,
         ap (λ t. t.reading) w.trace-is ∙ (was

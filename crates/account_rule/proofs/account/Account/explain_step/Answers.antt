@@ -9,7 +9,7 @@ use Rattle.account_rule.specs.Windows.{charge, paid_by}
 use Rattle.account_rule.specs.inside.Kept.{window_at}
 use Rattle.account_rule.specs.Kept.{kept_numbers, kept_of, kept_trip}
 use Rattle.account_rule.specs.TokenRules.{rules_of}
-use Rattle.account_rule.specs.Stands.{Stands, StandsForSome}
+use Rattle.account_rule.specs.Represents.{Represents, RepresentsSome}
 use Rattle.account_rule.specs.Taps.{live_at}
 use Rattle.account_rule.specs.declared.tap.TapIn.{TapIn}
 use Rattle.account_rule.proofs.ReasonLemmas.{reason_unknown, why_ride, why_stale, why_transfer}
@@ -17,7 +17,7 @@ use Rattle.account_rule.specs.declared.reply.Answer.TheVariants.{Transfer}
 use Rattle.account_rule.proofs.StepLemmas.{IsStep, at_fresh, at_kept, at_state, class_at, class_is}
 use Rattle.account_rule.proofs.StepLemmas.{class_there, first_ride, gives_none-fresh}
 use Rattle.account_rule.proofs.StepLemmas.{gives_none-state, gives_same, kept-fresh, kept-open}
-use Rattle.account_rule.proofs.StepLemmas.{kept_room, listed, next_ride, stale, stands-open}
+use Rattle.account_rule.proofs.StepLemmas.{kept_room, listed, next_ride, stale, holds-open}
 use Rattle.account_rule.proofs.StepLemmas.{terms_same, transfer, trip_order, unknown, until_same}
 use Rattle.account_rule.proofs.WindowLemmas.{room-open}
 use Rattle.account_rule.proofs.FareLemmas.{given-few, ride_reason-few}
@@ -30,13 +30,13 @@ use Rattle.account_rule.proofs.account.Account.explain_step.Goals.{After-take_tr
 
 pub returns-in_default-clause-reason : goal.returns-in_default-clause-reason
 returns-in_default-clause-reason c =
-    λ taps stands. sym (reason_unknown _ taps c.args.tap c.in_default.is)
+    λ taps holds. sym (reason_unknown _ taps c.args.tap c.in_default.is)
 
-pub returns-in_default-clause-stands : goal.returns-in_default-clause-stands
-unfolding Stands
-returns-in_default-clause-stands c =
-    λ taps stands. (unknown _ (kept_of c.args.self.now) taps c.args.tap stands
-    c.in_default.is).stands
+pub returns-in_default-clause-holds : goal.returns-in_default-clause-holds
+unfolding Represents
+returns-in_default-clause-holds c =
+    λ taps holds. (unknown _ (kept_of c.args.self.now) taps c.args.tap holds
+    c.in_default.is).holds
 
 -- the tap is the first ride
 
@@ -48,16 +48,16 @@ first_ride-requires-clause-mode c =
     rw c.at-tariff.ensures.modes (c.requires.mode _ c.in-Some.is)
 
 pub returns-then-not-self-clause-reason : goal.returns-then-not-self-clause-reason
-unfolding Stands live_at
+unfolding Represents live_at
 returns-then-not-self-clause-reason c =
     let meaning = c.at-tariff.result.now.meaning in
     let valid = c.at-tariff.ensures.meaning in
     let class : c.class_of.result
     ≡ class_of (meaning_at c.args.table.now c.args.tap.moment) c.args.token.now =
     rw valid at c.class_of.ensures.class in
-    λ taps stands. c.next_reason-first.ensures
+    λ taps holds. c.next_reason-first.ensures
     ∙ why_ride (rules_of c.args.table.now c.args.token.now) (kept_of c.args.self.now) taps
-    c.args.tap c.in-Some.mode _ _ _ stands c.in-Some.is
+    c.args.tap c.in-Some.mode _ _ _ holds c.in-Some.is
     (until_same c.args.table.now c.args.token.now c.args.clock.now meaning c.args.tap.moment
     c.requires.clock valid)
     (gives_none-fresh _ _ c.args.tap c.in-Some.mode (kept-fresh _ c.if-not-self.true))
@@ -67,18 +67,18 @@ returns-then-not-self-clause-reason c =
     (c.opened.ensures ∙ at_fresh _ _ _ (kept-fresh _ c.if-not-self.true))
 
 is_first_ride : (c : After-first_ride) (taps : List TapIn)
-    → Stands (rules_of c.args.table.now c.args.token.now) c.args.self.now taps
+    → Represents (rules_of c.args.table.now c.args.token.now) c.args.self.now taps
     → IsStep (rules_of c.args.table.now c.args.token.now) taps c.args.tap c.first_ride.result
     (kept_of c.first_ride.new.self)
-unfolding Stands live_at
-is_first_ride c taps stands =
+unfolding Represents live_at
+is_first_ride c taps holds =
     let meaning = c.at-tariff.result.now.meaning in
     let valid = c.at-tariff.ensures.meaning in
     let class : c.first_ride.new.self.class
     ≡ class_of (meaning_at c.args.table.now c.args.tap.moment) c.args.token.now =
     rw valid at c.first_ride.ensures.class in
     first_ride (rules_of c.args.table.now c.args.token.now) (kept_of c.args.self.now) _ taps
-    c.args.tap c.in-Some.mode _ _ _ _ (kept-fresh _ c.if-not-self.true) stands c.in-Some.is
+    c.args.tap c.in-Some.mode _ _ _ _ (kept-fresh _ c.if-not-self.true) holds c.in-Some.is
     (listed c.args.table.now c.args.token.now c.in-Some.mode (c.requires.mode _ c.in-Some.is))
     (until_same c.args.table.now c.args.token.now c.args.clock.now meaning c.args.tap.moment
     c.requires.clock valid)
@@ -88,43 +88,43 @@ is_first_ride c taps stands =
     c.first_ride.new.self.class c.in-Some.mode valid class) c.first_ride.ensures.bounds
     c.first_ride.ensures.reply c.first_ride.ensures.state
 
-pub returns-then-not-self-clause-stands : goal.returns-then-not-self-clause-stands
-unfolding Stands
-returns-then-not-self-clause-stands c = λ taps stands. (is_first_ride c taps stands).stands
+pub returns-then-not-self-clause-holds : goal.returns-then-not-self-clause-holds
+unfolding Represents
+returns-then-not-self-clause-holds c = λ taps holds. (is_first_ride c taps holds).holds
 
 pub returns-then-not-self-clause-some : goal.returns-then-not-self-clause-some
-unfolding StandsForSome
+unfolding RepresentsSome
 returns-then-not-self-clause-some c = (
-  c.requires.stands.0 ++ c.args.tap ∷ [],
-  returns-then-not-self-clause-stands c c.requires.stands.0 c.requires.stands.1,
+  c.requires.holds.0 ++ c.args.tap ∷ [],
+  returns-then-not-self-clause-holds c c.requires.holds.0 c.requires.holds.1,
 )
 
 -- the tap is not later than the last
 
 pub returns-then-tap-self-clause-reason : goal.returns-then-tap-self-clause-reason
-unfolding Stands live_at
+unfolding Represents live_at
 returns-then-tap-self-clause-reason c =
-    λ taps stands. why_stale _ _ _ taps c.args.tap _ (kept-open _ c.if-not-self.false) stands
+    λ taps holds. why_stale _ _ _ taps c.args.tap _ (kept-open _ c.if-not-self.false) holds
     c.in-Some.is c.if-tap-self.true
 
-pub returns-then-tap-self-clause-stands : goal.returns-then-tap-self-clause-stands
-unfolding Stands live_at
-returns-then-tap-self-clause-stands c =
-    λ taps stands. stands-open _ _ _ c.if-not-self.false
-    (stale _ _ _ taps c.args.tap _ (kept-open _ c.if-not-self.false) stands c.in-Some.is
-    c.if-tap-self.true).stands
+pub returns-then-tap-self-clause-holds : goal.returns-then-tap-self-clause-holds
+unfolding Represents live_at
+returns-then-tap-self-clause-holds c =
+    λ taps holds. holds-open _ _ _ c.if-not-self.false
+    (stale _ _ _ taps c.args.tap _ (kept-open _ c.if-not-self.false) holds c.in-Some.is
+    c.if-tap-self.true).holds
 
 -- the class of the tap
 
 pub class_at-self-requires : goal.class_at-self-requires
-unfolding StandsForSome
+unfolding RepresentsSome
 class_at-self-requires c = record {
   token = c.requires.token;
   order = omega arith;
-  class = class_is c.args.table.now c.args.token.now c.args.self.now c.requires.stands.0
-      c.if-not-self.false c.requires.stands.1;
-  there = class_there c.args.table.now c.args.token.now c.args.self.now c.requires.stands.0
-      c.if-not-self.false c.requires.stands.1;
+  class = class_is c.args.table.now c.args.token.now c.args.self.now c.requires.holds.0
+      c.if-not-self.false c.requires.holds.1;
+  there = class_there c.args.table.now c.args.token.now c.args.self.now c.requires.holds.0
+      c.if-not-self.false c.requires.holds.1;
 }
 
 -- the last tap gives a transfer
@@ -134,18 +134,18 @@ gives_transfer-requires-clause-class c =
     rw c.at-tariff-2.ensures.meaning c.class_at-self.ensures.there
 
 pub gives_transfer-requires-clause-from : goal.gives_transfer-requires-clause-from
-unfolding StandsForSome Stands kept_trip rules_of live_at
+unfolding RepresentsSome Represents kept_trip rules_of live_at
 gives_transfer-requires-clause-from c =
     rw c.at-tariff-2.ensures.modes
     ((at_state (rules_of c.args.table.now c.args.token.now) (kept_of c.args.self.now)
-    (kept_numbers c.args.self.now) c.requires.stands.0
-    (kept-open c.args.self.now c.if-not-self.false) c.requires.stands.1).mode _ refl)
+    (kept_numbers c.args.self.now) c.requires.holds.0
+    (kept-open c.args.self.now c.if-not-self.false) c.requires.holds.1).mode _ refl)
 
 pub gives_transfer-requires-clause-order : goal.gives_transfer-requires-clause-order
-unfolding StandsForSome
+unfolding RepresentsSome
 gives_transfer-requires-clause-order c =
     let before : c.args.self.now.ride ≤ c.args.self.now.last =
-    trip_order _ c.args.self.now c.requires.stands.0 c.if-not-self.false c.requires.stands.1 in
+    trip_order _ c.args.self.now c.requires.holds.0 c.if-not-self.false c.requires.holds.1 in
     omega arith
 
 pub gives_transfer-requires-clause-mode : goal.gives_transfer-requires-clause-mode
@@ -153,13 +153,13 @@ gives_transfer-requires-clause-mode c =
     rw c.at-tariff-2.ensures.modes (c.requires.mode _ c.in-Some.is)
 
 is_transfer : (c : After-take_transfer) (taps : List TapIn)
-    → Stands (rules_of c.args.table.now c.args.token.now) c.args.self.now taps
+    → Represents (rules_of c.args.table.now c.args.token.now) c.args.self.now taps
     → IsStep (rules_of c.args.table.now c.args.token.now) taps c.args.tap (reply_with Transfer 0)
     (Some (kept_numbers c.take_transfer.new.self))
-unfolding Stands live_at rules_of kept_trip
-is_transfer c taps stands =
+unfolding Represents live_at rules_of kept_trip
+is_transfer c taps holds =
     transfer (rules_of c.args.table.now c.args.token.now) _ _ _ taps c.args.tap c.in-Some.mode
-    c.class_at-self.result (kept-open _ c.if-not-self.false) stands c.in-Some.is
+    c.class_at-self.result (kept-open _ c.if-not-self.false) holds c.in-Some.is
     (listed c.args.table.now c.args.token.now c.in-Some.mode (c.requires.mode _ c.in-Some.is))
     c.if-tap-self.false
     (gives_same c.args.table.now c.args.token.now c.at-tariff-2.result.now.meaning
@@ -171,27 +171,27 @@ is_transfer c taps stands =
     c.class_at-self.ensures.class c.class_at-self.ensures.there) c.take_transfer.ensures.state
 
 pub returns-then-gives_transfer-clause-reason : goal.returns-then-gives_transfer-clause-reason
-unfolding rules_of Stands live_at kept_trip
+unfolding rules_of Represents live_at kept_trip
 returns-then-gives_transfer-clause-reason c =
-    λ taps stands. c.given-given.ensures
+    λ taps holds. c.given-given.ensures
     ∙ why_transfer (rules_of c.args.table.now c.args.token.now) _ _ taps c.args.tap c.in-Some.mode
-    (kept-open _ c.if-not-self.false) stands c.in-Some.is c.if-tap-self.false
+    (kept-open _ c.if-not-self.false) holds c.in-Some.is c.if-tap-self.false
     (gives_same c.args.table.now c.args.token.now c.at-tariff-2.result.now.meaning
     c.args.tap.moment c.class_at-self.result c.in-Some.mode
     (kept_trip (Some (kept_numbers c.args.self.now))) c.gives_transfer.result
     c.at-tariff-2.ensures.meaning c.class_at-self.ensures.class c.gives_transfer.ensures.gives
     ∙ c.if-gives_transfer.true)
 
-pub returns-then-gives_transfer-clause-stands : goal.returns-then-gives_transfer-clause-stands
-returns-then-gives_transfer-clause-stands c =
-    λ taps stands. stands-open _ _ _ (c.take_transfer.ensures.has_window ∙ c.if-not-self.false)
-    (is_transfer c taps stands).stands
+pub returns-then-gives_transfer-clause-holds : goal.returns-then-gives_transfer-clause-holds
+returns-then-gives_transfer-clause-holds c =
+    λ taps holds. holds-open _ _ _ (c.take_transfer.ensures.has_window ∙ c.if-not-self.false)
+    (is_transfer c taps holds).holds
 
 pub returns-then-gives_transfer-clause-some : goal.returns-then-gives_transfer-clause-some
-unfolding StandsForSome
+unfolding RepresentsSome
 returns-then-gives_transfer-clause-some c = (
-  c.requires.stands.0 ++ c.args.tap ∷ [],
-  returns-then-gives_transfer-clause-stands c c.requires.stands.0 c.requires.stands.1,
+  c.requires.holds.0 ++ c.args.tap ∷ [],
+  returns-then-gives_transfer-clause-holds c c.requires.holds.0 c.requires.holds.1,
 )
 
 -- the tap is a later ride
@@ -205,20 +205,20 @@ explain_ride-requires-clause-mode c =
     rw c.at-tariff-2.ensures.modes (c.requires.mode _ c.in-Some.is)
 
 pub explain_ride-requires-clause-room : goal.explain_ride-requires-clause-room
-unfolding StandsForSome Stands
+unfolding RepresentsSome Represents
 explain_ride-requires-clause-room c =
-    kept_room _ (kept_of c.args.self.now) _ c.requires.stands.0 (kept-open _ c.if-not-self.false)
-    c.requires.stands.1
+    kept_room _ (kept_of c.args.self.now) _ c.requires.holds.0 (kept-open _ c.if-not-self.false)
+    c.requires.holds.1
 
 pub returns-clause-reason : goal.returns-clause-reason
-unfolding rules_of Stands live_at kept_trip
+unfolding rules_of Represents live_at kept_trip
 returns-clause-reason c =
     let meaning = c.at-tariff-2.result.now.meaning in
     let valid = c.at-tariff-2.ensures.meaning in
-    λ taps stands.
+    λ taps holds.
     c.explain_ride.ensures.reason
     ∙ why_ride (rules_of c.args.table.now c.args.token.now) (kept_of c.args.self.now) taps
-    c.args.tap c.in-Some.mode _ _ _ stands c.in-Some.is
+    c.args.tap c.in-Some.mode _ _ _ holds c.in-Some.is
     (until_same c.args.table.now c.args.token.now c.args.clock.now meaning c.args.tap.moment
     c.requires.clock valid)
     (gives_none-state _ _ _ c.args.tap _ (kept-open _ c.if-not-self.false) c.if-tap-self.false
@@ -236,18 +236,18 @@ next_window c = window_at (Some c.args.self.now.window) c.args.tap.moment
     (window_end_in c.args.clock.now c.at-tariff-2.result.now.meaning.window c.args.tap.moment)
 
 is_next_ride : (c : After-explain_ride) (taps : List TapIn)
-    → Stands (rules_of c.args.table.now c.args.token.now) c.args.self.now taps
+    → Represents (rules_of c.args.table.now c.args.token.now) c.args.self.now taps
     → IsStep (rules_of c.args.table.now c.args.token.now) taps c.args.tap
     (ride_reply (paid_by (charge (ride_terms c.at-tariff-2.result.now.meaning
-    c.class_at-self.result c.in-Some.mode.place)
+    c.class_at-self.result c.in-Some.mode.position)
     (next_window c).rides (next_window c).cents)))
     (Some (kept_numbers c.explain_ride.new.self))
-unfolding rules_of Stands next_window live_at kept_trip
-is_next_ride c taps stands =
+unfolding rules_of Represents next_window live_at kept_trip
+is_next_ride c taps holds =
     let meaning = c.at-tariff-2.result.now.meaning in
     let valid = c.at-tariff-2.ensures.meaning in
     next_ride (rules_of c.args.table.now c.args.token.now) (kept_of c.args.self.now) _ _ taps
-    c.args.tap c.in-Some.mode _ c.class_at-self.result _ (kept-open _ c.if-not-self.false) stands
+    c.args.tap c.in-Some.mode _ c.class_at-self.result _ (kept-open _ c.if-not-self.false) holds
     c.in-Some.is
     (listed c.args.table.now c.args.token.now c.in-Some.mode (c.requires.mode _ c.in-Some.is))
     (until_same c.args.table.now c.args.token.now c.args.clock.now meaning c.args.tap.moment
@@ -264,16 +264,16 @@ is_next_ride c taps stands =
     c.in-Some.mode valid c.class_at-self.ensures.class) c.explain_ride.ensures.bounds
     c.explain_ride.ensures.state
 
-pub returns-clause-stands : goal.returns-clause-stands
-returns-clause-stands c =
-    λ taps stands. stands-open _ _ _ (c.explain_ride.ensures.has_window
-    ∙ c.if-not-self.false) (is_next_ride c taps stands).stands
+pub returns-clause-holds : goal.returns-clause-holds
+returns-clause-holds c =
+    λ taps holds. holds-open _ _ _ (c.explain_ride.ensures.has_window
+    ∙ c.if-not-self.false) (is_next_ride c taps holds).holds
 
 pub returns-clause-some : goal.returns-clause-some
-unfolding StandsForSome
+unfolding RepresentsSome
 returns-clause-some c = (
-  c.requires.stands.0 ++ c.args.tap ∷ [],
-  returns-clause-stands c c.requires.stands.0 c.requires.stands.1,
+  c.requires.holds.0 ++ c.args.tap ∷ [],
+  returns-clause-holds c c.requires.holds.0 c.requires.holds.1,
 )
 
 -- no reply costs more than the greatest fare

@@ -3,15 +3,15 @@ use Rattle.std.proofs.Common.{[], refl}
 use Rattle.account_rule.specs.Trips.{last_trip, rides, trip_of, trips}
 use Rattle.account_rule.specs.Blocks.{blocks_by, last_block}
 use Rattle.account_rule.specs.Kept.{is_after, kept_of, kept_trip, kept_window}
-use Rattle.account_rule.specs.Stands.{Stands, StandsForSome, window_of}
+use Rattle.account_rule.specs.Represents.{Represents, RepresentsSome, window_of}
 use Rattle.account_rule.specs.Taps.{is_later, live, live_after}
 use Rattle.account_rule.specs.Windows.{windows}
 use Rattle.account_rule.proofs.account.Account.fresh.Goals as goal
 
-pub returns-clause-stands : goal.returns-clause-stands
-unfolding Stands is_after is_later kept_of kept_trip last_trip trip_of kept_window window_of windows
+pub returns-clause-holds : goal.returns-clause-holds
+unfolding Represents is_after is_later kept_of kept_trip last_trip trip_of kept_window window_of windows
     rides trips live live_after blocks_by last_block
-returns-clause-stands c = λ rules. record {
+returns-clause-holds c = λ rules. record {
   last = λ moment. refl;
   trip = refl;
   order = λ trip some. cc;
@@ -23,5 +23,5 @@ returns-clause-stands c = λ rules. record {
 }
 
 pub returns-clause-some : goal.returns-clause-some
-unfolding StandsForSome
-returns-clause-some c = λ rules. ([], returns-clause-stands c rules)
+unfolding RepresentsSome
+returns-clause-some c = λ rules. ([], returns-clause-holds c rules)

@@ -1,7 +1,7 @@
 -- What the account keeps decides the answer: nothing, or what its last trip says.
 use Rattle.std.proofs.Common.{refl, ◌∙◌, Some}
 use Rattle.account_rule.specs.Kept.{kept_numbers, kept_of, kept_trip}
-use Rattle.account_rule.specs.Stands.{Stands}
+use Rattle.account_rule.specs.Represents.{Represents}
 use Rattle.account_rule.specs.Taps.{live_at}
 use Rattle.account_rule.specs.TokenRules.{rules_of}
 use Rattle.account_rule.proofs.NoTransferLemmas.{none-first, none-kept}
@@ -9,25 +9,25 @@ use Rattle.account_rule.proofs.StepLemmas.{at_state, kept-fresh, kept-open, lack
 use Rattle.account_rule.proofs.account.Account.no_transfer.Goals as goal
 
 pub returns-then-not-self-clause-lacks : goal.returns-then-not-self-clause-lacks
-unfolding Stands
+unfolding Represents
 returns-then-not-self-clause-lacks c =
-    λ taps stands. none-first (rules_of c.args.table.now c.args.token.now) (kept_of c.args.self.now)
-    taps c.args.moment c.args.mode (kept-fresh _ c.if-not-self.true) stands
+    λ taps holds. none-first (rules_of c.args.table.now c.args.token.now) (kept_of c.args.self.now)
+    taps c.args.moment c.args.mode (kept-fresh _ c.if-not-self.true) holds
 
 pub returns-clause-lacks : goal.returns-clause-lacks
-unfolding Stands rules_of
+unfolding Represents rules_of
 returns-clause-lacks c =
-    λ taps stands. c.spent.ensures.lacks
+    λ taps holds. c.spent.ensures.lacks
     ∙ lacks_same c.args.table.now c.args.token.now c.at-tariff.result.now.meaning c.args.moment
     c.class_of.result c.args.mode (kept_trip (Some (kept_numbers c.args.self.now)))
     c.at-tariff.ensures.meaning c.class_of.ensures.class
     ∙ none-kept (rules_of c.args.table.now c.args.token.now) (kept_of c.args.self.now)
     (kept_numbers c.args.self.now) taps
-    c.args.moment c.args.mode (kept-open _ c.if-not-self.false) stands
+    c.args.moment c.args.mode (kept-open _ c.if-not-self.false) holds
 
 pub returns-clause-modes : goal.returns-clause-modes
-unfolding Stands kept_trip live_at
+unfolding Represents kept_trip live_at
 returns-clause-modes c =
-    λ rules taps stands below. c.spent.ensures.modes rules.modes
+    λ rules taps holds below. c.spent.ensures.modes rules.modes
     ((at_state rules (kept_of c.args.self.now) (kept_numbers c.args.self.now) taps
-    (kept-open c.args.self.now c.if-not-self.false) stands).mode _ refl) below
+    (kept-open c.args.self.now c.if-not-self.false) holds).mode _ refl) below

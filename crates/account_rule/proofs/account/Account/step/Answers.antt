@@ -6,13 +6,13 @@ use Rattle.tariffs.specs.Fares.{class_of, meaning_at}
 use Rattle.account_rule.specs.Replies.{reply}
 use Rattle.account_rule.specs.TokenRules.{rules_of}
 use Rattle.account_rule.specs.Kept.{kept_numbers, kept_of, kept_trip}
-use Rattle.account_rule.specs.Stands.{StandsForSome, Stands}
+use Rattle.account_rule.specs.Represents.{RepresentsSome, Represents}
 use Rattle.account_rule.specs.Taps.{live_at}
 use Rattle.account_rule.specs.declared.tap.TapIn.{TapIn}
 use Rattle.account_rule.specs.inside.Kept.{known_tap}
 use Rattle.account_rule.proofs.StepLemmas.{IsStep, at_state, class_is, class_there, first_ride_is}
 use Rattle.account_rule.proofs.StepLemmas.{kept-fresh, kept-open, kept_room, live_tap_is, stale}
-use Rattle.account_rule.proofs.StepLemmas.{stands-open, tap_is, trip_order, unknown}
+use Rattle.account_rule.proofs.StepLemmas.{holds-open, tap_is, trip_order, unknown}
 use Rattle.account_rule.proofs.FareLemmas.{free-few, ride-few}
 use Rattle.account_rule.proofs.account.Account.step.Goals as goal
 use Rattle.account_rule.proofs.account.Account.step.Goals.{After-first_ride, After-live_step}
@@ -20,36 +20,36 @@ use Rattle.account_rule.proofs.account.Account.step.Goals.{After-first_ride, Aft
 -- the tap's validator is not known
 
 pub returns-in_default-clause-reply : goal.returns-in_default-clause-reply
-unfolding Stands
+unfolding Represents
 returns-in_default-clause-reply c =
-    λ taps stands. c.free.ensures
-    ∙ (unknown _ (kept_of c.args.self.now) taps c.args.tap stands c.in_default.is).reply
+    λ taps holds. c.free.ensures
+    ∙ (unknown _ (kept_of c.args.self.now) taps c.args.tap holds c.in_default.is).reply
 
-pub returns-in_default-clause-stands : goal.returns-in_default-clause-stands
-unfolding Stands
-returns-in_default-clause-stands c =
-    λ taps stands. (unknown _ (kept_of c.args.self.now) taps c.args.tap stands
-    c.in_default.is).stands
+pub returns-in_default-clause-holds : goal.returns-in_default-clause-holds
+unfolding Represents
+returns-in_default-clause-holds c =
+    λ taps holds. (unknown _ (kept_of c.args.self.now) taps c.args.tap holds
+    c.in_default.is).holds
 
 -- a later tariff is valid
 
 pub returns-then-not-is_first_at-clause-reply : goal.returns-then-not-is_first_at-clause-reply
 returns-then-not-is_first_at-clause-reply c =
-    λ taps stands. subst (λ (t : TapIn). c.later_step.result
+    λ taps holds. subst (λ (t : TapIn). c.later_step.result
     ≡ reply (rules_of c.args.table.now c.args.token.now) taps t)
-    (tap_is c.args.tap c.in-Some.mode c.in-Some.is) (c.later_step.ensures.reply taps stands)
+    (tap_is c.args.tap c.in-Some.mode c.in-Some.is) (c.later_step.ensures.reply taps holds)
 
-pub returns-then-not-is_first_at-clause-stands : goal.returns-then-not-is_first_at-clause-stands
-returns-then-not-is_first_at-clause-stands c =
-    λ taps stands. subst (λ (t : TapIn). Stands (rules_of c.args.table.now c.args.token.now)
+pub returns-then-not-is_first_at-clause-holds : goal.returns-then-not-is_first_at-clause-holds
+returns-then-not-is_first_at-clause-holds c =
+    λ taps holds. subst (λ (t : TapIn). Represents (rules_of c.args.table.now c.args.token.now)
     c.later_step.new.self (taps ++ t ∷ []))
-    (tap_is c.args.tap c.in-Some.mode c.in-Some.is) (c.later_step.ensures.stands taps stands)
+    (tap_is c.args.tap c.in-Some.mode c.in-Some.is) (c.later_step.ensures.holds taps holds)
 
 pub returns-then-not-is_first_at-clause-some : goal.returns-then-not-is_first_at-clause-some
-unfolding StandsForSome
+unfolding RepresentsSome
 returns-then-not-is_first_at-clause-some c = (
-  c.requires.stands.0 ++ c.args.tap ∷ [],
-  returns-then-not-is_first_at-clause-stands c c.requires.stands.0 c.requires.stands.1,
+  c.requires.holds.0 ++ c.args.tap ∷ [],
+  returns-then-not-is_first_at-clause-holds c c.requires.holds.0 c.requires.holds.1,
 )
 
 -- the tap is the first ride
@@ -59,15 +59,15 @@ first_ride-requires-clause-mode c =
     rw c.first.ensures (c.requires.mode _ c.in-Some.is)
 
 is_first_ride : (c : After-first_ride) (taps : List TapIn)
-    → Stands (rules_of c.args.table.now c.args.token.now) c.args.self.now taps
+    → Represents (rules_of c.args.table.now c.args.token.now) c.args.self.now taps
     → IsStep (rules_of c.args.table.now c.args.token.now) taps c.args.tap c.first_ride.result
     (kept_of c.first_ride.new.self)
-unfolding Stands live_at
-is_first_ride c taps stands =
+unfolding Represents live_at
+is_first_ride c taps holds =
     first_ride_is c.args.table.now c.args.token.now c.args.clock.now (kept_of c.args.self.now) _
     taps
     c.args.tap c.in-Some.mode c.first.result.now.meaning _ _
-    (kept-fresh _ c.if-not-self.true) stands c.in-Some.is (c.requires.mode _ c.in-Some.is)
+    (kept-fresh _ c.if-not-self.true) holds c.in-Some.is (c.requires.mode _ c.in-Some.is)
     c.requires.clock
     (c.first.ensures
     ∙ sym (c.is_first_at.ensures c.if-not-is_first_at.false c.args.tap.moment (omega arith)))
@@ -75,76 +75,76 @@ is_first_ride c taps stands =
     c.first_ride.ensures.reply c.first_ride.ensures.state
 
 pub returns-then-not-self-clause-reply : goal.returns-then-not-self-clause-reply
-returns-then-not-self-clause-reply c = λ taps stands. (is_first_ride c taps stands).reply
+returns-then-not-self-clause-reply c = λ taps holds. (is_first_ride c taps holds).reply
 
-pub returns-then-not-self-clause-stands : goal.returns-then-not-self-clause-stands
-unfolding Stands
-returns-then-not-self-clause-stands c = λ taps stands. (is_first_ride c taps stands).stands
+pub returns-then-not-self-clause-holds : goal.returns-then-not-self-clause-holds
+unfolding Represents
+returns-then-not-self-clause-holds c = λ taps holds. (is_first_ride c taps holds).holds
 
 pub returns-then-not-self-clause-some : goal.returns-then-not-self-clause-some
-unfolding StandsForSome
+unfolding RepresentsSome
 returns-then-not-self-clause-some c = (
-  c.requires.stands.0 ++ c.args.tap ∷ [],
-  returns-then-not-self-clause-stands c c.requires.stands.0 c.requires.stands.1,
+  c.requires.holds.0 ++ c.args.tap ∷ [],
+  returns-then-not-self-clause-holds c c.requires.holds.0 c.requires.holds.1,
 )
 
 -- the tap is not later than the last
 
 pub returns-then-tap-self-clause-reply : goal.returns-then-tap-self-clause-reply
-unfolding Stands live_at
+unfolding Represents live_at
 returns-then-tap-self-clause-reply c =
-    λ taps stands. c.free-then-tap-self.ensures
-    ∙ (stale _ _ _ taps c.args.tap _ (kept-open _ c.if-not-self.false) stands c.in-Some.is
+    λ taps holds. c.free-then-tap-self.ensures
+    ∙ (stale _ _ _ taps c.args.tap _ (kept-open _ c.if-not-self.false) holds c.in-Some.is
     c.if-tap-self.true).reply
 
-pub returns-then-tap-self-clause-stands : goal.returns-then-tap-self-clause-stands
-unfolding Stands live_at
-returns-then-tap-self-clause-stands c =
-    λ taps stands. stands-open _ _ _ c.if-not-self.false
-    (stale _ _ _ taps c.args.tap _ (kept-open _ c.if-not-self.false) stands c.in-Some.is
-    c.if-tap-self.true).stands
+pub returns-then-tap-self-clause-holds : goal.returns-then-tap-self-clause-holds
+unfolding Represents live_at
+returns-then-tap-self-clause-holds c =
+    λ taps holds. holds-open _ _ _ c.if-not-self.false
+    (stale _ _ _ taps c.args.tap _ (kept-open _ c.if-not-self.false) holds c.in-Some.is
+    c.if-tap-self.true).holds
 
 -- the tap is a transfer or a later ride: the kept class is the first tariff's, as at the last live
 -- tap
 
 pub live_step-requires-clause-class : goal.live_step-requires-clause-class
-unfolding StandsForSome
+unfolding RepresentsSome
 live_step-requires-clause-class c =
     let same : meaning_at c.args.table.now c.args.self.now.last ≡ c.args.table.now.meaning =
     c.is_first_at.ensures c.if-not-is_first_at.false c.args.self.now.last (omega arith) in
     rw (c.first-2.ensures, ← same) (class_there c.args.table.now c.args.token.now c.args.self.now
-    c.requires.stands.0 c.if-not-self.false c.requires.stands.1)
+    c.requires.holds.0 c.if-not-self.false c.requires.holds.1)
 
 pub live_step-requires-clause-from : goal.live_step-requires-clause-from
-unfolding StandsForSome Stands kept_trip rules_of live_at
+unfolding RepresentsSome Represents kept_trip rules_of live_at
 live_step-requires-clause-from c =
     rw c.first-2.ensures
     ((at_state (rules_of c.args.table.now c.args.token.now) (kept_of c.args.self.now)
-    (kept_numbers c.args.self.now) c.requires.stands.0
-    (kept-open c.args.self.now c.if-not-self.false) c.requires.stands.1).mode _ refl)
+    (kept_numbers c.args.self.now) c.requires.holds.0
+    (kept-open c.args.self.now c.if-not-self.false) c.requires.holds.1).mode _ refl)
 
 pub live_step-requires-clause-mode : goal.live_step-requires-clause-mode
 live_step-requires-clause-mode c = rw c.first-2.ensures (c.requires.mode _ c.in-Some.is)
 
 pub live_step-requires-clause-order : goal.live_step-requires-clause-order
-unfolding StandsForSome
+unfolding RepresentsSome
 live_step-requires-clause-order c =
     let before : c.args.self.now.ride ≤ c.args.self.now.last =
-    trip_order _ c.args.self.now c.requires.stands.0 c.if-not-self.false c.requires.stands.1 in
+    trip_order _ c.args.self.now c.requires.holds.0 c.if-not-self.false c.requires.holds.1 in
     omega arith
 
 pub live_step-requires-clause-room : goal.live_step-requires-clause-room
-unfolding StandsForSome Stands
+unfolding RepresentsSome Represents
 live_step-requires-clause-room c =
-    kept_room _ (kept_of c.args.self.now) _ c.requires.stands.0 (kept-open _ c.if-not-self.false)
-    c.requires.stands.1
+    kept_room _ (kept_of c.args.self.now) _ c.requires.holds.0 (kept-open _ c.if-not-self.false)
+    c.requires.holds.1
 
 is_live : (c : After-live_step) (taps : List TapIn)
-    → Stands (rules_of c.args.table.now c.args.token.now) c.args.self.now taps
+    → Represents (rules_of c.args.table.now c.args.token.now) c.args.self.now taps
     → IsStep (rules_of c.args.table.now c.args.token.now) taps c.args.tap c.live_step.result
     (Some (kept_numbers c.live_step.new.self))
-unfolding Stands live_at
-is_live c taps stands =
+unfolding Represents live_at
+is_live c taps holds =
     let now : meaning_at c.args.table.now c.args.tap.moment ≡ c.args.table.now.meaning =
     c.is_first_at.ensures c.if-not-is_first_at.false c.args.tap.moment (omega arith) in
     let same : meaning_at c.args.table.now c.args.self.now.last
@@ -153,31 +153,31 @@ is_live c taps stands =
     let class : c.args.self.now.class
     ≡ class_of (meaning_at c.args.table.now c.args.tap.moment) c.args.token.now =
     rw same at (class_is c.args.table.now c.args.token.now c.args.self.now taps c.if-not-self.false
-    stands) in
+    holds) in
     let there : c.args.self.now.class
     < length (meaning_at c.args.table.now c.args.tap.moment).classes =
     rw same at (class_there c.args.table.now c.args.token.now c.args.self.now taps
-    c.if-not-self.false stands) in
+    c.if-not-self.false holds) in
     live_tap_is c.args.table.now c.args.token.now c.args.clock.now (kept_of c.args.self.now)
     (kept_numbers c.args.self.now) _ taps c.args.tap c.in-Some.mode c.first-2.result.now.meaning
-    c.args.self.now.class _ (kept-open _ c.if-not-self.false) stands c.in-Some.is
+    c.args.self.now.class _ (kept-open _ c.if-not-self.false) holds c.in-Some.is
     (c.requires.mode _ c.in-Some.is) c.if-tap-self.false c.requires.clock
     (c.first-2.ensures ∙ sym now) class there c.live_step.ensures.bounds c.live_step.ensures.reply
     c.live_step.ensures.state
 
 pub returns-clause-reply : goal.returns-clause-reply
-returns-clause-reply c = λ taps stands. (is_live c taps stands).reply
+returns-clause-reply c = λ taps holds. (is_live c taps holds).reply
 
-pub returns-clause-stands : goal.returns-clause-stands
-returns-clause-stands c =
-    λ taps stands. stands-open _ _ _ (c.live_step.ensures.has_window ∙ c.if-not-self.false)
-    (is_live c taps stands).stands
+pub returns-clause-holds : goal.returns-clause-holds
+returns-clause-holds c =
+    λ taps holds. holds-open _ _ _ (c.live_step.ensures.has_window ∙ c.if-not-self.false)
+    (is_live c taps holds).holds
 
 pub returns-clause-some : goal.returns-clause-some
-unfolding StandsForSome
+unfolding RepresentsSome
 returns-clause-some c = (
-  c.requires.stands.0 ++ c.args.tap ∷ [],
-  returns-clause-stands c c.requires.stands.0 c.requires.stands.1,
+  c.requires.holds.0 ++ c.args.tap ∷ [],
+  returns-clause-holds c c.requires.holds.0 c.requires.holds.1,
 )
 
 -- no reply costs more than the greatest fare

@@ -5,7 +5,7 @@ use Rattle.account_rule.specs.Blocks.{last_block}
 use Rattle.account_rule.specs.Kept.{kept_of, kept_window}
 use Rattle.account_rule.specs.inside.Kept.{shown_of}
 use Rattle.account_rule.specs.TokenRules.{TokenRules}
-use Rattle.account_rule.specs.Stands.{Stands}
+use Rattle.account_rule.specs.Represents.{Represents}
 use Rattle.account_rule.specs.Windows.{last_window, windows}
 use Rattle.account_rule.specs.declared.account.Account.{Account}
 use Rattle.account_rule.specs.declared.tap.TapIn.{TapIn}
@@ -15,32 +15,32 @@ use Rattle.account_rule.proofs.WindowLemmas.{cents-shown, paid-shown, shown_wind
 use Rattle.account_rule.proofs.account.Account.window.Goals as goal
 
 seen : (rules : TokenRules) (account : Account) (taps : List TapIn) (shown : Option WindowView)
-    → Stands rules account taps
+    → Represents rules account taps
     → shown ≡ option_map shown_of (kept_window (kept_of account)) → shown ≡ last_window rules taps
-unfolding Stands last_window
-seen rules account taps shown stands same =
-    same ∙ rw stands.window (shown_window-of rules (last_block (windows rules taps)))
+unfolding Represents last_window
+seen rules account taps shown holds same =
+    same ∙ rw holds.window (shown_window-of rules (last_block (windows rules taps)))
 
 -- with a window
 
 pub returns-then-self-clause-window : goal.returns-then-self-clause-window
 unfolding kept_window
 returns-then-self-clause-window c =
-    λ of taps stands. seen of c.args.self.now taps _ stands
+    λ of taps holds. seen of c.args.self.now taps _ holds
     (rw (kept-open c.args.self.now c.if-self.true, c.shown.ensures) refl)
 
 pub returns-then-self-clause-paid : goal.returns-then-self-clause-paid
 unfolding last_window
 returns-then-self-clause-paid c =
-    λ of taps limit stands all. subst (λ shown. IfSome shown (λ window. window.paid ≤ limit))
-    (sym (returns-then-self-clause-window c of taps stands))
+    λ of taps limit holds all. subst (λ shown. IfSome shown (λ window. window.paid ≤ limit))
+    (sym (returns-then-self-clause-window c of taps holds))
     (paid-shown of limit (last_block (windows of taps)) all)
 
 pub returns-then-self-clause-cents : goal.returns-then-self-clause-cents
 unfolding last_window
 returns-then-self-clause-cents c =
-    λ of taps ceiling stands all. subst (λ shown. IfSome shown (λ window. window.cents ≤ ceiling))
-    (sym (returns-then-self-clause-window c of taps stands))
+    λ of taps ceiling holds all. subst (λ shown. IfSome shown (λ window. window.cents ≤ ceiling))
+    (sym (returns-then-self-clause-window c of taps holds))
     (cents-shown of ceiling (last_block (windows of taps)) all)
 
 -- with none
@@ -48,5 +48,5 @@ returns-then-self-clause-cents c =
 pub returns-else-self-clause-window : goal.returns-else-self-clause-window
 unfolding kept_window
 returns-else-self-clause-window c =
-    λ of taps stands. seen of c.args.self.now taps _ stands
+    λ of taps holds. seen of c.args.self.now taps _ holds
     (rw (kept-fresh c.args.self.now c.if-self.false) refl)

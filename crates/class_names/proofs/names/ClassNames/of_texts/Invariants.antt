@@ -8,16 +8,16 @@ use Rattle.class_names.specs.Names.{HasClasses}
 use Rattle.class_names.proofs.names.ClassNames.of_texts.Given as goal
 
 -- the names so far are those of the texts so far, and each of these is plain
-abbrev pub invariant-loop-place : goal.invariant-loop-place
-invariant-loop-place l = record {
+abbrev pub invariant-loop-position : goal.invariant-loop-position
+invariant-loop-position l = record {
   text : List ℕ;
   at : slice_get (map (λ t. t.items) l.texts) 0 ≡ Some text;
   tree : Members;
   parsed : parse_document text ≡ Some tree;
   trees : List (ℕ × Members);
-  are : AreLaterTrees (take l.place l.fares.later)
-      (take l.place (drop 1 (map (λ t. t.items) l.texts))) trees;
+  are : AreLaterTrees (take l.position l.fares.later)
+      (take l.position (drop 1 (map (λ t. t.items) l.texts))) trees;
   has : HasClasses l.names tree trees;
-  plain : (k : ℕ) (d : List ℕ) → k < l.place + 1
+  plain : (k : ℕ) (d : List ℕ) → k < l.position + 1
       → HasPlainClasses (get_or (map (λ t. t.items) l.texts) k d);
 }

@@ -6,8 +6,8 @@ use Rattle.fare_program.specs.Options.{is_given, number_of}
 use Rattle.program_manners.specs.TableWords.{tables_in}
 use Rattle.fare_program.proofs.options.Options.read.Goals as goal
 
-pub returns-clause-asked : goal.returns-clause-asked
-returns-clause-asked c =
+pub returns-clause-request : goal.returns-clause-request
+returns-clause-request c =
     let found = found_of c.in_ok-matches.matches in
     let rows = c.in_ok-matches.ensures.rows in
     let table = c.in_ok-of.ensures

@@ -2,5 +2,5 @@ use Rattle.fare_service.proofs.DrawnUploads.{each_drawn_once}
 use Rattle.fare_service.proofs.laws.draws.drawn_once.Goals as goal
 
 pub returns : goal.returns
-returns c = λ fares shards files works outcome is upload end at told.
-    each_drawn_once fares shards files works outcome is upload end at told
+returns c = λ fares shards files works outcome is upload end at reported.
+    each_drawn_once fares shards files works outcome is upload end at reported

@@ -9,11 +9,11 @@ pub loop-upload-preserved : goal.loop-upload-preserved
 loop-upload-preserved c =
     let ends = c.args.outcome.now.ends in
     let end = c.upload.result in
-    let place = c.loop-upload.upload in
+    let position = c.loop-upload.upload in
     let W : UploadEnd → Type 0 = λ e. WasNotCut e in
-    All-more WasNotCut ends place end (slice_get_within ends place end c.upload.ensures)
+    All-more WasNotCut ends position end (slice_get_within ends position end c.upload.ensures)
     c.loop-upload.invariant
-    (subst W (sym (get_or_from_slice_get ends place end end c.upload.ensures))
+    (subst W (sym (get_or_from_slice_get ends position end end c.upload.ensures))
     (c.was_not_cut.ensures.0 c.if-not-was_not_cut.false))
 
 pub returns : goal.returns

@@ -9,5 +9,5 @@ returns c = λ fares shards history whole.
     omega (arith, c.shards.ensures.some, c.shards.ensures.number) in
     same_report (record { table = fares; shards = shards; uploads = files }) c.args.outcome.now
     history some c.tokens_are_named.ensures.named c.tokens_are_named.ensures.here
-    c.one_reading_each.ensures whole c.one_rising_list.ensures.numbers
-    c.one_rising_list.ensures.tokens
+    c.unique_parse_each.ensures whole c.one_increasing_list.ensures.numbers
+    c.one_increasing_list.ensures.tokens

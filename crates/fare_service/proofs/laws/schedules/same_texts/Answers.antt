@@ -12,7 +12,7 @@ returns-clause-report c = λ fares shards others history again whole_one whole_o
     c.plain_history.ensures.one fares history again whole_one.plain_is whole_other.plain_is in
     let H : List Entry → Type 0 = λ es. IsReportOver files es (report_of c.args.other.now) in
     one_report files history (report_of c.args.one.now) (report_of c.args.other.now)
-    c.one_reading_each.ensures
+    c.unique_parse_each.ensures
     (c.report_is_plain.ensures fares shards history whole_one)
     (subst H (sym same) (c.report_is_plain-2.ensures fares others again whole_other))
 

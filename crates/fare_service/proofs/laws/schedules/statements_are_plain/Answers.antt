@@ -8,7 +8,7 @@ returns-clause-entries c = λ fares shards history whole.
     let some : 0 < length c.args.outcome.now.books =
     omega (arith, c.shards.ensures.some, c.shards.ensures.number) in
     same_own (record { table = fares; shards = shards; uploads = files }) c.args.outcome.now history
-    some c.tokens_are_named.ensures.named c.one_reading_each.ensures whole
+    some c.tokens_are_named.ensures.named c.unique_parse_each.ensures whole
 
 pub returns-clause-texts : goal.returns-clause-texts
 returns-clause-texts c = λ fares shards history whole.
@@ -16,4 +16,4 @@ returns-clause-texts c = λ fares shards history whole.
     let some : 0 < length c.args.outcome.now.books =
     omega (arith, c.shards.ensures.some, c.shards.ensures.number) in
     same_statement (record { table = fares; shards = shards; uploads = files }) c.args.outcome.now
-    history some c.tokens_are_named.ensures.named c.one_reading_each.ensures whole
+    history some c.tokens_are_named.ensures.named c.unique_parse_each.ensures whole

@@ -30,7 +30,7 @@ ends_of-requires g c =
       drawing = c.self.inside.draw;
       books =
           c.self.inside.books.items;
-      uploads = g.U.LentUploads.origins c.self.inside.uploads;
+      uploads = g.U.UploadSource.origins c.self.inside.uploads;
     } in
     let S : ServiceView → Type 0 = λ h. All (IsShareOf h) c.args.shares.items in
     let all : All (IsShareOf service) c.args.shares.items =
@@ -48,7 +48,7 @@ added-totals-requires g c =
       drawing = c.self.inside.draw;
       books =
           c.self.inside.books.items;
-      uploads = g.U.LentUploads.origins c.self.inside.uploads;
+      uploads = g.U.UploadSource.origins c.self.inside.uploads;
     } in
     let S : ServiceView → Type 0 = λ h. All (IsShareOf h) c.args.shares.items in
     let all : All (IsShareOf service) c.args.shares.items =
@@ -89,7 +89,7 @@ invariant_of-result g c =
       drawing = c.self.inside.draw;
       books =
           c.self.inside.books.items;
-      uploads = g.U.LentUploads.origins c.self.inside.uploads;
+      uploads = g.U.UploadSource.origins c.self.inside.uploads;
     } in
     let S : ServiceView → Type 0 = λ h. All (IsShareOf h) c.args.shares.items in
     let all : All (IsShareOf service) c.args.shares.items =
@@ -125,7 +125,7 @@ returns-clause-headline g c =
       drawing = c.self.inside.draw;
       books =
           c.self.inside.books.items;
-      uploads = g.U.LentUploads.origins c.self.inside.uploads;
+      uploads = g.U.UploadSource.origins c.self.inside.uploads;
     } in
     let S : ServiceView → Type 0 = λ h. All (IsShareOf h) c.args.shares.items in
     let all : All (IsShareOf service) c.args.shares.items =
@@ -163,7 +163,7 @@ returns-clause-headline g c =
     (sums_of c.added-totals.result) c.close_with.new.calls.run in
     subst H c.self.view_is (record {
       files = o.files;
-      lent = o.lent;
+      provided = o.provided;
       works = o.works;
       kept = o.kept;
       headline = headline_of (given_of service o.files) o.works _ o.gathered
@@ -184,7 +184,7 @@ returns-clause-undrawn g c =
       drawing = c.self.inside.draw;
       books =
           c.self.inside.books.items;
-      uploads = g.U.LentUploads.origins c.self.inside.uploads;
+      uploads = g.U.UploadSource.origins c.self.inside.uploads;
     } in
     let S : ServiceView → Type 0 = λ h. All (IsShareOf h) c.args.shares.items in
     let all : All (IsShareOf service) c.args.shares.items =
@@ -207,7 +207,7 @@ returns-clause-full g c =
       drawing = c.self.inside.draw;
       books =
           c.self.inside.books.items;
-      uploads = g.U.LentUploads.origins c.self.inside.uploads;
+      uploads = g.U.UploadSource.origins c.self.inside.uploads;
     } in
     let S : ServiceView → Type 0 = λ h. All (IsShareOf h) c.args.shares.items in
     let all : All (IsShareOf service) c.args.shares.items =

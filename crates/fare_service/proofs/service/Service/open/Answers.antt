@@ -28,7 +28,7 @@ returns-clause-share g c =
       drawing = c.in_ok-draw.draw;
       books =
           c.in_ok-books.books.items;
-      uploads = g.U.LentUploads.origins c.args.uploads;
+      uploads = g.U.UploadSource.origins c.args.uploads;
     } in
     let P : List PassView → Type 0 = λ ps. (shard : ℕ) → made_visits_at shard ps ≡ [] in
     fresh_share service c.in_ok-draw.drawer c.in_ok-books.passes.items (sums_of c.new-3.result)

@@ -6,7 +6,7 @@ use Rattle.histories.specs.Sums.{sums_of}
 use Rattle.fare_service.specs.ServiceView.{shards_of}
 use Rattle.fare_service.proofs.VisitLemmas.{made_none}
 use Rattle.fare_service.proofs.TapCounts.{batches_taps}
-use Rattle.tap_views.proofs.ReadingLemmas.{read_end, read_on}
+use Rattle.tap_views.proofs.ParseLemmas.{read_end, read_on}
 use Rattle.fare_service.proofs.PostedBatches.{done_room, posted_few, batches_more, batches_cut}
 use Rattle.fare_service.proofs.PostedBatches.{cut_upload}
 use Rattle.fare_service.proofs.FullLemmas.{handed_on, reports_ok, the_error}
@@ -17,7 +17,7 @@ loop-batch-init g c =
     record {
       may = tt;
       ends = tt;
-      read = c.good_batches-good.ensures;
+      read = c.valid_batches-valid.ensures;
       passes = c.requires.passes;
       clock = refl;
       runs = refl;
@@ -35,7 +35,7 @@ post_batch-requires-clause-room g c =
     let before = c.loop-batch.invariant in
     let done = c.loop-batch.yielded in
     let room : 24 * batches_taps done ≤ length c.args.file.now =
-    done_room c.args.file.now done c.loop-batch.good.batches before.read.rest before.read.is_file in
+    done_room c.args.file.now done c.loop-batch.valid.batches before.read.rest before.read.is_file in
     let small : length c.args.file.now < 2 ^ 64 =
     omega (arith, c.bytes_in-bytes.ensures, c.bytes_in-bytes.type_inv) in
     let few = posted_few (shards_of c.args.self.now) c.args.posting.now.passes.items
@@ -70,7 +70,7 @@ returns-in_err-post_batch-clause-made g c =
     let done = c.loop-batch.yielded in
     let batch = c.in-Some.batch in
     let more = c.next.new.self.batches in
-    let read = read_on c.args.file.now done batch c.loop-batch.good c.next.new.self before.read
+    let read = read_on c.args.file.now done batch c.loop-batch.valid c.next.new.self before.read
     c.in-Some.ensures.steps in
     cut_upload c.from_residual.result (shards_of c.args.self.now) c.args.file.now
     c.args.posting.now.passes.items c.post_batch.new.posting.passes.items
@@ -88,7 +88,7 @@ returns-in_err-post_batch-clause-few g c =
     let done = c.loop-batch.yielded in
     let batch = c.in-Some.batch in
     let more = c.next.new.self.batches in
-    let read = read_on c.args.file.now done batch c.loop-batch.good c.next.new.self before.read
+    let read = read_on c.args.file.now done batch c.loop-batch.valid c.next.new.self before.read
     c.in-Some.ensures.steps in
     let cut = batches_cut (shards_of c.args.self.now) c.args.posting.now.passes.items
     c.loop-batch.posting.passes.items c.post_batch.new.posting.passes.items
@@ -116,7 +116,7 @@ returns-clause-few g c =
     let end = c.loop-batch.invariant in
     let done = c.loop-batch.yielded in
     let room : 24 * batches_taps done ≤ length c.args.file.now =
-    done_room c.args.file.now done c.loop-batch.good.batches end.read.rest end.read.is_file in
+    done_room c.args.file.now done c.loop-batch.valid.batches end.read.rest end.read.is_file in
     let small : length c.args.file.now < 2 ^ 64 =
     omega (arith, c.bytes_in-bytes.ensures, c.bytes_in-bytes.type_inv) in
     posted_few (shards_of c.args.self.now) c.args.posting.now.passes.items

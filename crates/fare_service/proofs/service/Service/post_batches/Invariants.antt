@@ -10,9 +10,9 @@ use Rattle.fare_service.proofs.service.Service.post_batches.Given as goal
 
 abbrev pub invariant-loop-batch : goal.invariant-loop-batch
 invariant-loop-batch g l = record {
-  may : (goal.iterator-loop-batch g).can_next l.good;
-  ends : (goal.iterator-loop-batch g).is_finite l.good;
-  read : IsReadAs l.file (l.yielded ++ l.good.batches) l.good.fault;
+  may : (goal.iterator-loop-batch g).can_next l.valid;
+  ends : (goal.iterator-loop-batch g).is_finite l.valid;
+  read : IsReadAs l.file (l.yielded ++ l.valid.batches) l.valid.fault;
   passes : books_of l.posting.passes.items ≡ l.fn.self.books;
   clock : l.buffers.run.clock ≡ l.fn.buffers.run.clock;
   runs : length l.buffers.runs ≡ length l.fn.buffers.runs;

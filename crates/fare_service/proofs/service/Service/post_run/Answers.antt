@@ -140,7 +140,7 @@ returns-in-Whole-clause-made g c =
     c.args.posting.now.passes.items c.index_mut.result.now c.visit.new.pass
     c.in_ok-visit.visit.number Whole made.visit
     (sums_of c.args.posting.now.totals) (sums_of c.count.new.totals) some c.requires.shard within
-    c.index_mut.ensures.value made.stands of_run
+    c.index_mut.ensures.value made.holds of_run
     (c.count.ensures ∙ ap (λ xs. add_sums (sums_of c.args.posting.now.totals) (sums_of_replies xs))
     items)
 
@@ -199,7 +199,7 @@ returns-in-Cut-clause-made g c =
     c.args.posting.now.passes.items c.index_mut.result.now c.visit.new.pass
     c.in_ok-visit.visit.number (Cut c.in-Cut.posted) made.visit
     (sums_of c.args.posting.now.totals) (sums_of c.count.new.totals) some c.requires.shard within
-    c.index_mut.ensures.value made.stands of_run
+    c.index_mut.ensures.value made.holds of_run
     (c.count.ensures ∙ ap (λ xs. add_sums (sums_of c.args.posting.now.totals) (sums_of_replies xs))
     items)
 
@@ -259,7 +259,7 @@ returns-in-Whole-clause-full g c =
     reports_ok tt _ _
     (full_stays c.args.posting.now.passes.items c.args.shard c.index_mut.result.now c.visit.new.pass
     within c.index_mut.ensures.value
-    (visits_full c.index_mut.result.now c.visit.new.pass _ _ c.in_ok-visit.ensures.visit.stands))
+    (visits_full c.index_mut.result.now c.visit.new.pass _ _ c.in_ok-visit.ensures.visit.holds))
 
 pub returns-in-Cut-clause-full : goal.returns-in-Cut-clause-full
 returns-in-Cut-clause-full g c =
@@ -273,7 +273,7 @@ returns-in-Cut-clause-full g c =
     reports_refused _ _ _ refl
     (full_stays c.args.posting.now.passes.items c.args.shard c.index_mut.result.now c.visit.new.pass
     within c.index_mut.ensures.value
-    (visits_full c.index_mut.result.now c.visit.new.pass _ _ c.in_ok-visit.ensures.visit.stands))
+    (visits_full c.index_mut.result.now c.visit.new.pass _ _ c.in_ok-visit.ensures.visit.holds))
 
 pub returns-in-Cut-clause-memory : goal.returns-in-Cut-clause-memory
 returns-in-Cut-clause-memory g c =
@@ -287,5 +287,5 @@ returns-in-Cut-clause-memory g c =
     λ is. inr (
       c.in_ok-visit.ensures.visit.visit,
       own_grows c.args.posting.now.passes.items c.args.shard c.index_mut.result.now c.visit.new.pass
-          _ _ within c.index_mut.ensures.value c.in_ok-visit.ensures.visit.stands,
+          _ _ within c.index_mut.ensures.value c.in_ok-visit.ensures.visit.holds,
     )

@@ -17,7 +17,7 @@ returns-in-Ok-clause-worked g c =
     (upload_whole c.args.self.now c.args.upload _ c.in-Ok.found c.args.file.now
     c.args.posting.now.passes.items c.post_batches-posted.new.posting.passes.items
     (sums_of c.args.posting.now.totals) (sums_of c.post_batches-posted.new.posting.totals)
-    c.post_batches-posted.result c.requires.upload c.requires.lent
+    c.post_batches-posted.result c.requires.upload c.requires.provided
     c.post_batches-posted.ensures.made
     c.in-Ok.is refl)
 
@@ -26,7 +26,7 @@ returns-in-Err-clause-worked g c =
     upload_cut c.args.self.now c.args.upload _ c.in-Err.stop c.args.file.now
     c.args.posting.now.passes.items c.post_batches-posted.new.posting.passes.items
     (sums_of c.args.posting.now.totals) (sums_of c.post_batches-posted.new.posting.totals)
-    c.post_batches-posted.result c.requires.upload c.requires.lent
+    c.post_batches-posted.result c.requires.upload c.requires.provided
     c.post_batches-posted.ensures.made
     c.in-Err.is refl
 

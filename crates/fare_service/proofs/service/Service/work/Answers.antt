@@ -6,15 +6,15 @@ use Rattle.histories.specs.Sums.{sums_of}
 use Rattle.fare_service.specs.ShareView.{ShareView}
 use Rattle.fare_service.specs.Lending.{origin_at}
 use Rattle.fare_service.specs.Shares.{IsShareOf, WentOn}
-use Rattle.world.specs.Origins.{Origin, IsFrom, IsLent, loads_from, with_loads}
+use Rattle.world.specs.Origins.{Origin, IsFrom, IsProvided, loads_from, with_loads}
 use Rattle.fare_service.proofs.ShareLemmas.{holding, next_share, worked_none}
 use Rattle.fare_service.proofs.StoppingLemmas.{Going, going_start, going_next, cut_next, none_next}
 use Rattle.fare_service.proofs.StoppingLemmas.{stopped_went_on}
 use Rattle.fare_service.proofs.service.Service.work.Goals as goal
 
 ok_holds : {T E P : Type 0} (r : Result T E) → is_err r ≡ false → OnOk r P → P
-ok_holds (Ok x) good holds = holds
-ok_holds (Err e) good holds = absurd (cc)
+ok_holds (Ok x) valid holds = holds
+ok_holds (Err e) valid holds = absurd (cc)
 
 pub returns-in_default-clause-went_on : goal.returns-in_default-clause-went_on
 returns-in_default-clause-went_on g c =
@@ -56,28 +56,28 @@ loop-preserved g c =
     let done = c.post_drawn-goes_on.ensures in
     let drawn = ap (λ d. d.drawn) e.2
     ∙ ap (λ (u : ℕ). c.loop.drawer.drawn ++ u ∷ []) (sym done.upload) in
-    let L : List Origin → Type 0 = λ us. IsLent (origin_at us c.in-Some-next_number.upload)
-    c.loop.calls.run c.lend.new.calls.run c.in-Some-lend.file.now in
-    let lent = (subst L (ap (λ h. h.uploads) c.self.view_is) c.in-Some-lend.ensures.lent).loads
+    let L : List Origin → Type 0 = λ us. IsProvided (origin_at us c.in-Some-next_number.upload)
+    c.loop.calls.run c.provide.new.calls.run c.in-Some-provide.file.now in
+    let provided = (subst L (ap (λ h. h.uploads) c.self.view_is) c.in-Some-provide.ensures.provided).loads
     ∙ ap (λ (u : ℕ). with_loads c.loop.calls.run
-    (loads_from (origin_at c.args.self.now.uploads u) c.in-Some-lend.file.now)) (sym done.upload) in
+    (loads_from (origin_at c.args.self.now.uploads u) c.in-Some-provide.file.now)) (sym done.upload) in
     record {
       share = next_share c.args.self.now c.loop.drawer c.next_number.new.drawer
           c.loop.posting.passes.items c.post_drawn-goes_on.new.posting.passes.items
           (sums_of c.loop.posting.totals) (sums_of c.post_drawn-goes_on.new.posting.totals)
-          c.loop.done.items c.push_reserved.new.self.items next.upload c.in-Some-lend.file.now
-          next.end c.loop.calls.run c.lend.new.calls.run
+          c.loop.done.items c.push_reserved.new.self.items next.upload c.in-Some-provide.file.now
+          next.end c.loop.calls.run c.provide.new.calls.run
           (holding c.loop.drawer c.loop.posting.passes.items (sums_of c.loop.posting.totals)
           c.loop.done.items c.loop.calls.run) refl c.loop.invariant.share
           (ap (λ d. d.claims) e.2) drawn (ap (λ d. d.drawn_from) e.2)
-          c.push_reserved.ensures.items done.worked done.few lent;
+          c.push_reserved.ensures.items done.worked done.few provided;
       going = going_next c.args.self.now c.args.share c.loop.drawer c.next_number.new.drawer
           c.loop.posting.passes.items c.post_drawn-goes_on.new.posting.passes.items
           (sums_of c.loop.posting.totals) (sums_of c.post_drawn-goes_on.new.posting.totals)
-          c.loop.done.items c.push_reserved.new.self.items c.in-Some-lend.file.now c.loop.calls.run
-          c.lend.new.calls.run next
+          c.loop.done.items c.push_reserved.new.self.items c.in-Some-provide.file.now c.loop.calls.run
+          c.provide.new.calls.run next
           c.loop.invariant.going (ap (λ d. d.claims) e.2) drawn
-          c.push_reserved.ensures.items done.worked lent done.full
+          c.push_reserved.ensures.items done.worked provided done.full
           (done.goes_on c.if-not-goes_on.false);
       clock = done.clock ∙ c.loop.invariant.clock;
       runs = done.runs ∙ c.loop.invariant.runs;
@@ -110,21 +110,21 @@ returns-then-not-goes_on-clause-share g c =
     let done = c.post_drawn-goes_on.ensures in
     let drawn = ap (λ d. d.drawn) e.2
     ∙ ap (λ (u : ℕ). c.loop.drawer.drawn ++ u ∷ []) (sym done.upload) in
-    let L : List Origin → Type 0 = λ us. IsLent (origin_at us c.in-Some-next_number.upload)
-    c.loop.calls.run c.lend.new.calls.run c.in-Some-lend.file.now in
-    let lent = (subst L (ap (λ h. h.uploads) c.self.view_is) c.in-Some-lend.ensures.lent).loads
+    let L : List Origin → Type 0 = λ us. IsProvided (origin_at us c.in-Some-next_number.upload)
+    c.loop.calls.run c.provide.new.calls.run c.in-Some-provide.file.now in
+    let provided = (subst L (ap (λ h. h.uploads) c.self.view_is) c.in-Some-provide.ensures.provided).loads
     ∙ ap (λ (u : ℕ). with_loads c.loop.calls.run
-    (loads_from (origin_at c.args.self.now.uploads u) c.in-Some-lend.file.now)) (sym done.upload) in
+    (loads_from (origin_at c.args.self.now.uploads u) c.in-Some-provide.file.now)) (sym done.upload) in
     next_share c.args.self.now c.loop.drawer c.next_number.new.drawer c.loop.posting.passes.items
     c.post_drawn-goes_on.new.posting.passes.items
     (sums_of c.loop.posting.totals) (sums_of c.post_drawn-goes_on.new.posting.totals)
     c.loop.done.items
-    c.push_reserved.new.self.items next.upload c.in-Some-lend.file.now next.end c.loop.calls.run
-    c.lend.new.calls.run
+    c.push_reserved.new.self.items next.upload c.in-Some-provide.file.now next.end c.loop.calls.run
+    c.provide.new.calls.run
     (holding c.loop.drawer c.loop.posting.passes.items (sums_of c.loop.posting.totals)
     c.loop.done.items c.loop.calls.run) refl c.loop.invariant.share
     (ap (λ d. d.claims) e.2) drawn (ap (λ d. d.drawn_from) e.2)
-    c.push_reserved.ensures.items done.worked done.few lent
+    c.push_reserved.ensures.items done.worked done.few provided
 
 pub returns-then-not-goes_on-clause-went_on : goal.returns-then-not-goes_on-clause-went_on
 returns-then-not-goes_on-clause-went_on g c =
@@ -133,19 +133,19 @@ returns-then-not-goes_on-clause-went_on g c =
     let done = c.post_drawn-goes_on.ensures in
     let drawn = ap (λ d. d.drawn) e.2
     ∙ ap (λ (u : ℕ). c.loop.drawer.drawn ++ u ∷ []) (sym done.upload) in
-    let L : List Origin → Type 0 = λ us. IsLent (origin_at us c.in-Some-next_number.upload)
-    c.loop.calls.run c.lend.new.calls.run c.in-Some-lend.file.now in
-    let lent = (subst L (ap (λ h. h.uploads) c.self.view_is) c.in-Some-lend.ensures.lent).loads
+    let L : List Origin → Type 0 = λ us. IsProvided (origin_at us c.in-Some-next_number.upload)
+    c.loop.calls.run c.provide.new.calls.run c.in-Some-provide.file.now in
+    let provided = (subst L (ap (λ h. h.uploads) c.self.view_is) c.in-Some-provide.ensures.provided).loads
     ∙ ap (λ (u : ℕ). with_loads c.loop.calls.run
-    (loads_from (origin_at c.args.self.now.uploads u) c.in-Some-lend.file.now)) (sym done.upload) in
+    (loads_from (origin_at c.args.self.now.uploads u) c.in-Some-provide.file.now)) (sym done.upload) in
     stopped_went_on c.args.self.now c.args.share _
     (cut_next c.args.self.now c.args.share c.loop.drawer c.next_number.new.drawer
     c.loop.posting.passes.items c.post_drawn-goes_on.new.posting.passes.items
     (sums_of c.loop.posting.totals) (sums_of c.post_drawn-goes_on.new.posting.totals)
     c.loop.done.items
-    c.push_reserved.new.self.items c.in-Some-lend.file.now c.loop.calls.run c.lend.new.calls.run next
+    c.push_reserved.new.self.items c.in-Some-provide.file.now c.loop.calls.run c.provide.new.calls.run next
     c.loop.invariant.going (ap (λ d. d.claims) e.2) drawn
-    c.push_reserved.ensures.items done.worked lent done.full
+    c.push_reserved.ensures.items done.worked provided done.full
     (done.stops c.if-not-goes_on.true))
 
 pub returns-then-not-goes_on-clause-stopped : goal.returns-then-not-goes_on-clause-stopped
@@ -155,23 +155,23 @@ returns-then-not-goes_on-clause-stopped g c =
     let done = c.post_drawn-goes_on.ensures in
     let drawn = ap (λ d. d.drawn) e.2
     ∙ ap (λ (u : ℕ). c.loop.drawer.drawn ++ u ∷ []) (sym done.upload) in
-    let L : List Origin → Type 0 = λ us. IsLent (origin_at us c.in-Some-next_number.upload)
-    c.loop.calls.run c.lend.new.calls.run c.in-Some-lend.file.now in
-    let lent = (subst L (ap (λ h. h.uploads) c.self.view_is) c.in-Some-lend.ensures.lent).loads
+    let L : List Origin → Type 0 = λ us. IsProvided (origin_at us c.in-Some-next_number.upload)
+    c.loop.calls.run c.provide.new.calls.run c.in-Some-provide.file.now in
+    let provided = (subst L (ap (λ h. h.uploads) c.self.view_is) c.in-Some-provide.ensures.provided).loads
     ∙ ap (λ (u : ℕ). with_loads c.loop.calls.run
-    (loads_from (origin_at c.args.self.now.uploads u) c.in-Some-lend.file.now)) (sym done.upload) in
+    (loads_from (origin_at c.args.self.now.uploads u) c.in-Some-provide.file.now)) (sym done.upload) in
     inr
     (cut_next c.args.self.now c.args.share c.loop.drawer c.next_number.new.drawer
     c.loop.posting.passes.items c.post_drawn-goes_on.new.posting.passes.items
     (sums_of c.loop.posting.totals) (sums_of c.post_drawn-goes_on.new.posting.totals)
     c.loop.done.items
-    c.push_reserved.new.self.items c.in-Some-lend.file.now c.loop.calls.run c.lend.new.calls.run next
+    c.push_reserved.new.self.items c.in-Some-provide.file.now c.loop.calls.run c.provide.new.calls.run next
     c.loop.invariant.going (ap (λ d. d.claims) e.2) drawn
-    c.push_reserved.ensures.items done.worked lent done.full
+    c.push_reserved.ensures.items done.worked provided done.full
     (done.stops c.if-not-goes_on.true))
 
-pub post_drawn-goes_on-requires-clause-lent : goal.post_drawn-goes_on-requires-clause-lent
-post_drawn-goes_on-requires-clause-lent g c =
+pub post_drawn-goes_on-requires-clause-provided : goal.post_drawn-goes_on-requires-clause-provided
+post_drawn-goes_on-requires-clause-provided g c =
     let F : List Origin → Type 0 =
-    λ us. IsFrom (origin_at us c.in-Some-next_number.upload) c.in-Some-lend.file.now in
-    subst F (ap (λ h. h.uploads) c.self.view_is) c.in-Some-lend.ensures.lent.from
+    λ us. IsFrom (origin_at us c.in-Some-next_number.upload) c.in-Some-provide.file.now in
+    subst F (ap (λ h. h.uploads) c.self.view_is) c.in-Some-provide.ensures.provided.from

@@ -9,12 +9,12 @@ use Rattle.std.specs.Prelude.{Result}
 use Rattle.std.specs.List.{AllZip}
 use Rattle.fare_service.specs.ShareView.{ShareView}
 use Rattle.fare_service.specs.inside.Lending.{IsAnswer}
-use Rattle.fare_service.specs.declared.lending.Unlent.{Unlent}
+use Rattle.fare_service.specs.declared.lending.Unavailable.{Unavailable}
 use Rattle.fare_service.proofs.ThreadLemmas.{kept_zip}
 use Rattle.fare_service.proofs.service.Service.work_in.Goals as goal
 
 abbrev Answer : Type 0
-Answer = Result ShareView Unlent
+Answer = Result ShareView Unavailable
 
 abbrev began_with : {U : Type 0} → PromisedHandle Answer (OfShare U) → ShareView
 began_with h = h.promise.began.value

@@ -9,7 +9,7 @@ use Rattle.shared_books.specs.Passes.{PassView}
 use Rattle.fare_service.specs.declared.faults.GatherFault.{GatherFault}
 use Rattle.fare_service.specs.inside.Closing.{AreClosed, IsClosedBy, IsFirstMissing, IsMissing}
 use Rattle.fare_service.specs.Shares.{marks_at, made_visits}
-use Rattle.fare_service.proofs.PlaceLemmas.{place_more}
+use Rattle.fare_service.proofs.PositionLemmas.{position_more}
 use Rattle.fare_service.proofs.Signing.{made_own}
 use Rattle.fare_service.proofs.JoinLemmas.{next_book, at_end, marks_mid}
 use Rattle.fare_service.proofs.service.gathering.close_all.Goals as goal
@@ -21,7 +21,7 @@ returns-in-Err-clause-missing c =
     let rest = into_iter_items c.next-in-loop-book.new.self in
     let all : p.0 ++ c.in-Some-next.pass ∷ rest ≡ c.args.passes.items =
     ap (λ ps. p.0 ++ ps) (sym c.in-Some-next.ensures.items) ∙ p.1 in
-    let place : length p.0 ≡ c.loop-book.shard =
+    let position : length p.0 ≡ c.loop-book.shard =
     omega (
       arith,
       ap length p.2,
@@ -29,7 +29,7 @@ returns-in-Err-clause-missing c =
       c.loop-book.invariant.shard,
     ) in
     let marks : marks_at c.loop-book.shard c.args.passes.items ≡ c.in-Some-next.pass.marks =
-    ap (λ s. marks_at s c.args.passes.items) (sym place) ∙ ap (marks_at (length p.0)) (sym all)
+    ap (λ s. marks_at s c.args.passes.items) (sym position) ∙ ap (marks_at (length p.0)) (sym all)
     ∙ marks_mid p.0 c.in-Some-next.pass rest in
     let m = c.in-Err.ensures.missing in
     let missing = rw m.is at c.close.ensures.err in
@@ -53,7 +53,7 @@ returns-in-Err-clause-first c =
     let rest = into_iter_items c.next-in-loop-book.new.self in
     let all : p.0 ++ c.in-Some-next.pass ∷ rest ≡ c.args.passes.items =
     ap (λ ps. p.0 ++ ps) (sym c.in-Some-next.ensures.items) ∙ p.1 in
-    let place : length p.0 ≡ c.loop-book.shard =
+    let position : length p.0 ≡ c.loop-book.shard =
     omega (
       arith,
       ap length p.2,
@@ -61,7 +61,7 @@ returns-in-Err-clause-first c =
       c.loop-book.invariant.shard,
     ) in
     let marks : marks_at c.loop-book.shard c.args.passes.items ≡ c.in-Some-next.pass.marks =
-    ap (λ s. marks_at s c.args.passes.items) (sym place) ∙ ap (marks_at (length p.0)) (sym all)
+    ap (λ s. marks_at s c.args.passes.items) (sym position) ∙ ap (marks_at (length p.0)) (sym all)
     ∙ marks_mid p.0 c.in-Some-next.pass rest in
     let m = c.in-Err.ensures.missing in
     let missing = rw m.is at c.close.ensures.err in
@@ -92,7 +92,7 @@ loop-book-preserved c =
     let own = next_book p.0 rest c.in-Some-next.pass c.args.passes.items c.loop-book.yielded
     (into_iter_items c.next.new.self) c.in-Some.book c.args.books.items all c.requires.belong p.2
     books in
-    let place : length p.0 ≡ length c.loop-book.closed.items =
+    let position : length p.0 ≡ length c.loop-book.closed.items =
     omega (
       arith,
       ap length p.2,
@@ -107,7 +107,7 @@ loop-book-preserved c =
     record {
       pass = c.in-Some-next.pass;
       at =
-          subst A all (subst N place (at_end p.0 c.in-Some-next.pass rest));
+          subst A all (subst N position (at_end p.0 c.in-Some-next.pass rest));
       all =
           rw done.is at c.close.ensures.ok;
       legal = done.legal;
@@ -147,6 +147,6 @@ loop-book-preserved c =
       );
       room = omega (arith, c.push_closed.ensures.capacity, c.loop-book.invariant.room);
       closed = subst P (sym done.appended)
-          (place_more (λ i b. IsClosedBy c.args.passes.items i b) c.loop-book.closed.items done.book
+          (position_more (λ i b. IsClosedBy c.args.passes.items i b) c.loop-book.closed.items done.book
           c.loop-book.invariant.closed here);
     }

@@ -5,7 +5,7 @@ use Rattle.std.specs.Vec.Iter.{into_iter_items}
 use Rattle.shard_book.specs.Book.{Book}
 use Rattle.shared_books.specs.Passes.{SharedBookView}
 use Rattle.fare_service.specs.inside.Closing.{AreUnseen, IsUnseen}
-use Rattle.fare_service.proofs.PlaceLemmas.{place_more}
+use Rattle.fare_service.proofs.PositionLemmas.{position_more}
 use Rattle.fare_service.proofs.JoinLemmas.{at_end}
 use Rattle.fare_service.proofs.service.gathering.close_unseen.Goals as goal
 
@@ -52,6 +52,6 @@ loop-book-preserved c =
       );
       room = omega (arith, c.push_closed.ensures.capacity, c.loop-book.invariant.room);
       closed = subst P (sym done.appended)
-          (place_more (λ i b. IsUnseen c.args.books.items i b) c.loop-book.closed.items done.book
+          (position_more (λ i b. IsUnseen c.args.books.items i b) c.loop-book.closed.items done.book
           c.loop-book.invariant.closed here);
     }

@@ -18,7 +18,7 @@ loop-pass-init c =
       ends = tt;
       left = gives.0;
       left_len = gives.1 ∙ (c.args.other.ok.0 ∙ ap length (sym gives.0));
-      place = refl;
+      position = refl;
       books = c.requires.into;
       claims = λ shard. (omega arith);
       joined = λ shard. joined_none (marks_at shard c.args.into.now.items);
@@ -30,7 +30,7 @@ loop-pass-preserved c =
     let within : c.loop-pass.shard < length c.loop-pass.into.items =
     omega (
       arith,
-      c.loop-pass.invariant.place,
+      c.loop-pass.invariant.position,
       ap length c.loop-pass.invariant.left,
       length-append c.loop-pass.yielded (into_iter_items c.loop-pass.pass-iterator),
       ap length steps.0,
@@ -46,9 +46,9 @@ loop-pass-preserved c =
           (into_iter_items c.next.new.self) ∙ ap (λ ps. c.loop-pass.yielded ++ ps) (sym steps.0)
           ∙ c.loop-pass.invariant.left;
       left_len = omega (arith, steps.1, c.loop-pass.invariant.left_len, ap length steps.0);
-      place = omega (
+      position = omega (
         arith,
-        c.loop-pass.invariant.place,
+        c.loop-pass.invariant.position,
         length-append c.loop-pass.yielded (c.in-Some.pass ∷ []),
       );
       books = map-set_same (λ p. p.book) c.loop-pass.into.items c.loop-pass.shard c.join.new.pass
@@ -56,10 +56,10 @@ loop-pass-preserved c =
           ∙ c.loop-pass.invariant.books;
       claims = λ shard. claims_step c.args.into.now.items c.loop-pass.yielded c.loop-pass.into.items
           c.loop-pass.shard c.index_mut.result.now c.in-Some.pass c.join.new.pass shard
-          (c.loop-pass.invariant.claims shard) c.loop-pass.invariant.place within
+          (c.loop-pass.invariant.claims shard) c.loop-pass.invariant.position within
           c.index_mut.ensures.value c.join.ensures.claims;
       joined = λ shard. join_step c.args.into.now.items c.loop-pass.yielded c.loop-pass.into.items
           c.loop-pass.shard c.index_mut.result.now c.in-Some.pass c.join.new.pass shard
-          (c.loop-pass.invariant.joined shard) c.loop-pass.invariant.place within
+          (c.loop-pass.invariant.joined shard) c.loop-pass.invariant.position within
           c.index_mut.ensures.value c.join.ensures;
     }

@@ -11,7 +11,7 @@ invariant-loop-pass l = record {
   ends : (goal.iterator-loop-pass).is_finite l.pass-iterator;
   left : l.yielded ++ into_iter_items l.pass-iterator ≡ l.fn.other.items;
   left_len : into_iter_len l.pass-iterator ≡ length (into_iter_items l.pass-iterator);
-  place : l.shard ≡ length l.yielded;
+  position : l.shard ≡ length l.yielded;
   books : books_of l.into.items ≡ l.books;
   claims : (shard : ℕ)
       → claims_at shard l.into.items ≡ claims_at shard l.fn.into.items + claims_at shard l.yielded;

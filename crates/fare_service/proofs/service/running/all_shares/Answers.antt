@@ -4,10 +4,10 @@ use Rattle.std.proofs.lemmas.List.{map-append, nil_from_length}
 use Rattle.std.specs.Prelude.{Result}
 use Rattle.std.specs.Vec.Iter.{into_iter_items}
 use Rattle.fare_service.specs.ShareView.{ShareView}
-use Rattle.fare_service.specs.declared.lending.Unlent.{Unlent}
+use Rattle.fare_service.specs.declared.lending.Unavailable.{Unavailable}
 use Rattle.fare_service.proofs.service.running.all_shares.Goals as goal
 
-abbrev given : ShareView → Result ShareView Unlent
+abbrev given : ShareView → Result ShareView Unavailable
 given share = Ok share
 
 pub loop-answer-preserved : goal.loop-answer-preserved

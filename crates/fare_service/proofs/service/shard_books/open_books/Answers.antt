@@ -3,7 +3,7 @@ use Rattle.std.proofs.Common.{length-append}
 use Rattle.std.proofs.lemmas.List.{map-append}
 use Rattle.shared_books.specs.Passes.{SharedBookView, new_pass}
 use Rattle.fare_service.specs.inside.ServiceView.{IsBookOf, AreOpened}
-use Rattle.fare_service.proofs.PlaceLemmas.{place_more}
+use Rattle.fare_service.proofs.PositionLemmas.{position_more}
 use Rattle.fare_service.proofs.service.shard_books.open_books.Goals as goal
 
 pub loop-shard-preserved : goal.loop-shard-preserved
@@ -26,7 +26,7 @@ loop-shard-preserved c =
     let P : List SharedBookView → Type 0 = AreOpened c.args.table.now c.args.shards in
     record {
       books = subst P (sym books)
-          (place_more (λ i b. IsBookOf c.args.table.now i c.args.shards b) c.loop-shard.books.items
+          (position_more (λ i b. IsBookOf c.args.table.now i c.args.shards b) c.loop-shard.books.items
           c.in_ok-shared.shared c.loop-shard.invariant.books here);
       number = omega (
         arith,

@@ -3,7 +3,7 @@ use Rattle.std.proofs.lemmas.Nat.{div-mul-add, mod-mul-add}
 use Rattle.fare_service.proofs.spot.Spot.of.Goals as goal
 
 pub returns-clause-book : goal.returns-clause-book
-returns-clause-book c = mod-mul-add c.args.place 65536 c.args.book (omega arith)
+returns-clause-book c = mod-mul-add c.args.position 65536 c.args.book (omega arith)
 
-pub returns-clause-place : goal.returns-clause-place
-returns-clause-place c = div-mul-add c.args.place 65536 c.args.book (omega arith)
+pub returns-clause-position : goal.returns-clause-position
+returns-clause-position c = div-mul-add c.args.position 65536 c.args.book (omega arith)

@@ -4,6 +4,6 @@ use Rattle.tariffs.specs.Names.{same_name}
 use Rattle.fare_table.proofs.read.modes.mode_named.Given as goal
 
 -- the first mode of the name is the first one among those that are left
-abbrev pub invariant-loop-place : goal.invariant-loop-place
-invariant-loop-place l = position_or_len (same_name l.name) (map string_bytes l.modes)
-    ≡ l.place + position_or_len (same_name l.name) (map string_bytes (drop l.place l.modes))
+abbrev pub invariant-loop-position : goal.invariant-loop-position
+invariant-loop-position l = position_or_len (same_name l.name) (map string_bytes l.modes)
+    ≡ l.position + position_or_len (same_name l.name) (map string_bytes (drop l.position l.modes))

@@ -83,7 +83,7 @@ loop-key-preserved c =
           (All-keys-insert_entry token_cmp c.of-token.result terms Fits entries fits
           c.of-token.ensures.fits);
       there = rw one (All-values-insert_entry (slice_cmp nat_cmp) bytes terms
-          (λ place. place < count_of classes) earlier c.loop-key.invariant.there
+          (λ position. position < count_of classes) earlier c.loop-key.invariant.there
           (subst (λ (m : Members). terms < count_of m) c.in_ok-names.ensures.same
           c.in_ok-bytes.ensures.there));
     }

@@ -14,6 +14,6 @@ invariant-loop-key l = record {
       ≡ riders_from (members_view l.classes.entries) (by_bytes l.riders.entries)
       (members_view l.key-iterator);
   fits : All Fits (keys_of l.riders.entries);
-  there : All (λ place. place < count_of (members_view l.classes.entries))
+  there : All (λ position. position < count_of (members_view l.classes.entries))
       (values_of (by_bytes l.riders.entries));
 }

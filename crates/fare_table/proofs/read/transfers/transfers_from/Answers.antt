@@ -3,7 +3,7 @@ use Rattle.std.proofs.Common.{get_or, suc, add-one, arith, Bor}
 use Rattle.std.proofs.Math.Seq.{drop-cons}
 use Rattle.std.proofs.lemmas.Result.{err_from_is_err_and}
 use Rattle.fare_table.specs.OrFault.{◌>>=◌}
-use Rattle.fare_table.specs.Transfers.{places_of, transfers_from}
+use Rattle.fare_table.specs.Transfers.{positions_of, transfers_from}
 use Rattle.tariffs.specs.Transfers.{with_pair}
 use Rattle.fare_table.proofs.read.transfers.transfers_from.Goals as goal
 
@@ -14,8 +14,8 @@ names pair = (pair.0.now, pair.1.now)
 step : (modes : List (List ℕ)) (found : List (ℕ × ℕ)) (pairs : List (Bor (List ℕ) × Bor (List ℕ)))
     (i : ℕ) (d : Bor (List ℕ) × Bor (List ℕ)) → i < length pairs
     → transfers_from modes found (map names (drop i pairs))
-    ≡ (places_of modes (names (get_or pairs i d))
-    >>= (λ places. transfers_from modes (with_pair found places.0 places.1)
+    ≡ (positions_of modes (names (get_or pairs i d))
+    >>= (λ positions. transfers_from modes (with_pair found positions.0 positions.1)
     (map names (drop (suc i) pairs))))
 step modes found pairs i d inside = rw (drop-cons pairs i d inside)
 
@@ -28,9 +28,9 @@ returns-in_err-from c =
     rw (p.1, p.2)
     (λ known.
     c.loop-pair.invariant ∙ step modes found c.args.pairs.now i _ (omega arith)
-    ∙ ap (λ o. o >>= (λ places.
-    transfers_from modes (with_pair found places.0 places.1)
-    (map names (drop (suc i) c.args.pairs.now)))) (sym c.in_err-from.ensures.places))
+    ∙ ap (λ o. o >>= (λ positions.
+    transfers_from modes (with_pair found positions.0 positions.1)
+    (map names (drop (suc i) c.args.pairs.now)))) (sym c.in_err-from.ensures.positions))
 
 pub loop-pair-preserved : goal.loop-pair-preserved
 loop-pair-preserved c =
@@ -39,6 +39,6 @@ loop-pair-preserved c =
     let i = c.loop-pair.pair-index in
     rw (c.in_ok-add.ensures.ok, add-one)
     (c.loop-pair.invariant ∙ step modes found c.args.pairs.now i _ (omega arith)
-    ∙ ap (λ o. o >>= (λ places.
-    transfers_from modes (with_pair found places.0 places.1)
-    (map names (drop (suc i) c.args.pairs.now)))) (sym c.in_ok-from.ensures.places))
+    ∙ ap (λ o. o >>= (λ positions.
+    transfers_from modes (with_pair found positions.0 positions.1)
+    (map names (drop (suc i) c.args.pairs.now)))) (sym c.in_ok-from.ensures.positions))

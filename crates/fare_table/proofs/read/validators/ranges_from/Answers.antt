@@ -7,7 +7,7 @@ use Rattle.toml.proofs.Views.{items_view-drop}
 use Rattle.toml.specs.Data.{Data, Items, item}
 use Rattle.toml.specs.View.{items_view, view}
 use Rattle.toml.specs.declared.value.Value.{Value}
-use Rattle.fare_table.proofs.OverlapLemmas.{stands-insert, known-insert}
+use Rattle.fare_table.proofs.OverlapLemmas.{holds-insert, known-insert}
 use Rattle.fare_table.specs.Validators.{range_in, ranges_from, share_number}
 use Rattle.tariffs.specs.declared.validators.RangeRest.{RangeRest}
 use Rattle.fare_table.proofs.read.validators.ranges_from.Goals as goal
@@ -42,7 +42,7 @@ loop-value-preserved c =
           (items_view (drop (i + 1) items)) range (sym c.in_ok-first.ensures.range) free
           c.in_ok-insert.ensures.entries;
       apart = rw c.in_ok-insert.ensures.entries
-          (stands-insert range earlier c.in_ok-first.ensures.order c.loop-value.invariant.apart
+          (holds-insert range earlier c.in_ok-first.ensures.order c.loop-value.invariant.apart
           free);
       known = rw c.in_ok-insert.ensures.entries
           (known-insert (length c.args.modes.now) range earlier c.in_ok-first.ensures.known

@@ -1,7 +1,7 @@
 use Rattle.std.proofs.Common.{◌≡◌, ◌∙◌, ℕ, false, Option, Some, None, option_map, refl, sym}
 use Rattle.std.specs.Prelude.{nat_le}
-use Rattle.fare_table.proofs.OverlapLemmas.{reaches, shares-last_begun}
-use Rattle.tariffs.specs.Validators.{last_begun}
+use Rattle.fare_table.proofs.OverlapLemmas.{reaches, shares-last_started}
+use Rattle.tariffs.specs.Validators.{last_started}
 use Rattle.tariffs.specs.declared.validators.RangeRest.{RangeRest}
 use Rattle.fare_table.proofs.read.validators.shares_number.Goals as goal
 
@@ -17,14 +17,14 @@ reaches-None first (Some range) found = cc
 
 pub returns-in-Some : goal.returns-in-Some
 returns-in-Some c =
-    reaches-Some c.args.first c.in-Some.last (last_begun c.args.rest.last c.args.ranges.now.entries)
+    reaches-Some c.args.first c.in-Some.last (last_started c.args.rest.last c.args.ranges.now.entries)
     c.in-Some.ensures
-    ∙ sym (shares-last_begun (c.args.first, c.args.rest) c.args.ranges.now.entries c.requires.order
+    ∙ sym (shares-last_started (c.args.first, c.args.rest) c.args.ranges.now.entries c.requires.order
     c.requires.apart)
 
 pub returns-in-None : goal.returns-in-None
 returns-in-None c =
-    reaches-None c.args.first (last_begun c.args.rest.last c.args.ranges.now.entries)
+    reaches-None c.args.first (last_started c.args.rest.last c.args.ranges.now.entries)
     c.in-None.ensures
-    ∙ sym (shares-last_begun (c.args.first, c.args.rest) c.args.ranges.now.entries c.requires.order
+    ∙ sym (shares-last_started (c.args.first, c.args.rest) c.args.ranges.now.entries c.requires.order
     c.requires.apart)

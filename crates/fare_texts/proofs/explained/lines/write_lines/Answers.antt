@@ -38,20 +38,20 @@ pub loop-entry-preserved : goal.loop-entry-preserved
 loop-entry-preserved c =
     let fares = c.args.table.now in
     let entries = c.args.entries.now in
-    let place = c.loop-entry.entry-index in
+    let position = c.loop-entry.entry-index in
     let within = c.loop-entry-test.true in
     let so_far = c.loop-entry.invariant in
-    let done = take place entries in
+    let done = take position entries in
     let line = c.in_ok-write_line.ensures in
     let lack = rw so_far.of at (c.no_transfer-none.ensures.lacks done so_far.explained) in
     let why = rw so_far.of at (c.in_ok-reason.ensures.reason done so_far.explained) in
     record {
       explained = subst (λ (es : List Entry). HasExplained fares c.explain_next.new.self es)
-          (sym (taken entries place _ within))
+          (sym (taken entries position _ within))
           (c.in_ok-reason.ensures.explained done so_far.explained);
       of = c.in_ok-reason.ensures.token ∙ so_far.of;
       written = so_far.written ++ line.0;
-      are = next_explained fares c.args.token entries place _ within so_far.written line.0 _ _ why
+      are = next_explained fares c.args.token entries position _ within so_far.written line.0 _ _ why
           lack so_far.are line.1;
       whole = line.2 ∙ ap (λ t. t ++ line.0) so_far.whole
           ∙ append_assoc (string_bytes c.args.text.now) so_far.written line.0;

@@ -5,19 +5,19 @@ use Rattle.fare_texts.proofs.Parts.{in_parts}
 use Rattle.fare_texts.proofs.TermsLines.{next_terms}
 use Rattle.fare_texts.proofs.explained.terms.write_all_later.Goals as goal
 
-pub loop-place-init : goal.loop-place-init
-loop-place-init c = ([], refl, sym (append-nil (string_bytes c.args.text.now)))
+pub loop-position-init : goal.loop-position-init
+loop-position-init c = ([], refl, sym (append-nil (string_bytes c.args.text.now)))
 
-pub loop-place-preserved : goal.loop-place-preserved
-loop-place-preserved c =
-    let before = c.loop-place.invariant in
+pub loop-position-preserved : goal.loop-position-preserved
+loop-position-preserved c =
+    let before = c.loop-position.invariant in
     let line = c.in_ok-write_later.ensures in (
       before.0 ++ line.0,
-      next_terms c.args.token.now c.args.table.now.later c.loop-place.place
+      next_terms c.args.token.now c.args.table.now.later c.loop-position.position
           (c.later-from.result.0, c.later-from.result.1.now.meaning) before.0
           line.0 c.later-from.ensures before.1
           (subst (λ (t : Terms). IsLaterTerms c.later-from.result.0 t line.0)
           c.terms_of.ensures.terms line.1),
-      in_parts (string_bytes c.args.text.now) (string_bytes c.loop-place.text)
+      in_parts (string_bytes c.args.text.now) (string_bytes c.loop-position.text)
           (string_bytes c.write_later.new.text) before.0 line.0 before.2 line.2,
     )

@@ -36,10 +36,10 @@ unfolding tap_of
 loop-entry-preserved c =
     let fares = c.args.table.now in
     let entries = c.args.entries.now in
-    let place = c.loop-entry.entry-index in
+    let position = c.loop-entry.entry-index in
     let within = c.loop-entry-test.true in
     let so_far = c.loop-entry.invariant in
-    let done = take place entries in
+    let done = take position entries in
     let rules = rules_of fares (bytes_of c.args.token) in
     let taps = map (tap_of fares) done in
     let window = rw so_far.of at (c.window-window.ensures fares done so_far.explained) in
@@ -47,12 +47,12 @@ loop-entry-preserved c =
     let answered = c.reply.ensures ∙ ap replied_by why ∙ sym (reply-follows rules taps _) in
     record {
       explained = subst (λ (es : List Entry). HasExplained fares c.explain_next.new.self es)
-          (sym (taken entries place _ within))
+          (sym (taken entries position _ within))
           (c.in_ok-reason.ensures.explained done so_far.explained);
       of = c.in_ok-reason.ensures.token ∙ so_far.of;
       earlier = next_earlier rules taps _ c.loop-entry.earlier.items _ c.window-window.result
           c.is_ride.result c.reply.result _ so_far.earlier window answered c.is_ride.ensures
-          (sym (more (tap_of fares) entries place _ within)) c.in_ok-keep_ended.ensures;
+          (sym (more (tap_of fares) entries position _ within)) c.in_ok-keep_ended.ensures;
     }
 
 pub returns-clause-last : goal.returns-clause-last

@@ -4,32 +4,32 @@ use Rattle.std.proofs.Common.{length-append}
 use Rattle.std.proofs.lemmas.List.{map-append}
 use Rattle.account_rule.specs.Reasons.{reason}
 use Rattle.account_rule.specs.TokenRules.{rules_of}
-use Rattle.account_rule.specs.Stands.{Stands, StandsForSome}
+use Rattle.account_rule.specs.Represents.{Represents, RepresentsSome}
 use Rattle.account_rule.specs.declared.tap.TapIn.{TapIn}
 use Rattle.histories.specs.Entry.{tap_of}
 use Rattle.tap_views.specs.Token.{bytes_of}
 use Rattle.fare_texts.proofs.Modes.{has_mode}
 use Rattle.fare_texts.proofs.explainer.Explainer.explain_next.Goals as goal
 
-pub explain_step-reason-requires-clause-stands : goal.explain_step-reason-requires-clause-stands
-unfolding StandsForSome
-explain_step-reason-requires-clause-stands c =
+pub explain_step-reason-requires-clause-holds : goal.explain_step-reason-requires-clause-holds
+unfolding RepresentsSome
+explain_step-reason-requires-clause-holds c =
     rw c.bytes-bytes.ensures
-    (map (tap_of c.args.table.now) c.requires.explained.0, c.requires.explained.1.stands)
+    (map (tap_of c.args.table.now) c.requires.explained.0, c.requires.explained.1.holds)
 
 pub returns-clause-reason : goal.returns-clause-reason
 returns-clause-reason c = λ earlier explained.
     let of = rules_of c.args.table.now (bytes_of c.args.self.now.token) in
     let taps = map (tap_of c.args.table.now) earlier in
-    (rw c.bytes-bytes.ensures at c.explain_step-reason.ensures.reason) taps explained.stands
+    (rw c.bytes-bytes.ensures at c.explain_step-reason.ensures.reason) taps explained.holds
     ∙ ap (λ (t : TapIn). reason of taps t) c.in_ok-tap.ensures.tap
 
 pub returns-clause-mode : goal.returns-clause-mode
 returns-clause-mode c =
     let taps = map (tap_of c.args.table.now) c.requires.explained.0 in
-    let stands = c.requires.explained.1.stands in
+    let holds = c.requires.explained.1.holds in
     has_mode c.args.table.now (bytes_of c.args.self.now.token) c.args.self.now.account taps _ _
-    stands ((rw c.bytes-bytes.ensures at c.explain_step-reason.ensures.reason) taps stands)
+    holds ((rw c.bytes-bytes.ensures at c.explain_step-reason.ensures.reason) taps holds)
 
 pub returns-clause-explained : goal.returns-clause-explained
 returns-clause-explained c = λ earlier explained.
@@ -39,9 +39,9 @@ returns-clause-explained c = λ earlier explained.
     let longer = ap (λ (t : TapIn). taps ++ t ∷ []) c.in_ok-tap.ensures.tap
     ∙ sym (map-append tap earlier (c.args.entry.now ∷ [])) in
     record {
-      stands = subst (λ (ts : List TapIn). Stands of c.explain_step-reason.new.self ts) longer
-          ((rw c.bytes-bytes.ensures at c.explain_step-reason.ensures.stands) taps
-          explained.stands);
+      holds = subst (λ (ts : List TapIn). Represents of c.explain_step-reason.new.self ts) longer
+          ((rw c.bytes-bytes.ensures at c.explain_step-reason.ensures.holds) taps
+          explained.holds);
       counted = ap (λ n. n + 1) explained.counted
           ∙ sym (length-append earlier (c.args.entry.now ∷ []));
     }

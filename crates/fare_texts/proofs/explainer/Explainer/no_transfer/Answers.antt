@@ -25,7 +25,7 @@ returns-clause-lacks c = λ earlier explained.
     c.mode_of.ensures.mode) ∙ c.in_ok-mode.was in
     rw mode (ap (λ (n : NoTransfer). Some n)
     ((rw c.bytes-bytes.ensures at c.no_transfer.ensures.lacks) (map (tap_of fares) earlier)
-    explained.stands))
+    explained.holds))
 
 pub returns-clause-modes : goal.returns-clause-modes
 unfolding rules_of
@@ -34,5 +34,5 @@ returns-clause-modes c = λ lack is.
     let same : c.no_transfer.result ≡ lack = cc in
     subst (HasModesBelow (length fares.meaning.modes)) same
     (c.no_transfer.ensures.modes (rules_of fares (bytes_of c.args.self.now.token))
-    (map (tap_of fares) c.requires.explained.0) c.requires.explained.1.stands
+    (map (tap_of fares) c.requires.explained.0) c.requires.explained.1.holds
     c.in_ok-mode.ensures.within)

@@ -9,7 +9,7 @@ use Rattle.tap_views.specs.declared.token.Token.{Token}
 use Rattle.account_rule.specs.Reasons.{reason, replied_by}
 use Rattle.account_rule.specs.Replies.{reply}
 use Rattle.account_rule.specs.TokenRules.{rules_of}
-use Rattle.account_rule.specs.Stands.{Stands, StandsForSome}
+use Rattle.account_rule.specs.Represents.{Represents, RepresentsSome}
 use Rattle.account_rule.specs.declared.reply.Answer.TheVariants.{Unknown}
 use Rattle.account_rule.specs.declared.reply.Reply.{Reply}
 use Rattle.account_rule.specs.declared.tap.TapIn.{TapIn}
@@ -43,7 +43,7 @@ with_reply entry replied = record {
 
 -- the tap of an entry at the validator and the moment
 same_tap : (fares : Fares) (entry : Entry) (mode : Option Mode) (validator moment : ℕ)
-    → option_map (λ m. m.place) mode ≡ mode_at fares moment validator
+    → option_map (λ m. m.position) mode ≡ mode_at fares moment validator
     → entry.validator ≡ validator → entry.moment ≡ moment
     → record { moment = moment; mode = mode } ≡ tap_of fares entry
 same_tap fares entry mode validator moment known at when =
@@ -52,11 +52,11 @@ same_tap fares entry mode validator moment known at when =
     sym (tap_of-post fares entry mode (known ∙ (λ i. mode_at fares (moved i) (known_at i)))
     ∙ ap (λ (m : ℕ). record { moment = m; mode = mode }) when)
 
-pub explain_step-reason-requires-clause-stands : goal.explain_step-reason-requires-clause-stands
-unfolding StandsForSome
-explain_step-reason-requires-clause-stands c =
+pub explain_step-reason-requires-clause-holds : goal.explain_step-reason-requires-clause-holds
+unfolding RepresentsSome
+explain_step-reason-requires-clause-holds c =
     rw c.bytes-bytes.ensures
-    (map (tap_of c.args.table.now) c.requires.explained.0, c.requires.explained.1.stands)
+    (map (tap_of c.args.table.now) c.requires.explained.0, c.requires.explained.1.holds)
 
 -- the reason is that of an entry with the validator and the moment
 reason_of : (c : goal.After-entry-1) (earlier : List Entry) (entry : Entry)
@@ -67,7 +67,7 @@ reason_of : (c : goal.After-entry-1) (earlier : List Entry) (entry : Entry)
 reason_of c earlier entry explained at when =
     let of = rules_of c.args.table.now (bytes_of c.args.self.now.token) in
     let taps = map (tap_of c.args.table.now) earlier in
-    (rw c.bytes-bytes.ensures at c.explain_step-reason.ensures.reason) taps explained.stands
+    (rw c.bytes-bytes.ensures at c.explain_step-reason.ensures.reason) taps explained.holds
     ∙ ap (λ (t : TapIn). reason of taps t) (same_tap c.args.table.now entry c.mode_of.result
     c.args.validator c.args.moment c.mode_of.ensures.mode at when)
 
@@ -97,8 +97,8 @@ returns-clause-explained c = λ earlier explained.
     c.args.validator c.args.moment c.mode_of.ensures.mode refl refl)
     ∙ sym (map-append (tap_of fares) earlier (entry ∷ [])) in
     record {
-      stands = subst (λ (ts : List TapIn). Stands of c.explain_step-reason.new.self ts) longer
-          ((rw c.bytes-bytes.ensures at c.explain_step-reason.ensures.stands) taps
-          explained.stands);
+      holds = subst (λ (ts : List TapIn). Represents of c.explain_step-reason.new.self ts) longer
+          ((rw c.bytes-bytes.ensures at c.explain_step-reason.ensures.holds) taps
+          explained.holds);
       counted = ap (λ n. n + 1) explained.counted ∙ sym (length-append earlier (entry ∷ []));
     }

@@ -2,10 +2,10 @@ use Rattle.std.proofs.Common.{List, [], ◌∷◌, ◌++◌, Vec, Global, ℕ, A
 use Rattle.std.proofs.Common.{subst, take_all}
 use Rattle.std.proofs.lemmas.List.{map_more}
 use Rattle.std.proofs.lemmas.List.Elements.{All-map, All-more}
-use Rattle.tap_views.specs.Files.{AreGoodTaps, AreGoodTapsOfEach}
+use Rattle.tap_views.specs.Files.{AreValidTaps, AreValidTapsOfEach}
 use Rattle.histories.proofs.PlainFields.{AreBytes, plain_fields}
 use Rattle.histories.proofs.PlainUploads.{some_plain, one_plain, legal_plain}
-use Rattle.tap_views.proofs.ReadingLemmas.{each_more}
+use Rattle.tap_views.proofs.ParseLemmas.{each_more}
 use Rattle.histories.proofs.laws.plain.plain_history.Goals as goal
 
 abbrev bytes_in : Vec ℕ Global → List ℕ
@@ -18,8 +18,8 @@ loop-upload-preserved c =
     let i = c.loop-upload.upload-index in
     let (taps, each) = c.loop-upload.invariant.taps in
     let (more, are) = c.taps_of.ensures.taps in
-    let B : List ℕ → Type 0 = λ bytes. AreGoodTaps bytes more in
-    let T : List (List ℕ) → Type 0 = λ files. AreGoodTapsOfEach files (taps ++ more ∷ []) in
+    let B : List ℕ → Type 0 = λ bytes. AreValidTaps bytes more in
+    let T : List (List ℕ) → Type 0 = λ files. AreValidTapsOfEach files (taps ++ more ∷ []) in
     let A : List ℕ → Type 0 = AreBytes in
     let U : Vec ℕ Global → Type 0 = λ u. AreBytes u.items in
     let all = map_more bytes_in uploads i upload c.loop-upload-test.true
@@ -40,14 +40,14 @@ pub returns-clause-some : goal.returns-clause-some
 returns-clause-some c = λ fares.
     let (taps, each) = c.loop-upload.invariant.taps in
     let T : List (Vec ℕ Global) → Type 0 =
-    λ uploads. AreGoodTapsOfEach (map bytes_in uploads) taps in
+    λ uploads. AreValidTapsOfEach (map bytes_in uploads) taps in
     some_plain fares (map bytes_in c.args.uploads.now) taps
     (subst T (take_all c.loop-upload.upload-index c.args.uploads.now c.loop-upload-test.false) each)
 
 pub returns-clause-one : goal.returns-clause-one
 returns-clause-one c =
     λ fares history other a b. one_plain fares (map bytes_in c.args.uploads.now) history other
-    c.one_reading_each.ensures a b
+    c.unique_parse_each.ensures a b
 
 pub returns-clause-legal : goal.returns-clause-legal
 returns-clause-legal c =

@@ -1,13 +1,13 @@
 use Rattle.std.proofs.Common.{◌<◌, arith}
 use Rattle.std.proofs.lemmas.List.Elements.{All-from_get_or}
 use Rattle.tap_views.specs.Files.{taps_of_batches}
-use Rattle.tap_views.proofs.ReadingLemmas.{good_taps}
+use Rattle.tap_views.proofs.ParseLemmas.{valid_taps}
 use Rattle.histories.proofs.laws.plain.taps_of.Goals as goal
 
 pub returns-clause-taps : goal.returns-clause-taps
 returns-clause-taps c =
-    let good = c.good_batches in
-    (taps_of_batches good.result.batches, good_taps _ _ _ good.ensures)
+    let valid = c.valid_batches in
+    (taps_of_batches valid.result.batches, valid_taps _ _ _ valid.ensures)
 
 pub returns-clause-bytes : goal.returns-clause-bytes
 returns-clause-bytes c =

@@ -12,8 +12,8 @@ loop-tap-init c = record {
   may = tt;
   ends = tt;
   all = c.into_iter-tap-iterator.ensures.into_iter_gives ∙ c.taps-tap-items.ensures;
-  added = λ good is. subst (λ (ts : List TapFields). IsBalance c.args.self.now ts [])
-      (sym (append-nil good)) is;
+  added = λ valid is. subst (λ (ts : List TapFields). IsBalance c.args.self.now ts [])
+      (sym (append-nil valid)) is;
 }
 
 pub loop-tap-preserved : goal.loop-tap-preserved
@@ -23,21 +23,21 @@ loop-tap-preserved c = record {
   all = append_assoc c.loop-tap.yielded (c.in-Some.tap ∷ []) c.next.new.self
       ∙ sym (ap (λ (left : List Tap). c.loop-tap.yielded ++ left) c.in-Some.ensures.steps)
       ∙ c.loop-tap.invariant.all;
-  added = λ good is.
+  added = λ valid is.
       let before = map fields_of c.loop-tap.yielded in
-      let more = c.in_ok-add.ensures (good ++ before) (c.loop-tap.invariant.added good is) in
+      let more = c.in_ok-add.ensures (valid ++ before) (c.loop-tap.invariant.added valid is) in
       subst (λ (ts : List TapFields). IsBalance c.add.new.self ts [])
-      (append_assoc good before (c.of.result ∷ [])
-      ∙ ap (λ (t : TapFields). good ++ (before ++ t ∷ [])) c.of.ensures
+      (append_assoc valid before (c.of.result ∷ [])
+      ∙ ap (λ (t : TapFields). valid ++ (before ++ t ∷ [])) c.of.ensures
       ∙ ap (λ (ts : List TapFields).
-      good ++ ts) (sym (map-append fields_of c.loop-tap.yielded (c.in-Some.tap ∷ [])))) more;
+      valid ++ ts) (sym (map-append fields_of c.loop-tap.yielded (c.in-Some.tap ∷ [])))) more;
 }
 
 pub returns : goal.returns
-returns c = λ good is.
+returns c = λ valid is.
     let all : c.loop-tap.yielded ≡ c.args.batch.now =
     sym (append-nil c.loop-tap.yielded)
     ∙ sym (ap (λ (left : List Tap). c.loop-tap.yielded ++ left) c.in-None.ensures.steps.0)
     ∙ c.loop-tap.invariant.all in
-    subst (λ (ts : List Tap). IsBalance c.loop-tap.self (good ++ map fields_of ts) []) all
-    (c.loop-tap.invariant.added good is)
+    subst (λ (ts : List Tap). IsBalance c.loop-tap.self (valid ++ map fields_of ts) []) all
+    (c.loop-tap.invariant.added valid is)

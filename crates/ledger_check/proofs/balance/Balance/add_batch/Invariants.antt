@@ -9,6 +9,6 @@ invariant-loop-tap l = record {
   may : (goal.iterator-loop-tap).can_next l.tap-iterator;
   ends : (goal.iterator-loop-tap).is_finite l.tap-iterator;
   all : l.yielded ++ l.tap-iterator ≡ l.fn.batch;
-  added : (good : List TapFields) → IsBalance l.fn.self good []
-      → IsBalance l.self (good ++ map fields_of l.yielded) [];
+  added : (valid : List TapFields) → IsBalance l.fn.self valid []
+      → IsBalance l.self (valid ++ map fields_of l.yielded) [];
 }

@@ -2,23 +2,23 @@ use Rattle.std.proofs.Common.{List, [], ◌++◌, map, ap, ◌∙◌, sym}
 use Rattle.std.proofs.Common.{refl, subst, append_assoc, append-nil}
 use Rattle.std.proofs.lemmas.List.{map-append}
 use Rattle.tap_views.specs.Encoding.{fields_of}
-use Rattle.tap_views.specs.Files.{GoodBatchesView, IsReadAs, taps_of_batches}
+use Rattle.tap_views.specs.Files.{ValidBatchesView, IsReadAs, taps_of_batches}
 use Rattle.tap_views.specs.Layout.{Tap}
 use Rattle.tap_views.specs.declared.encoder.TapFields.{TapFields}
-use Rattle.tap_views.proofs.ReadingLemmas.{good_taps, read_end, read_on, taps_more}
+use Rattle.tap_views.proofs.ParseLemmas.{valid_taps, read_end, read_on, taps_more}
 use Rattle.ledger_check.specs.Balances.{IsBalance}
 use Rattle.ledger_check.proofs.balance.Balance.add_upload.Goals as goal
 
 pub loop-batch-init : goal.loop-batch-init
 loop-batch-init c =
-    let P : GoodBatchesView → Type 0 = λ g. IsReadAs c.args.upload.now g.batches g.fault in
+    let P : ValidBatchesView → Type 0 = λ g. IsReadAs c.args.upload.now g.batches g.fault in
     let Q : List TapFields → Type 0 = λ ts. IsBalance c.args.self.now ts [] in
     record {
       may = tt;
       ends = tt;
       read = subst P (sym c.into_iter-batch-iterator.ensures.into_iter_gives)
-          c.good_batches-batch-items.ensures;
-      added = λ good is. subst Q (sym (append-nil good)) is;
+          c.valid_batches-batch-items.ensures;
+      added = λ valid is. subst Q (sym (append-nil valid)) is;
     }
 
 pub loop-batch-preserved : goal.loop-batch-preserved
@@ -29,15 +29,15 @@ loop-batch-preserved c =
       may = tt;
       ends = tt;
       read = read_on _ _ _ _ _ c.loop-batch.invariant.read c.in-Some.ensures.steps;
-      added = λ good is.
+      added = λ valid is.
           let before = map fields_of (taps_of_batches done) in
-          let more = c.in_ok-add_batch.ensures (good ++ before)
-          (c.loop-batch.invariant.added good is) in
+          let more = c.in_ok-add_batch.ensures (valid ++ before)
+          (c.loop-batch.invariant.added valid is) in
           subst (λ (ts : List TapFields). IsBalance c.add_batch.new.self ts [])
-          (append_assoc good before (map fields_of batch)
-          ∙ ap (λ (ts : List TapFields). good ++ ts)
+          (append_assoc valid before (map fields_of batch)
+          ∙ ap (λ (ts : List TapFields). valid ++ ts)
           (sym (map-append fields_of (taps_of_batches done) batch))
-          ∙ ap (λ (ts : List Tap). good ++ map fields_of ts) (sym (taps_more done batch))) more;
+          ∙ ap (λ (ts : List Tap). valid ++ map fields_of ts) (sym (taps_more done batch))) more;
     }
 
 pub returns : goal.returns
@@ -45,4 +45,4 @@ returns c =
     let end = c.loop-batch.invariant in
     let taps = taps_of_batches c.loop-batch.yielded in
     let read = read_end _ _ _ _ _ end.read c.in-None.ensures.steps refl in
-    (map fields_of taps, (taps, good_taps _ _ _ read, refl), end.added)
+    (map fields_of taps, (taps, valid_taps _ _ _ read, refl), end.added)

@@ -10,6 +10,6 @@ invariant-loop-batch l = record {
   may : (goal.iterator-loop-batch).can_next l.batch-iterator;
   ends : (goal.iterator-loop-batch).is_finite l.batch-iterator;
   read : IsReadAs l.upload (l.yielded ++ l.batch-iterator.batches) l.batch-iterator.fault;
-  added : (good : List TapFields) → IsBalance l.fn.self good []
-      → IsBalance l.self (good ++ map fields_of (taps_of_batches l.yielded)) [];
+  added : (valid : List TapFields) → IsBalance l.fn.self valid []
+      → IsBalance l.self (valid ++ map fields_of (taps_of_batches l.yielded)) [];
 }

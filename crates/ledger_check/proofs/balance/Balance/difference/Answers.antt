@@ -1,16 +1,16 @@
 use Rattle.std.proofs.Common.{None}
-use Rattle.ledger_check.proofs.Balanced.{Balances, all_struck, some_left}
+use Rattle.ledger_check.proofs.Balanced.{Balances, all_subtracted, some_left}
 use Rattle.ledger_check.proofs.balance.Balance.difference.Goals as goal
 
 pub returns-in_default-first_left : goal.returns-in_default-first_left
-returns-in_default-first_left c = λ good struck is.
-    all_struck c.args.self.now.left good struck
+returns-in_default-first_left c = λ valid subtracted is.
+    all_subtracted c.args.self.now.left valid subtracted
     (rw c.in_default-first_left.is at c.first_left.ensures.none) (rw c.in_default.is at is)
 
 -- the first that is left is the first missing one, and nothing was struck out that is not there
 pub returns : goal.returns
-returns c = λ good struck is.
-    let one : Balances c.args.self.now.left c.args.self.now.surplus good struck = is in
-    let none : Balances c.args.self.now.left None good struck = rw c.in_default.is at one in
-    some_left c.args.self.now.left good struck c.in-Some-first_left.tap
+returns c = λ valid subtracted is.
+    let one : Balances c.args.self.now.left c.args.self.now.surplus valid subtracted = is in
+    let none : Balances c.args.self.now.left None valid subtracted = rw c.in_default.is at one in
+    some_left c.args.self.now.left valid subtracted c.in-Some-first_left.tap
     c.in-Some-first_left.ensures.found c.in-Some-first_left.ensures.first none

@@ -1,6 +1,6 @@
 use Rattle.std.proofs.Common.{◌≡◌, List, ℕ, ◌++◌, length}
 use Rattle.tap_views.specs.declared.encoder.TapFields.{TapFields}
-use Rattle.ledger_check.specs.Struck.{HasStruck}
+use Rattle.ledger_check.specs.Subtracted.{HasSubtracted}
 use Rattle.ledger_check.specs.Verdicts.{HasFed}
 use Rattle.ledger_check.proofs.checker.Checker.feed.Given as goal
 
@@ -10,9 +10,9 @@ invariant-loop-rest l = record {
   consumed : List ℕ;
   whole : l.piece ≡ consumed ++ l.rest;
   fed : (text : List ℕ) → HasFed l.table l.fn.self text → HasFed l.table l.self (text ++ consumed);
-  struck : (text : List ℕ) (good : List TapFields)
-      → HasStruck l.table l.fn.self l.fn.balance text good
-      → HasStruck l.table l.self l.balance (text ++ consumed) good;
+  subtracted : (text : List ℕ) (valid : List TapFields)
+      → HasSubtracted l.table l.fn.self l.fn.balance text valid
+      → HasSubtracted l.table l.self l.balance (text ++ consumed) valid;
 }
 
 abbrev pub decreases-loop-rest : goal.decreases-loop-rest

@@ -4,8 +4,8 @@ use Rattle.std.proofs.lemmas.Bool.Decides.{nat_tests}
 use Rattle.std.specs.Prelude.{IsTrue}
 use Rattle.ledger_check.specs.Verdicts.{IsVerdict, is_legal}
 use Rattle.ledger_check.specs.declared.checker.Verdict.{Verdict}
-use Rattle.ledger_check.proofs.StruckLemmas.{all_struck}
-use Rattle.ledger_check.proofs.CheckerLemmas.{empty_list, ended_in_line, ended_unheaded, ended_well}
+use Rattle.ledger_check.proofs.SubtractedLemmas.{all_subtracted}
+use Rattle.ledger_check.proofs.CheckerLemmas.{empty_list, ended_in_line, ended_unheaded, ended_complete}
 use Rattle.ledger_check.proofs.checker.Checker.finish.Goals as goal
 use Rattle.ledger_check.proofs.checker.Checker.finish.Goals.{then-not-self-via-then-not-self}
 use Rattle.ledger_check.proofs.checker.Checker.finish.Goals.{then-not-self-via-else-not-self+then-not-is_empty}
@@ -20,29 +20,29 @@ returns-then-not-self-clause-verdict c = λ fares text fed.
           first_of (cc, search (rules, tests), grind (arith, nat_tests)) in
           ended_unheaded fares checker text fed none
       | then-not-self-via-else-not-self+then-not-is_empty w ↦
-          let some : 0 < length checker.begun.items =
-          grind (arith, nat_tests, checker.begun.ok.0) in
+          let some : 0 < length checker.started.items =
+          grind (arith, nat_tests, checker.started.ok.0) in
           ended_in_line fares checker text fed some
     ])
 
 pub returns-clause-verdict : goal.returns-clause-verdict
 returns-clause-verdict c = λ fares text fed.
     let checker = c.args.self.now in
-    let none : length checker.begun.items ≤ 0 = grind (arith, nat_tests, checker.begun.ok.0) in
+    let none : length checker.started.items ≤ 0 = grind (arith, nat_tests, checker.started.ok.0) in
     let some : checker.so_far.has_head ≡ true =
     first_of (cc, search (rules, tests), grind (arith, nat_tests)) in
-    ended_well fares checker text fed (empty_list checker.begun.items none) some
+    ended_complete fares checker text fed (empty_list checker.started.items none) some
 
 false_true : false ≡ true → ⊥
 false_true h = cc
 
-pub returns-then-not-self-clause-struck : goal.returns-then-not-self-clause-struck
-returns-then-not-self-clause-struck c = λ fares text balance good struck legal.
+pub returns-then-not-self-clause-subtracted : goal.returns-then-not-self-clause-subtracted
+returns-then-not-self-clause-subtracted c = λ fares text balance valid subtracted legal.
     absurd (false_true (subst (λ (v : Verdict). IsTrue (is_legal v)) c.no_line.ensures legal))
 
-pub returns-clause-struck : goal.returns-clause-struck
-returns-clause-struck c = λ fares text balance good struck legal entries is.
+pub returns-clause-subtracted : goal.returns-clause-subtracted
+returns-clause-subtracted c = λ fares text balance valid subtracted legal entries is.
     let checker = c.args.self.now in
-    let none : length checker.begun.items ≤ 0 = grind (arith, nat_tests, checker.begun.ok.0) in
-    all_struck fares checker balance text good struck (empty_list checker.begun.items none) entries
+    let none : length checker.started.items ≤ 0 = grind (arith, nat_tests, checker.started.ok.0) in
+    all_subtracted fares checker balance text valid subtracted (empty_list checker.started.items none) entries
     is

@@ -19,17 +19,17 @@ returns-clause-fed c = λ fares text fed.
     kept fares c.args.self.now _ text c.args.rest.now fed c.requires.rest refl
     c.in_ok-extend_from_slice.ensures.items short
 
-pub returns-then-len-gt-MAX_LINE_BYTES-clause-struck :
-    goal.returns-then-len-gt-MAX_LINE_BYTES-clause-struck
-returns-then-len-gt-MAX_LINE_BYTES-clause-struck c =
-    λ fares text balance good struck. ap is_legal c.no_line.ensures
+pub returns-then-len-gt-MAX_LINE_BYTES-clause-subtracted :
+    goal.returns-then-len-gt-MAX_LINE_BYTES-clause-subtracted
+returns-then-len-gt-MAX_LINE_BYTES-clause-subtracted c =
+    λ fares text balance valid subtracted. ap is_legal c.no_line.ensures
 
-pub returns-clause-struck : goal.returns-clause-struck
-returns-clause-struck c = λ fares text balance good struck.
+pub returns-clause-subtracted : goal.returns-clause-subtracted
+returns-clause-subtracted c = λ fares text balance valid subtracted.
     let whole = c.extend_from_slice.new.self.items in
     let short : length whole ≤ 255 = omega (arith, c.extend_from_slice.new.self.ok.0) in
     record {
-      fed = kept fares c.args.self.now _ text c.args.rest.now struck.fed c.requires.rest refl
+      fed = kept fares c.args.self.now _ text c.args.rest.now subtracted.fed c.requires.rest refl
           c.in_ok-extend_from_slice.ensures.items short;
-      struck = struck.struck;
+      subtracted = subtracted.subtracted;
     }

@@ -12,8 +12,8 @@ returns-clause-fed c = λ fares.
       short = subst (λ (p : List ℕ). length p ≤ 255) (sym empty) (omega arith);
     }
 
-pub returns-clause-struck : goal.returns-clause-struck
-returns-clause-struck c = λ fares balance good is.
+pub returns-clause-subtracted : goal.returns-clause-subtracted
+returns-clause-subtracted c = λ fares balance valid is.
     let empty = c.new-3.ensures.items in record {
       fed = record {
         lines = [];
@@ -22,5 +22,5 @@ returns-clause-struck c = λ fares balance good is.
         lacks = subst (Lacks 10) (sym empty) tt;
         short = subst (λ (p : List ℕ). length p ≤ 255) (sym empty) (omega arith);
       };
-      struck = record { taps = []; reported = refl; is = is };
+      subtracted = record { taps = []; reported = refl; is = is };
     }

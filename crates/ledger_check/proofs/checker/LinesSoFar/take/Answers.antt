@@ -5,7 +5,7 @@ use Rattle.ledger_check.specs.Replays.{IsWanted}
 use Rattle.ledger_check.specs.Verdicts.{HasTaken, IsFirstWanted, IsFirstWrong}
 use Rattle.ledger_check.proofs.CheckerLemmas.{first_wrong, headed, no_head}
 use Rattle.ledger_check.specs.declared.checker.LinesSoFar.{LinesSoFar}
-use Rattle.ledger_check.proofs.StruckLemmas.{struck_head, struck_more}
+use Rattle.ledger_check.proofs.SubtractedLemmas.{subtracted_head, subtracted_more}
 use Rattle.fare_texts.specs.LedgerLines.{head_text}
 use Rattle.ledger_check.specs.Balances.{IsBalance}
 use Rattle.tap_views.specs.declared.encoder.TapFields.{TapFields}
@@ -59,27 +59,27 @@ returns-in-Legal-clause-taken c = λ lines taken.
     subst (λ (ls : List (List ℕ)). HasTaken fares after (ls ++ line ∷ [])) (sym head.is)
     (some, refl, step.0)
 
-pub returns-in-Legal-clause-struck : goal.returns-in-Legal-clause-struck
-returns-in-Legal-clause-struck c = λ lines good taken struck.
+pub returns-in-Legal-clause-subtracted : goal.returns-in-Legal-clause-subtracted
+returns-in-Legal-clause-subtracted c = λ lines valid taken subtracted.
     let fares = c.args.table.now in
     let so_far = c.args.self.now in
     let some : so_far.has_head ≡ true =
     first_of (cc, search (rules, tests), grind (arith, nat_tests)) in
     let head = headed fares so_far lines some taken in
     let step = rw c.in-Legal.is at (c.in_ok-tap.ensures head.rest head.read) in
-    struck_more fares lines head.rest c.args.line.now c.in-Legal.tap c.fields.result
-    c.args.balance.now _ good head.is step.1 c.fields.ensures
-    c.strike.ensures struck
+    subtracted_more fares lines head.rest c.args.line.now c.in-Legal.tap c.fields.result
+    c.args.balance.now _ valid head.is step.1 c.fields.ensures
+    c.subtract.ensures subtracted
 
-pub returns-then-not-self-clause-struck : goal.returns-then-not-self-clause-struck
-returns-then-not-self-clause-struck c = λ lines good taken struck.
+pub returns-then-not-self-clause-subtracted : goal.returns-then-not-self-clause-subtracted
+returns-then-not-self-clause-subtracted c = λ lines valid taken subtracted.
     let none : c.args.self.now.has_head ≡ false =
     first_of (cc, search (rules, tests), grind (arith, nat_tests)) in
-    struck_head c.args.table.now lines c.args.line.now c.args.balance.now good
-    (no_head c.args.table.now c.args.self.now lines none taken).0 struck
+    subtracted_head c.args.table.now lines c.args.line.now c.args.balance.now valid
+    (no_head c.args.table.now c.args.self.now lines none taken).0 subtracted
 
-pub returns-in_ok-clone-in-Wants-clause-struck : goal.returns-in_ok-clone-in-Wants-clause-struck
-returns-in_ok-clone-in-Wants-clause-struck c = λ lines good taken struck. refl
+pub returns-in_ok-clone-in-Wants-clause-subtracted : goal.returns-in_ok-clone-in-Wants-clause-subtracted
+returns-in_ok-clone-in-Wants-clause-subtracted c = λ lines valid taken subtracted. refl
 
-pub returns-in-NoLine-clause-struck : goal.returns-in-NoLine-clause-struck
-returns-in-NoLine-clause-struck c = λ lines good taken struck. refl
+pub returns-in-NoLine-clause-subtracted : goal.returns-in-NoLine-clause-subtracted
+returns-in-NoLine-clause-subtracted c = λ lines valid taken subtracted. refl

@@ -4,12 +4,12 @@ use Rattle.std.specs.Map.{lookup}
 use Rattle.std.specs.Option.{unwrap_or}
 use Rattle.tap_views.specs.TapOrder.{tap_cmp}
 use Rattle.tap_views.specs.declared.encoder.TapFields.{TapFields}
-use Rattle.ledger_check.proofs.FullyBalanced.{begun}
+use Rattle.ledger_check.proofs.FullyBalanced.{started}
 use Rattle.ledger_check.proofs.full_balance.FullBalance.of.Goals as goal
 
 pub returns : goal.returns
-returns c = λ good is.
-    begun c.args.balance.left c.args.balance.surplus _ good refl
+returns c = λ valid is.
+    started c.args.balance.left c.args.balance.surplus _ valid refl
     (λ key.
     ap (λ (es : List (TapFields × ℕ)). unwrap_or (lookup (is_at (tap_cmp key)) es) 0)
     c.new.ensures.empty)

@@ -42,11 +42,11 @@ returns-in_default-explainer_of c = λ lines read.
 pub write_wanted-requires-clause-number : goal.write_wanted-requires-clause-number
 write_wanted-requires-clause-number c =
     let read = c.requires.read.1 in
-    let stands = c.in-Some-explainer_of.ensures.stands c.args.table.now read.entries
+    let holds = c.in-Some-explainer_of.ensures.holds c.args.table.now read.entries
     read.explainer in
     omega (
       arith,
-      stands.explained.counted,
+      holds.explained.counted,
       own-few c.in-Some-explainer_of.explainer.token read.entries,
       read.few,
     )
@@ -57,14 +57,14 @@ returns-then-same_bytes c = λ lines read.
     let wanted = string_bytes c.write_wanted.new.wanted in
     let explainer = c.in-Some-explainer_of.explainer in
     let tap = c.in-Some.tap in
-    let stands = c.in-Some-explainer_of.ensures.stands fares read.entries read.explainer in
-    let goes = c.in_ok-write_wanted.ensures read.entries stands in
+    let holds = c.in-Some-explainer_of.ensures.holds fares read.entries read.explainer in
+    let goes = c.in_ok-write_wanted.ensures read.entries holds in
     let reports =
     λ (number : ℕ) (entry : Entry) (why : Reason) (small : number < 2 ^ 64) (postable : IsPostable
     entry) (is : IsLedgerLine fares entry.token number entry why c.args.line.now).
     c.in-Some.ensures.found fares number entry why small postable is in (
       read_more fares c.args.self.now _ lines c.args.line.now wanted explainer
-          c.write_wanted.new.explainer tap read goes stands
+          c.write_wanted.new.explainer tap read goes holds
           (c.in-Some.ensures.validator, c.in-Some.ensures.moment)
           c.in-Some-explainer_of.ensures.token
           reports
@@ -81,8 +81,8 @@ returns-then-has_form c = λ lines read.
     let wanted = string_bytes c.write_wanted.new.wanted in
     let explainer = c.in-Some-explainer_of.explainer in
     let tap = c.in-Some.tap in
-    let stands = c.in-Some-explainer_of.ensures.stands fares read.entries read.explainer in
-    let goes = c.in_ok-write_wanted.ensures read.entries stands in
+    let holds = c.in-Some-explainer_of.ensures.holds fares read.entries read.explainer in
+    let goes = c.in_ok-write_wanted.ensures read.entries holds in
     let reports =
     λ (number : ℕ) (entry : Entry) (why : Reason) (small : number < 2 ^ 64) (postable : IsPostable
     entry) (is : IsLedgerLine fares entry.token number entry why c.args.line.now).
@@ -96,7 +96,7 @@ returns-then-has_form c = λ lines read.
           other,
       wanted_next fares c.args.self.now lines wanted explainer c.write_wanted.new.explainer tap read
           goes
-          stands
+          holds
           (c.in-Some.ensures.validator, c.in-Some.ensures.moment) short (omega arith),
     )
 
@@ -106,8 +106,8 @@ returns-else-len-le-MAX_LINE_BYTES c = λ lines read.
     let wanted = string_bytes c.write_wanted.new.wanted in
     let explainer = c.in-Some-explainer_of.explainer in
     let tap = c.in-Some.tap in
-    let stands = c.in-Some-explainer_of.ensures.stands fares read.entries read.explainer in
-    let goes = c.in_ok-write_wanted.ensures read.entries stands in
+    let holds = c.in-Some-explainer_of.ensures.holds fares read.entries read.explainer in
+    let goes = c.in_ok-write_wanted.ensures read.entries holds in
     let reports =
     λ (number : ℕ) (entry : Entry) (why : Reason) (small : number < 2 ^ 64) (postable : IsPostable
     entry) (is : IsLedgerLine fares entry.token number entry why c.args.line.now).

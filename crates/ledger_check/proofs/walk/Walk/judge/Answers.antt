@@ -8,9 +8,9 @@ use Rattle.histories.specs.Entry.{own}
 use Rattle.histories.specs.declared.entry.Entry.{Entry}
 use Rattle.fare_texts.specs.LedgerLines.{IsLedgerLineAfter}
 use Rattle.fare_texts.specs.Explainers.{next_entry}
-use Rattle.ledger_check.specs.Recounts.{AreCents, IsCentsField, IsLineOfTap, falls_after}
-use Rattle.ledger_check.specs.Recounts.{remark_for}
-use Rattle.ledger_check.specs.RecountStates.{HasRunExplainer}
+use Rattle.ledger_check.specs.FullChecks.{AreCents, IsCentsField, IsLineOfTap, decreases_after}
+use Rattle.ledger_check.specs.FullChecks.{remark_for}
+use Rattle.ledger_check.specs.FullCheckStates.{HasRunExplainer}
 use Rattle.ledger_check.proofs.walk.Walk.judge.Goals as goal
 
 -- the cents that were read, or 0
@@ -32,13 +32,13 @@ same_test b xs ys is = by_test b (bytes_eq xs ys) refl refl
         absurd (false≢true (sym left ∙ is.1 ((bytes_eq-Decides xs ys).0 right)))
 
 pub returns : goal.returns
-returns c = λ run stands.
+returns c = λ run holds.
     let fares = c.args.table.now in
     let line = c.args.line.now in
     let tap = c.in-Some.tap in
     let rest = c.in-Some.rest.now in
     let of = rw c.in-Some.is at c.in_ok-tap.ensures in
-    let took = c.in_ok-entry.ensures run stands in
+    let took = c.in_ok-entry.ensures run holds in
     let entry = c.in_ok-entry.entry in
     let wanted = string_bytes c.take_tap.new.self.wanted in
     let is : next_entry fares tap.token (own tap.token run) tap.validator tap.moment ≡ entry =
@@ -59,9 +59,9 @@ returns c = λ run stands.
         cents = subst (λ (n : ℕ). AreCents rest n) (sym c.unwrap_or-cents.ensures)
             (cents_or rest c.exact_cents.result c.exact_cents.ensures);
         is_remark = c.remark_for.ensures
-            ∙ ap (λ (b : Bool). remark_for b c.same_bytes-is_same.result) took.falling
-            ∙ ap (λ (b : Bool). remark_for (falls_after run tap.token) b) same
-            ∙ ap (λ (e : Entry). remark_for (falls_after run e.token) (bytes_eq line wanted)) is;
+            ∙ ap (λ (b : Bool). remark_for b c.same_bytes-is_same.result) took.decreasing
+            ∙ ap (λ (b : Bool). remark_for (decreases_after run tap.token) b) same
+            ∙ ap (λ (e : Entry). remark_for (decreases_after run e.token) (bytes_eq line wanted)) is;
       };
       explainer = subst
           (λ (e : Entry). HasRunExplainer fares c.take_tap.new.self.explainer

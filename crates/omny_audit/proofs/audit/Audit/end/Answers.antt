@@ -38,14 +38,14 @@ write_last_lines-requires c = λ yes.
     )
 
 pub returns : goal.returns
-returns c = λ good file before has.
+returns c = λ valid file before has.
     let audit = c.args.self.now in
     let written = before ++ string_bytes c.args.reported in
-    let given = given_in audit good in
+    let given = given_in audit valid in
     let legal = c.in_ok-found.found.is_legal in
     let right = c.in_ok-is_right.is_right in
     let fits = c.in_ok-fits.fits in
-    let found = c.in_ok-found.ensures.found audit.table.now good (ledger_in given file) written
+    let found = c.in_ok-found.ensures.found audit.table.now valid (ledger_in given file) written
     has.checked in
     let columns = c.in_ok-is_right.ensures in
     let wrote = c.in_ok-fits.ensures in
@@ -88,6 +88,6 @@ returns c = λ good file before has.
             (found.0 ++ (columns.0 ++ wrote.0)))
             ∙ sym (append_assoc written found.0 (columns.0 ++ wrote.0));
         both = c.are_both.ensures ∙ ap (λ (b : Bool). c.in_ok-found.found.is_sound && b)
-            c.are_both-is_behind.ensures;
+            c.are_both-is_after.ensures;
       },
     )

@@ -28,8 +28,8 @@ end-requires-then-is_decided c =
     )
 
 pub returns-then-is_empty : goal.returns-then-is_empty
-returns-then-is_empty c = λ good file written has more end.
-    let read = c.in_ok-read_end.ensures good file written has in
+returns-then-is_empty c = λ valid file written has more end.
+    let read = c.in_ok-read_end.ensures valid file written has in
     let same : read.0 ≡ string_bytes c.read_end.new.reported =
     sym (read.1 ∙ ap (λ (t : List ℕ). t ++ read.0) c.new-reported.ensures.bytes) in
     let none : c.args.piece.now ≡ [] = drained c.args.piece.now c.is_empty.result c.is_empty.ensures
@@ -39,23 +39,23 @@ returns-then-is_empty c = λ good file written has more end.
     (end (ap (λ (t : List ℕ). length t) none))
     ∙ append-nil (file ++ c.args.piece.now) ∙ ap (λ (t : List ℕ). file ++ t) none
     ∙ append-nil file) in
-    let audit = c.in_ok-ended.ensures good file written
-    (subst (λ (t : List ℕ). HasEnded c.read_end.new.self good file (written ++ t)) same read.3) in (
+    let audit = c.in_ok-ended.ensures valid file written
+    (subst (λ (t : List ℕ). HasEnded c.read_end.new.self valid file (written ++ t)) same read.3) in (
       audit.0,
       subst (λ (g : Given). IsAudit g ((file ++ c.args.piece.now) ++ more) audit.0
           (written ++ c.in_ok-ended.ended.0.items) c.in_ok-ended.ended.1) read.2
-          (subst (λ (f : List ℕ). IsAudit (given_in c.read_end.new.self good) f audit.0 (written ++ c.in_ok-ended.ended.0.items)
+          (subst (λ (f : List ℕ). IsAudit (given_in c.read_end.new.self valid) f audit.0 (written ++ c.in_ok-ended.ended.0.items)
           c.in_ok-ended.ended.1) all audit.1),
     )
 
 pub returns-then-is_decided : goal.returns-then-is_decided
-returns-then-is_decided c = λ good file written has more end.
-    let read = c.in_ok-read.ensures good file written has in
+returns-then-is_decided c = λ valid file written has more end.
+    let read = c.in_ok-read.ensures valid file written has in
     let same : read.0 ≡ string_bytes c.read.new.reported =
     sym (read.1 ∙ ap (λ (t : List ℕ). t ++ read.0) c.new-reported.ensures.bytes) in
-    let audit = c.in_ok-ended-2.ensures good ((file ++ c.args.piece.now) ++ more) written
-    (decided_ends c.read.new.self good (file ++ c.args.piece.now) _ more
-    (subst (λ (t : List ℕ). HasAudited c.read.new.self good (file ++ c.args.piece.now)
+    let audit = c.in_ok-ended-2.ensures valid ((file ++ c.args.piece.now) ++ more) written
+    (decided_ends c.read.new.self valid (file ++ c.args.piece.now) _ more
+    (subst (λ (t : List ℕ). HasAudited c.read.new.self valid (file ++ c.args.piece.now)
     (written ++ t)) same read.3) (sym c.is_decided.ensures ∙ c.if-is_decided.true)) in (
       audit.0,
       subst (λ (g : Given). IsAudit g ((file ++ c.args.piece.now) ++ more) audit.0
@@ -63,12 +63,12 @@ returns-then-is_decided c = λ good file written has more end.
     )
 
 pub returns : goal.returns
-returns c = λ good file written has.
-    let read = c.in_ok-read.ensures good file written has in
+returns c = λ valid file written has.
+    let read = c.in_ok-read.ensures valid file written has in
     let same : read.0 ≡ c.into_bytes.result.items =
     sym (ap (λ (v : Vec ℕ Global). v.items) c.into_bytes.ensures.value ∙ read.1
     ∙ ap (λ (t : List ℕ). t ++ read.0) c.new-reported.ensures.bytes) in (
       read.2,
-      subst (λ (t : List ℕ). HasAudited c.read.new.self good (file ++ c.args.piece.now)
+      subst (λ (t : List ℕ). HasAudited c.read.new.self valid (file ++ c.args.piece.now)
           (written ++ t)) same read.3,
     )

@@ -13,18 +13,18 @@ take-requires c = let has = c.requires.3 in (
 )
 
 pub returns : goal.returns
-returns c = λ good file written has.
+returns c = λ valid file written has.
     let audit = c.args.self.now in
     let text = c.read_piece.new.text in
     let trace = c.read_piece.new.trace in
-    let taken = c.in_ok-take.ensures.taken good has.text written (record {
+    let taken = c.in_ok-take.ensures.taken valid has.text written (record {
       clock = has.taken.clock;
       checked = has.taken.checked;
       summed = has.taken.summed;
     }) in (
       taken.0,
       taken.1,
-      taken.2 ∙ given_traced audit trace text good c.read_piece.ensures.wanted,
+      taken.2 ∙ given_traced audit trace text valid c.read_piece.ensures.wanted,
       record {
         text = has.text ++ text.items;
         as_text = subst (λ (t : Option TracedPieces). HasReadAs t (file ++ c.args.piece.now)

@@ -17,11 +17,11 @@ take-requires c = let has = c.requires.3 in (
 )
 
 pub returns : goal.returns
-returns c = λ good file written has.
+returns c = λ valid file written has.
     let audit = c.args.self.now in
     let after = c.take.new.self in
     let text = c.read_end.new.text in
-    let taken = c.in_ok-take.ensures.taken good has.text written (record {
+    let taken = c.in_ok-take.ensures.taken valid has.text written (record {
       clock = has.taken.clock;
       checked = has.taken.checked;
       summed = has.taken.summed;
@@ -32,9 +32,9 @@ returns c = λ good file written has.
     (sym c.take.ensures.trace) in (
       taken.0,
       taken.1,
-      taken.2 ∙ given_traced audit c.read_end.new.trace text good c.read_end.ensures.wanted,
+      taken.2 ∙ given_traced audit c.read_end.new.trace text valid c.read_end.ensures.wanted,
       record {
-        checked = subst (λ (t : List ℕ). HasChecked after.table.now after.strikes good after.check t
+        checked = subst (λ (t : List ℕ). HasChecked after.table.now after.subtracts valid after.check t
             (written ++ taken.0)) whole taken.3.checked;
         summed = λ open_still. subst (λ (t : List ℕ). HasSummedFor after.table.now after.report t)
             whole taken.3.summed;

@@ -11,17 +11,17 @@ pub add_piece-requires : goal.add_piece-requires
 add_piece-requires c = (c.requires.1, c.requires.3.summed)
 
 pub returns-clause-taken : goal.returns-clause-taken
-returns-clause-taken c = λ good text written has.
+returns-clause-taken c = λ valid text written has.
     let audit = c.args.self.now in
-    let fed = c.in_ok-feed.ensures.fed good text written has.checked in
+    let fed = c.in_ok-feed.ensures.fed valid text written has.checked in
     let piece = c.as_slice-text.ensures.value in (
       fed.0,
       fed.1,
-      given_fed audit c.feed.new.self c.add_piece.new.report good c.feed.ensures.all
+      given_fed audit c.feed.new.self c.add_piece.new.report valid c.feed.ensures.all
           c.add_piece.ensures.text,
       record {
         clock = has.clock;
-        checked = subst (λ (t : List ℕ). HasChecked audit.table.now audit.strikes good
+        checked = subst (λ (t : List ℕ). HasChecked audit.table.now audit.subtracts valid
             c.feed.new.self (text ++ t) (written ++ fed.0)) piece fed.2;
         summed = subst (λ (t : List ℕ). HasSummedFor audit.table.now c.add_piece.new.report
             (text ++ t)) piece (c.in_ok-add_piece.ensures.sums text has.summed);

@@ -6,8 +6,8 @@ use Rattle.program_manners.specs.Words.{is_given}
 use Rattle.omny_audit.specs.Options.{not_dash, tables_or_none}
 use Rattle.omny_audit.proofs.options.Options.read.Goals as goal
 
-pub returns-clause-asked : goal.returns-clause-asked
-returns-clause-asked c =
+pub returns-clause-request : goal.returns-clause-request
+returns-clause-request c =
     let found = found_of c.in_ok-matches.matches in
     let rows = c.in_ok-matches.ensures.rows in
     let words = c.in_ok-tables.ensures

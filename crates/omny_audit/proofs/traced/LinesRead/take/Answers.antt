@@ -20,7 +20,7 @@ returns-in_default-cut_line-clause-read c = λ whole read kept has.
       record { line = whole; traced = None },
       refl,
       took_other c.args.self.now _ line whole read has
-          kept none count refl refl has.columns.places,
+          kept none count refl refl has.columns.positions,
     )
 
 pub returns-in_default-cut_line-clause-text : goal.returns-in_default-cut_line-clause-text
@@ -45,20 +45,20 @@ returns-clause-read c = λ whole read kept has.
       record { line = whole; traced = traced },
       refl,
       took_cut c.args.self.now _ line whole cut traced read has kept is count
-          (c.look_at_place.ensures.class ∙ (rw count at c.look_at_class.ensures.class))
-          (c.look_at_place.ensures.names ∙ c.look_at_class.ensures.names)
+          (c.look_at_position.ensures.class ∙ (rw count at c.look_at_class.ensures.class))
+          (c.look_at_position.ensures.names ∙ c.look_at_class.ensures.names)
           (c.in_ok-tap.tap, c.in_ok-tap.ensures.tap, refl)
-          (c.look_at_place.ensures.places read whole
-          (placed_same _ _ _ _ read c.look_at_class.ensures.places c.look_at_class.ensures.place
-          has.columns.places)
+          (c.look_at_position.ensures.positions read whole
+          (placed_same _ _ _ _ read c.look_at_class.ensures.positions c.look_at_class.ensures.position
+          has.columns.positions)
           (count ∙ ap (λ (n : ℕ). n + 1) has.count)),
     )
 
 pub returns-clause-wanted : goal.returns-clause-wanted
 returns-clause-wanted c =
-    wanted_same (record c.look_at_place.new.self { lines = c.in-Some.number }) c.args.self.now
-    (c.look_at_place.ensures.names ∙ c.look_at_class.ensures.names)
-    (c.look_at_place.ensures.uploads ∙ ap uploads_in c.look_at_class.ensures.places)
+    wanted_same (record c.look_at_position.new.self { lines = c.in-Some.number }) c.args.self.now
+    (c.look_at_position.ensures.names ∙ c.look_at_class.ensures.names)
+    (c.look_at_position.ensures.uploads ∙ ap uploads_in c.look_at_class.ensures.positions)
 
 pub returns-clause-text : goal.returns-clause-text
 returns-clause-text c = λ whole kept.

@@ -9,21 +9,21 @@ use Rattle.omny_audit.proofs.traced.TracedPieces.end_line.Goals as goal
 pub returns-then-is_empty-clause-read : goal.returns-then-is_empty-clause-read
 returns-then-is_empty-clause-read c = λ file reported read is.
     let trace = c.args.self.now in
-    let none : length trace.begun.items ≤ 0 = grind (arith, nat_tests, trace.begun.ok.0) in
-    let empty = empty_list trace.begun.items none in
-    let begun : is.begun ≡ [] = kept_none trace.begun.items is.begun is.kept empty in
-    let same : c.args.line.now ≡ is.begun ++ c.args.line.now = ap
-    (λ (b : List ℕ). b ++ c.args.line.now) (sym begun) in
+    let none : length trace.started.items ≤ 0 = grind (arith, nat_tests, trace.started.ok.0) in
+    let empty = empty_list trace.started.items none in
+    let started : is.started ≡ [] = kept_none trace.started.items is.started is.kept empty in
+    let same : c.args.line.now ≡ is.started ++ c.args.line.now = ap
+    (λ (b : List ℕ). b ++ c.args.line.now) (sym started) in
     took_line trace _ file c.args.line.now reported c.args.text.now.items _ read is c.requires.line
     empty
-    (c.in_ok-take.ensures.read (is.begun ++ c.args.line.now) read (inl same) is.lines)
-    (c.in_ok-take.ensures.text (is.begun ++ c.args.line.now) (inl same))
+    (c.in_ok-take.ensures.read (is.started ++ c.args.line.now) read (inl same) is.lines)
+    (c.in_ok-take.ensures.text (is.started ++ c.args.line.now) (inl same))
 
 pub returns-clause-read : goal.returns-clause-read
 returns-clause-read c = λ file reported read is.
-    let kept = subst (λ (k : List ℕ). IsKeptOf k (is.begun ++ c.args.line.now))
-    (sym c.as_slice.ensures.value) (c.in_ok-keep.ensures is.begun is.kept) in
+    let kept = subst (λ (k : List ℕ). IsKeptOf k (is.started ++ c.args.line.now))
+    (sym c.as_slice.ensures.value) (c.in_ok-keep.ensures is.started is.kept) in
     took_line c.args.self.now _ file c.args.line.now reported c.args.text.now.items _ read is
     c.requires.line c.clear.ensures.items
-    (c.in_ok-take-2.ensures.read (is.begun ++ c.args.line.now) read kept is.lines)
-    (c.in_ok-take-2.ensures.text (is.begun ++ c.args.line.now) kept)
+    (c.in_ok-take-2.ensures.read (is.started ++ c.args.line.now) read kept is.lines)
+    (c.in_ok-take-2.ensures.text (is.started ++ c.args.line.now) kept)

@@ -19,11 +19,11 @@ pub loop-rest-preserved : goal.loop-rest-preserved
 loop-rest-preserved c =
     let before = c.loop-rest.invariant in
     let line = c.in-Some.line.now in
-    let behind = c.in-Some.behind.now in
+    let trailing = c.in-Some.trailing.now in
     record {
       consumed = before.consumed ++ line;
       whole = before.whole ∙ ap (λ (r : List ℕ). before.consumed ++ r) c.in-Some.ensures.some.1
-          ∙ sym (append_assoc before.consumed line behind);
+          ∙ sym (append_assoc before.consumed line trailing);
       wanted = c.end_line.ensures.wanted ∙ before.wanted;
       read = λ file reported read is.
           let now = before.read file reported read is in
@@ -36,7 +36,7 @@ pub returns-in_default-clause-read : goal.returns-in_default-clause-read
 returns-in_default-clause-read c = λ file reported read is.
     let before = c.loop-rest.invariant in
     let now = before.read file reported read is in
-    let after = record c.loop-rest.self { begun = c.keep.new.kept } in
+    let after = record c.loop-rest.self { started = c.keep.new.kept } in
     let joined : before.consumed ++ c.loop-rest.rest.now ≡ c.args.piece.now = sym before.whole in
     subst (λ (p : List ℕ). Traced after (file ++ p) reported c.args.text.now.items
     c.loop-rest.text.items) joined
@@ -44,7 +44,7 @@ returns-in_default-clause-read c = λ file reported read is.
     c.args.text.now.items c.loop-rest.text.items c.loop-rest.text.items now
     (traced_part c.loop-rest.self after (file ++ before.consumed) c.loop-rest.rest.now
     (reported ++ now.0) c.loop-rest.text.items now.1 now.3
-    c.in_default.ensures.none refl (c.in_ok-keep.ensures now.3.begun now.3.kept)))
+    c.in_default.ensures.none refl (c.in_ok-keep.ensures now.3.started now.3.kept)))
 
 pub returns-clause-read : goal.returns-clause-read
 returns-clause-read c = λ file reported read is.

@@ -8,16 +8,16 @@ use Rattle.omny_audit.proofs.traced.TracedPieces.finish.Goals as goal
 pub returns-then-is_empty-clause-read : goal.returns-then-is_empty-clause-read
 returns-then-is_empty-clause-read c = λ file reported read is.
     let trace = c.args.self.now in
-    let none : length trace.begun.items ≤ 0 = grind (arith, nat_tests, trace.begun.ok.0) in
+    let none : length trace.started.items ≤ 0 = grind (arith, nat_tests, trace.started.ok.0) in
     ended_whole trace file reported c.args.text.now.items read is
-    (empty_list trace.begun.items none)
+    (empty_list trace.started.items none)
 
 pub returns-clause-read : goal.returns-clause-read
 returns-clause-read c = λ file reported read is.
     let trace = c.args.self.now in
-    let some : 0 < length trace.begun.items = grind (arith, nat_tests, trace.begun.ok.0) in
-    let kept = subst (λ (k : List ℕ). IsKeptOf k is.begun) (sym c.as_slice.ensures.value) is.kept in
+    let some : 0 < length trace.started.items = grind (arith, nat_tests, trace.started.ok.0) in
+    let kept = subst (λ (k : List ℕ). IsKeptOf k is.started) (sym c.as_slice.ensures.value) is.kept in
     ended_cut trace (record trace { so_far = c.take.new.self }) file reported c.args.text.now.items
     _ read is some
-    (c.in_ok-take.ensures.read is.begun read kept is.lines)
-    (c.in_ok-take.ensures.text is.begun kept)
+    (c.in_ok-take.ensures.read is.started read kept is.lines)
+    (c.in_ok-take.ensures.text is.started kept)

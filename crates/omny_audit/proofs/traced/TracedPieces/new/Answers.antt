@@ -10,13 +10,13 @@ returns-clause-read c = record {
     count = refl;
     columns = record {
       class = refl;
-      places = record {
-        wrong_is = none_wrong (uploads_in c.args.places);
+      positions = record {
+        wrong_is = none_wrong (uploads_in c.args.positions);
         named = λ none. c.requires;
       };
     };
   };
-  begun = [];
+  started = [];
   kept = inl c.new-3.ensures.items;
   lacks = tt;
   split = λ more. refl;

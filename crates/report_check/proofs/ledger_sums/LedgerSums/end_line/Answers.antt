@@ -1,7 +1,7 @@
 use Rattle.std.proofs.Common.{◌≤◌, ◌++◌, ◌∙◌, List, ℕ, length, sym, ap, arith}
 use Rattle.std.proofs.lemmas.Bool.Decides.{nat_tests}
 use Rattle.ledger_check.proofs.CheckerLemmas.{empty_list}
-use Rattle.report_check.proofs.SummedLines.{ended, none_behind, none_by, none_of, summed_of}
+use Rattle.report_check.proofs.SummedLines.{ended, none_after, none_by, none_of, summed_of}
 use Rattle.report_check.proofs.ledger_sums.LedgerSums.end_line.Goals as goal
 
 pub returns-then-not-self : goal.returns-then-not-self
@@ -9,7 +9,7 @@ returns-then-not-self c = λ text is.
     let fares = c.args.table.now in
     let sums = c.args.self.now in
     none_by fares sums _ c.if-not-self.true
-    (none_behind fares text c.args.line.now (none_of fares sums text c.if-not-self.true is))
+    (none_after fares text c.args.line.now (none_of fares sums text c.if-not-self.true is))
 
 pub add_line-requires-clause-summed : goal.add_line-requires-clause-summed
 add_line-requires-clause-summed c =
@@ -21,8 +21,8 @@ pub returns-then-is_empty : goal.returns-then-is_empty
 returns-then-is_empty c = λ text is.
     let sums = c.args.self.now in
     let summed = summed_of c.args.table.now sums text c.if-not-self.false is in
-    let none : length sums.begun.items ≤ 0 = grind (arith, nat_tests, sums.begun.ok.0) in
-    let empty = empty_list sums.begun.items none in
+    let none : length sums.started.items ≤ 0 = grind (arith, nat_tests, sums.started.ok.0) in
+    let empty = empty_list sums.started.items none in
     ended c.args.table.now sums _ text c.args.line.now c.args.line.now summed c.requires.line
     (ap (λ (p : List ℕ). p ++ c.args.line.now) (sym empty))
     (c.in_ok-add_line.ensures summed.lines summed.summed) empty

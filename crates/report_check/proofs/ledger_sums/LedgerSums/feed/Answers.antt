@@ -25,11 +25,11 @@ loop-rest-preserved c =
     let fares = c.args.table.now in
     let before = c.loop-rest.invariant in
     let line = c.in-Some.line.now in
-    let behind = c.in-Some.behind.now in
+    let trailing = c.in-Some.trailing.now in
     record {
       consumed = before.consumed ++ line;
       whole = before.whole ∙ ap (λ (r : List ℕ). before.consumed ++ r) c.in-Some.ensures.some.1
-          ∙ sym (append_assoc before.consumed line behind);
+          ∙ sym (append_assoc before.consumed line trailing);
       summed = λ text is.
           subst (λ (t : List ℕ). HasSummed fares c.end_line.new.self t)
           (append_assoc text before.consumed line)

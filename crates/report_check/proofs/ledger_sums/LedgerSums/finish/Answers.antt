@@ -10,8 +10,8 @@ returns-then-not-self c = λ fares text is.
 
 pub returns-then-not-is_empty : goal.returns-then-not-is_empty
 returns-then-not-is_empty c = λ fares text is.
-    let some : 0 < length c.args.self.begun.items =
-    grind (arith, nat_tests, c.args.self.begun.ok.0) in
+    let some : 0 < length c.args.self.started.items =
+    grind (arith, nat_tests, c.args.self.started.ok.0) in
     no_ledger fares c.args.self text is (λ may. some)
 
 pub into_sums-requires : goal.into_sums-requires
@@ -23,8 +23,8 @@ into_sums-requires c =
 pub returns : goal.returns
 returns c = λ fares text is.
     let summed = summed_of fares c.args.self text c.if-not-self.false is in
-    let none : length c.args.self.begun.items ≤ 0 =
-    grind (arith, nat_tests, c.args.self.begun.ok.0) in
+    let none : length c.args.self.started.items ≤ 0 =
+    grind (arith, nat_tests, c.args.self.started.ok.0) in
     all_added fares c.args.self text c.in_ok-sums.sums summed
-    (empty_list c.args.self.begun.items none)
+    (empty_list c.args.self.started.items none)
     (c.in_ok-sums.ensures summed.summed.seen summed.summed.are)

@@ -1,12 +1,12 @@
 use Rattle.std.proofs.Common.{◌≤◌, ◌<◌, length, refl, arith}
-use Rattle.report_check.proofs.SummedLines.{kept_none, kept_on, none_behind, none_by, none_of}
+use Rattle.report_check.proofs.SummedLines.{kept_none, kept_on, none_after, none_by, none_of}
 use Rattle.report_check.proofs.SummedLines.{summed_by, summed_of}
 use Rattle.report_check.proofs.ledger_sums.LedgerSums.keep.Goals as goal
 
 pub returns-then-not-self : goal.returns-then-not-self
 returns-then-not-self c = λ fares text is.
     none_by fares c.args.self.now _ c.if-not-self.true
-    (none_behind fares text c.args.rest.now
+    (none_after fares text c.args.rest.now
     (none_of fares c.args.self.now text c.if-not-self.true is))
 
 pub returns-then-len-gt-MAX_LINE_BYTES : goal.returns-then-len-gt-MAX_LINE_BYTES

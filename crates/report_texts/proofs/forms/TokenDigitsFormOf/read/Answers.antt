@@ -11,8 +11,8 @@ returns c =
     let text = c.args.text.now in
     let long : nat_lt (length text) 32 ≡ false =
     (let h = c.if-text-lt32.false in grind (arith, nat_tests, h)) in
-    let behind : take (length text - 32) (drop 32 text) ≡ drop 32 text =
+    let trailing : take (length text - 32) (drop 32 text) ≡ drop 32 text =
     take_all (length text - 32) (drop 32 text) (omega (arith, length-drop 32 text)) in
     ap (λ b. cond b None (with_rest (token_in (take 32 text)) (drop 32 text))) long
     ∙ ap (λ r. with_rest r (drop 32 text)) (sym c.token_in.ensures ∙ c.in_ok-token.was)
-    ∙ ap (λ (x : List ℕ). Some (c.in_ok-token.token, x)) (sym behind)
+    ∙ ap (λ (x : List ℕ). Some (c.in_ok-token.token, x)) (sym trailing)

@@ -27,7 +27,7 @@ pub loop-tap-init : goal.loop-tap-init
 unfolding posted_after own
 loop-tap-init c = record {
   token = c.of-replay.ensures.token;
-  stands = c.of-replay.ensures.none c.args.table.now [] refl;
+  holds = c.of-replay.ensures.none c.args.table.now [] refl;
   tally = c.new-tally.ensures;
   tokens = refl;
   totals = refl;
@@ -77,14 +77,14 @@ loop-tap-preserved c =
     let tap = get_or taps i no_tap in
     let entry = c.next-entry.result in
     let is : entry ≡ answered fares done (unposted tap) =
-    c.next-entry.ensures.entry done inv.stands in
+    c.next-entry.ensures.entry done inv.holds in
     let more : posted fares (take (i + 1) taps) ≡ done ++ entry ∷ [] =
     posted_more fares taps i tap inside (get_or_default taps i tap no_tap inside)
     ∙ ap (λ (e : Entry). done ++ e ∷ []) (sym is) in
     record {
       token = c.next-entry.ensures.token ∙ inv.token;
-      stands = subst (λ (es : List Entry). HasPosted fares c.next-entry.new.self es) (sym more)
-          (c.next-entry.ensures.posted done inv.stands);
+      holds = subst (λ (es : List Entry). HasPosted fares c.next-entry.new.self es) (sym more)
+          (c.next-entry.ensures.posted done inv.holds);
       tally = c.add.ensures
           ∙ ap (λ (s : Sums). add_sums s (sums_of_replies (c.reply.result ∷ []))) inv.tally
           ∙ ap (λ (r : Reply). add_sums (sums done) (sums_of_replies (r ∷ []))) c.reply.ensures

@@ -12,7 +12,7 @@ use Rattle.settlement.proofs.bill.Bill.add_token.Given as goal
 abbrev pub invariant-loop-tap : goal.invariant-loop-tap
 invariant-loop-tap l = record {
   token : l.replay.token ≡ l.fn.token;
-  stands : HasPosted l.table l.replay (posted l.table (take l.tap-index l.taps));
+  holds : HasPosted l.table l.replay (posted l.table (take l.tap-index l.taps));
   tally : sums_of_tally l.tally ≡ sums (posted l.table (take l.tap-index l.taps));
   tokens : l.self.tokens ≡ l.fn.self.tokens;
   totals : l.self.totals ≡ l.fn.self.totals;

@@ -1,6 +1,6 @@
 use Rattle.std.proofs.Common.{◌≡◌, List, ◌∷◌, ◌++◌, cond, ap, sym, subst, ◌∙◌, []}
 use Rattle.account_rule.specs.Replies.{reply}
-use Rattle.account_rule.specs.Stands.{Stands, StandsForSome}
+use Rattle.account_rule.specs.Represents.{Represents, RepresentsSome}
 use Rattle.account_rule.specs.TokenRules.{rules_of}
 use Rattle.account_rule.specs.declared.reply.Reply.{Reply}
 use Rattle.account_rule.specs.declared.tap.TapIn.{TapIn}
@@ -15,9 +15,9 @@ use Rattle.settlement.specs.Posted.{unposted}
 use Rattle.settlement.specs.Replays.{HasPosted}
 use Rattle.settlement.proofs.replay.Replay.next.Goals as goal
 
-pub step-reply-requires-clause-stands : goal.step-reply-requires-clause-stands
-unfolding StandsForSome HasPosted
-step-reply-requires-clause-stands c =
+pub step-reply-requires-clause-holds : goal.step-reply-requires-clause-holds
+unfolding RepresentsSome HasPosted
+step-reply-requires-clause-holds c =
     rw c.named_bytes-bytes.ensures.bytes
     (taps_of c.args.table.now c.args.self.now.token c.requires.posted.0, c.requires.posted.1)
 
@@ -60,5 +60,5 @@ returns-clause-posted c = λ earlier posted.
     ∙ sym (taps-push fares token earlier _
     ∙ ap (λ b. cond b (taps ++ tap_of fares (unposted c.args.tap.now) ∷ []) taps)
     (token_eq-refl token)) in
-    subst (λ (ts : List TapIn). Stands of c.step-reply.new.self ts) longer
-    ((rw c.named_bytes-bytes.ensures.bytes at c.step-reply.ensures.stands) taps posted)
+    subst (λ (ts : List TapIn). Represents of c.step-reply.new.self ts) longer
+    ((rw c.named_bytes-bytes.ensures.bytes at c.step-reply.ensures.holds) taps posted)

@@ -1,5 +1,5 @@
 use Rattle.std.proofs.Common.{List, map, ap, sym, subst}
-use Rattle.account_rule.specs.Stands.{Stands}
+use Rattle.account_rule.specs.Represents.{Represents}
 use Rattle.account_rule.specs.TokenRules.{rules_of}
 use Rattle.account_rule.specs.declared.tap.TapIn.{TapIn}
 use Rattle.tap_views.specs.Token.{bytes_of}
@@ -11,5 +11,5 @@ pub returns-clause-none : goal.returns-clause-none
 unfolding HasPosted taps_of
 returns-clause-none c = λ fares earlier none.
     let rules = rules_of fares (bytes_of c.args.token) in
-    subst (λ (ts : List TapIn). Stands rules c.fresh.result ts) (sym (ap (map (tap_of fares)) none))
-    (c.fresh.ensures.stands rules)
+    subst (λ (ts : List TapIn). Represents rules c.fresh.result ts) (sym (ap (map (tap_of fares)) none))
+    (c.fresh.ensures.holds rules)

@@ -24,8 +24,8 @@ returns-in-Occupied-clause-made c =
     (rw c.in-Occupied.is at c.in_ok-kept.ensures.found).0
     (c.index.ensures ∙ (rw c.in-Occupied.is at c.in_ok-kept.ensures.index))
 
-pub returns-in-Occupied-clause-places : goal.returns-in-Occupied-clause-places
-returns-in-Occupied-clause-places c = keep_found c.args.self.now.map.entries _ (search rules)
+pub returns-in-Occupied-clause-positions : goal.returns-in-Occupied-clause-positions
+returns-in-Occupied-clause-positions c = keep_found c.args.self.now.map.entries _ (search rules)
 
 pub returns-in-Vacant-clause-made : goal.returns-in-Vacant-clause-made
 unfolding kept_at
@@ -33,11 +33,11 @@ returns-in-Vacant-clause-made c =
     let fresh : KeptAccount = record { account = c.fresh.result; counts = c.new.result } in
     made_last c.args.self.now _ c.args.token _ fresh c.len-last.ensures.len
     (rw c.in-Vacant.is at c.in_ok-kept.ensures.found) (search rules) (search rules)
-    c.fresh.ensures.stands c.new.ensures
+    c.fresh.ensures.holds c.new.ensures
 
-pub returns-in-Vacant-clause-places : goal.returns-in-Vacant-clause-places
+pub returns-in-Vacant-clause-positions : goal.returns-in-Vacant-clause-positions
 unfolding kept_at
-returns-in-Vacant-clause-places c =
+returns-in-Vacant-clause-positions c =
     let fresh : KeptAccount = record { account = c.fresh.result; counts = c.new.result } in
     keep_opened c.args.self.now _ c.args.token fresh
     (rw c.in-Vacant.is at c.in_ok-kept.ensures.found) (search rules)

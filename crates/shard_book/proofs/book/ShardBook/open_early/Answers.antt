@@ -9,7 +9,7 @@ use Rattle.shard_book.proofs.book.ShardBook.open_early.Goals as goal
 
 pub invariant_of-self : goal.invariant_of-self
 invariant_of-self c =
-    book-on refl c.open_early.ensures.places c.open_early.ensures.stays
+    book-on refl c.open_early.ensures.positions c.open_early.ensures.stays
     (λ counting. rw c.open_early.ensures.counting at counting) c.self.invariant
 
 abbrev book_of : Fares → ℕ → ℕ → List Entry → Book
@@ -21,5 +21,5 @@ returns c =
     ap (λ (entries : List Entry). book_of c.self.inside.table c.self.inside.shard
     c.self.inside.shards entries)
     (history-kept (tokens_of c.self.inside.accounts) (tokens_of c.open_early.new.self)
-    c.self.inside.history.items c.self.invariant.placed c.open_early.ensures.places)
+    c.self.inside.history.items c.self.invariant.placed c.open_early.ensures.positions)
     ∙ c.self.view_is

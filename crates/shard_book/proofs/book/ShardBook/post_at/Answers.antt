@@ -25,25 +25,25 @@ abbrev book_of : Fares → ℕ → ℕ → List Entry → Book
 book_of table shard shards entries =
     record { table = table; shard = shard; shards = shards; entries = entries }
 
-pub invariant_of-self-in_err-place : goal.invariant_of-self-in_err-place
-invariant_of-self-in_err-place c =
-    book-same c.reserve.ensures.items c.in_err-place.ensures.places c.in_err-place.ensures.err
-    c.in_err-place.ensures.counting c.self.invariant
+pub invariant_of-self-in_err-position : goal.invariant_of-self-in_err-position
+invariant_of-self-in_err-position c =
+    book-same c.reserve.ensures.items c.in_err-position.ensures.positions c.in_err-position.ensures.err
+    c.in_err-position.ensures.counting c.self.invariant
 
-pub returns-in_err-place-clause-err : goal.returns-in_err-place-clause-err
-returns-in_err-place-clause-err c =
+pub returns-in_err-position-clause-err : goal.returns-in_err-position-clause-err
+returns-in_err-position-clause-err c =
     OnErr_any _ _
     (ap (λ (entries : List Entry). book_of c.self.inside.table c.self.inside.shard
     c.self.inside.shards entries)
     (history-same (tokens_of c.self.inside.accounts) (tokens_of c.step.new.self)
     c.self.inside.history.items c.reserve.new.self.items c.reserve.ensures.items
-    c.self.invariant.placed c.in_err-place.ensures.places)
+    c.self.invariant.placed c.in_err-position.ensures.positions)
     ∙ c.self.view_is)
 
-pub returns-in_err-place-clause-legal : goal.returns-in_err-place-clause-legal
-returns-in_err-place-clause-legal c =
-    (book-same c.reserve.ensures.items c.in_err-place.ensures.places c.in_err-place.ensures.err
-    c.in_err-place.ensures.counting c.self.invariant).sound.legal
+pub returns-in_err-position-clause-legal : goal.returns-in_err-position-clause-legal
+returns-in_err-position-clause-legal c =
+    (book-same c.reserve.ensures.items c.in_err-position.ensures.positions c.in_err-position.ensures.err
+    c.in_err-position.ensures.counting c.self.invariant).sound.legal
 
 -- the entry that was appended
 abbrev entry_of_post : After-push_reserved → Entry
@@ -52,9 +52,9 @@ entry_of_post c = record {
   validator = c.validator_number-validator.result;
   moment =
       c.moment_ms-moment.result;
-  answer = c.in_ok-place.reply.answer;
+  answer = c.in_ok-position.reply.answer;
   cents =
-      c.in_ok-place.reply.cents;
+      c.in_ok-position.reply.cents;
 }
 
 -- the packed one was appended to the old ones
@@ -72,9 +72,9 @@ pushed : (c : After-push_reserved)
 pushed c =
     history-push (tokens_of c.self.inside.accounts) (tokens_of c.step.new.self)
     c.self.inside.history.items c.push_reserved.new.self.items c.of-packed.result (entry_of_post c)
-    (packed_push c) c.self.invariant.placed c.in_ok-place.ensures.places
-    (c.of-packed.ensures.stands (tokens_of c.step.new.self) c.of-token.result
-    c.in_ok-place.ensures.place)
+    (packed_push c) c.self.invariant.placed c.in_ok-position.ensures.positions
+    (c.of-packed.ensures.holds (tokens_of c.step.new.self) c.of-token.result
+    c.in_ok-position.ensures.position)
 
 -- the parts of the book are sound with it
 sound : (c : After-push_reserved)
@@ -95,22 +95,22 @@ sound c =
     ∙ sym (ap (λ (b : Book). b.shard) view))
     c.of-token.ensures.fits
     c.mode_of-mode.ensures.mode
-    c.in_ok-place.ensures.reply
-    c.in_ok-place.ensures.kept
-    c.in_ok-place.ensures.counted
-    c.in_ok-place.ensures.counting
-    c.in_ok-place.ensures.others
+    c.in_ok-position.ensures.reply
+    c.in_ok-position.ensures.kept
+    c.in_ok-position.ensures.counted
+    c.in_ok-position.ensures.counting
+    c.in_ok-position.ensures.others
 
 pub invariant_of-self-2 : goal.invariant_of-self-2
 invariant_of-self-2 c = record {
   sound = sound c;
   placed = placed-push (tokens_of c.self.inside.accounts) (tokens_of c.step.new.self)
       c.self.inside.history.items c.push_reserved.new.self.items c.of-packed.result
-      (packed_push c) c.self.invariant.placed c.in_ok-place.ensures.places (
+      (packed_push c) c.self.invariant.placed c.in_ok-position.ensures.positions (
         c.of-token.result,
         subst
-            (λ (place : ℕ). slice_get (tokens_of c.step.new.self) place ≡ Some c.of-token.result)
-            (sym c.of-packed.ensures.place) c.in_ok-place.ensures.place,
+            (λ (position : ℕ). slice_get (tokens_of c.step.new.self) position ≡ Some c.of-token.result)
+            (sym c.of-packed.ensures.position) c.in_ok-position.ensures.position,
       );
 }
 

@@ -1,8 +1,8 @@
 use Rattle.std.proofs.Common.{◌≡◌, ◌∙◌, ap, refl, arith}
 use Rattle.std.proofs.lemmas.Result.{err_from_is_err_and}
 use Rattle.shard_book.specs.Book.{with_entries}
-use Rattle.shared_books.proofs.Passing.{full_told, full_pass_is, brings, entries_now, legal_now}
-use Rattle.shared_books.proofs.Passing.{pass_visits, visit_told, held_small}
+use Rattle.shared_books.proofs.Passing.{full_reported, full_pass_is, brings, entries_now, legal_now}
+use Rattle.shared_books.proofs.Passing.{pass_visits, visit_reported, held_small}
 use Rattle.shared_books.proofs.turns.SharedBook.visit.Goals as goal
 
 pub invariant_of-pass : goal.invariant_of-pass
@@ -11,7 +11,7 @@ invariant_of-pass g c = full_pass_is _ _ _ c.pass.invariant c.in_err-number.ensu
 pub returns-in_err-number-clause-full : goal.returns-in_err-number-clause-full
 returns-in_err-number-clause-full g c =
     let p = err_from_is_err_and c.from_residual.result c.from_residual.ensures.1 in
-    let t = full_told _ _ _ _ _ c.pass.view_is c.take.ensures.same c.in_err-number.ensures.full in
+    let t = full_reported _ _ _ _ _ c.pass.view_is c.take.ensures.same c.in_err-number.ensures.full in
     rw p.1 (t.0, t.1, refl)
 
 pub give-requires-clause-brings : goal.give-requires-clause-brings
@@ -41,7 +41,7 @@ returns-clause-visit g c =
     let taken = c.in_ok-number.ensures.taken in
     record {
       visit = posted.visit;
-      stands = visit_told _ _ _ _ _ _ _ _ posted.visit c.pass.view_is
+      holds = visit_reported _ _ _ _ _ _ _ _ posted.visit c.pass.view_is
           (c.give.ensures.same ∙ c.take.ensures.same) taken
           (c.give.ensures.given posted.visit (entries_now _ _ _ _ _ _ taken appended))
           (legal_now _ _ _ _ _ _ taken appended c.post_run-how.ensures.legal);

@@ -3,7 +3,7 @@ use Rattle.std.proofs.Common.{append_assoc, append-nil, arith, length-append}
 use Rattle.std.proofs.lemmas.List.{length-take, take_all, take_more}
 use Rattle.tap_views.specs.declared.encoder.TapFields.{TapFields}
 use Rattle.settled_texts.specs.ExplainedTaps.{last_token}
-use Rattle.settled_texts.proofs.TapsExplained.{fall_here, last_append}
+use Rattle.settled_texts.proofs.TapsExplained.{nondecreasing_here, last_append}
 use Rattle.sorted_bills.specs.inside.OpenBills.{IsOpenBill}
 use Rattle.sorted_bills.proofs.open_bill.OpenBill.add.Goals as goal
 
@@ -17,8 +17,8 @@ loop-tap-init c = record {
 
 pub add_tap-requires-clause-up : goal.add_tap-requires-clause-up
 add_tap-requires-clause-up c =
-    fall_here c.args.self.now.replay.token c.loop-tap.self.replay.token c.args.taps.now
-    c.loop-tap.tap-index _ c.loop-tap-test.true c.requires.no_fall c.loop-tap.invariant.token
+    nondecreasing_here c.args.self.now.replay.token c.loop-tap.self.replay.token c.args.taps.now
+    c.loop-tap.tap-index _ c.loop-tap-test.true c.requires.nondecreasing c.loop-tap.invariant.token
 
 pub add_tap-requires-clause-bill : goal.add_tap-requires-clause-bill
 add_tap-requires-clause-bill c =

@@ -18,7 +18,7 @@ returns-clause-bill c = λ fares. record {
   below = All-nil (λ (t : Token). All (λ (o : Token). token_cmp t o ≡ Less)
       (c.of.result.token ∷ []));
   its = All-nil (λ (tap : TapFields). token_of_tap tap ≡ c.of.result.token);
-  stands = c.of.ensures.none fares [] refl;
+  holds = c.of.ensures.none fares [] refl;
   tally = c.new-4.ensures;
   some = λ e. absurd (let wrong : false ≡ true = e in cc);
   none = λ e. refl;

@@ -10,7 +10,7 @@ use Rattle.sorted_bills.proofs.open_bill.OpenBill.post.Goals as goal
 
 pub next-entry-requires-clause-posted : goal.next-entry-requires-clause-posted
 next-entry-requires-clause-posted c =
-    let (taps, is, few) = c.requires.bill in (posted c.args.table.now is.last, is.stands)
+    let (taps, is, few) = c.requires.bill in (posted c.args.table.now is.last, is.holds)
 
 pub add-requires : goal.add-requires
 add-requires c =
@@ -32,8 +32,8 @@ returns-clause-bill c = λ taps is.
     let old = c.args.self.now in
     let done = posted fares is.last in
     one_more fares taps old _ c.args.tap.now c.next-entry.result is c.requires.its
-    c.next-entry.ensures.token (c.next-entry.ensures.entry done is.stands)
-    (c.next-entry.ensures.posted done is.stands)
+    c.next-entry.ensures.token (c.next-entry.ensures.entry done is.holds)
+    (c.next-entry.ensures.posted done is.holds)
     (c.add.ensures ∙ ap
     (λ (r : Reply). add_sums (sums_of_tally old.tally) (sums_of_replies (r ∷ [])))
     c.reply.ensures) refl refl refl

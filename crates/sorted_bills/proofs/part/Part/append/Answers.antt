@@ -2,7 +2,7 @@ use Rattle.std.proofs.Common.{List, ◌++◌, arith, length-append, refl, subst,
 use Rattle.std.proofs.lemmas.List.Elements.{All-append}
 use Rattle.tap_views.proofs.TokensUp.{up_chain}
 use Rattle.settlement.specs.Posted.{HasName}
-use Rattle.sorted_taps.specs.Spans.{HaveCome}
+use Rattle.sorted_taps.specs.Spans.{HaveConsumed}
 use Rattle.sorted_taps.specs.declared.reader.TapReader.{TapReader}
 use Rattle.sorted_bills.proofs.Parts.{From, below_bound, billed_both, from_lower, less_is_up}
 use Rattle.sorted_bills.proofs.Parts.{up_to_next}
@@ -26,9 +26,9 @@ returns c = λ fares known few others part next.
           record {
             from = span.from;
             begins = span.begins;
-            come = c.in-Some.ensures files span.from part.taps next.taps
-                (subst (λ (rs : List TapReader). HaveCome files span.from part.taps rs)
-                (sym c.deref.ensures.value) span.come) (next.spanned files are);
+            consumed = c.in-Some.ensures files span.from part.taps next.taps
+                (subst (λ (rs : List TapReader). HaveConsumed files span.from part.taps rs)
+                (sym c.deref.ensures.value) span.consumed) (next.spanned files are);
           };
       named = All-append HasName part.taps next.taps part.named next.named;
       bill_is = billed_both fares part.taps next.taps c.args.self.now.bill c.args.more.bill

@@ -16,8 +16,8 @@ advance-requires-clause-head g c =
     let least = subst
     (λ l. MatchOption l (AreAtEnd readers) (λ least. IsLeastHead readers least.0 least.1))
     c.in-Some.is (c.least_of.ensures readers ranked) in
-    let (rest, stands) = least.head reader in
-    let long = ap length (ap ahead c.index_mut-reader.ensures.value ∙ stands) in
+    let (rest, holds) = least.head reader in
+    let long = ap length (ap ahead c.index_mut-reader.ensures.value ∙ holds) in
     omega (arith, long)
 
 pub put_head-requires-clause-ranked : goal.put_head-requires-clause-ranked

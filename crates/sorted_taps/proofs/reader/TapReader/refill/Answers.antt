@@ -3,7 +3,7 @@ use Rattle.std.proofs.lemmas.List.{nil_from_length}
 use Rattle.sorted_taps.specs.Reading.{AreTapsBetween}
 use Rattle.sorted_taps.specs.inside.Decoding.{IsReadOn}
 use Rattle.sorted_taps.proofs.Known.{known_all, known_map2}
-use Rattle.sorted_taps.proofs.Between.{between_none, read_behind, end_behind}
+use Rattle.sorted_taps.proofs.Between.{between_none, read_after, end_after}
 use Rattle.sorted_taps.proofs.reader.TapReader.refill.Goals.{then-used-eq0-via-then-used-eq0}
 use Rattle.sorted_taps.proofs.reader.TapReader.refill.Goals.{then-used-eq0-via-else-used-eq0+then-not-is_empty}
 use Rattle.sorted_taps.proofs.reader.TapReader.refill.Goals as goal
@@ -36,7 +36,7 @@ loop-preserved g c =
           (λ all. IsReadOn all at taps used) (λ all. AreTapsBetween all from (at + used) [])
           (g.F.Placed.bytes c.args.file.now)
           (λ all none on. subst (λ t. AreTapsBetween all from (at + used) t) empty
-          (read_behind all from at used taps none on))
+          (read_after all from at used taps none on))
           c.loop.invariant.between c.in_ok-used.ensures.batches;
     }
 
@@ -56,8 +56,8 @@ returns-then-used-eq0-clause-kept g c =
     known_map2 (λ all. AreTapsBetween all from at []) (λ all. IsReadOn all at taps used) _
     (g.F.Placed.bytes c.args.file.now)
     (λ all none on. record {
-      between = read_behind all from at used taps none on;
+      between = read_after all from at used taps none on;
       first = c.loop.invariant.first;
-      end = end_behind all at used taps on why;
+      end = end_after all at used taps on why;
       number = c.loop.invariant.number;
     }) c.loop.invariant.between c.in_ok-used.ensures.batches

@@ -1,14 +1,14 @@
 use Rattle.std.proofs.Common.{length, ap, refl, arith, length-append}
 use Rattle.tap_views.specs.Files.{taps_of_batches}
 use Rattle.tap_parts.proofs.Adding.{none_added, batch_added}
-use Rattle.tap_views.proofs.ReadingLemmas.{read_end, read_on, room_on, taps_more}
+use Rattle.tap_views.proofs.ParseLemmas.{read_end, read_on, room_on, taps_more}
 use Rattle.tap_parts.proofs.parts.Parts.add_upload.Goals as goal
 
 pub loop-batch-init : goal.loop-batch-init
 loop-batch-init g c = record {
   may = tt;
   ends = tt;
-  read = c.good_batches-good.ensures;
+  read = c.valid_batches-valid.ensures;
   added = none_added (g.P.PartRule.part_of c.args.rule.now) c.args.self.now;
   number = refl;
 }
@@ -36,7 +36,7 @@ loop-batch-preserved g c =
 pub overflow_add-taps : goal.overflow_add-taps
 overflow_add-taps g c =
     let before = c.loop-batch.invariant in
-    let room = room_on c.args.upload.now c.loop-batch.yielded c.in-Some.batch c.loop-batch.good
+    let room = room_on c.args.upload.now c.loop-batch.yielded c.in-Some.batch c.loop-batch.valid
     c.next.new.self before.read c.in-Some.ensures.steps in
     omega (arith, room.0, before.number, c.len.ensures.number)
 

@@ -4,5 +4,5 @@ use Rattle.tap_rows.proofs.agency.reading.field_in.Goals as goal
 
 pub returns-in-None : goal.returns-in-None
 returns-in-None c = λ within. absurd
-    (none_there (fields_of c.args.row.now) c.args.place c.get.result c.get.ensures.value
+    (none_there (fields_of c.args.row.now) c.args.position c.get.result c.get.ensures.value
     c.in-None.is within)

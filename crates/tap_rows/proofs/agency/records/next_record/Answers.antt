@@ -7,17 +7,17 @@ use Rattle.tap_rows.specs.AgencyTexts.{config_of}
 use Rattle.tap_rows.proofs.agency.records.next_record.Goals as goal
 
 pub returns-in-Ok-clause-more : goal.returns-in-Ok-clause-more
-returns-in-Ok-clause-more g c = λ found separator bytes rows come.
-    let read = rw found at (c.in-Ok.ensures.reads come.trims come.ready) in
+returns-in-Ok-clause-more g c = λ found separator bytes rows consumed.
+    let read = rw found at (c.in-Ok.ensures.reads consumed.trims consumed.ready) in
     let (left, source, reached) =
     rows-more g.R.Read.remaining c.args.reader.now c.read_byte_record.new.self
     (fields_of c.read_byte_record.new.row) (config_of separator) StartRecord (strip_bom bytes)
-    come.left rows come.config come.source come.reached read in
+    consumed.left rows consumed.config consumed.source consumed.reached read in
     record {
       left = left;
-      config = read.2 ∙ come.config;
-      trims = read.3 ∙ come.trims;
-      ready = inl (c.in-Ok.ensures.ready come.trims);
+      config = read.2 ∙ consumed.config;
+      trims = read.3 ∙ consumed.trims;
+      ready = inl (c.in-Ok.ensures.ready consumed.trims);
       source = source;
       reached = reached;
     }

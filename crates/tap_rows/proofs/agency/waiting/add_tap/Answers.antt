@@ -1,7 +1,7 @@
 use Rattle.std.proofs.Common.{◌∙◌, [], ◌∷◌, ◌++◌, ap, subst, sym, vec_items}
 use Rattle.std.proofs.lemmas.Result.{err_from_is_err_and}
 use Rattle.tap_rows.specs.inside.WaitingTaps.{AreWritten}
-use Rattle.tap_rows.proofs.AgencyBegunLemmas.{still_waiting}
+use Rattle.tap_rows.proofs.AgencyStartedLemmas.{still_waiting}
 use Rattle.tap_rows.proofs.GoingLemmas.{moved, one_waits}
 use Rattle.tap_rows.proofs.agency.waiting.add_tap.Goals as goal
 use Rattle.tap_rows.proofs.agency.waiting.add_tap.Goals.{then-len-eq-MAX_TAPS+in_ok-write_waiting}
@@ -23,8 +23,8 @@ returns-clause-written g c = λ old taps is.
     subst (λ ts. AreWritten old out ts (taps ++ c.args.tap ∷ [])) (sym c.in_ok-push.ensures.items)
     (one_waits old out waiting taps c.args.tap now)
 
-pub returns-in_err-push-clause-begun : goal.returns-in_err-push-clause-begun
-returns-in_err-push-clause-begun g c =
+pub returns-in_err-push-clause-started : goal.returns-in_err-push-clause-started
+returns-in_err-push-clause-started g c =
     let p = err_from_is_err_and c.from_residual-in_err-push.result
     c.from_residual-in_err-push.ensures.1 in
     rw p.1 (λ old taps is.

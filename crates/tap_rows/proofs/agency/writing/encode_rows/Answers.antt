@@ -1,14 +1,14 @@
 use Rattle.std.proofs.lemmas.Option.{IfSome_then}
-use Rattle.tap_rows.proofs.AgencyBegunLemmas.{whole_begun}
+use Rattle.tap_rows.proofs.AgencyStartedLemmas.{whole_started}
 use Rattle.tap_rows.proofs.OneSummary.{no_fault_again, summary_again}
 use Rattle.tap_rows.specs.declared.agency.fault.AgencyFault.TheVariants as fault
 use Rattle.std.proofs.Common.{◌≡◌}
 use Rattle.tap_rows.proofs.agency.writing.encode_rows.Goals as goal
 
-pub returns-else-is_same-clause-begun : goal.returns-else-is_same-clause-begun
-returns-else-is_same-clause-begun g c =
+pub returns-else-is_same-clause-started : goal.returns-else-is_same-clause-started
+returns-else-is_same-clause-started g c =
     IfSome_then (g.S.Read.remaining c.args.again) c.in-Ok.ensures.upload (λ text encoded.
-    whole_begun c.args.choice.now text (g.W.Write.contents c.args.out.now)
+    whole_started c.args.choice.now text (g.W.Write.contents c.args.out.now)
     (g.W.Write.contents c.encode_some_rows-2.new.out) _ _ c.in-Ok.summary encoded)
 
 pub returns-else-is_same-clause-same : goal.returns-else-is_same-clause-same

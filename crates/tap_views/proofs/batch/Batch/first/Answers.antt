@@ -43,8 +43,8 @@ returns-clause-only c front rest taps batch whole =
 
 pub returns-in_err-count-clause-refused : goal.returns-in_err-count-clause-refused
 returns-in_err-count-clause-refused c fault is =
-    let told = err_from_is_err_and c.from_residual.result c.from_residual.ensures.1 in
-    rw (told.1, told.2) (ap Err
+    let reported = err_from_is_err_and c.from_residual.result c.from_residual.ensures.1 in
+    rw (reported.1, reported.2) (ap Err
     (same_fault c.args.bytes.now c.in_err-count.field-0.0 fault c.in_err-count.ensures.fault
     is))
 

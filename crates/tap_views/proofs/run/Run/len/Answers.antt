@@ -11,7 +11,7 @@ returns-in-Some-clause-number c =
     let taps = taps_in (layout_of c.self.inside.shared) c.self.inside.count
     c.self.inside.records.now in
     rw (← c.self.view_is)
-    (kept_count c.self.inside.places c.in-Some.places c.self.inside.shard c.self.inside.shards
+    (kept_count c.self.inside.positions c.in-Some.positions c.self.inside.shard c.self.inside.shards
     taps c.in-Some.is c.self.invariant.3)
 
 pub returns-in-Some-clause-most : goal.returns-in-Some-clause-most
@@ -19,8 +19,8 @@ returns-in-Some-clause-most c =
     let layout = layout_of c.self.inside.shared in
     let bytes = c.self.inside.records.now in
     let taps = taps_in layout c.self.inside.count bytes in
-    let number : length c.in-Some.places.now ≡ _
-    = kept_count c.self.inside.places c.in-Some.places c.self.inside.shard c.self.inside.shards taps
+    let number : length c.in-Some.positions.now ≡ _
+    = kept_count c.self.inside.positions c.in-Some.positions c.self.inside.shard c.self.inside.shards taps
     c.in-Some.is c.self.invariant.3 in
     omega (
       arith,
@@ -35,8 +35,8 @@ overflow_cast-result c =
     let layout = layout_of c.self.inside.shared in
     let bytes = c.self.inside.records.now in
     let taps = taps_in layout c.self.inside.count bytes in
-    let number : length c.in-Some.places.now ≡ _
-    = kept_count c.self.inside.places c.in-Some.places c.self.inside.shard c.self.inside.shards taps
+    let number : length c.in-Some.positions.now ≡ _
+    = kept_count c.self.inside.positions c.in-Some.positions c.self.inside.shard c.self.inside.shards taps
     c.in-Some.is c.self.invariant.3 in
     omega (
       arith,

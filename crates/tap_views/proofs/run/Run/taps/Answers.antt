@@ -12,7 +12,7 @@ invariant_of-result-2 c =
     c.self.inside.records.now in (
       c.self.invariant.1,
       c.self.invariant.2,
-      kept_below c.self.inside.places c.self.inside.shard c.self.inside.shards taps
+      kept_below c.self.inside.positions c.self.inside.shard c.self.inside.shards taps
           c.self.invariant.3,
     )
 
@@ -21,7 +21,7 @@ returns-clause-taps c =
     let taps = taps_in (layout_of c.self.inside.shared) c.self.inside.count
     c.self.inside.records.now in
     rw (← c.self.view_is)
-    (kept_left c.self.inside.places c.self.inside.shard c.self.inside.shards taps
+    (kept_left c.self.inside.positions c.self.inside.shard c.self.inside.shards taps
     c.self.invariant.3)
 
 pub returns-clause-in_shard : goal.returns-clause-in_shard

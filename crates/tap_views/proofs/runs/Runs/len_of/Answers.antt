@@ -1,9 +1,9 @@
 use Rattle.std.proofs.Common.{◌≡◌, ◌<◌, [], length, get_or, ap, ◌∙◌, arith}
 use Rattle.std.proofs.lemmas.List.{get_or_default}
-use Rattle.tap_views.specs.Runs.{places_from}
+use Rattle.tap_views.specs.Runs.{positions_from}
 use Rattle.tap_views.specs.Shards.{run_of}
 use Rattle.tap_views.proofs.RunLemmas.{few_taps}
-use Rattle.tap_views.proofs.Sorted.{places_count}
+use Rattle.tap_views.proofs.Sorted.{positions_count}
 use Rattle.tap_views.proofs.runs.Runs.len_of.Goals as goal
 
 pub returns-clause-number : goal.returns-clause-number
@@ -11,12 +11,12 @@ returns-clause-number c =
     let lists = c.self.inside.lists.items in
     let within : c.args.shard < length lists = rw c.self.view_is c.requires.below in
     let each : get_or lists c.args.shard []
-    ≡ places_from c.args.shard (length lists) 0 c.args.batch.now =
+    ≡ positions_from c.args.shard (length lists) 0 c.args.batch.now =
     rw c.self.view_is (c.requires.runs.each c.args.shard c.requires.below) in
     rw (← c.self.view_is)
     (ap length (c.as_slice.ensures ∙ c.index.ensures
     ∙ get_or_default lists c.args.shard c.index.result.now [] within ∙ each)
-    ∙ places_count c.args.shard (length lists) 0 c.args.batch.now)
+    ∙ positions_count c.args.shard (length lists) 0 c.args.batch.now)
 
 pub returns-clause-most : goal.returns-clause-most
 returns-clause-most c =

@@ -10,10 +10,10 @@ pub returns : goal.returns
 returns c =
     let items = c.self.inside.later.items in
     let item = c.index-dated.result.now in
-    let within : c.args.place < length (map dated_meaning items) =
+    let within : c.args.position < length (map dated_meaning items) =
     rw (← c.self.view_is) at c.requires in
-    let below : c.args.place < length items =
+    let below : c.args.position < length items =
     omega (arith, within, length-map items dated_meaning) in
-    ap (λ (fares : Fares). slice_get fares.later c.args.place) (sym c.self.view_is)
-    ∙ got items c.args.place item below c.index-dated.ensures
+    ap (λ (fares : Fares). slice_get fares.later c.args.position) (sym c.self.view_is)
+    ∙ got items c.args.position item below c.index-dated.ensures
     ∙ ap (λ t. Some (item.from, t.meaning)) (sym c.deref.ensures)

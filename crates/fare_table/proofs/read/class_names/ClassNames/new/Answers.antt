@@ -18,5 +18,5 @@ invariant_of-result c = record {
   listed = sym (c.loop-name.invariant
       ∙ ap (λ more. map (λ name. name.now) c.loop-name.names.items ++ names_in (members_view more))
       c.in-None.ensures.steps.0 ∙ append-nil _);
-  rising = ordered_view c.args.classes.now.entries c.len.ensures.ordered;
+  increasing = ordered_view c.args.classes.now.entries c.len.ensures.ordered;
 }

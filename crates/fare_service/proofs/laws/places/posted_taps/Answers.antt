@@ -1,9 +1,0 @@
-use Rattle.fare_service.proofs.GatheredWork.{Given}
-use Rattle.fare_service.proofs.HeadlineLemmas.{gathered_of}
-use Rattle.fare_service.proofs.PlacingLemmas.{posted_reported}
-use Rattle.fare_service.proofs.laws.places.posted_taps.Goals as goal
-
-pub returns : goal.returns
-returns c = λ fares shards files works outcome headline upload end at.
-    let given : Given = record { table = fares; shards = shards; uploads = files } in
-    posted_reported given works outcome (gathered_of given works outcome headline) upload end at

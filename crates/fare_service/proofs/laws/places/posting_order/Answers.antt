@@ -1,5 +1,0 @@
-use Rattle.fare_service.proofs.OrderLemmas.{reordered}
-use Rattle.fare_service.proofs.laws.places.posting_order.Goals as goal
-
-pub returns : goal.returns
-returns c = λ shards batches some. reordered shards batches some

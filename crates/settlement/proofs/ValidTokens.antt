@@ -1,0 +1,52 @@
+-- The good taps of uploads have tokens of 16 bytes.
+use Rattle.std.proofs.Common.{ℕ, List, All, None, map, ap, subst, ◌∙◌, []}
+use Rattle.std.proofs.lemmas.List.Elements.{All-weaker}
+use Rattle.tariffs.specs.Fares.{Fares}
+use Rattle.tariffs.specs.declared.window_span.WindowSpan.TheVariants.{CalendarDay}
+use Rattle.histories.specs.Entry.{AreEntriesOf}
+use Rattle.histories.specs.declared.entry.Entry.{Entry}
+use Rattle.tap_views.specs.Encoding.{fields_of}
+use Rattle.tap_views.specs.Files.{AreValidTapsOfEach, HasUniqueParse}
+use Rattle.tap_views.specs.Layout.{Tap}
+use Rattle.tap_parts.specs.Canonical.{HasTokenBytes}
+use Rattle.tap_parts.specs.Parts.{taps_of_uploads}
+use Rattle.histories.specs.Plain.{IsPlain}
+use Rattle.histories.proofs.PlainReplies.{bare, plain_bare}
+use Rattle.settlement.proofs.Own.{IsNamedBy}
+use Rattle.settlement.proofs.Ranges.{has_token_bytes}
+use Rattle.tap_views.proofs.ParseLemmas.{one_list}
+use Rattle.settlement.proofs.OwnEntries.{fields_named}
+
+-- a table of nothing: taps have the same tokens under any
+some_fares : Fares
+some_fares = record {
+  meaning = record {
+    modes = [];
+    transfers = [];
+    classes = [];
+    names = [];
+    standard = 0;
+    ranges = [];
+    riders = [];
+    zone = None;
+    window = CalendarDay;
+  };
+  later = [];
+  zone = record { rule = None };
+}
+
+-- the entries of the plain history, which the uploads have under any table, name the taps' tokens
+pub valid_tokens : (uploads : List (List ℕ)) (taps : List (List Tap)) → All HasUniqueParse uploads
+    → AreValidTapsOfEach uploads taps
+    → ((fares : Fares) → (history : List Entry) × IsPlain fares uploads history)
+    → ((fares : Fares) (history : List Entry) (plain : IsPlain fares uploads history)
+    → AreEntriesOf (taps_of_uploads plain.taps) history)
+    → All HasTokenBytes (map fields_of (taps_of_uploads taps))
+valid_tokens uploads taps unique_parse each some fields =
+    let (later, plain) = some some_fares in
+    let names = fields_named (taps_of_uploads plain.taps) later (fields some_fares later plain)
+    (ap (map bare) plain.entries ∙ plain_bare some_fares [] (taps_of_uploads plain.taps)) in
+    subst (λ ts. All HasTokenBytes (map fields_of (taps_of_uploads ts)))
+    (one_list uploads plain.taps taps unique_parse plain.each each)
+    (All-weaker IsNamedBy HasTokenBytes has_token_bytes (map fields_of (taps_of_uploads plain.taps))
+    names)

@@ -1,5 +1,0 @@
-use Rattle.tap_views.proofs.Reading.{is_read_as}
-use Rattle.tap_views.proofs.upload.good_batches.Goals as goal
-
-pub returns : goal.returns
-returns c = is_read_as c.args.upload.now

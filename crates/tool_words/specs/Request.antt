@@ -1,0 +1,204 @@
+-- What the words of the tools ask for.
+use Rattle.std.specs.Prelude.{ℕ, Bool, ◌&&◌, ◌||◌, if◌then◌else◌, nat_lt}
+use Rattle.std.specs.Prelude.{List, [], ◌∷◌, Option, Some, None, codes, false}
+use Rattle.std.specs.Prelude.{unwrap_or}
+use Rattle.std.specs.List.{count_by, list_any}
+use Rattle.std.specs.Option.{option_map_or}
+use Rattle.std.specs.Str.{bytes_eq}
+use Rattle.clap.specs.Words.{Row, Text, all_of, first_of, subcommand_of}
+use Rattle.program_manners.specs.Words.{is_given}
+use Rattle.tap_rows.specs.declared.agency.choice.Separator.{Separator}
+use Rattle.tap_rows.specs.declared.agency.choice.Unit.{Unit}
+use Rattle.tool_words.specs.Columns.{ColumnNames, columns_in, conditions_in, separator_in, unit_in}
+use Rattle.tool_words.specs.ToolLine.{breaks_rule, has_value, program}
+use Rattle.tool_words.specs.declared.usage_error.UsageError.{UsageError}
+use Rattle.tool_words.specs.declared.usage_error.UsageError.TheVariants as wrong
+
+-- what `encode` is asked for with columns, beside the file
+pub record RowsRequest : Type 0 where
+  pub columns : ColumnNames
+  -- the file of devices and their validators, if the rows have no validators' numbers
+  pub devices : Option Text
+  pub separator : Separator
+  -- what a plain number of the column of moments counts
+  pub unit : Unit
+  -- the column and the value of each condition
+  pub only : List (Text × Text)
+  -- the file of the rows that are no taps, if one is made
+  pub refused : Option Text
+
+-- what `uploads --good-part` is asked for
+pub record ValidPrefixRequest : Type 0 where
+  pub upload : Text
+  -- the file that is made
+  pub out : Text
+  pub has_tokens : Bool
+
+-- what `sort` is asked for
+pub record SortRequest : Type 0 where
+  pub is_merge : Bool
+  -- the file that is made
+  pub out : Text
+  -- the file of the uploads' ends, if one is made
+  pub ends : Option Text
+  pub uploads : List Text
+
+-- what `corrections` is asked for: the ledger of the bill that was issued, and the one in its place
+pub record CorrectionsRequest : Type 0 where
+  pub old : Text
+  pub new : Text
+  pub is_by_token : Bool
+
+-- What is asked for.
+pub data Request : Type 0 where
+  encode : Text → Request
+  -- the file of an agency's CSV, and how it is read
+  encode_rows : Text → RowsRequest → Request
+  decode : List Text → Request
+  valid_prefix : ValidPrefixRequest → Request
+  sort : SortRequest → Request
+  merge : List Text → Request
+  corrections : CorrectionsRequest → Request
+  usage_error : UsageError → Request
+  -- What only informs: `table`, `bounds`, or `uploads` without a good part. Its words may be wrong.
+  shows : Request
+
+-- whether the word represents standard input
+abbrev pub is_input : Text → Bool
+is_input word = bytes_eq word (codes "-")
+
+-- how many of the words represent standard input
+abbrev pub inputs_in : List Text → ℕ
+inputs_in words = count_by is_input words
+
+-- the words that are given under this name, in order
+abbrev pub named : Text → List Row → List Text
+named name rows = unwrap_or (all_of name rows) []
+
+-- one of the words that are given under this name represents standard input
+abbrev pub names_input : Text → List Row → Bool
+names_input name rows = list_any is_input (named name rows)
+
+-- the list of files is standard input, and so is a file
+abbrev pub has_input_twice : List Row → Bool
+has_input_twice rows = option_map_or is_input (first_of (codes "files-from") rows) false
+    && (names_input (codes "FILE") rows || (names_input (codes "UPLOAD") rows
+    || (names_input (codes "PART") rows || names_input (codes "table") rows)))
+
+-- standard input if there are no words
+abbrev pub or_input : List Text → List Text
+or_input [] = codes "-" ∷ []
+or_input (word ∷ words) = word ∷ words
+
+-- the file of the tap table, or of the agency's CSV
+abbrev pub encoded_file : List Row → Text
+encoded_file rows = unwrap_or (first_of (codes "FILE") rows) (codes "-")
+
+-- the devices are standard input, and so is the agency's CSV
+abbrev pub has_devices_twice : List Row → Bool
+has_devices_twice rows = is_input (encoded_file rows)
+    && option_map_or is_input (first_of (codes "validators") rows) false
+
+-- The rows of an agency's CSV, by these columns, with this separator and this unit, under these
+-- conditions; or which of them is wrong.
+abbrev pub rows_by : Option ColumnNames → Option Separator → Option Unit
+    → Option (List (Text × Text)) → List Row → Request
+rows_by None separator unit only rows = usage_error wrong.Columns
+rows_by (Some columns) None unit only rows = usage_error wrong.Separator
+rows_by (Some columns) (Some separator) None only rows = usage_error wrong.Unit
+rows_by (Some columns) (Some separator) (Some unit) None rows = usage_error wrong.Condition
+rows_by (Some columns) (Some separator) (Some unit) (Some only) rows =
+    if has_devices_twice rows then usage_error wrong.InputTwice
+    else encode_rows (encoded_file rows) (record {
+      columns = columns;
+      devices = first_of (codes "validators") rows;
+      separator = separator;
+      unit = unit;
+      only = only;
+      refused = first_of (codes "refused") rows;
+    })
+
+-- the rows of an agency's CSV
+abbrev pub rows_request : List Row → Request
+rows_request rows = rows_by (columns_in (unwrap_or (first_of (codes "columns") rows) []))
+    (separator_in (first_of (codes "separator") rows)) (unit_in (first_of (codes "unit") rows))
+    (conditions_in (named (codes "only") rows)) rows
+
+-- a tap table; else the rows of an agency's CSV, or what the words lack
+abbrev pub encode_request : List Row → Request
+encode_request rows =
+    if has_value (codes "columns") rows then rows_request rows
+    else (if has_value (codes "only") rows || (has_value (codes "separator") rows
+    || has_value (codes "refused") rows) then usage_error wrong.NoColumns
+    else (if has_value (codes "validators") rows then usage_error wrong.NoColumnsForValidators
+    else (if has_value (codes "unit") rows then usage_error wrong.NoColumnsForUnit
+    else encode (encoded_file rows))))
+
+-- the good part of one upload
+abbrev pub valid_prefix_request : Text → Bool → List Text → Request
+valid_prefix_request out has_tokens (upload ∷ []) =
+    valid_prefix (record { upload = upload; out = out; has_tokens = has_tokens })
+valid_prefix_request out has_tokens words = usage_error wrong.NotOneUpload
+
+-- a good part, or what uploads have
+abbrev pub uploads_request : List Row → Request
+uploads_request rows =
+    if has_value (codes "good-part") rows
+    then valid_prefix_request (unwrap_or (first_of (codes "good-part") rows) [])
+    (is_given (codes "tokens") rows) (named (codes "FILE") rows)
+    else shows
+
+-- Uploads that are merged are read at any offset, and standard input cannot be.
+abbrev pub sort_request : List Row → Request
+sort_request rows =
+    if nat_lt 0 (inputs_in (named (codes "UPLOAD") rows)) && is_given (codes "merge") rows
+    then usage_error wrong.InputMerged
+    else (if nat_lt 1 (inputs_in (named (codes "UPLOAD") rows)) then usage_error wrong.InputTwice
+    else sort (record {
+      is_merge = is_given (codes "merge") rows;
+      out = unwrap_or (first_of (codes "out") rows) (codes "-");
+      ends = first_of (codes "ends") rows;
+      uploads = named (codes "UPLOAD") rows;
+    }))
+
+abbrev pub merge_request : List Text → Request
+merge_request parts =
+    if nat_lt 1 (inputs_in parts) then usage_error wrong.InputTwice else merge parts
+
+abbrev pub corrections_request : CorrectionsRequest → Request
+corrections_request ledgers = if is_input ledgers.old && is_input ledgers.new
+    then usage_error wrong.InputTwice else corrections ledgers
+
+-- the ledgers of `corrections`
+abbrev pub ledgers_named : List Row → CorrectionsRequest
+ledgers_named rows = record {
+  old = unwrap_or (first_of (codes "OLD") rows) (codes "-");
+  new = unwrap_or (first_of (codes "NEW") rows) (codes "-");
+  is_by_token = is_given (codes "tokens") rows;
+}
+
+-- what a subcommand is asked for by what it is given; the last ones are `bounds` and `table`
+abbrev pub request_of_name : Text → List Row → Request
+request_of_name name rows =
+    if bytes_eq name (codes "encode") then encode_request rows
+    else (if bytes_eq name (codes "decode") then decode (or_input (named (codes "FILE") rows))
+    else (if bytes_eq name (codes "uploads") then uploads_request rows
+    else (if bytes_eq name (codes "sort") then sort_request rows
+    else (if bytes_eq name (codes "merge") then merge_request (named (codes "PART") rows)
+    else (if bytes_eq name (codes "corrections") then corrections_request (ledgers_named rows)
+    else shows)))))
+
+-- the same, unless standard input is named twice
+abbrev pub requested_once : Text → List Row → Request
+requested_once name rows =
+    if has_input_twice rows then usage_error wrong.InputTwice else request_of_name name rows
+
+-- the same, unless what is given breaks a rule between its arguments
+abbrev pub request_in : Option (Text × List Row) → Request
+request_in None = usage_error wrong.NoSubcommand
+request_in (Some entered) = if breaks_rule entered.0 entered.1 then usage_error wrong.Arguments
+    else requested_once entered.0 entered.1
+
+-- what these words ask for
+abbrev pub request_by : List Text → Request
+request_by words = request_in (subcommand_of program words)
