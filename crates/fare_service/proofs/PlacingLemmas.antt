@@ -35,26 +35,26 @@ use Rattle.fare_service.proofs.GatheredWork.{Given, IsBookOfWork, IsGathered}
 use Rattle.tap_views.proofs.Lists.{filter-filter, AllZip-append}
 
 -- a visit, and the upload of its taps
-record Labelled : Type 0 where
+record Labeled : Type 0 where
   upload : ℕ
   visit : RunVisit
 
-abbrev label : ℕ → RunVisit → Labelled
+abbrev label : ℕ → RunVisit → Labeled
 label upload visit = record { upload = upload; visit = visit }
 
 -- a labelled visit, and the worker that made it
 record By : Type 0 where
   worker : ℕ
-  made : Labelled
+  made : Labeled
 
-abbrev entries_made : Labelled → List Entry
+abbrev entries_made : Labeled → List Entry
 entries_made x = x.visit.entries
 
-abbrev labelled : List Worked → List Labelled
-labelled done = flat_map (λ w. map (label w.upload) w.visits) done
+abbrev labeled : List Worked → List Labeled
+labeled done = flat_map (λ w. map (label w.upload) w.visits) done
 
-abbrev to_shard : ℕ → List Worked → List Labelled
-to_shard shard done = filter (λ x. x.visit.shard == shard) (labelled done)
+abbrev to_shard : ℕ → List Worked → List Labeled
+to_shard shard done = filter (λ x. x.visit.shard == shard) (labeled done)
 
 abbrev works_at : ℕ → List (List Worked) → List Worked
 works_at worker works = get_or works worker []
@@ -77,32 +77,32 @@ filter-map p f (x ∷ xs) =
     ∙ kept_map f (p (f x)) x (filter (λ y. p (f y)) xs)
 
 -- the visits without their labels
-unlabelled : (done : List Worked) → map (λ x. x.visit) (labelled done) ≡ all_visits done
-unlabelled [] = refl
-unlabelled (w ∷ done) =
-    map-append (λ (x : Labelled). x.visit) (map (label w.upload) w.visits) (labelled done)
-    ∙ (ap (λ vs. vs ++ map (λ (x : Labelled). x.visit) (labelled done))
-    (map-map (λ (x : Labelled). x.visit) (label w.upload) w.visits ∙ same w.visits)
-    ∙ ap (λ vs. w.visits ++ vs) (unlabelled done))
+unlabeled : (done : List Worked) → map (λ x. x.visit) (labeled done) ≡ all_visits done
+unlabeled [] = refl
+unlabeled (w ∷ done) =
+    map-append (λ (x : Labeled). x.visit) (map (label w.upload) w.visits) (labeled done)
+    ∙ (ap (λ vs. vs ++ map (λ (x : Labeled). x.visit) (labeled done))
+    (map-map (λ (x : Labeled). x.visit) (label w.upload) w.visits ∙ same w.visits)
+    ∙ ap (λ vs. w.visits ++ vs) (unlabeled done))
   where
     same : (vs : List RunVisit) → map (λ v. v) vs ≡ vs
     same [] = refl
     same (v ∷ vs) = ap (λ ws. v ∷ ws) (same vs)
 
-unlabelled_to : (shard : ℕ) (done : List Worked)
+unlabeled_to : (shard : ℕ) (done : List Worked)
     → map (λ x. x.visit) (to_shard shard done) ≡ visits_to shard (all_visits done)
-unlabelled_to shard done =
-    sym (filter-map (λ v. v.shard == shard) (λ (x : Labelled). x.visit) (labelled done))
-    ∙ ap (filter (λ v. v.shard == shard)) (unlabelled done)
+unlabeled_to shard done =
+    sym (filter-map (λ v. v.shard == shard) (λ (x : Labeled). x.visit) (labeled done))
+    ∙ ap (filter (λ v. v.shard == shard)) (unlabeled done)
 
 entries_are : (shard : ℕ) (done : List Worked)
     → map entries_made (to_shard shard done) ≡ entries_to shard (all_visits done)
 entries_are shard done =
-    sym (map-map (λ (v : RunVisit). v.entries) (λ (x : Labelled). x.visit) (to_shard shard done))
-    ∙ ap (map (λ v. v.entries)) (unlabelled_to shard done)
+    sym (map-map (λ (v : RunVisit). v.entries) (λ (x : Labeled). x.visit) (to_shard shard done))
+    ∙ ap (map (λ v. v.entries)) (unlabeled_to shard done)
 
 -- The signed visits of a book, each as the visit that its worker made.
-record IsSpread (P : ℕ → Labelled → Type 0) (visits : List Signed) (left : ℕ → List Labelled) : Type
+record IsSpread (P : ℕ → Labeled → Type 0) (visits : List Signed) (left : ℕ → List Labeled) : Type
     0 where
   made : List By
   entries : map (λ y. entries_made y.made) made ≡ map (λ v. v.entries) visits
@@ -123,7 +123,7 @@ made_no w y ys b = ap
     (λ t. map (λ (z : By). z.made)
     (cond t (y ∷ filter (λ z. z.worker == w) ys) (filter (λ z. z.worker == w) ys))) b
 
-spread : (P : ℕ → Labelled → Type 0) (visits : List Signed) (left : ℕ → List Labelled)
+spread : (P : ℕ → Labeled → Type 0) (visits : List Signed) (left : ℕ → List Labeled)
     → ((w : ℕ) → by_worker w visits ≡ map entries_made (left w)) → ((w : ℕ) → All (P w) (left w))
     → IsSpread P visits left
 spread P [] left same all = record {
@@ -136,8 +136,8 @@ spread P [] left same all = record {
 }
 spread P (v ∷ visits) left same all = next (λ l s a. spread P visits l s a) (left v.worker) refl
   where
-    next : ((l : ℕ → List Labelled) → ((w : ℕ) → by_worker w visits ≡ map entries_made (l w))
-        → ((w : ℕ) → All (P w) (l w)) → IsSpread P visits l) → (xs : List Labelled)
+    next : ((l : ℕ → List Labeled) → ((w : ℕ) → by_worker w visits ≡ map entries_made (l w))
+        → ((w : ℕ) → All (P w) (l w)) → IsSpread P visits l) → (xs : List Labeled)
         → left v.worker ≡ xs → IsSpread P (v ∷ visits) left
     next go [] e =
         absurd (let h : v.entries ∷ by_worker v.worker visits ≡ [] =
@@ -152,11 +152,11 @@ spread P (v ∷ visits) left same all = next (λ l s a. spread P visits l s a) (
           (All-head (P v.worker) x xs first) rest.each;
     }
       where
-        l : ℕ → List Labelled
+        l : ℕ → List Labeled
         l = λ w. cond (v.worker == w) xs (left w)
 
         first : All (P v.worker) (x ∷ xs)
-        first = let A : List Labelled → Type 0 = All (P v.worker) in subst A e (all v.worker)
+        first = let A : List Labeled → Type 0 = All (P v.worker) in subst A e (all v.worker)
 
         begins : v.entries ∷ by_worker v.worker visits ≡ entries_made x ∷ map entries_made xs
         begins = sym (step_yes v.worker v visits (eq-eqb v.worker v.worker refl))
@@ -275,7 +275,7 @@ sole upload (done ∷ works) once =
         only (suc w) h = ap suc (rest.only w h)
 
 -- what is known of a labelled visit of a worker
-record IsMade (given : Given) (works : List (List Worked)) (worker : ℕ) (x : Labelled) : Type
+record IsMade (given : Given) (works : List (List Worked)) (worker : ℕ) (x : Labeled) : Type
     0 where
   entered : IsEntered given.shards x.visit
   within : x.upload < length given.uploads
@@ -294,14 +294,14 @@ drawn_there (w ∷ done) =
           (map (λ (y : Worked). y.upload) done),
     )) done (drawn_there done))
 
-labelled_all : (Q : Labelled → Type 0) (done : List Worked)
-    → All (λ w. All (λ v. Q (label w.upload v)) w.visits) done → All Q (labelled done)
-labelled_all Q [] all = All-nil Q
-labelled_all Q (w ∷ done) all =
-    All-append Q (map (label w.upload) w.visits) (labelled done)
+labeled_all : (Q : Labeled → Type 0) (done : List Worked)
+    → All (λ w. All (λ v. Q (label w.upload v)) w.visits) done → All Q (labeled done)
+labeled_all Q [] all = All-nil Q
+labeled_all Q (w ∷ done) all =
+    All-append Q (map (label w.upload) w.visits) (labeled done)
     (All-map Q (label w.upload) w.visits
     (All-head (λ x. All (λ v. Q (label x.upload v)) x.visits) w done all))
-    (labelled_all Q done (All-tail (λ x. All (λ v. Q (label x.upload v)) x.visits) w done all))
+    (labeled_all Q done (All-tail (λ x. All (λ v. Q (label x.upload v)) x.visits) w done all))
 
 both_all : {X : Type 0} (P Q : X → Type 0) (xs : List X) → All P xs → All Q xs
     → All (λ x. P x × Q x) xs
@@ -325,8 +325,8 @@ all_made : (given : Given) (works : List (List Worked))
     → All (IsMade given works worker) (to_shard shard (works_at worker works))
 all_made given works each shard worker =
     let done = works_at worker works in
-    All-filter (λ x. x.visit.shard == shard) (IsMade given works worker) (labelled done)
-    (labelled_all (IsMade given works worker) done
+    All-filter (λ x. x.visit.shard == shard) (IsMade given works worker) (labeled done)
+    (labeled_all (IsMade given works worker) done
     (All-weaker
     (λ w. IsWorkOf given.shards given.uploads w
     × (0 < drawn_times w.upload (works_at worker works)))
@@ -455,17 +455,17 @@ filter_within p q (x ∷ xs) all =
 
 -- the labelled visits for one upload
 labels_for : (upload : ℕ) (done : List Worked)
-    → filter (λ x. x.upload == upload) (labelled done) ≡ labelled (works_on upload done)
+    → filter (λ x. x.upload == upload) (labeled done) ≡ labeled (works_on upload done)
 labels_for upload [] = refl
 labels_for upload (w ∷ done) =
-    filter-append (λ (x : Labelled). x.upload == upload) (map (label w.upload) w.visits)
-    (labelled done) ∙ by_test (cases_Bool (w.upload == upload)) (labels_for upload done)
+    filter-append (λ (x : Labeled). x.upload == upload) (map (label w.upload) w.visits)
+    (labeled done) ∙ by_test (cases_Bool (w.upload == upload)) (labels_for upload done)
   where
     same : (vs : List RunVisit) → (w.upload == upload) ≡ true
         → filter (λ x. x.upload == upload) (map (label w.upload) vs) ≡ map (label w.upload) vs
     same [] b = refl
     same (v ∷ vs) b =
-        let more : List Labelled = filter (λ x. x.upload == upload) (map (label w.upload) vs) in
+        let more : List Labeled = filter (λ x. x.upload == upload) (map (label w.upload) vs) in
         ap (λ t. cond t (label w.upload v ∷ more) more) b
         ∙ ap (λ ys. label w.upload v ∷ ys) (same vs b)
 
@@ -473,23 +473,23 @@ labels_for upload (w ∷ done) =
         → filter (λ x. x.upload == upload) (map (label w.upload) vs) ≡ []
     none [] b = refl
     none (v ∷ vs) b =
-        let more : List Labelled = filter (λ x. x.upload == upload) (map (label w.upload) vs) in
+        let more : List Labeled = filter (λ x. x.upload == upload) (map (label w.upload) vs) in
         ap (λ t. cond t (label w.upload v ∷ more) more) b ∙ none vs b
 
     by_test : ((w.upload == upload) ≡ true) ⊎ ((w.upload == upload) ≡ false)
-        → filter (λ x. x.upload == upload) (labelled done) ≡ labelled (works_on upload done)
+        → filter (λ x. x.upload == upload) (labeled done) ≡ labeled (works_on upload done)
         → filter (λ x. x.upload == upload) (map (label w.upload) w.visits) ++ filter
-        (λ x. x.upload == upload) (labelled done) ≡ labelled (works_on upload (w ∷ done))
+        (λ x. x.upload == upload) (labeled done) ≡ labeled (works_on upload (w ∷ done))
     by_test (inl b) rest =
-        ap (λ ys. ys ++ filter (λ (x : Labelled). x.upload == upload) (labelled done))
+        ap (λ ys. ys ++ filter (λ (x : Labeled). x.upload == upload) (labeled done))
         (same w.visits b)
         ∙ (ap (λ ys. map (label w.upload) w.visits ++ ys) rest
-        ∙ sym (ap (λ t. labelled (cond t (w ∷ works_on upload done) (works_on upload done))) b))
+        ∙ sym (ap (λ t. labeled (cond t (w ∷ works_on upload done) (works_on upload done))) b))
     by_test (inr b) rest =
-        ap (λ ys. ys ++ filter (λ (x : Labelled). x.upload == upload) (labelled done))
+        ap (λ ys. ys ++ filter (λ (x : Labeled). x.upload == upload) (labeled done))
         (none w.visits b)
         ∙ (rest ∙ sym
-        (ap (λ t. labelled (cond t (w ∷ works_on upload done) (works_on upload done))) b))
+        (ap (λ t. labeled (cond t (w ∷ works_on upload done) (works_on upload done))) b))
 
 own_all : (given : Given) (works : List Worked) → All (IsWorkOf given.shards given.uploads) works
     → All (IsOwnVisit given.shards) (all_visits works)
@@ -511,13 +511,13 @@ exactly_posted given works each once shard upload made own all =
     origins_for upload made
     ∙ (ap taps_made
     (filter_within (λ y. y.made.upload == upload) (λ y. y.worker == s.worker) made implied)
-    ∙ (sym (flat_map-map (λ (x : Labelled). x.visit.taps) (λ (y : By). y.made)
+    ∙ (sym (flat_map-map (λ (x : Labeled). x.visit.taps) (λ (y : By). y.made)
     (made_for upload (filter (λ y. y.worker == s.worker) made)))
-    ∙ (ap (flat_map (λ (x : Labelled). x.visit.taps)) labels
-    ∙ (sym (flat_map-map (λ (v : RunVisit). v.taps) (λ (x : Labelled). x.visit)
+    ∙ (ap (flat_map (λ (x : Labeled). x.visit.taps)) labels
+    ∙ (sym (flat_map-map (λ (v : RunVisit). v.taps) (λ (x : Labeled). x.visit)
     (to_shard shard (works_on upload (all_works works))))
     ∙ (ap (flat_map (λ (v : RunVisit). v.taps))
-    (unlabelled_to shard (works_on upload (all_works works)))
+    (unlabeled_to shard (works_on upload (all_works works)))
     ∙ sym (shard_taps shard given.shards (all_visits (works_on upload (all_works works)))
     (own_all given (works_on upload (all_works works))
     (All-filter (λ w. w.upload == upload) (IsWorkOf given.shards given.uploads) (all_works works)
@@ -540,12 +540,12 @@ exactly_posted given works each once shard upload made own all =
     labels : map (λ y. y.made) (made_for upload (filter (λ y. y.worker == s.worker) made))
         ≡ to_shard shard (works_on upload (all_works works))
     labels =
-        sym (filter-map (λ (x : Labelled). x.upload == upload) (λ (y : By). y.made)
+        sym (filter-map (λ (x : Labeled). x.upload == upload) (λ (y : By). y.made)
         (filter (λ y. y.worker == s.worker) made))
-        ∙ (ap (filter (λ (x : Labelled). x.upload == upload)) (own s.worker)
-        ∙ (filter-filter (λ (x : Labelled). x.upload == upload) (λ x. x.visit.shard == shard)
-        (labelled (works_at s.worker works))
-        ∙ (ap (filter (λ (x : Labelled). x.visit.shard == shard))
+        ∙ (ap (filter (λ (x : Labeled). x.upload == upload)) (own s.worker)
+        ∙ (filter-filter (λ (x : Labeled). x.upload == upload) (λ x. x.visit.shard == shard)
+        (labeled (works_at s.worker works))
+        ∙ (ap (filter (λ (x : Labeled). x.visit.shard == shard))
         (labels_for upload (works_at s.worker works)) ∙ ap (to_shard shard) (sym s.found))))
 
 by_worker_at : (given : Given) (shard : ℕ) (works : List (List Worked)) (book : Book)

@@ -75,7 +75,7 @@ batch_named bytes taps (layout, batch) all =
     let records = flat_map (spelling layout) taps in
     let after_magic =
     (All-split (λ byte. byte < 256) (magic layout)
-    (batch.count ++ (0 ∷ 0 ∷ (shared layout ++ records))) (subst B batch.spelt all)).1 in
+    (batch.count ++ (0 ∷ 0 ∷ (shared layout ++ records))) (subst B batch.spelled all)).1 in
     let after_count =
     (All-split (λ byte. byte < 256) batch.count (0 ∷ 0 ∷ (shared layout ++ records))
     after_magic).1 in

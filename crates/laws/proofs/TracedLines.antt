@@ -18,10 +18,10 @@ put_after (byte ∷ fields) column text columns lacks =
     else byte ∷ with_columns (fields ++ 10 ∷ text) (column ∷ columns)) (ne_eqb byte 10 lacks.0)
     ∙ ap (λ (t : List ℕ). byte ∷ t) (put_after fields column text columns lacks.1)
 
-spelt : (fields class upload position rest : List ℕ)
+spelled : (fields class upload position rest : List ℕ)
     → fields ++ ((44 ∷ (class ++ 44 ∷ (upload ++ 44 ∷ position))) ++ 10 ∷ rest)
     ≡ (fields ++ 44 ∷ (class ++ 44 ∷ (upload ++ 44 ∷ (position ++ 10 ∷ [])))) ++ rest
-spelt fields class upload position rest = simp append_assoc
+spelled fields class upload position rest = simp append_assoc
 
 pub line_written : (fields class text : List ℕ) (traced : TracedTap) (columns : List (List ℕ))
     → Lacks 10 fields
@@ -29,4 +29,4 @@ pub line_written : (fields class text : List ℕ) (traced : TracedTap) (columns 
     ≡ traced_text (line_of fields class traced) ++ with_columns text columns
 line_written fields class text traced columns lacks =
     put_after fields (columns_of class traced) text columns lacks
-    ∙ spelt fields class (decimal traced.upload) (decimal traced.position) (with_columns text columns)
+    ∙ spelled fields class (decimal traced.upload) (decimal traced.position) (with_columns text columns)

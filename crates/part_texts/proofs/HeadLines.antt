@@ -70,10 +70,10 @@ to_joined None = refl
 to_joined (Some position) =
     position_joined (codes " to ") (decimal position.offset) (codes " skip ") (decimal position.skip) (10 ∷ [])
 
-span_spelt : (file : ℕ) (span : FileSpan) → span_line file span
+span_spelled : (file : ℕ) (span : FileSpan) → span_line file span
     ≡ ((codes "file " ++ decimal file) ++ (position_words (codes " from ") span.from ++ to_words span.to)) ++ 10 ∷ []
 unfolding span_line
-span_spelt file span =
+span_spelled file span =
     ap (λ (x : List ℕ). codes "file " ++ (decimal file ++ (codes " from " ++ (position_text span.from ++ x))))
     (to_joined span.to)
     ∙ joined (codes "file ") (decimal file) (codes " from ") (decimal span.from.offset) (codes " skip ")
@@ -86,7 +86,7 @@ span_spelt file span =
 pub span_complete : (file : ℕ) (span : FileSpan) → file < 2 ^ 64 → SpanFits span
     → span_in (span_line file span) ≡ Some (file, span)
 span_complete file span small fits =
-    ap span_in (span_spelt file span)
+    ap span_in (span_spelled file span)
     ∙ ap (option_map span_with) (line_complete span_form refl (file, (span.from, span.to))
     ((codes "file " ++ decimal file) ++ (position_words (codes " from ") span.from ++ to_words span.to)) (
       _,

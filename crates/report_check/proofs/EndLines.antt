@@ -13,7 +13,7 @@ use Rattle.ledger_check.proofs.LineLemmas.{lacks-tested, lines-line}
 use Rattle.ledger_check.proofs.FullCheckLemmas.{line_ends}
 use Rattle.ledger_check.specs.Lines.{IsLine, Lacks, lines_of}
 use Rattle.line_forms.specs.Forms.{value_if}
-use Rattle.report_texts.proofs.EndTexts.{line_words, refused_spelt, small_number}
+use Rattle.report_texts.proofs.EndTexts.{line_words, refused_spelled, small_number}
 use Rattle.report_texts.proofs.Lines.{head_complete, head_sound, upload_complete, upload_sound}
 use Rattle.report_texts.specs.FormLaws.{count_form, some_one}
 use Rattle.report_texts.specs.Forms.{count_at, head_in, upload_if, upload_in}
@@ -156,7 +156,7 @@ words_are : (end : UploadEnd) → IsReportEnd end → IsLine (end_words end)
 words_are (Posted taps) fits =
     number_line_is (codes " posted ") taps (lacks-tested 10 (codes " posted ") refl) fits
 words_are (Refused taps offset fault) fits =
-    subst IsLine (sym (refused_spelt taps offset fault))
+    subst IsLine (sym (refused_spelled taps offset fault))
     (line_ends (codes " refused ") _ (lacks-tested 10 (codes " refused ") refl)
     (line_ends (decimal taps) _ (decimal_lacks_feed taps fits.0)
     (line_ends (codes " at ") _ (lacks-tested 10 (codes " at ") refl)

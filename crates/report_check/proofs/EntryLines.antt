@@ -46,12 +46,12 @@ pub record CentsFields (fares : Fares) (token : Token) (number : ℕ) (entry : E
       ++ 44 ∷ (decimal entry.validator ++ 44 ∷ (mode_field fares entry.moment entry.validator
       ++ 44 ∷ (answer_text entry.answer ++ 44 ∷ (decimal entry.cents ++ 44 ∷ trailing))))))
 
-spelt : (token number moment validator mode answer cents trailing : List ℕ)
+spelled : (token number moment validator mode answer cents trailing : List ℕ)
     → (token ++ (44 ∷ [] ++ (number ++ 44 ∷ []))) ++ (moment ++ ((44 ∷ [] ++ (validator ++ (44 ∷ []
     ++ (mode ++ (44 ∷ [] ++ (answer ++ (44 ∷ [] ++ (cents ++ 44 ∷ [])))))))) ++ trailing))
     ≡ token ++ 44 ∷ (number ++ 44 ∷ (moment ++ 44 ∷ (validator ++ 44 ∷ (mode ++ 44 ∷ (answer
     ++ 44 ∷ (cents ++ 44 ∷ trailing))))))
-spelt token number moment validator mode answer cents trailing = simp append_assoc
+spelled token number moment validator mode answer cents trailing = simp append_assoc
 
 pub cents_fields : (fares : Fares) (token : Token) (number : ℕ) (entry : Entry) (why : Reason)
     (line : List ℕ) → IsLedgerLine fares token number entry why line
@@ -62,7 +62,7 @@ cents_fields fares token number entry why line is = record {
   is = is.is;
   trailing = is.reason_fields ++ 10 ∷ [];
   shown = is.shown
-      ∙ spelt (encode_lower (bytes_of token)) (decimal number) is.moment (decimal entry.validator)
+      ∙ spelled (encode_lower (bytes_of token)) (decimal number) is.moment (decimal entry.validator)
       (mode_field fares entry.moment entry.validator) (answer_text entry.answer)
       (decimal entry.cents)
       (is.reason_fields ++ 10 ∷ []);

@@ -21,21 +21,21 @@ line_words number end = refl
 named_by : (digit : ℕ) → digit < 10 → codes "L" ++ (48 + digit) ∷ [] ≡ codes "L" ++ decimal digit
 named_by digit one = ap (λ (t : List ℕ). codes "L" ++ t) (sym (decimal_digit digit one))
 
-name_spelt : (fault : LayoutFault) → fault_name fault ≡ codes "L" ++ decimal (fault_number fault)
-name_spelt (Short have) = named_by 1 (omega arith)
-name_spelt Magic = named_by 2 (omega arith)
-name_spelt Flags = named_by 3 (omega arith)
-name_spelt (TooMany count) = named_by 4 (omega arith)
-name_spelt (Length want have) = named_by 5 (omega arith)
-name_spelt (Moment index) = named_by 6 (omega arith)
+name_spelled : (fault : LayoutFault) → fault_name fault ≡ codes "L" ++ decimal (fault_number fault)
+name_spelled (Short have) = named_by 1 (omega arith)
+name_spelled Magic = named_by 2 (omega arith)
+name_spelled Flags = named_by 3 (omega arith)
+name_spelled (TooMany count) = named_by 4 (omega arith)
+name_spelled (Length want have) = named_by 5 (omega arith)
+name_spelled (Moment index) = named_by 6 (omega arith)
 
 -- the end of a refused upload, number behind number
-pub refused_spelt : (taps offset : ℕ) (fault : LayoutFault)
+pub refused_spelled : (taps offset : ℕ) (fault : LayoutFault)
     → end_words (Refused taps offset fault)
     ≡ codes " refused " ++ (decimal taps ++ fault_words offset fault)
-refused_spelt taps offset fault =
+refused_spelled taps offset fault =
     let named = ap (λ (t : List ℕ). decimal offset ++ (codes " " ++ (t ++ codes "\n")))
-    (name_spelt fault) in
+    (name_spelled fault) in
     let trailing = append_assoc (decimal offset) (codes " " ++ fault_name fault) (codes "\n")
     ∙ named in
     ap (λ (t : List ℕ). codes " refused " ++ t) (append_assoc (decimal taps) (codes " at "

@@ -19,7 +19,7 @@ use Rattle.report_texts.specs.FormLaws.{IsCount, IsCountedText, IsCountsText, Is
 use Rattle.report_texts.specs.Numbers.{AreCounts, IsNameAlone, IsTokenSum, IsUploadEnd, IsValidatorSum}
 use Rattle.report_texts.specs.Report.{upload_line}
 use Rattle.report_texts.specs.inside.EndWords.{end_words, fault_number}
-use Rattle.report_texts.proofs.EndTexts.{refused_spelt, small_number}
+use Rattle.report_texts.proofs.EndTexts.{refused_spelled, small_number}
 use Rattle.tap_views.specs.declared.fault.LayoutFault.{LayoutFault}
 use Rattle.tap_views.specs.declared.fault.LayoutFault.TheVariants.{Short, Magic, Flags, TooMany}
 use Rattle.tap_views.specs.declared.fault.LayoutFault.TheVariants.{Length, Moment}
@@ -264,13 +264,13 @@ token_complete sum is =
 pub token_sound : (line : List ℕ) (sum : Token × Sums) → token_line_in line ≡ Some sum
     → IsTokenSum sum × (line ≡ token_line sum)
 token_sound line sum e =
-    let (text, (a, b, (digits, (fits, spelt), word), (n, is, made), same), shown) =
+    let (text, (a, b, (digits, (fits, spelled), word), (n, is, made), same), shown) =
     line_sound token_form line sum e in
     let (are, counts) = counts_of n sum.1 (codes " taps ") b is made in (
       record { token = fits; counts = are },
       shown
           ∙ ap (λ (x : List ℕ). x ++ 10 ∷ []) (same
-          ∙ ap (λ (x : List ℕ). x ++ b) (word ∙ ap (λ (x : List ℕ). codes "token " ++ x) spelt)
+          ∙ ap (λ (x : List ℕ). x ++ b) (word ∙ ap (λ (x : List ℕ). codes "token " ++ x) spelled)
           ∙ ap (λ (x : List ℕ). (codes "token " ++ encode_lower (bytes_of sum.0)) ++ x) counts)
           ∙ sym (key_line (codes "token ") (encode_lower (bytes_of sum.0)) sum.1),
     )
@@ -301,7 +301,7 @@ refused_form =
 refused_line : (taps offset : ℕ) (fault : LayoutFault) → end_words (Refused taps offset fault)
     ≡ RefusedText (taps, (offset, fault_number fault)) ++ 10 ∷ []
 refused_line taps offset fault =
-    refused_spelt taps offset fault
+    refused_spelled taps offset fault
     ∙ joined (codes " refused ") (decimal taps) (codes " at ") (decimal offset) (codes " L")
     (decimal (fault_number fault)) (10 ∷ [])
   where
@@ -333,15 +333,15 @@ end_complete (Refused taps offset fault) fits =
 end_complete (Cut taps) fits = absurd fits
 end_complete Undrawn fits = absurd fits
 
-upload_spelt : (upload : ℕ) (end : UploadEnd)
+upload_spelled : (upload : ℕ) (end : UploadEnd)
     → upload_line upload end ≡ (codes "upload " ++ decimal upload) ++ end_words end
 unfolding upload_line
-upload_spelt upload end = sym (append_assoc (codes "upload ") (decimal upload) (end_words end))
+upload_spelled upload end = sym (append_assoc (codes "upload ") (decimal upload) (end_words end))
 
 pub upload_complete : (upload : ℕ) (end : UploadEnd) → upload < 2 ^ 64 → IsUploadEnd end
     → upload_in (upload_line upload end) ≡ Some (upload, end)
 upload_complete upload end small fits =
-    ap upload_in (upload_spelt upload end)
+    ap upload_in (upload_spelled upload end)
     ∙ ap upload_if ((count_form (codes "upload ")).complete upload (codes "upload " ++ decimal upload)
     (end_words end) (count_says (codes "upload ") upload small) refl)
     ∙ ap (option_map (λ (end : UploadEnd). (upload, end))) (end_complete end fits)
@@ -426,7 +426,7 @@ upload_some (Some parts) line upload end is e =
       (says.1.0, fits),
       shown ∙ ap (λ (x : List ℕ). x ++ parts.1) (count_shown (codes "upload ") parts.0 text says)
           ∙ ap (λ (x : List ℕ). (codes "upload " ++ decimal parts.0) ++ x) words
-          ∙ sym (upload_spelt parts.0 found),
+          ∙ sym (upload_spelled parts.0 found),
     )
 
 pub upload_sound : (line : List ℕ) (upload : ℕ) (end : UploadEnd)

@@ -132,19 +132,19 @@ upload_is_one number taps small few =
     (word (codes "upload ") _ _ refl (counted number _ _ small
     (word (codes " posted ") _ _ refl (counted taps _ _ few over))))
 
-counts_spelt : (t : Sums) → counts_text t
+counts_spelled : (t : Sums) → counts_text t
     ≡ codes "taps " ++ (decimal t.taps ++ (codes " paid " ++ (decimal t.paid ++ (codes " transfers "
     ++ (decimal t.transfers ++ (codes " capped " ++ (decimal t.capped ++ (codes " stale "
     ++ (decimal t.stale ++ (codes " unknown " ++ (decimal t.unknown ++ (codes " cents "
     ++ (decimal t.cents ++ 10 ∷ [])))))))))))))
 unfolding first_counts last_counts
-counts_spelt t = simp append_assoc
+counts_spelled t = simp append_assoc
 
 counts_are_one : (t : Sums) → AreCounts t → IsOneLine 300 (counts_text t)
 counts_are_one t fits =
     let all = fits.answers in
     let few = fits.taps in
-    subst (IsOneLine 300) (sym (counts_spelt t))
+    subst (IsOneLine 300) (sym (counts_spelled t))
     (weaker _ 300 _ (omega arith)
     (word (codes "taps ") _ _ refl (counted t.taps _ _ few
     (word (codes " paid ") _ _ refl (counted t.paid _ _ (omega (arith, all, few))

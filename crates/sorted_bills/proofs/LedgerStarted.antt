@@ -51,13 +51,13 @@ byte_at [] all at = omega arith
 byte_at (b ∷ bytes) all zero = All-head Byte b bytes all
 byte_at (b ∷ bytes) all (suc at) = byte_at bytes (All-tail Byte b bytes all) at
 
-spelt_bytes : (layout : Layout) (tap : Tap) → IsTapOf layout tap → All Byte (spelling layout tap)
+spelled_bytes : (layout : Layout) (tap : Tap) → IsTapOf layout tap → All Byte (spelling layout tap)
     → HasTokenBytes (fields_of tap)
-spelt_bytes Tap1 tap is all = record {
+spelled_bytes Tap1 tap is all = record {
   long = is.token;
   bytes = byte_at tap.token (All-front Byte tap.token (tap.validator ++ tap.moment) all);
 }
-spelt_bytes (Tap2 validator) tap is all = record {
+spelled_bytes (Tap2 validator) tap is all = record {
   long = is.0.token;
   bytes = byte_at tap.token (All-front Byte tap.token tap.moment all);
 }
@@ -68,15 +68,15 @@ taps_bytes layout [] each all = All-nil HasTokenBytes
 taps_bytes layout (tap ∷ taps) each all =
     let rest = flat_map (spelling layout) taps in
     All-cons HasTokenBytes (fields_of tap) (map fields_of taps)
-    (spelt_bytes layout tap each.0 (All-front Byte (spelling layout tap) rest all))
+    (spelled_bytes layout tap each.0 (All-front Byte (spelling layout tap) rest all))
     (taps_bytes layout taps each.1 (All-back Byte (spelling layout tap) rest all))
 
 batch_bytes : (layout : Layout) (bytes : List ℕ) (taps : List Tap) → IsBatchIn layout bytes taps
     → All Byte bytes → All HasTokenBytes (map fields_of taps)
 batch_bytes layout bytes taps is all =
     let body = flat_map (spelling layout) taps in
-    let spelt = subst (λ bytes. All Byte bytes) is.spelt all in
-    let counted = All-back Byte (magic layout) (is.count ++ (0 ∷ 0 ∷ (shared layout ++ body))) spelt
+    let spelled = subst (λ bytes. All Byte bytes) is.spelled all in
+    let counted = All-back Byte (magic layout) (is.count ++ (0 ∷ 0 ∷ (shared layout ++ body))) spelled
     in
     let zeros = All-back Byte is.count (0 ∷ 0 ∷ (shared layout ++ body)) counted in
     let after = All-tail Byte 0 (shared layout ++ body)

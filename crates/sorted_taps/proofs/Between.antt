@@ -15,11 +15,11 @@ batches_append : (front back : List ℕ) (batches more : List (List Tap)) → Ar
     → AreBatches back more → AreBatches (front ++ back) (batches ++ more)
 batches_append front back [] more none are =
     subst (λ bytes. AreBatches (bytes ++ back) more) (sym none) are
-batches_append front back (batch ∷ batches) more (one, others, is, spelt, first) are = (
+batches_append front back (batch ∷ batches) more (one, others, is, spelled, first) are = (
   one,
   others ++ back,
   is,
-  ap (λ bytes. bytes ++ back) spelt ∙ append_assoc one others back,
+  ap (λ bytes. bytes ++ back) spelled ∙ append_assoc one others back,
   batches_append others back batches more first are,
 )
 

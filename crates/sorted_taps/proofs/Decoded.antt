@@ -42,9 +42,9 @@ front_more bytes left one rest taps new front batch is =
 -- batches without a byte are none
 none_of_nothing : (batches : List (List Tap)) → AreBatches [] batches → batches ≡ []
 none_of_nothing [] are = refl
-none_of_nothing (batch ∷ batches) (one, others, is, spelt, are) =
+none_of_nothing (batch ∷ batches) (one, others, is, spelled, are) =
     let some = batch_some one batch is in
-    let long = ap length spelt ∙ length-append one others in
+    let long = ap length spelled ∙ length-append one others in
     absurd (omega (arith, some, long))
 
 -- taps without a byte are none

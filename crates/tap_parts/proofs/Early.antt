@@ -28,7 +28,7 @@ pub file_early : (file : List ℕ) (batches : List (List Tap)) (rest : List ℕ)
     → All Early (flat_map (λ batch. batch) batches)
 file_early file [] rest is = All-nil Early
 file_early file (batch ∷ batches) rest is =
-    let (front, back, one, spelt, more) = is in
+    let (front, back, one, spelled, more) = is in
     All-append Early batch (flat_map (λ (b : List Tap). b) batches)
     (batch_early one.0 batch one.1.each) (file_early back batches rest more)
 

@@ -220,8 +220,8 @@ row_back tap is = record {
 }
 
 -- the text of a row is its line and a line feed
-row_spelt : (tap : TapFields) (rest : List ℕ) → row_text tap ++ rest ≡ line_of tap ++ 10 ∷ rest
-row_spelt tap rest =
+row_spelled : (tap : TapFields) (rest : List ℕ) → row_text tap ++ rest ≡ line_of tap ++ 10 ∷ rest
+row_spelled tap rest =
     append_assoc (encode_lower tap.token)
     (44 ∷ (decimal tap.validator ++ 44 ∷ (decimal tap.moment ++ 10 ∷ []))) rest
     ∙ ap (λ text. encode_lower tap.token ++ 44 ∷ text)
@@ -236,12 +236,12 @@ rows_back : (taps : List TapFields) → AllByRecursion IsTapFields taps
     → BeginsWithRows (rows_text taps) taps []
 rows_back [] are = refl
 rows_back (tap ∷ taps) are =
-    let spelt = row_spelt tap (rows_text taps) in
+    let spelled = row_spelled tap (rows_text taps) in
     let unbroken = line_unbroken tap are.0 in
     let line : first_line (rows_text (tap ∷ taps)) ≡ line_of tap =
-    ap first_line spelt ∙ first (line_of tap) (rows_text taps) unbroken in
+    ap first_line spelled ∙ first (line_of tap) (rows_text taps) unbroken in
     let rest : drop_through 10 (rows_text (tap ∷ taps)) ≡ rows_text taps =
-    ap (drop_through 10) spelt ∙ dropped (line_of tap) (rows_text taps) unbroken in (
+    ap (drop_through 10) spelled ∙ dropped (line_of tap) (rows_text taps) unbroken in (
       subst (λ text. IsTapRow text tap) (sym line) (row_back tap are.0),
       subst (λ text. BeginsWithRows text taps []) (sym rest) (rows_back taps are.1),
     )

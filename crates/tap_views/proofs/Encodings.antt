@@ -63,12 +63,12 @@ fields-written fields is early =
 record AreWritten (fields : List TapFields) : Type 0 where
   pub each : AllByRecursion IsTap (map written fields)
   pub read : map fields_of (map written fields) ≡ fields
-  pub spelt : flat_map (λ tap. spelling Tap1 (written tap)) fields
+  pub spelled : flat_map (λ tap. spelling Tap1 (written tap)) fields
       ≡ flat_map (spelling Tap1) (map written fields)
 
 are_written : (fields : List TapFields) → All IsFields fields → AreEarly (λ tap. tap.moment) fields
     → AreWritten fields
-are_written [] are early = record { each = tt; read = refl; spelt = refl }
+are_written [] are early = record { each = tt; read = refl; spelled = refl }
 are_written (tap ∷ taps) are early =
     let is = All-head IsFields tap taps are in
     let below = All-head (λ t. t.moment < moment_limit) tap taps early in
@@ -77,7 +77,7 @@ are_written (tap ∷ taps) are early =
     record {
       each = (is_written tap is below, more.each);
       read = rw (fields-written tap is below, more.read) refl;
-      spelt = rw more.spelt refl;
+      spelled = rw more.spelled refl;
     }
 
 -- the text that `encode` writes
@@ -97,8 +97,8 @@ encodes fields bytes most early are is =
         most = omega (arith, number);
         fits = tt;
         each = written_all.each;
-        spelt = is ∙ ap (λ (text : List ℕ).
-            (magic Tap1 ++ big_bytes 2 (length fields) ++ 0 ∷ 0 ∷ []) ++ text) written_all.spelt;
+        spelled = is ∙ ap (λ (text : List ℕ).
+            (magic Tap1 ++ big_bytes 2 (length fields) ++ 0 ∷ 0 ∷ []) ++ text) written_all.spelled;
       };
       read = written_all.read;
     }
@@ -127,12 +127,12 @@ record AreWritten2 (validator : ℕ) (fields : List Tap2Fields) : Type 0 where
   pub each : AllByRecursion (IsTapOf (Tap2 (big_bytes 4 validator)))
       (map (written_2 validator) fields)
   pub read : map fields_2_of (map (written_2 validator) fields) ≡ fields
-  pub spelt : flat_map (λ tap. spelling (Tap2 []) (written_2 validator tap)) fields
+  pub spelled : flat_map (λ tap. spelling (Tap2 []) (written_2 validator tap)) fields
       ≡ flat_map (spelling (Tap2 (big_bytes 4 validator))) (map (written_2 validator) fields)
 
 are_written_2 : (validator : ℕ) (fields : List Tap2Fields) → All IsFields2 fields
     → AreEarly (λ tap. tap.moment) fields → AreWritten2 validator fields
-are_written_2 validator [] are early = record { each = tt; read = refl; spelt = refl }
+are_written_2 validator [] are early = record { each = tt; read = refl; spelled = refl }
 are_written_2 validator (tap ∷ taps) are early =
     let is = All-head IsFields2 tap taps are in
     let below = All-head (λ t. t.moment < moment_limit) tap taps early in
@@ -141,7 +141,7 @@ are_written_2 validator (tap ∷ taps) are early =
     record {
       each = (is_written_2 validator tap is below, more.each);
       read = rw (fields_2-written validator tap below, more.read) refl;
-      spelt = rw more.spelt refl;
+      spelled = rw more.spelled refl;
     }
 
 -- the text that `encode_tap2` writes
@@ -166,9 +166,9 @@ encodes_2 validator fields bytes small most early are is =
         most = omega (arith, number);
         fits = refl;
         each = written_all.each;
-        spelt = is ∙ ap (λ (text : List ℕ).
+        spelled = is ∙ ap (λ (text : List ℕ).
             (magic (Tap2 []) ++ big_bytes 2 (length fields) ++ 0 ∷ 0 ∷ [] ++ big_bytes 4 validator)
-            ++ text) written_all.spelt;
+            ++ text) written_all.spelled;
       };
       number = num-bytes_4 validator small;
       read = written_all.read;

@@ -116,11 +116,11 @@ length-spellings layout (tap ∷ taps) are =
     )
 
 -- taps written one after the other, with anything behind them, are cut again
-pub cut-spelt : (layout : Layout) (taps : List Tap) (rest : List ℕ)
+pub cut-spelled : (layout : Layout) (taps : List Tap) (rest : List ℕ)
     → AllByRecursion (IsTapOf layout) taps
     → taps_in layout (length taps) (flat_map (spelling layout) taps ++ rest) ≡ taps
-cut-spelt layout [] rest are = refl
-cut-spelt layout (tap ∷ taps) rest are =
+cut-spelled layout [] rest are = refl
+cut-spelled layout (tap ∷ taps) rest are =
     let first = spelling layout tap in
     let more = flat_map (spelling layout) taps in
     let wide : length first ≡ width layout = length-spelling layout tap are.0 in
@@ -132,16 +132,16 @@ cut-spelt layout (tap ∷ taps) rest are =
       append_assoc first more rest,
       front,
       back,
-      cut-spelt layout taps rest are.1,
+      cut-spelled layout taps rest are.1,
       read_back layout tap are.0,
     ) refl
 
 -- records that are cut are written again
-pub spelt-cut : (layout : Layout) (n : ℕ) (bytes : List ℕ) → width layout * n ≤ length bytes
+pub spelled-cut : (layout : Layout) (n : ℕ) (bytes : List ℕ) → width layout * n ≤ length bytes
     → flat_map (spelling layout) (taps_in layout n bytes) ++ drop (width layout * n) bytes ≡ bytes
-spelt-cut layout zero bytes whole = let none : width layout * 0 ≡ 0 = mul-zero (width layout) in
+spelled-cut layout zero bytes whole = let none : width layout * 0 ≡ 0 = mul-zero (width layout) in
     rw none refl
-spelt-cut layout (suc n) bytes whole =
+spelled-cut layout (suc n) bytes whole =
     let step : width layout + width layout * n ≡ width layout * suc n =
     omega (arith, mul-suc (width layout) n) in
     let first : spelling layout (tap_at layout (take (width layout) bytes))
@@ -152,7 +152,7 @@ spelt-cut layout (suc n) bytes whole =
     ≡ drop (width layout * n) (drop (width layout) bytes) =
     ap (λ (at : ℕ). drop at bytes) (sym step)
     ∙ sym (drop-drop (width layout * n) (width layout) bytes) in
-    let more = spelt-cut layout n (drop (width layout) bytes)
+    let more = spelled-cut layout n (drop (width layout) bytes)
     (omega (arith, length-drop (width layout) bytes)) in
     rw (first, trailing, append_assoc, more) (take-append-drop (width layout) bytes)
 
@@ -232,9 +232,9 @@ record Heads (layout : Layout) (count more bytes : List ℕ) : Type 0 where
   pub whole : length bytes ≡ header layout + length more
   pub trailing : drop (header layout) bytes ≡ more
 
-heads-spelt : (layout : Layout) (a b : ℕ) (more : List ℕ) → IsLayout layout
+heads-spelled : (layout : Layout) (a b : ℕ) (more : List ℕ) → IsLayout layout
     → Heads layout (a ∷ b ∷ []) more (magic layout ++ (a ∷ b ∷ 0 ∷ 0 ∷ (shared layout ++ more)))
-heads-spelt Tap1 a b more fits =
+heads-spelled Tap1 a b more fits =
     record {
       is = refl;
       known = inl refl;
@@ -243,7 +243,7 @@ heads-spelt Tap1 a b more fits =
       whole = omega arith;
       trailing = refl;
     }
-heads-spelt (Tap2 all) a b more fits = let (v, w, x, y, is) = four all fits in
+heads-spelled (Tap2 all) a b more fits = let (v, w, x, y, is) = four all fits in
     let P : List ℕ → Type 0 =
     λ vs. Heads (Tap2 vs) (a ∷ b ∷ []) more (magic (Tap2 vs)
     ++ (a ∷ b ∷ 0 ∷ 0 ∷ (vs ++ more))) in
@@ -285,7 +285,7 @@ begins-heads layout count taps rest bytes are counts most heads =
     omega (arith, wide, length-append (flat_map (spelling layout) taps) rest) in
     let number : count_in bytes ≡ length taps = heads.number ∙ counts in
     let cut : taps_in layout (length taps) (drop (header layout) bytes) ≡ taps =
-    rw heads.trailing (cut-spelt layout taps rest are) in
+    rw heads.trailing (cut-spelled layout taps rest are) in
     let left : drop (width layout * length taps) (drop (header layout) bytes) ≡ rest =
     rw heads.trailing (drop_at (flat_map (spelling layout) taps) rest (width layout * length taps)
     wide) in
@@ -321,15 +321,15 @@ begins-two : (layout : Layout) (front : List ℕ) (taps : List Tap) (rest bytes 
     → (a b : ℕ) → batch.count ≡ a ∷ b ∷ [] → Begins bytes taps rest
 begins-two layout front taps rest bytes batch is a b same =
     let records = flat_map (spelling layout) taps in
-    let spelt : front ++ rest ≡ magic layout
+    let spelled : front ++ rest ≡ magic layout
     ++ (a ∷ b ∷ 0 ∷ 0 ∷ (shared layout ++ (records ++ rest))) =
-    ap (λ (xs : List ℕ). xs ++ rest) (batch.spelt
+    ap (λ (xs : List ℕ). xs ++ rest) (batch.spelled
     ∙ ap (λ (count : List ℕ). magic layout ++ (count ++ (0 ∷ 0 ∷ (shared layout ++ records))))
     same) ∙ simp append_assoc in
     let P : List ℕ → Type 0 = Heads layout (a ∷ b ∷ []) (records ++ rest) in
     let counts : num (a ∷ b ∷ []) ≡ length taps = sym (ap num same) ∙ batch.counts in
     begins-heads layout (a ∷ b ∷ []) taps rest bytes batch.each counts batch.most
-    (subst P (sym (is ∙ spelt)) (heads-spelt layout a b (records ++ rest) batch.fits))
+    (subst P (sym (is ∙ spelled)) (heads-spelled layout a b (records ++ rest) batch.fits))
 
 -- bytes that begin with a batch of the grammar
 pub begins : (layout : Layout) (front : List ℕ) (taps : List Tap) (rest bytes : List ℕ)
@@ -346,7 +346,7 @@ record IsHeaded (bytes : List ℕ) (layout : Layout) (count more : List ℕ) : T
   pub wide : length count ≡ 2
   pub number : count_in bytes ≡ num count
   pub trailing : drop (header layout) bytes ≡ more
-  pub spelt : bytes ≡ magic layout ++ (count ++ (0 ∷ 0 ∷ (shared layout ++ more)))
+  pub spelled : bytes ≡ magic layout ++ (count ++ (0 ∷ 0 ∷ (shared layout ++ more)))
 
 abbrev Headed : List ℕ → Type 0
 Headed bytes = (layout : Layout) × (count : List ℕ) × (more : List ℕ)
@@ -372,7 +372,7 @@ headed_1 e f g h more n sound =
         wide = refl;
         number = refl;
         trailing = refl;
-        spelt = rw (g0, h0) refl;
+        spelled = rw (g0, h0) refl;
       },
     )
 
@@ -394,7 +394,7 @@ headed_2 e f g h more n sound =
         wide = refl;
         number = refl;
         trailing = refl;
-        spelt = rw (g0, h0, parts) refl;
+        spelled = rw (g0, h0, parts) refl;
       },
     )
 
@@ -454,7 +454,7 @@ found_in layout count more bytes n head measured =
     let number : length (taps_in layout n records) ≡ n =
     length-cut (width layout) (tap_at layout) n records in
     let again : flat_map (spelling layout) (taps_in layout n records)
-    ++ drop (width layout * n) records ≡ more = spelt-cut layout n records long ∙ head.trailing in
+    ++ drop (width layout * n) records ≡ more = spelled-cut layout n records long ∙ head.trailing in
     let whole : front ++ drop (width layout * n) records ≡ magic layout
     ++ (count ++ (0 ∷ 0 ∷ (shared layout ++ more))) = simp (append_assoc, again) in (
       front,
@@ -465,9 +465,9 @@ found_in layout count more bytes n head measured =
         most = omega (arith, measured.sound.most, number);
         fits = head.fits;
         each = each;
-        spelt = refl;
+        spelled = refl;
       },
-      head.spelt ∙ sym whole,
+      head.spelled ∙ sym whole,
     )
 
 pub found : (bytes : List ℕ) (n : ℕ) → IsMeasured bytes n → BeginsWith (layout_in bytes) n bytes

@@ -18,31 +18,31 @@ rest_short file [] rest is = omega (arith, ap length is.0)
 rest_short file (batch ∷ batches) rest (front, back, is_batch, whole, is) =
     omega (arith, ap length whole, length-append front back, rest_short back batches rest is)
 
-spelt_room : (layout : Layout) (taps : List Tap) → AllByRecursion (IsTapOf layout) taps
+spelled_room : (layout : Layout) (taps : List Tap) → AllByRecursion (IsTapOf layout) taps
     → 24 * length taps ≤ length (flat_map (spelling layout) taps)
-spelt_room layout [] each = omega arith
-spelt_room Tap1 (tap ∷ taps) each =
+spelled_room layout [] each = omega arith
+spelled_room Tap1 (tap ∷ taps) each =
     simp length-append (
     omega (
       arith,
-      spelt_room Tap1 taps each.1,
+      spelled_room Tap1 taps each.1,
       each.0.token,
       each.0.validator,
       each.0.moment,
     ))
-spelt_room (Tap2 validator) (tap ∷ taps) each =
+spelled_room (Tap2 validator) (tap ∷ taps) each =
     simp length-append (
-    omega (arith, spelt_room (Tap2 validator) taps each.1, each.0.0.token, each.0.0.moment))
+    omega (arith, spelled_room (Tap2 validator) taps each.1, each.0.0.token, each.0.0.moment))
 
 -- a batch has 24 bytes at least for each tap, behind a header of 8 at least
 pub batch_room : (front : List ℕ) (taps : List Tap) → IsBatch front taps
     → 24 * length taps + 8 ≤ length front
 batch_room front taps (Tap1, batch) =
-    let size = simp length-append at (ap length batch.spelt) in
-    omega (arith, size, batch.wide, spelt_room Tap1 taps batch.each)
+    let size = simp length-append at (ap length batch.spelled) in
+    omega (arith, size, batch.wide, spelled_room Tap1 taps batch.each)
 batch_room front taps (Tap2 validator, batch) =
-    let size = simp length-append at (ap length batch.spelt) in
-    omega (arith, size, batch.wide, spelt_room (Tap2 validator) taps batch.each)
+    let size = simp length-append at (ap length batch.spelled) in
+    omega (arith, size, batch.wide, spelled_room (Tap2 validator) taps batch.each)
 
 -- no bytes begin with no batch
 pub no_bytes : HasNoBatch []

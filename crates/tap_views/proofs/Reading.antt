@@ -28,8 +28,8 @@ pub batch_some : (front : List ℕ) (taps : List Tap) → IsBatch front taps →
 batch_some front taps (layout, batch) =
     omega (
       arith,
-      ap length batch.spelt,
-      simp length-append at (ap length batch.spelt),
+      ap length batch.spelled,
+      simp length-append at (ap length batch.spelled),
       length-magic layout,
     )
 

@@ -14,11 +14,11 @@ file_more : (text more : List ℕ) (batches : List (List Tap)) (taps : List Tap)
 file_more text more [] taps file batch =
     (more, [], batch, ap (λ t. t ++ more) file.0 ∙ sym (append-nil more), (refl, file.1))
 file_more text more (first ∷ batches) taps file batch =
-    let (front, back, is, spelt, rest) = file in (
+    let (front, back, is, spelled, rest) = file in (
       front,
       back ++ more,
       is,
-      ap (λ t. t ++ more) spelt ∙ append_assoc front back more,
+      ap (λ t. t ++ more) spelled ∙ append_assoc front back more,
       file_more back more batches taps rest batch,
     )
 

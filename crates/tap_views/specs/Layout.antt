@@ -64,7 +64,7 @@ pub record IsBatchIn (layout : Layout) (bytes : List ℕ) (taps : List Tap) : Ty
   pub most : length taps ≤ 4096
   pub fits : IsLayout layout
   pub each : AllByRecursion (IsTapOf layout) taps
-  pub spelt : bytes ≡ magic layout
+  pub spelled : bytes ≡ magic layout
       ++ (count ++ (0 ∷ 0 ∷ (shared layout ++ flat_map (spelling layout) taps)))
 
 -- the bytes are a batch of these taps, in one of the two layouts

@@ -12,8 +12,8 @@ use Rattle.tap_views.proofs.encoder.put_batch.Goals as goal
 abbrev header : List TapFields → List ℕ
 header taps = magic Tap1 ++ big_bytes 2 (length taps) ++ 0 ∷ 0 ∷ []
 
-abbrev spelt : TapFields → List ℕ
-spelt tap = spelling Tap1 (written tap)
+abbrev spelled : TapFields → List ℕ
+spelled tap = spelling Tap1 (written tap)
 
 pub loop-tap-preserved : goal.loop-tap-preserved
 loop-tap-preserved c = record {
@@ -30,10 +30,10 @@ returns c =
     let taps = c.args.taps.now in
     let all = take_all c.loop-tap.tap-index taps c.loop-tap-test.false in
     let F : List TapFields → Type 0 = All IsFields in
-    let batch = header taps ++ flat_map spelt taps in
+    let batch = header taps ++ flat_map spelled taps in
     let text = c.loop-tap.invariant.bytes
-    ∙ ap (λ ts. (c.args.bytes.now.items ++ header taps) ++ flat_map spelt ts) all
-    ∙ append_assoc c.args.bytes.now.items (header taps) (flat_map spelt taps) in (
+    ∙ ap (λ ts. (c.args.bytes.now.items ++ header taps) ++ flat_map spelled ts) all
+    ∙ append_assoc c.args.bytes.now.items (header taps) (flat_map spelled taps) in (
       batch,
       text,
       encodes taps batch c.requires.most c.requires.early
