@@ -29,7 +29,7 @@ pub enum Reason {
     },
 }
 
-/// What decides the cents of a ride. `place` is the number of rides before it in its window.
+/// What decides the cents of a ride. `position` is the number of rides before it in its window.
 #[derive(Clone, Copy, Debug, PartialEq, Eq)]
 pub enum Charge {
     /// The ceiling leaves a whole fare.

@@ -116,7 +116,7 @@ impl Window {
     }
 }
 
-/// The cents of a ride after `place` rides of its window, all of which have these terms.
+/// The cents of a ride after `position` rides of its window, all of which have these terms.
 #[tactic(auto, unfolding(crate::specs::Windows::charge, crate::specs::Laws::position_cents))]
 pub fn cents_at(terms: Terms, position: u32) -> u32
     requires bounds { AreRideTerms terms }

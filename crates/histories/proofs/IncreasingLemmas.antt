@@ -1,5 +1,5 @@
--- A strictly rising list is known by its members, so `rising` is the one such list with the members
--- of the keys.
+-- A strictly increasing list is known by its members, so `increasing` is the one such list with
+-- the members of the keys.
 use Rattle.std.proofs.Common.{◌≡◌, ◌+◌, Bool, false, ◌||◌, List, [], ◌∷◌, get_or, Ordering, refl}
 use Rattle.std.proofs.Common.{sym, ap, subst, ◌∙◌, arith}
 use Rattle.std.specs.declared.cmp.Ordering.TheVariants.{Less, Equal, Greater}
@@ -137,7 +137,7 @@ module _ {K : Type 0} {cmp : K → K → Ordering} (total : IsTotalOrder cmp)
         )
       ] refl
 
-  -- `rising` gives such a list
+  -- `increasing` gives such a list
   pub increasing-is : (keys : List K) → IsIncreasing cmp keys (increasing cmp keys)
   unfolding increasing IsStrictlySortedBy
   increasing-is [] = record { increases = tt; same = λ key. refl }

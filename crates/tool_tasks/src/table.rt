@@ -64,7 +64,7 @@ fn load_all<'a, S: Source>(
     Ok(texts)
 }
 
-/// `place` counts the tables from 0. Returns whether there is no warning.
+/// `position` counts the tables from 0. Returns whether there is no warning.
 fn write_at<'a, W: Write, E: Write>(
     alloc: Global,
     question: &TableQuestion<'_>,

@@ -83,7 +83,7 @@ pub trait World: Inputs {
             (λ text. Self.run self.new ≡ with_said (Self.run self.old) (text ++ codes "\n"))) }
         ensures said { IsSaid (Self.run self.old) (Self.run self.new) };
 
-    /// Writes and syncs a whole file under the name `begun`. `publish` gives it this name.
+    /// Writes and syncs a whole file under the name `started`. `publish` gives it this name.
     fn stage(&mut self, name: &str, started: &str, bytes: &[u8]) -> Result<Staged, MakeFault>
         ensures staged { IfOk result (λ file.
             file ≡ record { name = name.now; bytes = bytes.now }) }
