@@ -107,7 +107,8 @@ of_position terms position cents low cost = elim (charged terms position cents) 
       | inl below ↦
           let room : leb terms.rides position ≡ false = lt-leb terms.rides position below in
           let past : leb terms.ceiling (position * terms.fare) ≡ true =
-          le-leb terms.ceiling (position * terms.fare) (omega (arith, reached, cost below)) in record {
+          le-leb terms.ceiling (position * terms.fare) (omega (arith, reached, cost below)) in
+          record {
             cents = rw (room, past) free.cost;
             paid = rw (room, past) free.paid;
           }

@@ -246,12 +246,14 @@ abbrev ride_of_trip : Option TripEnd → Option LiveTap
 ride_of_trip trip = option_map (λ t. t.ride) trip
 
 mode_of_trip : (rules : TokenRules) (trip : TripEnd) (tap : LiveTap)
-    → Some trip.last ≡ Some tap → tap.mode.position < rules.modes → trip.last.mode.position < rules.modes
+    → Some trip.last ≡ Some tap → tap.mode.position < rules.modes
+    → trip.last.mode.position < rules.modes
 mode_of_trip rules trip tap is listed =
     let same : tap ≡ trip.last = cc in subst (λ t. t.mode.position < rules.modes) same listed
 
 ride_mode_of_trip : (rules : TokenRules) (trip : TripEnd) (tap : LiveTap)
-    → Some trip.ride ≡ Some tap → tap.mode.position < rules.modes → trip.ride.mode.position < rules.modes
+    → Some trip.ride ≡ Some tap → tap.mode.position < rules.modes
+    → trip.ride.mode.position < rules.modes
 ride_mode_of_trip rules trip tap is listed =
     let same : tap ≡ trip.ride = cc in subst (λ t. t.mode.position < rules.modes) same listed
 
@@ -466,7 +468,8 @@ pub gives_same : (fares : Fares) (token : List ℕ) (meaning : TableMeaning) (mo
     → gives (transfers_of fares token) trip (live_at moment mode) ≡ given
 gives_same fares token meaning moment class mode trip given valid is answered =
     gives_valid fares token moment mode trip
-    ∙ ap (λ position. gives (transfers_in (meaning_at fares moment) position) trip (live_at moment mode))
+    ∙ ap (λ position. gives (transfers_in (meaning_at fares moment) position) trip
+    (live_at moment mode))
     (sym is)
     ∙ ap (λ m. gives (transfers_in m class) trip (live_at moment mode)) (sym valid)
     ∙ sym answered
@@ -618,7 +621,8 @@ live_tap_is fares token clock account state next taps tap mode meaning class ans
           reply_paid meaning clock (record state { class = class }) (live_at tap.moment mode) none,
         )
         (next_ride (rules_of fares token) account state next taps tap mode
-        (window_end_in clock meaning.window tap.moment) class (ride_terms meaning class mode.position)
+        (window_end_in clock meaning.window tap.moment) class
+        (ride_terms meaning class mode.position)
         same holds known (listed fares token mode below)
         (until_same fares token clock meaning tap.moment zone valid)
         (gives_none-state (rules_of fares token).transfers account state tap mode same after

@@ -142,26 +142,31 @@ pub next_trees : (dated : List (ℕ × TableMeaning)) (texts : List (List ℕ))
     (trees : List (ℕ × Members)) (position : ℕ) (next : ℕ × TableMeaning) (text : List ℕ)
     (tree : Members)
     → slice_get dated position ≡ Some next → slice_get texts position ≡ Some text
-    → AreLaterTrees (take position dated) (take position texts) trees → parse_document text ≡ Some tree
+    → AreLaterTrees (take position dated) (take position texts) trees
+    → parse_document text ≡ Some tree
     → AreLaterTrees (take (position + 1) dated) (take (position + 1) texts)
     (trees ++ (next.0, tree) ∷ [])
 next_trees dated texts trees position next text tree at holds are is =
     subst (λ (ds : List (ℕ × TableMeaning)). AreLaterTrees ds (take (position + 1) texts)
     (trees ++ (next.0, tree) ∷ []))
-    (ap (λ n. take position dated ++ n ∷ []) (sym (get_or_from_slice_get dated position next next at))
+    (ap (λ n. take position dated ++ n ∷ [])
+    (sym (get_or_from_slice_get dated position next next at))
     ∙ sym (take_more dated position next (slice_get_within dated position next at)))
     (subst (λ (ts : List (List ℕ)). AreLaterTrees (take position dated ++ next ∷ []) ts
     (trees ++ (next.0, tree) ∷ []))
-    (ap (λ t. take position texts ++ t ∷ []) (sym (get_or_from_slice_get texts position text text holds))
+    (ap (λ t. take position texts ++ t ∷ [])
+    (sym (get_or_from_slice_get texts position text text holds))
     ∙ sym (take_more texts position text (slice_get_within texts position text holds)))
     (trees_more (take position dated) (take position texts) trees next text tree are is))
 
 -- what stands at a place of a list is got there of what is made of each
-pub at_position : {A B : Type 0} (f : A → B) (xs : List A) (position : ℕ) (x : A) → position < length xs
+pub at_position : {A B : Type 0} (f : A → B) (xs : List A) (position : ℕ) (x : A)
+    → position < length xs
     → x ≡ get_or xs position x → slice_get (map f xs) position ≡ Some (f x)
 at_position f [] position x within is = absurd (omega (arith, within))
 at_position f (one ∷ xs) zero x within is = ap (λ y. Some (f y)) (sym is)
-at_position f (one ∷ xs) (suc position) x within is = at_position f xs position x (omega (arith, within)) is
+at_position f (one ∷ xs) (suc position) x within is =
+    at_position f xs position x (omega (arith, within)) is
 
 -- the same behind the first one
 pub after_first : {B : Type 0} (xs : List B) (position : ℕ) (x : B)

@@ -1,6 +1,7 @@
 -- Lists in which each number is equally often are the same but for their order.
 use Rattle.std.proofs.Common.{◌≡◌, ◌≢◌, ◌∙◌, ◌+◌, ◌<◌, ◌≤◌, ◌==◌, ◌++◌, ◌∷◌, [], ℕ, suc, List, Bool}
-use Rattle.std.proofs.Common.{true, false, cond, length, arith, ap, refl, sym, subst, inl, inr, eq-eqb}
+use Rattle.std.proofs.Common.{true, false, cond, length, arith, ap, refl, sym, subst, inl, inr}
+use Rattle.std.proofs.Common.{eq-eqb}
 use Rattle.std.specs.Prelude.{◌⊎◌}
 use Rattle.std.specs.List.Sorted.{IsPermutation}
 use Rattle.std.proofs.lemmas.Bool.{cases_lt}
@@ -79,7 +80,8 @@ module _ {A : Type 0} where
   no_position : (start : ℕ) (names : List A) (x : ℕ) → (x < start) ⊎ (start + length names ≤ x)
       → times x (positions start names) ≡ 0
   no_position start [] x out = refl
-  no_position start (name ∷ names) x out = by_test (eqb_tells start x) (no_position (suc start) names x)
+  no_position start (name ∷ names) x out =
+      by_test (eqb_tells start x) (no_position (suc start) names x)
     where
       later : (x < start) ⊎ (start + length (name ∷ names) ≤ x)
           → (x < suc start) ⊎ (suc start + length names ≤ x)
@@ -124,9 +126,11 @@ module _ {A : Type 0} where
   pub in_some_order : (names : List A) (drawn : List ℕ)
       → ((x : ℕ) → x < length names → times x drawn ≡ 1)
       → ((x : ℕ) → length names ≤ x → times x drawn ≡ 0) → IsPermutation (positions 0 names) drawn
-  in_some_order names drawn all none = permutation_of_times (positions 0 names) drawn (λ x. each x (cases_lt x (length names)))
+  in_some_order names drawn all none =
+      permutation_of_times (positions 0 names) drawn (λ x. each x (cases_lt x (length names)))
     where
       each : (x : ℕ) → (x < length names) ⊎ (length names ≤ x)
           → times x (positions 0 names) ≡ times x drawn
-      each x (inl less) = one_position 0 names x (omega arith) (omega (arith, less)) ∙ sym (all x less)
+      each x (inl less) = one_position 0 names x (omega arith) (omega (arith, less))
+          ∙ sym (all x less)
       each x (inr more) = no_position 0 names x (inr (omega (arith, more))) ∙ sym (none x more)

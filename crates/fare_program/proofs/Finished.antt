@@ -64,7 +64,8 @@ kept_sorted request known loaded loaded' out out' last success kept done = recor
 
 kept_traced : (request : Request) (loaded loaded' : Option (List Loaded))
     (out out' last : Option (List ℕ)) (success : Bool) → Keeps out' last
-    → RunsTraced request loaded loaded' out out' success → RunsTraced request loaded loaded' out last success
+    → RunsTraced request loaded loaded' out out' success
+    → RunsTraced request loaded loaded' out last success
 kept_traced request loaded loaded' out out' last success kept done = record {
   tables = done.tables;
   are_named = done.are_named;

@@ -40,7 +40,8 @@ all_from origin (name ∷ names) (file ∷ files) same each = (
 -- the loads by number are those by name
 loads_by_name : (origin : List ℕ → Origin) (name_of : ℕ → List ℕ) (start : ℕ)
     (names files : List (List ℕ)) → length files ≡ length names
-    → ((position : ℕ) → position < length names → name_of (start + position) ≡ text_at names position)
+    → ((position : ℕ) → position < length names
+    → name_of (start + position) ≡ text_at names position)
     → loads_in_order (λ number. origin (name_of number)) start files ≡ loads_of origin names files
 loads_by_name origin name_of start [] [] same named = refl
 loads_by_name origin name_of start [] (file ∷ files) same named = absurd (omega (arith, same))
@@ -79,7 +80,8 @@ joined : (loaded : Option (List Loaded)) (loads more : List Loaded)
 joined None loads more all = tt
 joined (Some before) loads more all = ap (λ (ls : List Loaded). before ++ ls) all
 
-pub prefetched_joined : (request : Request) (origin : List ℕ → Origin) (loaded : Option (List Loaded))
+pub prefetched_joined : (request : Request) (origin : List ℕ → Origin)
+    (loaded : Option (List Loaded))
     (more : List Loaded) (files : List (List ℕ)) (drawn : List ℕ)
     → ArePrefetched request origin (Some []) (Some more) files drawn
     → ArePrefetched request origin loaded (option_map (λ l. l ++ more) loaded) files drawn
@@ -140,10 +142,12 @@ outside_loads (memory known) bytes = refl
 outside_loads (of_system name) bytes = refl
 outside_loads anywhere bytes = refl
 
-pub outside_provided : (origin : Origin) (old new : Run) (bytes : List ℕ) → IsProvided origin old new bytes
+pub outside_provided : (origin : Origin) (old new : Run) (bytes : List ℕ)
+    → IsProvided origin old new bytes
     → IsProvided (unless_memory origin) old new bytes
 outside_provided nowhere old new bytes provided = provided
-outside_provided (memory known) old new bytes provided = record { from = tt; loads = provided.loads }
+outside_provided (memory known) old new bytes provided =
+    record { from = tt; loads = provided.loads }
 outside_provided (of_system name) old new bytes provided = provided
 outside_provided anywhere old new bytes provided = provided
 
@@ -165,9 +169,11 @@ module _ (request : Request) (origin : List ℕ → Origin) (words : List (Bor (
   settled_prefetched settle read =
       let number : length words ≡ length (names_in words) =
       sym (length-map words (λ (w : Bor (List ℕ)). w.now)) in
-      let in_order : AreReadInOrder origin (names_in words) (Some old.loads) (Some new.loads) files =
+      let in_order : AreReadInOrder origin (names_in words) (Some old.loads) (Some new.loads)
+      files =
       read_in_order origin (names_in words) files old new names_some
-      (subst (λ (n : ℕ). AreRead (λ position. origin (text_at (names_in words) position)) 0 n files old
+      (subst (λ (n : ℕ). AreRead (λ position. origin (text_at (names_in words) position)) 0 n files
+      old
       new) number read) in
       subst (λ (b : Bool). MatchBool b
       (AreReadInOrder origin request.files (Some old.loads) (Some new.loads) files)
@@ -192,17 +198,20 @@ module _ (request : Request) (origin : List ℕ → Origin) (words : List (Bor (
   from_names (position ∷ drawn) from =
       let here = All-head From position drawn from in
       All-cons FromName position drawn
-      (subst (λ (o : Origin). IsFrom o (file_at files position)) (named_from named words position _ here)
+      (subst (λ (o : Origin). IsFrom o (file_at files position))
+      (named_from named words position _ here)
       here)
       (from_names drawn (All-tail From position drawn from))
 
   same_loads : (drawn : List ℕ) → All From drawn
-      → flat_map (loads_at origins files) drawn ≡ flat_map (load_at origin (names_in words) files) drawn
+      → flat_map (loads_at origins files) drawn
+      ≡ flat_map (load_at origin (names_in words) files) drawn
   same_loads [] from = refl
   same_loads (position ∷ drawn) from =
       let here = All-head From position drawn from in
       ap₂ (λ (ls more : List Load). ls ++ more)
-      (ap (λ (o : Origin). loads_from o (file_at files position)) (named_from named words position _ here)
+      (ap (λ (o : Origin). loads_from o (file_at files position))
+      (named_from named words position _ here)
       ∙ outside_loads (origin (text_at (names_in words) position)) (file_at files position))
       (same_loads drawn (All-tail From position drawn from))
 
@@ -211,7 +220,8 @@ module _ (request : Request) (origin : List ℕ → Origin) (words : List (Bor (
       → ArePrefetched request origin (Some old.loads) (Some new.loads) files drawn
   drawn_prefetched drawn live provided =
       let number : length files ≡ length (names_in words) =
-      provided_number origins files provided.provided ∙ length-map words (λ (w : Bor (List ℕ)). named w.now)
+      provided_number origins files provided.provided
+      ∙ length-map words (λ (w : Bor (List ℕ)). named w.now)
       ∙ sym (length-map words (λ (w : Bor (List ℕ)). w.now)) in
       let loads : new.loads ≡ old.loads ++ flat_map (load_at origin (names_in words) files) drawn =
       ap (λ (r : Run). r.loads) provided.appended
@@ -226,25 +236,30 @@ module _ (request : Request) (origin : List ℕ → Origin) (words : List (Bor (
       } in
       subst (λ (b : Bool). MatchBool b
       (AreReadInOrder origin request.files (Some old.loads) (Some new.loads) files)
-      (AreReadAsDrawn origin request.files (Some old.loads) (Some new.loads) files drawn)) (sym live)
+      (AreReadAsDrawn origin request.files (Some old.loads) (Some new.loads) files drawn))
+      (sym live)
       (subst (λ (ns : List (List ℕ)).
       AreReadAsDrawn origin ns (Some old.loads) (Some new.loads) files drawn) (sym are) as_drawn)
 
 -- what was charged ahead, once the source took over the calls
-pub charged_joined : (request : Request) (origin : List ℕ → Origin) (loaded loaded' : Option (List Loaded))
+pub charged_joined : (request : Request) (origin : List ℕ → Origin)
+    (loaded loaded' : Option (List Loaded))
     (calls : Calls) (after : Run) (table table' : Option Fares) (token : Option Token)
     (Written : List ℕ → Type 0) (success : Bool) → calls ≡ no_calls
     → loaded' ≡ option_map (λ l. l ++ after.loads) loaded → table' ≡ table
-    → IsChargedPrefetched request origin (Some calls.run.loads) (Some after.loads) table' token Written success
+    → IsChargedPrefetched request origin (Some calls.run.loads) (Some after.loads) table' token
+    Written success
     → IsChargedPrefetched request origin loaded loaded' table token Written success
-charged_joined request origin loaded loaded' calls after table table' token Written success none took same
+charged_joined request origin loaded loaded' calls after table table' token Written success none
+    took same
     is = record {
       fares = is.fares;
       is_table = sym same ∙ is.is_table;
       lists_none = is.lists_none;
       files = is.files;
       drawn = is.drawn;
-      read = subst (λ (l : Option (List Loaded)). ArePrefetched request origin loaded l is.files is.drawn)
+      read = subst
+          (λ (l : Option (List Loaded)). ArePrefetched request origin loaded l is.files is.drawn)
           (sym took) (prefetched_joined request origin loaded after.loads is.files is.drawn
           (subst (λ (c : Calls). ArePrefetched request origin (Some c.run.loads) (Some after.loads)
           is.files is.drawn) none is.read));

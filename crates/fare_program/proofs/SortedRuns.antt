@@ -87,8 +87,10 @@ traced_table request right traced =
     let (ledger, three) = neither (ledger_usage_error request) _ rest in
     let (explain, four) = neither (explain_usage_error request) _ three in
     let (live, five) = neither (sorted_usage_error request) _ four in
-    let (no_usage_error, six) = neither (traced_usage_error request) (tokens_usage_error request) five in
-    (has_table_named request.settle request.list request.table (traced_settles request.traced request.ledger
+    let (no_usage_error, six) =
+    neither (traced_usage_error request) (tokens_usage_error request) five in
+    (has_table_named request.settle request.list request.table
+    (traced_settles request.traced request.ledger
     request.settle request.sorted request.token traced no_usage_error) settle).1
 
 -- ---- a range of tokens
@@ -97,7 +99,8 @@ no_range None none = refl
 no_range (Some fault) none = cc
 
 range_of : (tokens : Option (List ℕ)) (sorted : Bool) (token : Option (List ℕ)) (word : List ℕ)
-    → tokens_usage_error_of tokens sorted token ≡ None → tokens ≡ Some word → range_fault word ≡ None
+    → tokens_usage_error_of tokens sorted token ≡ None → tokens ≡ Some word
+    → range_fault word ≡ None
 range_of None sorted token word right is = cc
 range_of (Some other) false token word right is = cc
 range_of (Some other) true (Some digits) word right is = cc
@@ -115,20 +118,23 @@ names_range request word right is =
     let (ledger, three) = neither (ledger_usage_error request) _ rest in
     let (explain, four) = neither (explain_usage_error request) _ three in
     let (live, five) = neither (sorted_usage_error request) _ four in
-    let (no_usage_error, six) = neither (traced_usage_error request) (tokens_usage_error request) five in
+    let (no_usage_error, six) =
+    neither (traced_usage_error request) (tokens_usage_error request) five in
     range_of request.tokens request.sorted request.token word six is
 
 -- a traced ledger was asked for, and written
 pub does_traced : (request : Request) (known : List ℕ → Option (List ℕ)) (origin : List ℕ → Origin)
     (loaded loaded' : Option (List Loaded))
     (out out' : Option (List ℕ)) (success : Bool) → request.traced ≡ true
-    → RunsTraced request loaded loaded' out out' success → Does request known origin loaded loaded' out out' success
+    → RunsTraced request loaded loaded' out out' success
+    → Does request known origin loaded loaded' out out' success
 does_traced request known origin loaded loaded' out out' success traced runs =
     subst (λ (b : Bool). MatchBool b (RunsTraced request loaded loaded' out out' success)
     (DoesUntraced request known origin loaded loaded' out out' success)) (sym traced) runs
 
 -- what was done is no traced ledger, and none was asked for
-pub does_untraced : (request : Request) (known : List ℕ → Option (List ℕ)) (origin : List ℕ → Origin)
+pub does_untraced : (request : Request) (known : List ℕ → Option (List ℕ))
+    (origin : List ℕ → Origin)
     (loaded loaded' : Option (List Loaded))
     (out out' : Option (List ℕ)) (success : Bool) → request.traced ≡ false
     → DoesUntraced request known origin loaded loaded' out out' success
@@ -139,7 +145,8 @@ does_untraced request known origin loaded loaded' out out' success untraced done
 
 -- the table that is named was loaded
 pub has_table : (request : Request) (loaded loaded' : Option (List Loaded)) (fares : Option Fares)
-    → usage_error request ≡ None → request.sorted ≡ true → LoadsTable request.table loaded loaded' fares
+    → usage_error request ≡ None → request.sorted ≡ true
+    → LoadsTable request.table loaded loaded' fares
     → (f : Fares) × (fares ≡ Some f)
 has_table request loaded loaded' fares right sorted loads =
     loaded_table request.table loaded loaded' fares (charges request right sorted).1 loads
@@ -166,29 +173,34 @@ module _ (request : Request) (known : List (Option (List ℕ))) (fares : Fares) 
     done.text,
     λ files are. subst (λ (tokens : Option (List ℕ)). MatchOption tokens
         (ShowsSettled request fares files token done.text true)
-        (λ word. IsPartText request.ledger fares files done.text)) (sym none) (done.shows files are),
+        (λ word. IsPartText request.ledger fares files done.text)) (sym none)
+        (done.shows files are),
     done.written,
   )
 
   pub shown_part : (word : List ℕ) → request.tokens ≡ Some word
-      → IsChargedPart request.ledger known fares out out' → IsShown request known fares token out out'
+      → IsChargedPart request.ledger known fares out out'
+      → IsShown request known fares token out out'
   shown_part word some done = (
     done.text,
     λ files are. subst (λ (tokens : Option (List ℕ)). MatchOption tokens
         (ShowsSettled request fares files token done.text true)
-        (λ word. IsPartText request.ledger fares files done.text)) (sym some) (done.shows files are),
+        (λ word. IsPartText request.ledger fares files done.text)) (sym some)
+        (done.shows files are),
     done.written,
   )
 
 pub does_sorted : (request : Request) (known : List ℕ → Option (List ℕ)) (origin : List ℕ → Origin)
     (loaded between : Option (List Loaded))
     (fares : Option Fares) (token : Option Token) (out out' : Option (List ℕ)) (success : Bool)
-    → usage_error request ≡ None → request.sorted ≡ true → LoadsTable request.table loaded between fares
+    → usage_error request ≡ None → request.sorted ≡ true
+    → LoadsTable request.table loaded between fares
     → IsTokenIn request.token token
     → (success ≡ true) × ((f : Fares) → fares ≡ Some f
     → IsShown request (map known request.files) f token out out')
     → DoesUntraced request known origin loaded between out out' success
-does_sorted request known origin loaded between fares token out out' success right sorted loads is_token made =
+does_sorted request known origin loaded between fares token out out' success right sorted loads
+    is_token made =
     let (list, some) = charges request right sorted in
     let (f, is) = has_table request loaded between fares right sorted loads in
     let done = made.1 f is in

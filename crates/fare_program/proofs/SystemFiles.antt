@@ -1,6 +1,7 @@
 -- What is loaded in a run over files of the system.
 use Rattle.std.proofs.Common.{◌≡◌, ◌≢◌, ◌∙◌, ◌+◌, ◌<◌, ◌≤◌, ◌==◌, ◌++◌, ◌∷◌, [], ℕ, zero, suc, List}
-use Rattle.std.proofs.Common.{Bool, true, false, cond, Option, None, Some, All, length, map, flat_map}
+use Rattle.std.proofs.Common.{Bool, true, false, cond, Option, None, Some, All, length, map}
+use Rattle.std.proofs.Common.{flat_map}
 use Rattle.std.proofs.Common.{arith, ap, ap₂, refl, sym, subst, inl, inr, append-nil, append_assoc}
 use Rattle.std.proofs.Common.{length-append}
 use Rattle.std.specs.Prelude.{◌⊎◌, MatchBool, slice_get}
@@ -35,7 +36,8 @@ use Rattle.program_manners.specs.TableLoads.{LoadsLater, LoadsTables}
 use Rattle.program_manners.specs.TableWords.{TableNames, file_named}
 
 -- what a source that tells its loads has loaded after these
-record Grew (before : List Loaded) (after : Option (List Loaded)) (more : List Loaded) : Type 0 where
+record Grew (before : List Loaded) (after : Option (List Loaded)) (more : List Loaded) : Type
+    0 where
   pub now : List Loaded
   pub is : after ≡ Some now
   pub grown : now ≡ before ++ more
@@ -118,7 +120,8 @@ module _ (origin : List ℕ → Origin) (of_system : (name : List ℕ) → origi
       (in_order names files)
 
   abbrev load_of : List (List ℕ) → List (List ℕ) → ℕ → Loaded
-  load_of names files position = record { name = Some (text_at names position); bytes = text_at files position }
+  load_of names files position =
+      record { name = Some (text_at names position); bytes = text_at files position }
 
   as_drawn : (names files : List (List ℕ)) (drawn : List ℕ)
       → flat_map (load_at origin names files) drawn ≡ map (load_of names files) drawn
@@ -130,8 +133,10 @@ module _ (origin : List ℕ → Origin) (of_system : (name : List ℕ) → origi
 -- the loads of all places are those under the names
 all_positions : (name_of bytes_of : ℕ → List ℕ) (start : ℕ) (names files : List (List ℕ))
     → length files ≡ length names
-    → ((position : ℕ) → position < length names → name_of (start + position) ≡ text_at names position)
-    → ((position : ℕ) → position < length names → bytes_of (start + position) ≡ text_at files position)
+    → ((position : ℕ) → position < length names
+    → name_of (start + position) ≡ text_at names position)
+    → ((position : ℕ) → position < length names
+    → bytes_of (start + position) ≡ text_at files position)
     → map (λ position. record { name = Some (name_of position); bytes = bytes_of position })
     (positions start names) ≡ loads_under names files
 all_positions name_of bytes_of start [] files number names_are files_are = refl
@@ -167,7 +172,8 @@ not_outside : (number : ℕ) (works : List Worked) (position : ℕ) → All (λ 
 not_outside number [] position each more = refl
 not_outside number (w ∷ works) position each more =
     by_test (eqb_tells w.upload position)
-    (not_outside number works position (All-tail (λ (x : Worked). x.upload < number) w works each) more)
+    (not_outside number works position (All-tail (λ (x : Worked). x.upload < number) w works each)
+    more)
   where
     here : w.upload < number
     here = All-head (λ (x : Worked). x.upload < number) w works each
@@ -190,7 +196,8 @@ drawn_once request fares files drawn token text is position within =
     let (taps, there) = posted_at is.outcome.ends position (sym is.succeeded)
     (omega (arith, within, headline.uploads)) in
     ap (times position) is.drawn_are
-    ∙ each_drawn_once fares request.shards files is.run.0 is.outcome headline position (Posted taps) there
+    ∙ each_drawn_once fares request.shards files is.run.0 is.outcome headline position (Posted taps)
+    there
     (λ same. cc)
 
 none_outside : (request : Request) (fares : Fares) (files : List (List ℕ)) (drawn : List ℕ)
@@ -256,8 +263,10 @@ module _ (request : Request) (origin : List ℕ → Origin)
       let all : map (load_of origin of_system names files) (positions 0 names)
       ≡ loads_under names files =
       all_positions (text_at names) (text_at files) 0 names files number
-      (λ position within. let here : 0 + position ≡ position = omega arith in ap (text_at names) here)
-      (λ position within. let here : 0 + position ≡ position = omega arith in ap (text_at files) here) in (
+      (λ position within. let here : 0 + position ≡ position = omega arith in
+      ap (text_at names) here)
+      (λ position within. let here : 0 + position ≡ position = omega arith in
+      ap (text_at files) here) in (
         flat_map (load_at origin names files) drawn,
         number,
         subst (λ (ls : List Loaded). IsPermutation (loads_under names files) ls)
@@ -267,8 +276,10 @@ module _ (request : Request) (origin : List ℕ → Origin)
         read.loads,
       )
 
-  files_loaded : 0 < length request.files → AreLoaded request origin (Some between) after files drawn
-      → ShowsRequest request fares files drawn token text true → FilesLoaded request between after files
+  files_loaded : 0 < length request.files
+      → AreLoaded request origin (Some between) after files drawn
+      → ShowsRequest request fares files drawn token text true
+      → FilesLoaded request between after files
   files_loaded some (inl loaded) shows =
       let (are, number) = loads_are request.files loaded.loads files
       (loaded.named ∙ named_some request.files some) loaded.bytes in
@@ -303,7 +314,8 @@ charges_files request origin before after out out' of_system some run =
     let first = tables_loaded tables before run.between texts run.fares mean in
     let more = files_loaded request origin of_system first.now (Some after) run.fares run.files
     run.drawn run.token run.text some
-    (subst (λ (t : Option (List Loaded)). AreLoaded request origin t (Some after) run.files run.drawn)
+    (subst (λ (t : Option (List Loaded)). AreLoaded request origin t (Some after) run.files
+    run.drawn)
     first.is run.loads_files) run.shows in
     record {
       tables = tables;
@@ -311,7 +323,8 @@ charges_files request origin before after out out' of_system some run =
       texts = texts;
       fares = run.fares;
       between = first.now;
-      mean = subst (λ (t : Option (List Loaded)). LoadsTables tables (Some before) t texts run.fares)
+      mean = subst
+          (λ (t : Option (List Loaded)). LoadsTables tables (Some before) t texts run.fares)
           first.is mean;
       tables_loaded = first.grown ∙ ap (λ (t : Option TableNames). before
           ++ loads_under (table_files t) texts) (sym named);

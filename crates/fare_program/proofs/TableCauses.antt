@@ -54,7 +54,8 @@ module _ (request : Request) (under : List ℕ → Option (List ℕ))
   unloaded_is_right (unloaded.Follow line) is = (tables, named, is)
   unloaded_is_right unloaded.NoMemory is = tt
 
-  refused_at : (texts : List (List ℕ)) (fares : Fares) → LoadsTables tables loaded loaded' texts fares
+  refused_at : (texts : List (List ℕ)) (fares : Fares)
+      → LoadsTables tables loaded loaded' texts fares
       → (wrong : WrongNames) → IsWrongAt texts wrong → wrong.fault ≡ class.Name
       → RefusesClass tables loaded loaded' wrong.position
   refused_at texts fares loads wrong at is = record {

@@ -59,7 +59,8 @@ module _ (request : Request) (known : List ℕ → Option (List ℕ)) (origin : 
   does_list files loaded flag done =
       subst (λ (b : Bool). MatchBool b
       (RunsListing request.table request.files loaded_before loaded_before' out out' success)
-      (MatchBool request.sorted (RunsSorted request known loaded_before loaded_before' out out' success)
+      (MatchBool request.sorted
+      (RunsSorted request known loaded_before loaded_before' out out' success)
       (RunsService request origin loaded_before loaded_before' out out' success)))
       (sym (lists_by request.list request.table loaded_before between fares loads flag)) (record {
         between = between;
@@ -72,20 +73,24 @@ module _ (request : Request) (known : List ℕ → Option (List ℕ)) (origin : 
         written = appends_to_kept out mid out' done.0 kept done.2;
       })
 
-  pub does_charge : (f : Fares) (files : List (List ℕ)) (drawn : List ℕ) (token : Option Token) → fares ≡ Some f
+  pub does_charge : (f : Fares) (files : List (List ℕ)) (drawn : List ℕ) (token : Option Token)
+      → fares ≡ Some f
       → AreLoaded request origin between loaded_before' files drawn → IsTokenIn request.token token
       → request.list ≡ false → request.sorted ≡ false
-      → (text : List ℕ) × ShowsRequest request f files drawn token text success × Appends mid out' text
+      → (text : List ℕ) × ShowsRequest request f files drawn token text success
+      × Appends mid out' text
       → DoesUntraced request known origin loaded_before loaded_before' out out' success
   does_charge f files drawn token is loaded is_token flag live done =
       subst (λ (b : Bool). MatchBool b
       (RunsListing request.table request.files loaded_before loaded_before' out out' success)
-      (MatchBool request.sorted (RunsSorted request known loaded_before loaded_before' out out' success)
+      (MatchBool request.sorted
+      (RunsSorted request known loaded_before loaded_before' out out' success)
       (RunsService request origin loaded_before loaded_before' out out' success)))
       (sym (serves request.list request.table loaded_before between fares f flag loads is))
       (subst (λ (b : Bool). MatchBool b
       (RunsSorted request known loaded_before loaded_before' out out' success)
-      (RunsService request origin loaded_before loaded_before' out out' success)) (sym live) (record {
+      (RunsService request origin loaded_before loaded_before' out out' success)) (sym live)
+      (record {
         between = between;
         fares = f;
         loads_table = subst (LoadsTable request.table loaded_before between) is loads;
@@ -100,15 +105,19 @@ module _ (request : Request) (known : List ℕ → Option (List ℕ)) (origin : 
       }))
 
 -- files that were read ahead were charged
-pub does_prefetched : (request : Request) (known : List ℕ → Option (List ℕ)) (origin : List ℕ → Origin)
+pub does_prefetched : (request : Request) (known : List ℕ → Option (List ℕ))
+    (origin : List ℕ → Origin)
     (loaded_before between loaded_before' : Option (List Loaded)) (table : Option Fares)
     (token : Option Token) (Written : List ℕ → Type 0) (out out' : Option (List ℕ)) (success : Bool)
     → LoadsTable request.table loaded_before between table → IsTokenIn request.token token
     → (is : IsChargedPrefetched request origin between loaded_before' table token Written success)
     → Appends out out' is.text → request.sorted ≡ false
     → DoesUntraced request known origin loaded_before loaded_before' out out' success
-does_prefetched request known origin loaded_before between loaded_before' table token Written out out' success
+does_prefetched request known origin loaded_before between loaded_before' table token Written out
+    out' success
     loads is_token is written live =
-    does_charge request known origin loaded_before between loaded_before' out out out' success table loads
-    (Keeps-refl out) is.fares is.files is.drawn token is.is_table (inr is.read) is_token is.lists_none live
+    does_charge request known origin loaded_before between loaded_before' out out out' success table
+    loads
+    (Keeps-refl out) is.fares is.files is.drawn token is.is_table (inr is.read) is_token
+    is.lists_none live
     (is.text, is.shows, written)

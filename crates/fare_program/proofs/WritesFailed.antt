@@ -46,7 +46,8 @@ started_by a mid b text Whole kept started make = record {
 }
 
 -- what is begun is another thing that is begun
-pub started_so : (a b : Option (List ℕ)) (One Other : Option (List ℕ) → Type 0) → IsPartlyWritten a b One
+pub started_so : (a b : Option (List ℕ)) (One Other : Option (List ℕ) → Type 0)
+    → IsPartlyWritten a b One
     → ((all : Option (List ℕ)) → One all → Other all) → IsPartlyWritten a b Other
 started_so a b One Other started make = record {
   front = started.front;
@@ -76,24 +77,29 @@ grown_by false A B P one other is = other is
 -- what was done is a text that was written
 does_write : (request : Request) (known : List ℕ → Option (List ℕ)) (origin : List ℕ → Origin)
     (loaded loaded' : Option (List Loaded))
-    (out out' : Option (List ℕ)) (success : Bool) → Does request known origin loaded loaded' out out' success
+    (out out' : Option (List ℕ)) (success : Bool)
+    → Does request known origin loaded loaded' out out' success
     → (text : List ℕ) × Appends out out' text
 does_write request known origin loaded loaded' out out' success done =
     grown_by request.traced (RunsTraced request loaded loaded' out out' success) _ _
     (λ runs. (runs.text, runs.written))
-    (grown_by (lists request) (RunsListing request.table request.files loaded loaded' out out' success) _ _
+    (grown_by (lists request)
+    (RunsListing request.table request.files loaded loaded' out out' success) _ _
     (λ runs. (runs.text, runs.written))
     (grown_by request.sorted (RunsSorted request known loaded loaded' out out' success)
-    (RunsService request origin loaded loaded' out out' success) _ (λ runs. (runs.text, runs.written))
+    (RunsService request origin loaded loaded' out out' success) _
+    (λ runs. (runs.text, runs.written))
     (λ runs. (runs.text, runs.written)))) done
 
 pub started_done : (request : Request) (known : List ℕ → Option (List ℕ)) (origin : List ℕ → Origin)
     (loaded loaded' : Option (List Loaded)) (out out' : Option (List ℕ)) (success : Bool)
-    → Does request known origin loaded loaded' out out' success → HasStarted request known origin loaded loaded' out out'
+    → Does request known origin loaded loaded' out out' success
+    → HasStarted request known origin loaded loaded' out out'
 started_done request known origin loaded loaded' out out' success done =
     let (text, written) = does_write request known origin loaded loaded' out out' success done in (
       success,
-      started_whole out out' text (λ all. Does request known origin loaded loaded' out all success) written done,
+      started_whole out out' text (λ all. Does request known origin loaded loaded' out all success)
+          written done,
     )
 
 -- ---- what is reported of a fault
@@ -113,11 +119,13 @@ right_remembered request under loaded loaded' refused (Some why) fault right = r
 right_remembered request under loaded loaded' refused None Write right = tt
 right_remembered request under loaded loaded' refused None fault right = right
 
-module _ (request : Request) (under : List ℕ → Option (List ℕ)) (origin : List ℕ → Origin) (loaded loaded' : Option (List Loaded))
+module _ (request : Request) (under : List ℕ → Option (List ℕ)) (origin : List ℕ → Origin)
+    (loaded loaded' : Option (List Loaded))
     (out out' : Option (List ℕ)) where
   left_by : (fault : Fault)
       → (fault ≢ Write → (request.sorted ≡ true → IsLate fault → ⊥) → Keeps out out')
-      → (fault ≡ Write → AreOfBytes request under → HasStarted request under origin loaded loaded' out out')
+      → (fault ≡ Write → AreOfBytes request under
+      → HasStarted request under origin loaded loaded' out out')
       → IsLeftBy request under origin loaded loaded' out out' fault
   left_by Write kept started = started refl
   left_by NoMemory kept started = inl (kept (λ is. cc) (λ sorted late. late))
@@ -126,7 +134,8 @@ module _ (request : Request) (under : List ℕ → Option (List ℕ)) (origin : 
   -- so it is of what is reported
   pub left_remembered : (end : Option WriteEnd) (fault : Fault)
       → (fault ≢ Write → (request.sorted ≡ true → IsLate fault → ⊥) → Keeps out out')
-      → (fault ≡ Write → AreOfBytes request under → HasStarted request under origin loaded loaded' out out')
+      → (fault ≡ Write → AreOfBytes request under
+      → HasStarted request under origin loaded loaded' out out')
       → IsLeftBy request under origin loaded loaded' out out' (as_remembered end fault)
   left_remembered (Some why) fault kept started = left_by fault kept started
   left_remembered None Write kept started = inr (started refl)

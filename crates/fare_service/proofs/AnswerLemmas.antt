@@ -39,7 +39,8 @@ pub answered : (service : ServiceView) (olds news : List ShareView)
     (answers : List (Result ShareView Unavailable)) → answers ≡ map Ok news
     → AllZip (IsAnswer service) olds answers → Answered service olds news
 answered service olds news answers are zip =
-    let Z : List (Result ShareView Unavailable) → Type 0 = λ rs. AllZip (IsAnswer service) olds rs in
+    let Z : List (Result ShareView Unavailable) → Type 0 =
+    λ rs. AllZip (IsAnswer service) olds rs in
     all_answered service olds news (subst Z are zip)
 
 unavailable_each : (service : ServiceView) (olds : List ShareView)
@@ -50,7 +51,8 @@ unavailable_each service [] [] zip =
 unavailable_each service [] (answer ∷ answers) zip = absurd zip
 unavailable_each service (old ∷ olds) [] zip = absurd zip
 unavailable_each service (old ∷ olds) (answer ∷ answers) zip =
-    All-cons (λ a. IfErr a (λ u. IsUnavailable service.uploads u.upload)) answer answers zip.0.unavailable
+    All-cons (λ a. IfErr a (λ u. IsUnavailable service.uploads u.upload)) answer answers
+    zip.0.unavailable
     (unavailable_each service olds answers zip.1)
 
 -- why there are not all shares is why nothing was gathered

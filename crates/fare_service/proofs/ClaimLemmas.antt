@@ -230,7 +230,8 @@ claims_step fn yielded into position old pass new shard before at within is join
         let last : claims_at shard (yielded ++ pass ∷ []) ≡ pass.claims =
         ap (λ s. claims_at s (yielded ++ pass ∷ [])) (e ∙ at) ∙ claims_last yielded pass in
         let there : claims_at shard (set into position new) ≡ new.claims =
-        ap (λ s. claims_at s (set into position new)) e ∙ claims-set_same into position new within in
+        ap (λ s. claims_at s (set into position new)) e
+        ∙ claims-set_same into position new within in
         omega arith
     by_position (inr (b, ne)) =
         let other = claims_else shard yielded pass (λ e. ne (e ∙ sym at)) in

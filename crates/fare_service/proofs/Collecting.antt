@@ -16,7 +16,8 @@ use Rattle.fare_service.specs.inside.Spots.{entries_at_spots}
 use Rattle.fare_service.specs.declared.spot.Spot.{Spot}
 
 -- the entry at a spot
-pub spot_entry : (books : List Book) (spot : Spot) (index position : ℕ) (book : Book) (entry : Entry)
+pub spot_entry : (books : List Book) (spot : Spot) (index position : ℕ) (book : Book)
+    (entry : Entry)
     → book_at spot ≡ index → position_at spot ≡ position → slice_get books index ≡ Some book
     → slice_get book.entries position ≡ Some entry → entry_at_spot books spot ≡ entry
 unfolding entry_at_spot

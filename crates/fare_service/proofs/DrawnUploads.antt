@@ -11,7 +11,8 @@ use Rattle.fare_service.specs.Outcomes.{OutcomeView}
 use Rattle.fare_service.specs.Shares.{Worked, all_works}
 use Rattle.fare_service.proofs.GatherLemmas.{drawn_times, not_drawn}
 
-pub each_drawn_once : (fares : Fares) (shards : ℕ) (files : List (List ℕ)) (works : List (List Worked))
+pub each_drawn_once : (fares : Fares) (shards : ℕ) (files : List (List ℕ))
+    (works : List (List Worked))
     (outcome : OutcomeView) → Headline fares shards files works outcome
     → (upload : ℕ) (end : UploadEnd) → slice_get outcome.ends upload ≡ Some end → end ≢ Undrawn
     → times upload (drawn_by works) ≡ 1

@@ -215,7 +215,8 @@ Reported ends works upload end =
 
 reported_end : (ends : List UploadEnd) (works : List Worked) (upload : ℕ) (end : UploadEnd)
     → NoneTwice (map (λ w. w.upload) works)
-    → slice_get (with_done ends (map done_of works)) upload ≡ Some end → Reported ends works upload end
+    → slice_get (with_done ends (map done_of works)) upload ≡ Some end
+    → Reported ends works upload end
 reported_end ends [] upload end once at = inl (refl, at)
 reported_end ends (w ∷ works) upload end once at =
     by_test (eqb_tells w.upload upload)
@@ -223,7 +224,8 @@ reported_end ends (w ∷ works) upload end once at =
   where
     by_test : (((w.upload == upload) ≡ true) × (w.upload ≡ upload))
         ⊎ (((w.upload == upload) ≡ false) × (w.upload ≢ upload))
-        → Reported (slice_set ends w.upload w.end) works upload end → Reported ends (w ∷ works) upload end
+        → Reported (slice_set ends w.upload w.end) works upload end
+        → Reported ends (w ∷ works) upload end
     by_test (inl (is, same)) (inl (none, there)) =
         let S : ℕ → Type 0 = λ u. slice_get (slice_set ends u w.end) upload ≡ Some end in
         inr (

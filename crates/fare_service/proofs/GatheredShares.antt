@@ -23,7 +23,8 @@ use Rattle.fare_service.specs.inside.Closing.{IsClosedWork}
 use Rattle.fare_service.specs.inside.Joining.{with_all_done}
 use Rattle.fare_service.specs.inside.ServiceView.{IsService}
 use Rattle.fare_service.proofs.GatheredWork.{given_of, IsGathered}
-use Rattle.fare_service.proofs.GatherLemmas.{Reported, all_each, book_of_work, drawn_all, ends_reported}
+use Rattle.fare_service.proofs.GatherLemmas.{Reported, all_each, book_of_work, drawn_all}
+use Rattle.fare_service.proofs.GatherLemmas.{ends_reported}
 use Rattle.fare_service.proofs.GatherLemmas.{get_replicate, keepings, kept_length, not_drawn}
 use Rattle.fare_service.proofs.GatherLemmas.{totals_all}
 use Rattle.fare_service.proofs.UploadFileSource.{upload_file_source, provided_number}
@@ -125,4 +126,5 @@ has_run service shares workers outcome number is = record {
 
     from : (w : Worked) → IsWorked service w → w.file ≡ file_at is.files w.upload
         → IsFrom (origin_at service.uploads w.upload) (file_at is.files w.upload)
-    from w worked provided = subst (IsFrom (origin_at service.uploads w.upload)) provided worked.from
+    from w worked provided =
+        subst (IsFrom (origin_at service.uploads w.upload)) provided worked.from

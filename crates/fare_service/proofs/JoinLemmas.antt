@@ -68,7 +68,8 @@ of_joined old other new j = record {
 }
 
 -- the passes of one shard more
-pub join_step : (fn yielded into : List PassView) (position : ℕ) (old pass new : PassView) (shard : ℕ)
+pub join_step : (fn yielded into : List PassView) (position : ℕ) (old pass new : PassView)
+    (shard : ℕ)
     → AreJoinedAt shard fn yielded into → position ≡ length yielded → position < length into
     → old ≡ get_or into position old → IsJoined old pass new
     → AreJoinedAt shard fn (yielded ++ pass ∷ []) (set into position new)
@@ -89,7 +90,8 @@ join_step fn yielded into position old pass new shard before at within is joined
         let last : pass.marks ≡ marks_at shard (yielded ++ pass ∷ []) =
         sym (ap (λ s. marks_at s (yielded ++ pass ∷ [])) (e ∙ at) ∙ marks_last yielded pass) in
         let there : new.marks ≡ marks_at shard (set into position new) =
-        sym (ap (λ s. marks_at s (set into position new)) e ∙ marks-set_same into position new within) in
+        sym (ap (λ s. marks_at s (set into position new)) e
+        ∙ marks-set_same into position new within) in
         same_joined old.marks (marks_at shard fn) pass.marks (marks_at shard (yielded ++ pass ∷ []))
         new.marks (marks_at shard (set into position new)) here last there
         (of_joined old pass new joined)

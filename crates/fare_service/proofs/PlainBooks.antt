@@ -326,7 +326,8 @@ mine_at token (ts ∷ taps) zero es at = let same : own token (map unanswered ts
 mine_at token (ts ∷ taps) (suc upload) es at = mine_at token taps upload es at
 
 mine_none : (token : Token) (taps : List (List Tap))
-    → ((position : ℕ) (es : List Entry) → slice_get (all_mine token taps) position ≡ Some es → es ≡ [])
+    → ((position : ℕ) (es : List Entry) → slice_get (all_mine token taps) position ≡ Some es
+    → es ≡ [])
     → (upload : ℕ) → mine_of token taps upload ≡ []
 mine_none token [] none upload = own_none token
 mine_none token (ts ∷ taps) none zero = none 0 (own token (map unanswered ts)) refl
@@ -449,7 +450,8 @@ module _ (given : Given) (works : List (List Worked)) (outcome : OutcomeView)
       within = λ k d few. omega
           (arith, b.signed k d few, length-map works (map (λ (w : Worked). w.upload)))
 
-      by_taps : ((position : ℕ) (es : List Entry) → slice_get (all_mine token taps) position ≡ Some es
+      by_taps : ((position : ℕ) (es : List Entry)
+          → slice_get (all_mine token taps) position ≡ Some es
           → es ≡ []) ⊎ HasOne (all_mine token taps)
           → flat_map (λ v. bares token v.entries) b.visits
           ≡ flat_map (λ es. es) (all_mine token taps)
@@ -471,7 +473,8 @@ module _ (given : Given) (works : List (List Worked)) (outcome : OutcomeView)
           let least = drawn_count (all_works works) one.position
           (ended given works outcome taps all one.position few) in
           let most = all.gathered.once one.position in
-          let once : count one.position (flat_map (λ ns. ns) (map (map (λ w. w.upload)) works)) ≡ 1 =
+          let once : count one.position (flat_map (λ ns. ns) (map (map (λ w. w.upload)) works))
+          ≡ 1 =
           ap (count one.position) (flat_uploads works) ∙ omega (arith, least, most) in
           done_alone (λ v. v.worker) (λ v. bares token v.entries) (mine_of token taps) one.position
           (map (map (λ w. w.upload)) works) b.visits others once within theirs

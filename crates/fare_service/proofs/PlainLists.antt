@@ -143,7 +143,14 @@ has_alone only (l ∷ lists) h = by_count (count only l) refl (has_alone only li
         others rest zero ns at apart = let same : l ≡ ns = cc in ap (count only) (sym same) ∙ e
         others rest (suc other) ns at apart = rest.others other ns at (λ same. apart (ap suc same))
     by_count (suc k) e more =
-        record { position = 0; list = l; at = refl; there = omega (arith, both, e); others = others }
+        record {
+          position = 0;
+          list = l;
+          at = refl;
+          there = omega (arith, both, e);
+          others =
+              others;
+        }
       where
         others : (other : ℕ) (ns : List ℕ) → slice_get (l ∷ lists) other ≡ Some ns → other ≢ 0
             → count only ns ≡ 0
@@ -289,7 +296,8 @@ pub record HasOne {A : Type 0} (lists : List (List A)) : Type 0 where
   pub at : slice_get lists position ≡ Some (first ∷ rest)
 
 pub none_or_one : {A : Type 0} (lists : List (List A))
-    → ((position : ℕ) (list : List A) → slice_get lists position ≡ Some list → list ≡ []) ⊎ HasOne lists
+    → ((position : ℕ) (list : List A) → slice_get lists position ≡ Some list → list ≡ [])
+    ⊎ HasOne lists
 none_or_one [] = inl (λ position list at. absurd (cc))
 none_or_one ((x ∷ xs) ∷ lists) = inr (record { position = 0; first = x; rest = xs; at = refl })
 none_or_one {A = A} ([] ∷ lists) = by_rest (none_or_one lists)
@@ -300,7 +308,8 @@ none_or_one {A = A} ([] ∷ lists) = by_rest (none_or_one lists)
         ⊎ HasOne ([] ∷ lists)
     by_rest (inl none) = inl all
       where
-        all : (position : ℕ) (list : List A) → slice_get ([] ∷ lists) position ≡ Some list → list ≡ []
+        all : (position : ℕ) (list : List A) → slice_get ([] ∷ lists) position ≡ Some list
+            → list ≡ []
         all zero list at = let e : [] ≡ list = cc in sym e
         all (suc position) list at = none position list at
     by_rest (inr one) = inr

@@ -18,17 +18,21 @@ use Rattle.tap_views.proofs.TokensUp.{up_itself}
 pub seen_taken : (books : List Book) (list : List Spot) (position : ℕ) (other : Spot)
     → position < length list
     → take (position + 1) (entries_at_spots books list)
-    ≡ take position (entries_at_spots books list) ++ entry_at_spot books (get_or list position other) ∷ []
+    ≡ take position (entries_at_spots books list) ++ entry_at_spot books
+    (get_or list position other) ∷ []
 seen_taken books list position other within =
     let inside : position < length (entries_at_spots books list) =
     omega (arith, length-map list (entry_at_spot books), within) in
-    (rw (add-one) (take-suc (entries_at_spots books list) position (entry_at_spot books other) inside))
+    (rw (add-one)
+    (take-suc (entries_at_spots books list) position (entry_at_spot books other) inside))
     ∙ ap (λ (entry : Entry). take position (entries_at_spots books list) ++ entry ∷ [])
     (get_or-map (entry_at_spot books) list position other (entry_at_spot books other) within)
 
-seen_left : (books : List Book) (list : List Spot) (position : ℕ) (other : Spot) → position < length list
+seen_left : (books : List Book) (list : List Spot) (position : ℕ) (other : Spot)
+    → position < length list
     → drop position (entries_at_spots books list)
-    ≡ entry_at_spot books (get_or list position other) ∷ drop (position + 1) (entries_at_spots books list)
+    ≡ entry_at_spot books (get_or list position other) ∷ drop (position + 1)
+    (entries_at_spots books list)
 seen_left books list position other within =
     let inside : position < length (entries_at_spots books list) =
     omega (arith, length-map list (entry_at_spot books), within) in
@@ -37,14 +41,16 @@ seen_left books list position other within =
     ∙ ap (λ (entry : Entry). entry ∷ drop (position + 1) (entries_at_spots books list))
     (get_or-map (entry_at_spot books) list position other (entry_at_spot books other) within)
 
-pub ascend_here : (books : List Book) (list : List Spot) (position : ℕ) (other : Spot) (token : Token)
+pub ascend_here : (books : List Book) (list : List Spot) (position : ℕ) (other : Spot)
+    (token : Token)
     → position < length list → NondecreasingFrom token (drop position (entries_at_spots books list))
     → IsUpTo token (entry_at_spot books (get_or list position other)).token
 ascend_here books list position other token within nondecreasing =
     let both : NondecreasingFrom token
     (entry_at_spot books (get_or list position other) ∷ drop (position + 1)
     (entries_at_spots books list)) =
-    subst (λ (es : List Entry). NondecreasingFrom token es) (seen_left books list position other within)
+    subst (λ (es : List Entry). NondecreasingFrom token es)
+    (seen_left books list position other within)
     nondecreasing in
     both.0
 
@@ -56,7 +62,8 @@ ascend_on books list position other token within nondecreasing =
     let both : NondecreasingFrom token
     (entry_at_spot books (get_or list position other) ∷ drop (position + 1)
     (entries_at_spots books list)) =
-    subst (λ (es : List Entry). NondecreasingFrom token es) (seen_left books list position other within)
+    subst (λ (es : List Entry). NondecreasingFrom token es)
+    (seen_left books list position other within)
     nondecreasing in
     both.1
 
@@ -68,4 +75,5 @@ ascend_first books [] first is nondecreasing = tt
 ascend_first books (one ∷ list) first is nondecreasing =
     let same : one ≡ first = cc in
     subst (λ (x : Spot). NondecreasingFrom (entry_at_spot books x).token
-    (entries_at_spots books (one ∷ list))) same (up_itself (entry_at_spot books one).token, nondecreasing)
+    (entries_at_spots books (one ∷ list))) same
+    (up_itself (entry_at_spot books one).token, nondecreasing)

@@ -78,7 +78,8 @@ are_provided : (provided : ℕ → List ℕ) (first : ℕ) (uploads : List Origi
     → AreProvidedAs uploads (files_from provided first uploads)
 are_provided provided first [] = tt
 are_provided provided first (nowhere ∷ uploads) = (tt, are_provided provided (suc first) uploads)
-are_provided provided first (memory known ∷ uploads) = (refl, are_provided provided (suc first) uploads)
+are_provided provided first (memory known ∷ uploads) =
+    (refl, are_provided provided (suc first) uploads)
 are_provided provided first (file name ∷ uploads) = (tt, are_provided provided (suc first) uploads)
 are_provided provided first (anywhere ∷ uploads) = (tt, are_provided provided (suc first) uploads)
 
@@ -88,7 +89,8 @@ pub provided_number : (uploads : List Origin) (files : List (List ℕ))
 provided_number [] [] provided = refl
 provided_number [] (f ∷ files) provided = absurd provided
 provided_number (origin ∷ uploads) [] provided = absurd provided
-provided_number (origin ∷ uploads) (f ∷ files) provided = ap suc (provided_number uploads files provided.1)
+provided_number (origin ∷ uploads) (f ∷ files) provided =
+    ap suc (provided_number uploads files provided.1)
 
 file_there : (provided : ℕ → List ℕ) (first : ℕ) (uploads : List Origin) (upload : ℕ)
     → upload < length uploads
@@ -115,7 +117,8 @@ pub record UploadFileSource (service : ServiceView) (works : List Worked) : Type
   pub provided : AreProvidedAs service.uploads files
   pub each : All (IsWorkOf (shards_of service) files) works
 
-pub upload_file_source : (service : ServiceView) (works : List Worked) → All (IsWorked service) works
+pub upload_file_source : (service : ServiceView) (works : List Worked)
+    → All (IsWorked service) works
     → NoneTwice (map (λ w. w.upload) works) → UploadFileSource service works
 upload_file_source service works all once = record {
   files = files;
@@ -140,7 +143,8 @@ upload_file_source service works all once = record {
         let at : file_at files w.upload ≡ w.file =
         file_there provided 0 service.uploads w.upload is.within
         ∙ (ap (λ n. file_for (origin_at service.uploads w.upload) (provided n)) from_zero
-        ∙ same_file (origin_at service.uploads w.upload) (provided w.upload) w.file is.from reported) in
+        ∙ same_file (origin_at service.uploads w.upload) (provided w.upload) w.file is.from
+        reported) in
         let F : List ℕ → Type 0 = λ f. IsFile f is.batches is.rest in
         let E : List ℕ → Type 0 =
         λ f. IsEndOf (shards_of service) f is.batches is.rest w.visits w.end in
@@ -156,7 +160,8 @@ upload_file_source service works all once = record {
 
 -- uploads that memory holds are lent with what it holds
 pub known_files : {A : Type 0} (bytes : A → List ℕ) (uploads : List A) (files : List (List ℕ))
-    → AreProvidedAs (map (λ upload. memory (bytes upload)) uploads) files → files ≡ map bytes uploads
+    → AreProvidedAs (map (λ upload. memory (bytes upload)) uploads) files
+    → files ≡ map bytes uploads
 known_files bytes [] [] provided = refl
 known_files bytes [] (f ∷ files) provided = absurd provided
 known_files bytes (upload ∷ uploads) [] provided = absurd provided

@@ -368,12 +368,14 @@ only : (modes : List (List ℕ)) (n : ℕ) (earlier : List (ℕ × RangeRest)) (
     → has_number n range ≡ true
     → get_item position' items ≡ Some value' → range_in modes value' ≡ Ok range'
     → has_number n range' ≡ true → position ≡ position'
-only modes n earlier no_items ranges position position' value value' range range' is holds at read has
+only modes n earlier no_items ranges position position' value value' range range' is holds at read
+    has
     at'
     read' has' = absurd (cc)
 only modes n earlier (item first more) ranges zero zero value value' range range' is holds at read
     has at' read' has' = refl
-only modes n earlier (item first more) ranges zero (suc position') value value' range range' is holds
+only modes n earlier (item first more) ranges zero (suc position') value value' range range' is
+    holds
     at read has at' read' has' =
     let s = step modes earlier first more ranges is holds in
     absurd (again modes n s.next more ranges position' value' range' s.rest s.holds
@@ -386,10 +388,12 @@ only modes n earlier (item first more) ranges (suc position) zero value value' r
     absurd (again modes n s.next more ranges position value range s.rest s.holds
     (first_has modes n earlier first value' s.range range' s.next s.read (s.found n) at' read'
     has') at read has)
-only modes n earlier (item first more) ranges (suc position) (suc position') value value' range range' is
+only modes n earlier (item first more) ranges (suc position) (suc position') value value' range
+    range' is
     holds at read has at' read' has' =
     let s = step modes earlier first more ranges is holds in
-    ap suc (only modes n s.next more ranges position position' value value' range range' s.rest s.holds
+    ap suc (only modes n s.next more ranges position position' value value' range range' s.rest
+    s.holds
     at
     read has at' read' has')
 
@@ -582,7 +586,8 @@ pub one-entry : (tree : Members) (meaning : TableMeaning) (validator position po
     → RangeHas tree validator position → RangeHas tree validator position' → position ≡ position'
 one-entry tree meaning validator position position' is one other =
     let text = ranges_read meaning.modes tree meaning.ranges (parts tree meaning is).ranges in
-    let f = is_found meaning.modes tree meaning.ranges validator position one.element text one.listed
+    let f = is_found meaning.modes tree meaning.ranges validator position one.element text
+    one.listed
     one.has in
     let g = is_found meaning.modes tree meaning.ranges validator position' other.element text
     other.listed

@@ -251,7 +251,8 @@ transfers_report : (modes : List (List ℕ)) (found : List (ℕ × ℕ)) (names 
     ≡ cond (list_any (is_unknown modes) names) (Some Mode) None
 transfers_report modes found [] = refl
 transfers_report modes found (pair ∷ more) =
-    position_if (position (same_name pair.0) modes) (position (same_name pair.1) modes) (λ positions.
+    position_if (position (same_name pair.0) modes) (position (same_name pair.1) modes)
+    (λ positions.
     transfers_from modes (with_pair found positions.0 positions.1) more)
     (cond (list_any (is_unknown modes) more) (Some Mode) None)
     (λ positions. transfers_report modes (with_pair found positions.0 positions.1) more)
@@ -496,7 +497,8 @@ pub list-reported : (tree : Members) (modes : List (List ℕ)) (part : Members) 
     ≡ first_row tree (class_rows tree 0 (classes_in tree))
 list-reported tree modes part earlier known same tables =
     list-from-reported tree modes 0 earlier part known
-    (subst (λ (m : Members). AlignedAt (classes_in tree) 0 m) same (aligned_all (classes_in tree))) tables
+    (subst (λ (m : Members). AlignedAt (classes_in tree) 0 m) same (aligned_all (classes_in tree)))
+    tables
     ∙ ap (λ (m : Members). first_row tree (class_rows tree 0 m)) (sym same)
 
 class_need : Option Data → Option TableFault
@@ -562,7 +564,8 @@ some-index name no_members = refl
 some-index name (member key value more) =
     let same : same_name name key ≡ is_eq (slice_cmp nat_cmp name key) =
     sym (is_eq-slice_cmp name key) in
-    rw same (placed (slice_cmp nat_cmp name key) (position_of name more) (get_member name more) value
+    rw same (placed (slice_cmp nat_cmp name key) (position_of name more) (get_member name more)
+    value
     (some-index name more))
   where
     none_of : (o : Option ℕ) → is_none (option_map suc o) ≡ is_none o

@@ -79,7 +79,8 @@ only pairs f t from to has = only_if (has_pair pairs f t) pairs f t from to has
 -- the pairs behind the first one, after it was read
 abbrev after : List (List ℕ) → List (ℕ × ℕ) → List (List ℕ × List ℕ) → ℕ × ℕ
     → OrFault (List (ℕ × ℕ))
-after modes found more positions = transfers_from modes (with_pair found positions.0 positions.1) more
+after modes found more positions =
+    transfers_from modes (with_pair found positions.0 positions.1) more
 
 -- the pairs found stay
 still : (modes : List (List ℕ)) (found : List (ℕ × ℕ)) (names : List (List ℕ × List ℕ))
@@ -102,7 +103,8 @@ there modes found (first ∷ more) pairs is from to pair at positions =
     let step = bind_ok (positions_of modes first) (after modes found more) pairs is in
     ⊎_elim
     (λ same.
-    let one : Ok step.0 ≡ Ok (pair_by from to) = sym step.1 ∙ ap (positions_of modes) same ∙ positions in
+    let one : Ok step.0 ≡ Ok (pair_by from to) =
+    sym step.1 ∙ ap (positions_of modes) same ∙ positions in
     let here : step.0 ≡ pair_by from to = cc in
     still modes (with_pair found step.0.0 step.0.1) more pairs step.2 from to
     (subst (λ (p : ℕ × ℕ). has_pair (with_pair found p.0 p.1) from to ≡ true) (sym here)
@@ -114,7 +116,8 @@ there modes found (first ∷ more) pairs is from to pair at positions =
 -- a pair of names of these places is listed
 abbrev IsListed : List (List ℕ) → List (List ℕ × List ℕ) → ℕ → ℕ → Type 0
 IsListed modes names from to =
-    (pair : List ℕ × List ℕ) × Contains names pair × (positions_of modes pair ≡ Ok (pair_by from to))
+    (pair : List ℕ × List ℕ) × Contains names pair
+    × (positions_of modes pair ≡ Ok (pair_by from to))
 
 -- each pair was found before, or is listed
 came : (modes : List (List ℕ)) (found : List (ℕ × ℕ)) (names : List (List ℕ × List ℕ))

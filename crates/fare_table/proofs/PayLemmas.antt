@@ -13,7 +13,8 @@ use Rattle.fare_table.proofs.ElementLemmas.{if_ok}
 use Rattle.fare_table.proofs.PartLemmas.{bind_ok, parts}
 use Rattle.fare_table.proofs.ReadLemmas.{is_number, is_table, number-read, table-read, text-read}
 use Rattle.fare_table.specs.Classes.{ceiling_of, class_in, class_named, class_of, classes_from}
-use Rattle.fare_table.specs.Classes.{classes_of, default_of, fares_of, is_empty, position_of, terms_of}
+use Rattle.fare_table.specs.Classes.{classes_of, default_of, fares_of, is_empty, position_of}
+use Rattle.fare_table.specs.Classes.{terms_of}
 use Rattle.fare_table.specs.Classes.{ride_transfers_of}
 use Rattle.tariffs.specs.Names.{same_name}
 use Rattle.tariffs.specs.declared.class.Class.{Class}

@@ -17,7 +17,8 @@ use Rattle.toml.specs.Data.{Data, Items, no_items, item, Members, no_members, me
 use Rattle.toml.specs.Data.{integer, array, table, get_member, get_item, as_str, as_array}
 use Rattle.toml.specs.Parse.{parse_document}
 use Rattle.fare_table.proofs.ElementLemmas.{Reads, by_mode, by_tables, reads}
-use Rattle.fare_table.proofs.FaultLemmas.{AlignedAt, classes-reported, classes_tables, default-reported}
+use Rattle.fare_table.proofs.FaultLemmas.{AlignedAt, classes-reported, classes_tables}
+use Rattle.fare_table.proofs.FaultLemmas.{default-reported}
 use Rattle.fare_table.proofs.FaultLemmas.{done, fails, fault_in, list-reported, modes-known}
 use Rattle.fare_table.proofs.FaultLemmas.{modes-reported, named-reported, needs, number_reports}
 use Rattle.fare_table.proofs.FaultLemmas.{aligned_all, aligned_here, aligned_next, steps, reported}
@@ -410,7 +411,8 @@ riders_steps (Some (table part)) tree classes rest none same =
 riders_steps (Some _) tree classes rest none same = refl
 
 aligned_members : (whole part : Members) → whole ≡ part → AlignedAt whole 0 part
-aligned_members whole part same = subst (λ (m : Members). AlignedAt whole 0 m) same (aligned_all whole)
+aligned_members whole part same =
+    subst (λ (m : Members). AlignedAt whole 0 m) same (aligned_all whole)
 
 keys-reported : (tree classes : Members) → classes_in tree ≡ classes
     → fault_in (riders_of classes tree)

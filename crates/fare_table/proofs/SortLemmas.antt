@@ -57,11 +57,14 @@ lower low token (first ∷ more) below all =
     ((nat_list_cmp_total).trans low token first.0 below all.0, lower low token more below all.1)
 
 increase_if : (r : Ordering) (token : List ℕ) (terms : ℕ) (first : List ℕ × ℕ) (more : Riders)
-    → slice_cmp nat_cmp token first.0 ≡ r → AreNondecreasing (first ∷ more) → AreNondecreasing (with_one token terms more)
-    → AreNondecreasing (match_ordering r ((token, terms) ∷ first ∷ more) ((first.0, terms) ∷ more) (first
+    → slice_cmp nat_cmp token first.0 ≡ r → AreNondecreasing (first ∷ more)
+    → AreNondecreasing (with_one token terms more)
+    → AreNondecreasing
+    (match_ordering r ((token, terms) ∷ first ∷ more) ((first.0, terms) ∷ more) (first
     ∷ with_one token terms more))
 unfolding IsStrictlySortedBy
-increase_if Less token terms first more is increase later = ((is, lower token first.0 more is increase.0), increase)
+increase_if Less token terms first more is increase later =
+    ((is, lower token first.0 more is increase.0), increase)
 increase_if Equal token terms first more is increase later = increase
 increase_if Greater token terms first more is increase later = (
   above_with first.0 token terms more ((nat_list_cmp_total).antisymm first.0 token
@@ -78,7 +81,8 @@ increase_with token terms (first ∷ more) increase =
     (increase_with token terms more increase.1)
 
 ascend_from : (classes : Members) (earlier : Riders) (part : Members) (riders : Riders)
-    → riders_from classes earlier part ≡ Ok riders → AreNondecreasing earlier → AreNondecreasing riders
+    → riders_from classes earlier part ≡ Ok riders → AreNondecreasing earlier
+    → AreNondecreasing riders
 ascend_from classes earlier no_members riders is increase = let same : earlier ≡ riders = cc in
     subst (λ (r : Riders). AreNondecreasing r) same increase
 ascend_from classes earlier (member key value more) riders is increase =
@@ -87,7 +91,8 @@ ascend_from classes earlier (member key value more) riders is increase =
     riders one.2 in
     let added = adds_rider earlier two.0 one.0.0 one.0.1 two.1 in
     ascend_from classes two.0 more riders two.2
-    (subst (λ (r : Riders). AreNondecreasing r) (sym added.one) (increase_with one.0.0 one.0.1 earlier increase))
+    (subst (λ (r : Riders). AreNondecreasing r) (sym added.one)
+    (increase_with one.0.0 one.0.1 earlier increase))
 
 ascend_all : (classes : Members) (o : Option Data) (riders : Riders) → AreRiders classes o riders
     → AreNondecreasing riders

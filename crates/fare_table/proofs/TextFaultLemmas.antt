@@ -122,7 +122,8 @@ pairs_from-text found (item value more) =
     pairs_from (found ++ pair ∷ []) more) (of_kind-text the_key.Transfers (name_pair value))
     (λ pair. pairs_from-text (found ++ pair ∷ []) more)
 
-positions_of-text : (modes : List (List ℕ)) (pair : List ℕ × List ℕ) → NotText (positions_of modes pair)
+positions_of-text : (modes : List (List ℕ)) (pair : List ℕ × List ℕ)
+    → NotText (positions_of modes pair)
 positions_of-text modes pair =
     steps (mode_named modes pair.0) _ (mode_named-text modes pair.0) (λ from.
     steps (mode_named modes pair.1) _ (mode_named-text modes pair.1) (λ to. an_ok (from, to)))
@@ -132,7 +133,8 @@ transfers_from-text : (modes : List (List ℕ)) (found : List (ℕ × ℕ)) (pai
 transfers_from-text modes found [] = an_ok found
 transfers_from-text modes found (pair ∷ more) =
     steps (positions_of modes pair) (λ positions.
-    transfers_from modes (with_pair found positions.0 positions.1) more) (positions_of-text modes pair)
+    transfers_from modes (with_pair found positions.0 positions.1) more)
+    (positions_of-text modes pair)
     (λ positions. transfers_from-text modes (with_pair found positions.0 positions.1) more)
 
 transfers_of-text : (modes : List (List ℕ)) (tree : Members) → NotText (transfers_of modes tree)

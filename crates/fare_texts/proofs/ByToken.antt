@@ -21,7 +21,8 @@ use Rattle.histories.proofs.OwnEntries.{own-append, own_none, own_other, own_sam
 use Rattle.fare_texts.specs.LedgerLines.{AreLedgerLinesAfter, AreLedgerLines, IsLedgerLine}
 use Rattle.fare_texts.specs.LedgerLines.{reason_after}
 use Rattle.fare_texts.specs.Ledger.{AreLinesOfEach}
-use Rattle.fare_texts.specs.Lines.{AreLinesAlong, AreUpTo, IsLineAfter, Nondecreasing, NondecreasingFrom}
+use Rattle.fare_texts.specs.Lines.{AreLinesAlong, AreUpTo, IsLineAfter, Nondecreasing}
+use Rattle.fare_texts.specs.Lines.{NondecreasingFrom}
 use Rattle.tap_views.specs.TokenOrder.{IsUpTo}
 use Rattle.fare_texts.specs.ByToken.{IsByToken}
 use Rattle.fare_texts.proofs.Increasing.{none_above, none_below}
@@ -183,7 +184,8 @@ rest_of_token fares whole token before (entry ∷ rest) text is up nondecreasing
     (subst (λ (t : Token). IsUpTo t token) (sym same) (up_itself token)))
     (subst (λ (t : Token). NondecreasingFrom t rest) same nondecreasing.1) along))
     (λ (apart : token_eq entry.token token ≡ false).
-    next_case fares whole before entry rest line more text is explained shown token up nondecreasing.0
+    next_case fares whole before entry rest line more text is explained shown token up
+    nondecreasing.0
     nondecreasing.1
     apart (token_eq-sym token entry.token ∙ apart)
     (rest_of_token fares whole entry.token (before ++ entry ∷ []) rest more longer
@@ -197,7 +199,8 @@ each_token : (fares : Fares) (entries : List Entry) (text : List ℕ) → Nondec
     → (order : List Token) × IsIncreasing token_cmp (map token_of entries) order
     × AreLinesOfEach fares entries order text
 unfolding IsStrictlySortedBy
-each_token fares [] text nondecreasing none = ([], record { increases = tt; same = λ key. refl }, none)
+each_token fares [] text nondecreasing none =
+    ([], record { increases = tt; same = λ key. refl }, none)
 each_token fares (entry ∷ rest) text nondecreasing (line, more, explained, along, shown) =
     let g = rest_of_token fares (entry ∷ rest) entry.token (entry ∷ []) rest more refl
     (up_itself entry.token, tt) nondecreasing along in (

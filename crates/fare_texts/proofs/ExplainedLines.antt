@@ -86,7 +86,8 @@ pub next_window : (clocks : ClockView) (windows : List WindowView) (position : �
     → IsExplainedWindow clocks (codes "earlier window ") (get_or windows position other) line
     → AreEarlierLines clocks (take (position + 1) windows) (text ++ line)
 next_window clocks windows position other within text line are is =
-    let more : take (position + 1) windows ≡ take position windows ++ get_or windows position other ∷ [] =
+    let more : take (position + 1) windows
+    ≡ take position windows ++ get_or windows position other ∷ [] =
     rw (add-one) (take-suc windows position other within) in
     subst (λ (ws : List WindowView). AreEarlierLines clocks ws (text ++ line)) (sym more)
     (windows-push clocks (take position windows) (get_or windows position other) text line are is)

@@ -40,7 +40,8 @@ none_above token from [] to apart nondecreasing = own_none token
 none_above token from (entry ∷ entries) to apart nondecreasing =
     let beyond = by (token_eq entry.token token) refl in
     own_other token entry entries beyond
-    ∙ none_above token entry.token entries (up_chain token from entry.token to nondecreasing.0) beyond
+    ∙ none_above token entry.token entries (up_chain token from entry.token to nondecreasing.0)
+    beyond
     nondecreasing.1
   where
     by : (t : Bool) → token_eq entry.token token ≡ t → token_eq entry.token token ≡ false

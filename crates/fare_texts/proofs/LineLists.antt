@@ -37,14 +37,16 @@ pub taken : (entries : List Entry) (position : ℕ) (other : Entry) → position
     → take (position + 1) entries ≡ take position entries ++ get_or entries position other ∷ []
 taken entries position other within = rw (add-one) (take-suc entries position other within)
 
-pub more : {A : Type 0} (f : A → TapIn) (xs : List A) (position : ℕ) (other : A) → position < length xs
+pub more : {A : Type 0} (f : A → TapIn) (xs : List A) (position : ℕ) (other : A)
+    → position < length xs
     → map f (take (position + 1) xs) ≡ map f (take position xs) ++ f (get_or xs position other) ∷ []
 more f xs position other within =
     rw (add-one, take-suc xs position other within)
     (map-append f (take position xs) (get_or xs position other ∷ []))
 
 -- the lines of the first entries, and the next one's
-pub next_lines : (fares : Fares) (token : Token) (entries : List Entry) (position : ℕ) (other : Entry)
+pub next_lines : (fares : Fares) (token : Token) (entries : List Entry) (position : ℕ)
+    (other : Entry)
     → position < length entries → (text line : List ℕ)
     → AreLedgerLines fares token (take position entries) text
     → IsLedgerLineAfter fares token (take position entries) (get_or entries position other) line
@@ -52,4 +54,5 @@ pub next_lines : (fares : Fares) (token : Token) (entries : List Entry) (positio
 next_lines fares token entries position other within text line are is =
     subst (λ (es : List Entry). AreLedgerLines fares token es (text ++ line))
     (sym (taken entries position other within))
-    (lines-push fares token [] (take position entries) (get_or entries position other) text line are is)
+    (lines-push fares token [] (take position entries) (get_or entries position other) text line are
+    is)

@@ -108,7 +108,8 @@ along_all fares entries position written along =
       others.0,
       subst (λ (es : List Entry). AreLinesAlong fares [] es (written ++ others.0))
           (take-append-drop position entries)
-          (along_append fares [] (take position entries) (drop position entries) written others.0 along
+          (along_append fares [] (take position entries) (drop position entries) written others.0
+          along
           others.1),
     )
 

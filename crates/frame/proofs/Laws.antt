@@ -111,8 +111,13 @@ pub write_halts : {Request : Type 0} (Right : Request → List Load → Answer �
     (whole : Answer) (why : Stop) → x ≡ y → IsStarted (Right x) loads whole
     → IsHaltedIn start new loads whole why → IsHalted (Right y) (names y) start new why
 write_halts Right names x y start new loads whole why e started k =
-    task_halts Right names x y start new why e
-    (loads, k.part, k.all (names x), started_part (Right x) loads k.part k.rest whole k.is_part started, k.named (names x))
+    task_halts Right names x y start new why e (
+      loads,
+      k.part,
+      k.all (names x),
+      started_part (Right x) loads k.part k.rest whole k.is_part started,
+      k.named (names x),
+    )
 
 pub goes_end : (Has : List Load → Answer → Type 0) (Right : List Load → Answer → ℕ → Type 0)
     (names : List (List ℕ)) (start : Run) (a : Answer) (new : Run) (piece : List ℕ) (step : Step)

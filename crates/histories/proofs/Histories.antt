@@ -65,7 +65,8 @@ taps-push table token entries entry =
     ]
 
 -- the mode that the table has for a validator, as the account rule takes it
-pub mode_at_position : (mode : Option Mode) (position : Option ℕ) → option_map (λ m. m.position) mode ≡ position
+pub mode_at_position : (mode : Option Mode) (position : Option ℕ)
+    → option_map (λ m. m.position) mode ≡ position
     → mode ≡ option_map mode_of_position position
 mode_at_position None position is = ap (λ (p : Option ℕ). option_map mode_of_position p) is
 mode_at_position (Some mode) position is = ap (λ (p : Option ℕ). option_map mode_of_position p) is

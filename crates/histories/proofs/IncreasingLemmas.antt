@@ -150,9 +150,11 @@ module _ {K : Type 0} {cmp : K → K → Ordering} (total : IsTotalOrder cmp)
       }
 
   -- and there is no other
-  pub increasing-only : (keys risen : List K) → IsIncreasing cmp keys risen → risen ≡ increasing cmp keys
+  pub increasing-only : (keys risen : List K) → IsIncreasing cmp keys risen
+      → risen ≡ increasing cmp keys
   increasing-only keys risen is = let own = increasing-is keys in
-      increasing-unique risen (increasing cmp keys) is.increases own.increases (λ q. is.same q ∙ sym (own.same q))
+      increasing-unique risen (increasing cmp keys) is.increases own.increases
+      (λ q. is.same q ∙ sym (own.same q))
 
   -- what a sort leaves of distinct keys rises strictly
   sorted-increases-at : (keys : List K) (blank : K) → IsSorted cmp keys
@@ -177,4 +179,5 @@ module _ {K : Type 0} {cmp : K → K → Ordering} (total : IsTotalOrder cmp)
       → IsStrictlySortedBy cmp keys
   unfolding IsStrictlySortedBy
   sorted-increases [] sorted distinct = tt
-  sorted-increases (key ∷ keys) sorted distinct = sorted-increases-at (key ∷ keys) key sorted distinct
+  sorted-increases (key ∷ keys) sorted distinct =
+      sorted-increases-at (key ∷ keys) key sorted distinct

@@ -71,7 +71,8 @@ same_at validator xs ys same token =
 
 -- numbers rise to one list
 abbrev pub IncreasingNumbers : Type 0
-IncreasingNumbers = (keys risen : List ℕ) → IsIncreasing nat_cmp keys risen ↔ (risen ≡ increasing nat_cmp keys)
+IncreasingNumbers = (keys risen : List ℕ)
+    → IsIncreasing nat_cmp keys risen ↔ (risen ≡ increasing nat_cmp keys)
 
 -- tokens rise to one list
 abbrev pub IncreasingTokens : Type 0

@@ -61,7 +61,8 @@ keys_joined xs ys below =
     let back = increasing-is token_cmp-total token_cmp-ties ys in
     increasing-only token_cmp-total token_cmp-ties (xs ++ ys)
     (increasing token_cmp xs ++ increasing token_cmp ys) (record {
-      increases = sorted_append (increasing token_cmp xs) (increasing token_cmp ys) front.increases back.increases
+      increases = sorted_append (increasing token_cmp xs) (increasing token_cmp ys) front.increases
+          back.increases
           (below_keys xs ys below);
       same = λ key.
           among-append (increasing token_cmp xs) (increasing token_cmp ys) key
@@ -138,14 +139,16 @@ by_token_joined xs ys below =
     let back : All (λ t. f t ≡ sums (own t ys)) (increasing token_cmp ky) =
     All-weaker (λ t. All (λ o. token_eq o t ≡ false) kx) (λ t. f t ≡ sums (own t ys))
     (λ t all. ap sums (filter-append (is_of t) xs ys
-    ∙ ap (λ (es : List Entry). es ++ filter (is_of t) ys) (none_of t xs all))) (increasing token_cmp ky)
+    ∙ ap (λ (es : List Entry). es ++ filter (is_of t) ys) (none_of t xs all)))
+    (increasing token_cmp ky)
     (all_keys (λ t. All (λ o. token_eq o t ≡ false) kx) ky (flipped kx ky below)) in
     ap (λ (ks : List Token). paired f (increasing token_cmp ks)) (map-append token_of xs ys)
     ∙ ap (paired f) (sym (keys_joined kx ky below))
     ∙ paired_append f (increasing token_cmp kx) (increasing token_cmp ky)
     ∙ ap (λ (ps : List (Token × Sums)). ps ++ paired f (increasing token_cmp ky))
     (pairs_same f (λ t. sums (own t xs)) (increasing token_cmp kx) front)
-    ∙ ap (λ (ps : List (Token × Sums)). paired (λ t. sums (own t xs)) (increasing token_cmp kx) ++ ps)
+    ∙ ap (λ (ps : List (Token × Sums)). paired (λ t. sums (own t xs))
+    (increasing token_cmp kx) ++ ps)
     (pairs_same f (λ t. sums (own t ys)) (increasing token_cmp ky) back)
 
 -- ---- entries of one token

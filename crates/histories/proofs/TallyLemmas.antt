@@ -13,7 +13,8 @@ use Rattle.histories.proofs.SumsLemmas.{same_seven}
 -- the count at the answer's place is one more, and the cents are the reply's more
 pub tallied : (counts : List ℕ) (cents : ℕ) (reply : Reply) → length counts ≡ 5
     → sums_of_positions
-    (set counts (count_position reply.answer) (slice_index counts (count_position reply.answer) + 1))
+    (set counts (count_position reply.answer)
+    (slice_index counts (count_position reply.answer) + 1))
     (cents + reply.cents) ≡ add_sums (sums_of_positions counts cents) (sums_of_replies (reply ∷ []))
 unfolding sums_of_replies
 tallied (a ∷ b ∷ c ∷ d ∷ e ∷ []) cents reply long = by_answer reply.answer reply.cents

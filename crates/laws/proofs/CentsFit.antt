@@ -1,4 +1,5 @@
--- No entry of taps that are posted costs more than the greatest fare of a table, and each has the sizes
+-- No entry of taps that are posted costs more than the greatest fare of a table, and each has the
+-- sizes
 -- of its tap.
 use Rattle.std.specs.Prelude.{ℕ, ◌≡◌, ◌+◌, ◌<◌, ◌^◌, List, [], ◌∷◌, ◌++◌, All}
 use Rattle.std.proofs.lemmas.List.Elements.{All-cons, All-head, All-nil, All-tail}
@@ -33,6 +34,7 @@ unfolding posted_after answered
 tokens_fit fares earlier [] named = All-nil (λ (entry : Entry). Fits entry.token)
 tokens_fit fares earlier (tap ∷ taps) named =
     let made = answered fares earlier (unposted tap) in
-    All-cons (λ (entry : Entry). Fits entry.token) made (posted_after fares (earlier ++ made ∷ []) taps)
+    All-cons (λ (entry : Entry). Fits entry.token) made
+    (posted_after fares (earlier ++ made ∷ []) taps)
     (All-head HasName tap taps named).fits
     (tokens_fit fares (earlier ++ made ∷ []) taps (All-tail HasName tap taps named))

@@ -186,7 +186,8 @@ fields_free fares entry letters =
 
 placed_free : (position : ℕ) (word : List ℕ) → Free word → Free (position_fields position word)
 unfolding position_fields
-placed_free position word is = both comma (both (number (position + 1)) (both comma (both is comma)))
+placed_free position word is =
+    both comma (both (number (position + 1)) (both comma (both is comma)))
 
 ride_free : (charge : Charge) → Free (ride_rest charge)
 ride_free (Full position cents) = placed_free position (codes "full") (written (codes "full") refl)

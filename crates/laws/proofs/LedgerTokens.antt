@@ -132,7 +132,8 @@ module _ (fares : Fares) (letters : AreLetters fares.meaning.modes) (token : Tok
 
   reported_token : (earlier rest : List Entry) (text : List ℕ) → IsOwn fares token (earlier ++ rest)
       → length (done ++ (earlier ++ rest)) ≤ 2 ^ 62
-      → AreLedgerLinesAfter fares token earlier rest text → Reported fares (done ++ earlier) rest text
+      → AreLedgerLinesAfter fares token earlier rest text
+      → Reported fares (done ++ earlier) rest text
   reported_token earlier [] text known few lines = reported_none fares (done ++ earlier) text lines
   reported_token earlier (entry ∷ rest) text known few lines =
       let line = lines.0 in
@@ -252,7 +253,8 @@ above_none (token ∷ list) = (tt, above_none list)
 reported_increase : (only : Option Token) (history : List Entry)
     → IsStrictlySortedBy token_cmp (ledger_tokens only history)
 unfolding IsStrictlySortedBy tokens
-reported_increase None history = (increasing-is token_cmp-total token_cmp-ties (map token_of history)).increases
+reported_increase None history =
+    (increasing-is token_cmp-total token_cmp-ties (map token_of history)).increases
 reported_increase (Some token) history = (tt, tt)
 
 head_front : List ℕ

@@ -91,7 +91,8 @@ record Position (token : Token) (history before : List Entry) (entry : Entry) : 
 position_of : (token : Token) (history before : List Entry) (entry : Entry) (after : List Entry)
     → own token history ≡ before ++ entry ∷ after
     → Position token history before entry
-position_of token [] [] entry after is = let bad : [] ≡ entry ∷ after = sym (own_none token) ∙ is in cc
+position_of token [] [] entry after is = let bad : [] ≡ entry ∷ after = sym (own_none token) ∙ is in
+    cc
 position_of token [] (b ∷ before) entry after is = let bad : [] ≡ b ∷ (before ++ entry ∷ after) =
     sym (own_none token) ∙ is in cc
 position_of token (e ∷ history) before entry after is =
@@ -112,7 +113,8 @@ position_of token (e ∷ history) before entry after is =
     (cases_Bool (is_of token e))
   where
     at : (before : List Entry) → e ∷ own token history ≡ before ++ entry ∷ after → e.token ≡ token
-        → ((b : List Entry) → own token history ≡ b ++ entry ∷ after → Position token history b entry)
+        → ((b : List Entry) → own token history ≡ b ++ entry ∷ after
+        → Position token history b entry)
         → Position token (e ∷ history) before entry
     at [] same of further =
         let first : e ≡ entry = cc in

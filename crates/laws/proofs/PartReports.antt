@@ -1,11 +1,13 @@
 -- Parts of files are parts of a history, and their numbers fit.
-use Rattle.std.specs.Prelude.{◌≡◌, ℕ, ◌+◌, ◌<◌, ◌≤◌, ◌^◌, List, [], ◌∷◌, ◌++◌, All, None, Ok, flat_map, length, map, sum_by}
+use Rattle.std.specs.Prelude.{◌≡◌, ℕ, ◌+◌, ◌<◌, ◌≤◌, ◌^◌, List, [], ◌∷◌, ◌++◌, All, None, Ok}
+use Rattle.std.specs.Prelude.{flat_map, length, map, sum_by}
 use Rattle.std.specs.List.{AllByRecursion, AllZip}
 use Rattle.std.specs.List.Sorted.{IsPermutation}
 use Rattle.std.proofs.Common.{refl, sym, ap, subst, ◌∙◌, arith, length-append}
 use Rattle.std.proofs.lemmas.List.{length-map}
 use Rattle.std.proofs.lemmas.List.Sorted.{length_permutation}
-use Rattle.std.proofs.lemmas.List.Elements.{All-cons, All-head, All-nil, All-tail, recursion_from_All}
+use Rattle.std.proofs.lemmas.List.Elements.{All-cons, All-head, All-nil, All-tail}
+use Rattle.std.proofs.lemmas.List.Elements.{recursion_from_All}
 use Rattle.tap_views.specs.Token.{Fits as TokenFits}
 use Rattle.tap_views.specs.declared.encoder.TapFields.{TapFields}
 use Rattle.tap_views.specs.declared.upload_end.UploadEnd.TheVariants.{Posted}
@@ -18,11 +20,13 @@ use Rattle.report_texts.specs.OverHistory.{IsReportOver}
 use Rattle.report_texts.specs.Report.{report}
 use Rattle.settlement.specs.Posted.{posted}
 use Rattle.settlement.proofs.TokenRuns.{posted_length}
-use Rattle.sorted_bills.specs.Parts.{ArePartsOf, AreIncreasing, IsPartOf, PartView, added, numbers_of_parts}
+use Rattle.sorted_bills.specs.Parts.{ArePartsOf, AreIncreasing, IsPartOf, PartView, added}
+use Rattle.sorted_bills.specs.Parts.{numbers_of_parts}
 use Rattle.sorted_taps.specs.Positions.{AreSpanned, AreWhole}
 use Rattle.sorted_taps.specs.declared.positions.FileSpan.{FileSpan}
 use Rattle.tap_views.specs.UploadEnds.{ArePlainEnds}
-use Rattle.part_texts.specs.HistoryParts.{AreRight, Fits, HistoryPart, histories_of, numbers_of, report_of, whole_history}
+use Rattle.part_texts.specs.HistoryParts.{AreRight, Fits, HistoryPart, histories_of, numbers_of}
+use Rattle.part_texts.specs.HistoryParts.{report_of, whole_history}
 use Rattle.part_texts.specs.HistoryParts.{AreIncreasing as HistoriesIncrease, added as added_up}
 use Rattle.fare_texts.specs.Ledger.{IsLedgerOver}
 use Rattle.part_texts.specs.LedgerParts.{AreReadable, DoJoinUp, IsPartLedger}
@@ -98,17 +102,20 @@ module _ (fares : Fares) (bounds : HaveBoundedTerms fares) (files : List (List �
     where
       moved : (is : IsPartOf fares files part.spans part.lists part.history)
           → length (flat_map (λ list. list) part.lists) ≡ length is.taps
-      moved is = sym (length_permutation (flat_map (λ list. list) part.lists) is.taps is.canonical.moved)
+      moved is = sym
+          (length_permutation (flat_map (λ list. list) part.lists) is.taps is.canonical.moved)
 
   -- ---- all parts
   all_spans : (parts : List PartView) → ArePartsOf fares files parts
       → AllByRecursion (λ (p : HistoryPart). length p.spans ≡ length files) (map history_part parts)
   all_spans [] are = tt
   all_spans (part ∷ parts) are =
-      let here = All-head (λ (p : PartView). IsPartOf fares files p.spans p.lists p.history) part parts are in (
+      let here = All-head (λ (p : PartView). IsPartOf fares files p.spans p.lists p.history) part
+      parts are in (
         number_of_spans files part.spans part.lists here.spanned,
         all_spans parts
-            (All-tail (λ (p : PartView). IsPartOf fares files p.spans p.lists p.history) part parts are),
+            (All-tail (λ (p : PartView). IsPartOf fares files p.spans p.lists p.history) part parts
+            are),
       )
 
   all_fits : (parts : List PartView) → ArePartsOf fares files parts → length files < 2 ^ 64
@@ -120,30 +127,35 @@ module _ (fares : Fares) (bounds : HaveBoundedTerms fares) (files : List (List �
   all_fits (part ∷ parts) are few positions numbers taps =
       let both = length-append part.history (flat_map (λ part. part.history) parts) in (
         part_fits part
-            (All-head (λ (p : PartView). IsPartOf fares files p.spans p.lists p.history) part parts are)
+            (All-head (λ (p : PartView). IsPartOf fares files p.spans p.lists p.history) part parts
+            are)
             few positions.0 numbers.0 (omega (arith, taps, both)),
         all_fits parts
-            (All-tail (λ (p : PartView). IsPartOf fares files p.spans p.lists p.history) part parts are)
+            (All-tail (λ (p : PartView). IsPartOf fares files p.spans p.lists p.history) part parts
+            are)
             few positions.1 numbers.1 (omega (arith, taps, both)),
       )
 
 -- ---- the same in the words of both crates
 spans_same : (parts : List PartView)
-    → map (λ (p : HistoryPart). p.spans) (map history_part parts) ≡ map (λ (p : PartView). p.spans) parts
+    → map (λ (p : HistoryPart). p.spans) (map history_part parts)
+    ≡ map (λ (p : PartView). p.spans) parts
 spans_same [] = refl
 spans_same (part ∷ parts) = ap (λ (l : List (List FileSpan)). part.spans ∷ l) (spans_same parts)
 
 histories_same : (parts : List PartView)
     → histories_of (map history_part parts) ≡ map (λ (p : PartView). p.history) parts
 histories_same [] = refl
-histories_same (part ∷ parts) = ap (λ (l : List (List Entry)). part.history ∷ l) (histories_same parts)
+histories_same (part ∷ parts) =
+    ap (λ (l : List (List Entry)). part.history ∷ l) (histories_same parts)
 
 whole_same : (parts : List PartView)
     → whole_history (map history_part parts) ≡ flat_map (λ (p : PartView). p.history) parts
 whole_same [] = refl
 whole_same (part ∷ parts) = ap (λ (l : List Entry). part.history ++ l) (whole_same parts)
 
-increase_same : (histories : List (List Entry)) → AreIncreasing histories → HistoriesIncrease histories
+increase_same : (histories : List (List Entry)) → AreIncreasing histories
+    → HistoriesIncrease histories
 increase_same [] increase = tt
 increase_same (history ∷ later) increase = (increase.0, increase_same later increase.1)
 
@@ -152,7 +164,8 @@ added_same [] ys = refl
 added_same (x ∷ xs) [] = refl
 added_same (x ∷ xs) (y ∷ ys) = ap (λ (l : List ℕ). (x + y) ∷ l) (added_same xs ys)
 
-numbers_same : (parts : List PartView) → numbers_of (map history_part parts) ≡ numbers_of_parts parts
+numbers_same : (parts : List PartView)
+    → numbers_of (map history_part parts) ≡ numbers_of_parts parts
 numbers_same [] = refl
 numbers_same (part ∷ parts) =
     ap (added_up (map length part.lists)) (numbers_same parts)
@@ -170,7 +183,8 @@ pub are_right : (fares : Fares) (files : List (List ℕ)) (parts : List PartView
 are_right fares files parts are whole increase bounds can = record {
   number = all_spans fares bounds files parts are;
   whole = subst AreWhole (sym (spans_same parts)) whole;
-  increase = increase_same (histories_of (map history_part parts)) (subst AreIncreasing (sym (histories_same parts)) increase);
+  increase = increase_same (histories_of (map history_part parts))
+      (subst AreIncreasing (sym (histories_same parts)) increase);
   fit = all_fits fares bounds files parts are can.number can.positions can.numbers can.taps;
   few = (let t = can.taps in let s = ap length (whole_same parts) in omega (arith, t, s));
 }
@@ -186,7 +200,8 @@ ReportsMerge = (files : ℕ) (part : HistoryPart) (parts : List HistoryPart)
 
 pub reports_of_parts : (merge : ReportsMerge) (fares : Fares) (files : List (List ℕ))
     (part : PartView) (parts : List PartView) → ArePartsOf fares files (part ∷ parts)
-    → AreWhole (map (λ p. p.spans) (part ∷ parts)) → AreIncreasing (map (λ p. p.history) (part ∷ parts))
+    → AreWhole (map (λ p. p.spans) (part ∷ parts))
+    → AreIncreasing (map (λ p. p.history) (part ∷ parts))
     → HaveBoundedTerms fares → CanBeWritten files (part ∷ parts)
     → ArePlainEnds files (map Posted (numbers_of_parts (part ∷ parts)))
     → (text : List ℕ) × (merge_of (map part_report (part ∷ parts)) ≡ Ok text)
@@ -217,14 +232,17 @@ module _ (fares : Fares) (files : List (List ℕ)) where
   numbers_are [] are = tt
   numbers_are (part ∷ parts) are = (
     number_of_spans files part.spans part.lists
-        (All-head (λ (p : PartView). IsPartOf fares files p.spans p.lists p.history) part parts are).spanned,
+        (All-head (λ (p : PartView). IsPartOf fares files p.spans p.lists p.history) part parts
+        are).spanned,
     numbers_are parts
-        (All-tail (λ (p : PartView). IsPartOf fares files p.spans p.lists p.history) part parts are),
+        (All-tail (λ (p : PartView). IsPartOf fares files p.spans p.lists p.history) part parts
+        are),
   )
 
   positions_are : (parts : List PartView)
       → AllByRecursion (λ (part : PartView). AllByRecursion SpanFits part.spans) parts
-      → AllByRecursion (λ (p : HistoryPart). AllByRecursion SpanFits p.spans) (map history_part parts)
+      → AllByRecursion (λ (p : HistoryPart). AllByRecursion SpanFits p.spans)
+      (map history_part parts)
   positions_are [] positions = tt
   positions_are (part ∷ parts) positions = (positions.0, positions_are parts positions.1)
 
@@ -236,11 +254,13 @@ module _ (fares : Fares) (files : List (List ℕ)) where
     number = numbers_are parts are;
     positions = positions_are parts have.positions;
     whole = subst AreWhole (sym (spans_same parts)) whole;
-    increase = increase_same (histories_of (map history_part parts)) (subst AreIncreasing (sym (histories_same parts)) increase);
+    increase = increase_same (histories_of (map history_part parts))
+        (subst AreIncreasing (sym (histories_same parts)) increase);
   }
 
   texts_of : (parts : List PartView) (texts : List (List ℕ))
-      → AllZip (IsLedgerText fares) parts texts → AllZip (IsPartLedger fares) (map history_part parts) texts
+      → AllZip (IsLedgerText fares) parts texts
+      → AllZip (IsPartLedger fares) (map history_part parts) texts
   texts_of [] [] are = tt
   texts_of [] (t ∷ ts) are = absurd are
   texts_of (p ∷ ps) [] are = absurd are
@@ -252,10 +272,15 @@ module _ (fares : Fares) (files : List (List ℕ)) where
       (map history_part parts)
   all_readable [] are readable = tt
   all_readable (part ∷ parts) are readable =
-      let here = All-head (λ (p : PartView). IsPartOf fares files p.spans p.lists p.history) part parts are in (
-        (subst TokensFit (sym here.posted_are) (tokens_fit fares [] here.taps here.named), readable.0),
+      let here = All-head (λ (p : PartView). IsPartOf fares files p.spans p.lists p.history) part
+      parts are in (
+        (
+          subst TokensFit (sym here.posted_are) (tokens_fit fares [] here.taps here.named),
+          readable.0,
+        ),
         all_readable parts
-            (All-tail (λ (p : PartView). IsPartOf fares files p.spans p.lists p.history) part parts are)
+            (All-tail (λ (p : PartView). IsPartOf fares files p.spans p.lists p.history) part parts
+            are)
             readable.1,
       )
 
@@ -270,7 +295,8 @@ LedgersAreWhole = (fares : Fares) (files : ℕ) (part : HistoryPart) (parts : Li
 pub ledgers_of_parts : (law : LedgersAreWhole) (fares : Fares) (files : List (List ℕ))
     (part : PartView) (parts : List PartView) → HavePositions files (part ∷ parts)
     → ArePartsOf fares files (part ∷ parts)
-    → AreWhole (map (λ p. p.spans) (part ∷ parts)) → AreIncreasing (map (λ p. p.history) (part ∷ parts))
+    → AreWhole (map (λ p. p.spans) (part ∷ parts))
+    → AreIncreasing (map (λ p. p.history) (part ∷ parts))
     → (texts : List (List ℕ)) → AllZip (IsLedgerText fares) (part ∷ parts) texts
     → (text : List ℕ) → merge_of texts ≡ Ok text
     → IsLedgerOver fares (flat_map (λ p. p.history) (part ∷ parts)) None text
@@ -291,7 +317,8 @@ LedgersAreMerged = (fares : Fares) (files : ℕ) (part : HistoryPart) (parts : L
 pub ledgers_merged : (law : LedgersAreMerged) (fares : Fares) (files : List (List ℕ))
     (part : PartView) (parts : List PartView) → HavePositions files (part ∷ parts)
     → ArePartsOf fares files (part ∷ parts)
-    → AreWhole (map (λ p. p.spans) (part ∷ parts)) → AreIncreasing (map (λ p. p.history) (part ∷ parts))
+    → AreWhole (map (λ p. p.spans) (part ∷ parts))
+    → AreIncreasing (map (λ p. p.history) (part ∷ parts))
     → (texts : List (List ℕ)) → AllZip (IsLedgerText fares) (part ∷ parts) texts
     → AllByRecursion (λ p. AreReadable fares p.history) (part ∷ parts)
     → (text : List ℕ) × (merge_of texts ≡ Ok text)

@@ -29,4 +29,5 @@ pub line_written : (fields class text : List ℕ) (traced : TracedTap) (columns 
     ≡ traced_text (line_of fields class traced) ++ with_columns text columns
 line_written fields class text traced columns lacks =
     put_after fields (columns_of class traced) text columns lacks
-    ∙ spelled fields class (decimal traced.upload) (decimal traced.position) (with_columns text columns)
+    ∙ spelled fields class (decimal traced.upload) (decimal traced.position)
+    (with_columns text columns)

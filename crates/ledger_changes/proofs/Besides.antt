@@ -196,7 +196,8 @@ all_map f [] all = tt
 all_map f (row ∷ rows) all = (f row all.0, all_map f rows all.1)
 
 -- behind the first row, and past the key
-past_first : (key : Key) (row : Row) (rows : List Row) → key_cmp key row.key ≡ Less → AreNondecreasing (row ∷ rows)
+past_first : (key : Key) (row : Row) (rows : List Row) → key_cmp key row.key ≡ Less
+    → AreNondecreasing (row ∷ rows)
     → AllByRecursion (λ later. Lt key later.key) (row ∷ rows)
 past_first key row rows less up = (
   lt_le key row.key row.key less (le_same row.key),
@@ -217,7 +218,8 @@ ups : (key : Key) (rows : List Row) → AllByRecursion (λ later. Lt key later.k
 ups key rows all = all_map (λ later past. past.0) rows all
 
 first_old : (old : Row) (olds news : List Row) → AreNondecreasing (old ∷ olds)
-    → AllByRecursion (λ later. Lt old.key later.key) news → IsFirst (Some old) None (only_old old) olds news
+    → AllByRecursion (λ later. Lt old.key later.key) news
+    → IsFirst (Some old) None (only_old old) olds news
 first_old old olds news up past = record {
   old = refl;
   new = refl;
@@ -229,7 +231,8 @@ first_old old olds news up past = record {
 }
 
 first_new : (new : Row) (olds news : List Row) → AreNondecreasing (new ∷ news)
-    → AllByRecursion (λ later. Lt new.key later.key) olds → IsFirst None (Some new) (only_new new) olds news
+    → AllByRecursion (λ later. Lt new.key later.key) olds
+    → IsFirst None (Some new) (only_new new) olds news
 first_new new olds news up past = record {
   old = refl;
   new = refl;
@@ -240,7 +243,8 @@ first_new new olds news up past = record {
   news_past = λ none. absurd (cc);
 }
 
-first_both : (old new : Row) (olds news : List Row) → old.key ≡ new.key → AreNondecreasing (old ∷ olds)
+first_both : (old new : Row) (olds news : List Row) → old.key ≡ new.key
+    → AreNondecreasing (old ∷ olds)
     → AreNondecreasing (new ∷ news) → IsFirst (Some old) (Some new) (both_rows old new) olds news
 first_both old new olds news same up also = record {
   old = refl;
@@ -264,16 +268,20 @@ equal_same a b e =
 paired_news : (news : List Row) → AreNondecreasing news → IsPaired [] news (map only_new news)
 paired_news [] up = record { order = tt; of_old = refl; of_new = refl }
 paired_news (new ∷ news) up =
-    paired_more None (Some new) (only_new new) [] news (map only_new news) (first_new new [] news up tt)
+    paired_more None (Some new) (only_new new) [] news (map only_new news)
+    (first_new new [] news up tt)
     (paired_news news (ascend_tail new news up))
 
-paired_with : (old : Row) (olds news : List Row) → AreNondecreasing (old ∷ olds) → AreNondecreasing news
+paired_with : (old : Row) (olds news : List Row) → AreNondecreasing (old ∷ olds)
+    → AreNondecreasing news
     → ((rest : List Row) → AreNondecreasing rest → IsPaired olds rest (beside olds rest))
     → IsPaired (old ∷ olds) news (pairs_with (λ rest. beside olds rest) old news)
 paired_with old olds [] up also more =
-    paired_more (Some old) None (only_old old) olds [] (beside olds []) (first_old old olds [] up tt) (more [] ascend_none)
+    paired_more (Some old) None (only_old old) olds [] (beside olds [])
+    (first_old old olds [] up tt) (more [] ascend_none)
 paired_with old olds (new ∷ news) up also more =
-    by_order (key_cmp old.key new.key) refl (paired_with old olds news up (ascend_tail new news also) more)
+    by_order (key_cmp old.key new.key) refl
+    (paired_with old olds news up (ascend_tail new news also) more)
   where
     by_order : (order : Ordering) → key_cmp old.key new.key ≡ order
         → IsPaired (old ∷ olds) news (pairs_with (λ rest. beside olds rest) old news)
@@ -281,20 +289,27 @@ paired_with old olds (new ∷ news) up also more =
         (beside olds news) (pairs_with (λ rest. beside olds rest) old news))
     by_order Less e rest =
         paired_more (Some old) None (only_old old) olds (new ∷ news) (beside olds (new ∷ news))
-        (first_old old olds (new ∷ news) up (past_first old.key new news e also)) (more (new ∷ news) also)
+        (first_old old olds (new ∷ news) up (past_first old.key new news e also))
+        (more (new ∷ news) also)
     by_order Equal e rest =
         paired_more (Some old) (Some new) (both_rows old new) olds news (beside olds news)
-        (first_both old new olds news (equal_same old.key new.key e) up also) (more news (ascend_tail new news also))
+        (first_both old new olds news (equal_same old.key new.key e) up also)
+        (more news (ascend_tail new news also))
     by_order Greater e rest =
-        paired_more None (Some new) (only_new new) (old ∷ olds) news (pairs_with (λ rest. beside olds rest) old news)
-        (first_new new (old ∷ olds) news also (past_first new.key old olds (greater_less old.key new.key e) up)) rest
+        paired_more None (Some new) (only_new new) (old ∷ olds) news
+        (pairs_with (λ rest. beside olds rest) old news)
+        (first_new new (old ∷ olds) news also
+        (past_first new.key old olds (greater_less old.key new.key e) up)) rest
 
-paired : (olds news : List Row) → AreNondecreasing olds → AreNondecreasing news → IsPaired olds news (beside olds news)
+paired : (olds news : List Row) → AreNondecreasing olds → AreNondecreasing news
+    → IsPaired olds news (beside olds news)
 paired [] news up also = paired_news news also
 paired (old ∷ olds) news up also =
-    paired_with old olds news up also (λ rest increases. paired olds rest (ascend_tail old olds up) increases)
+    paired_with old olds news up also
+    (λ rest increases. paired olds rest (ascend_tail old olds up) increases)
 
-pub are_beside : (olds news : List Row) → AreNondecreasing olds → AreNondecreasing news → AreSideBySide olds news (beside olds news)
+pub are_beside : (olds news : List Row) → AreNondecreasing olds → AreNondecreasing news
+    → AreSideBySide olds news (beside olds news)
 are_beside olds news up also = side_by_side olds news (beside olds news) (paired olds news up also)
 
 pub are_corrections : (olds news : List Row) → AreNondecreasing olds → AreNondecreasing news
@@ -302,5 +317,6 @@ pub are_corrections : (olds news : List Row) → AreNondecreasing olds → AreNo
 are_corrections olds news up also =
     record { pairs = beside olds news; beside = are_beside olds news up also; listed = refl }
 
-pub are_alike : (olds news : List Row) → All (IsSameOrListed (changes_between olds news)) (beside olds news)
+pub are_alike : (olds news : List Row)
+    → All (IsSameOrListed (changes_between olds news)) (beside olds news)
 are_alike olds news = kept (beside olds news)

@@ -257,7 +257,8 @@ not_nil change changes e = cc
 
 -- the text from these open sums on
 abbrev pub text_from : TokenSum → List Pair → List ℕ
-text_from sum rest = lines_of_changes true (Some sum) rest ++ sums_line (last_sums true (Some sum) rest)
+text_from sum rest =
+    lines_of_changes true (Some sum) rest ++ sums_line (last_sums true (Some sum) rest)
 
 cut_last : (t : List ℕ) (run : List Pair) → AllByRecursion (λ change. t ≡ change.key.token) run
     → ¬ (run ≡ []) → IsCut t run (token_line t (sums_of run))
@@ -329,7 +330,8 @@ cut t run (change ∷ rest) all some up order =
         → IsCut s (one ++ rest) (text_from (sum_with s one) rest)
         → IsCut t (run ++ change ∷ rest)
         ((cond b [] (token_line t (sums_of run))
-        ++ lines_of_changes true (Some (add_changes (cond b (sum_with t run) (no_sums s)) one)) rest)
+        ++ lines_of_changes true (Some (add_changes (cond b (sum_with t run) (no_sums s)) one))
+        rest)
         ++ sums_line
         (last_sums true (Some (add_changes (cond b (sum_with t run) (no_sums s)) one)) rest))
     by_test true is same other =

@@ -1,5 +1,6 @@
 -- What the next line of a ledger makes of its rows.
-use Rattle.std.proofs.Common.{◌≡◌, ◌+◌, ℕ, Bool, true, false, cond, List, [], ◌∷◌, length, Option, Some, None, Result, Ok, Err}
+use Rattle.std.proofs.Common.{◌≡◌, ◌+◌, ℕ, Bool, true, false, cond, List, [], ◌∷◌, length, Option}
+use Rattle.std.proofs.Common.{Some, None, Result, Ok, Err}
 use Rattle.std.proofs.Common.{refl, sym, ap, subst, ◌∙◌}
 use Rattle.std.specs.Prelude.{nat_lt}
 use Rattle.std.specs.Str.{bytes_eq}
@@ -9,7 +10,8 @@ use Rattle.fare_texts.specs.LedgerLines.{head_text}
 use Rattle.line_folds.specs.Folds.{carry, lines_of}
 use Rattle.ledger_fields.specs.Lines.{row_in}
 use Rattle.ledger_fields.specs.Rows.{Row}
-use Rattle.ledger_changes.specs.Ledgers.{cons_row, does_decrease, placed, row_after, rows_after_head, rows_from, rows_of}
+use Rattle.ledger_changes.specs.Ledgers.{cons_row, does_decrease, placed, row_after}
+use Rattle.ledger_changes.specs.Ledgers.{rows_after_head, rows_from, rows_of}
 use Rattle.ledger_changes.specs.declared.fault.WrongLine.{WrongLine}
 use Rattle.ledger_changes.specs.declared.fault.WrongLine.TheVariants.{Form, Order}
 use Rattle.ledger_changes.specs.inside.Readings.{rows_with}
@@ -18,7 +20,8 @@ use Rattle.ledger_changes.proofs.Sorted.{AreNondecreasing, ascend_more, ascend_n
 -- ---- one line
 abbrev goes_on : ℕ → List (List ℕ) → Result Row WrongLine → Result (List Row) (ℕ × WrongLine)
 goes_on number lines said =
-    carry (λ row. cons_row row (rows_from (number + 1) (Some row) lines)) (λ why. (number, why)) said
+    carry (λ row. cons_row row (rows_from (number + 1) (Some row) lines)) (λ why. (number, why))
+    said
 
 next_line : (number : ℕ) (before : Option Row) (text line : List ℕ) (lines : List (List ℕ))
     (said : Result Row WrongLine) → lines_of text ≡ line ∷ lines → row_after before line ≡ said
@@ -27,7 +30,8 @@ next_line number before text line lines said shown is =
     ap (rows_from number before) shown ∙ ap (goes_on number lines) is
 
 -- a line of at most 1,024 bytes
-short_line : (before : Option Row) (line : List ℕ) (row : Option Row) → nat_lt 1024 (length line) ≡ false
+short_line : (before : Option Row) (line : List ℕ) (row : Option Row)
+    → nat_lt 1024 (length line) ≡ false
     → row_in line ≡ row → row_after before line ≡ placed before row
 short_line before line row short is =
     ap (λ (b : Bool). cond b (Err Form) (placed before (row_in line))) short ∙ ap (placed before) is
@@ -47,22 +51,28 @@ pub rows_form : (number : ℕ) (before : Option Row) (text line : List ℕ) (lin
     → lines_of text ≡ line ∷ lines → nat_lt 1024 (length line) ≡ false → row_in line ≡ None
     → rows_from number before (lines_of text) ≡ Err (number, Form)
 rows_form number before text line lines shown short none =
-    next_line number before text line lines (Err Form) shown (short_line before line None short none)
+    next_line number before text line lines (Err Form) shown
+    (short_line before line None short none)
 
-pub rows_order : (number : ℕ) (before : Option Row) (text line : List ℕ) (lines : List (List ℕ)) (row : Row)
+pub rows_order : (number : ℕ) (before : Option Row) (text line : List ℕ) (lines : List (List ℕ))
+    (row : Row)
     → lines_of text ≡ line ∷ lines → nat_lt 1024 (length line) ≡ false → row_in line ≡ Some row
-    → does_decrease before row ≡ true → rows_from number before (lines_of text) ≡ Err (number, Order)
+    → does_decrease before row ≡ true
+    → rows_from number before (lines_of text) ≡ Err (number, Order)
 rows_order number before text line lines row shown short some is_decrease =
     next_line number before text line lines (Err Order) shown
-    (short_line before line (Some row) short some ∙ ap (λ (b : Bool). cond b (Err Order) (Ok row)) is_decrease)
+    (short_line before line (Some row) short some
+    ∙ ap (λ (b : Bool). cond b (Err Order) (Ok row)) is_decrease)
 
 pub rows_more : (number : ℕ) (before : Option Row) (text line rest : List ℕ) (row : Row)
-    → lines_of text ≡ line ∷ lines_of rest → nat_lt 1024 (length line) ≡ false → row_in line ≡ Some row
+    → lines_of text ≡ line ∷ lines_of rest → nat_lt 1024 (length line) ≡ false
+    → row_in line ≡ Some row
     → does_decrease before row ≡ false
     → rows_from number before (lines_of text) ≡ rows_with (Some row) number rest
 rows_more number before text line rest row shown short some stays =
     next_line number before text line (lines_of rest) (Ok row) shown
-    (short_line before line (Some row) short some ∙ ap (λ (b : Bool). cond b (Err Order) (Ok row)) stays)
+    (short_line before line (Some row) short some
+    ∙ ap (λ (b : Bool). cond b (Err Order) (Ok row)) stays)
 
 -- ---- the head line
 pub head_none : (text : List ℕ) → text ≡ [] → rows_of text ≡ Err (1, Form)
@@ -80,7 +90,8 @@ other_bytes a b true is other = absurd (other ((bytes_eq-Decides a b).0 is))
 pub head_other : (text line : List ℕ) (lines : List (List ℕ)) → lines_of text ≡ line ∷ lines
     → (line ≡ head_text → ⊥) → rows_of text ≡ Err (1, Form)
 head_other text line lines shown other =
-    head_by text line lines false shown (other_bytes line head_text (bytes_eq line head_text) refl other)
+    head_by text line lines false shown
+    (other_bytes line head_text (bytes_eq line head_text) refl other)
 
 pub head_long : (text line : List ℕ) (lines : List (List ℕ)) → lines_of text ≡ line ∷ lines
     → nat_lt 1024 (length line) ≡ true → rows_of text ≡ Err (1, Form)
@@ -98,7 +109,8 @@ abbrev AreNondecreasingFrom : Option Row → List Row → Type 0
 AreNondecreasingFrom None rows = AreNondecreasing rows
 AreNondecreasingFrom (Some row) rows = AreNondecreasing (row ∷ rows)
 
-ascend_from : (before : Option Row) (row : Row) (rows : List Row) → does_decrease before row ≡ false → AreNondecreasing (row ∷ rows)
+ascend_from : (before : Option Row) (row : Row) (rows : List Row) → does_decrease before row ≡ false
+    → AreNondecreasing (row ∷ rows)
     → AreNondecreasingFrom before (row ∷ rows)
 ascend_from None row rows stays up = up
 ascend_from (Some before) row rows stays up = ascend_more before row rows stays up
@@ -112,31 +124,39 @@ wrong_is_right e a is = cc
 
 from_ascends : (number : ℕ) (before : Option Row) (lines : List (List ℕ)) (rows : List Row)
     → rows_from number before lines ≡ Ok rows → AreNondecreasingFrom before rows
-from_ascends number before [] rows is = subst (AreNondecreasingFrom before) (let t : [] ≡ rows = cc in t) (no_rows before)
+from_ascends number before [] rows is =
+    subst (AreNondecreasingFrom before) (let t : [] ≡ rows = cc in t) (no_rows before)
 from_ascends number before (line ∷ lines) rows is =
     by_long (nat_lt 1024 (length line)) is
     (λ row more same. from_ascends (number + 1) (Some row) lines more same)
   where
     After : Type 0
-    After = (row : Row) (more : List Row) → rows_from (number + 1) (Some row) lines ≡ Ok more → AreNondecreasing (row ∷ more)
+    After = (row : Row) (more : List Row) → rows_from (number + 1) (Some row) lines ≡ Ok more
+        → AreNondecreasing (row ∷ more)
 
-    by_rest : (row : Row) (said : Result (List Row) (ℕ × WrongLine)) → rows_from (number + 1) (Some row) lines ≡ said
-        → does_decrease before row ≡ false → cons_row row said ≡ Ok rows → After → AreNondecreasingFrom before rows
+    by_rest : (row : Row) (said : Result (List Row) (ℕ × WrongLine))
+        → rows_from (number + 1) (Some row) lines ≡ said
+        → does_decrease before row ≡ false → cons_row row said ≡ Ok rows → After
+        → AreNondecreasingFrom before rows
     by_rest row (Err wrong) same stays is trailing = absurd (wrong_is_right wrong rows is)
     by_rest row (Ok more) same stays is trailing =
         subst (AreNondecreasingFrom before) (let t : row ∷ more ≡ rows = cc in t)
         (ascend_from before row more stays (trailing row more same))
 
-    by_decrease : (row : Row) (b : Bool) → does_decrease before row ≡ b → goes_on number lines (cond b (Err Order) (Ok row)) ≡ Ok rows
+    by_decrease : (row : Row) (b : Bool) → does_decrease before row ≡ b
+        → goes_on number lines (cond b (Err Order) (Ok row)) ≡ Ok rows
         → After → AreNondecreasingFrom before rows
     by_decrease row true is_decrease is trailing = absurd (wrong_is_right (number, Order) rows is)
-    by_decrease row false stays is trailing = by_rest row (rows_from (number + 1) (Some row) lines) refl stays is trailing
+    by_decrease row false stays is trailing =
+        by_rest row (rows_from (number + 1) (Some row) lines) refl stays is trailing
 
-    by_row : (row : Option Row) → goes_on number lines (placed before row) ≡ Ok rows → After → AreNondecreasingFrom before rows
+    by_row : (row : Option Row) → goes_on number lines (placed before row) ≡ Ok rows → After
+        → AreNondecreasingFrom before rows
     by_row None is trailing = absurd (wrong_is_right (number, Form) rows is)
     by_row (Some row) is trailing = by_decrease row (does_decrease before row) refl is trailing
 
-    by_long : (b : Bool) → goes_on number lines (cond b (Err Form) (placed before (row_in line))) ≡ Ok rows
+    by_long : (b : Bool)
+        → goes_on number lines (cond b (Err Form) (placed before (row_in line))) ≡ Ok rows
         → After → AreNondecreasingFrom before rows
     by_long true is trailing = absurd (wrong_is_right (number, Form) rows is)
     by_long false is trailing = by_row (row_in line) is trailing
@@ -144,7 +164,8 @@ from_ascends number before (line ∷ lines) rows is =
 pub rows_ascend : (text : List ℕ) (rows : List Row) → rows_of text ≡ Ok rows → AreNondecreasing rows
 rows_ascend text rows is = by_lines (lines_of text) is
   where
-    by_head : (lines : List (List ℕ)) (b : Bool) → cond b (rows_from 2 None lines) (Err (1, Form)) ≡ Ok rows → AreNondecreasing rows
+    by_head : (lines : List (List ℕ)) (b : Bool)
+        → cond b (rows_from 2 None lines) (Err (1, Form)) ≡ Ok rows → AreNondecreasing rows
     by_head lines true is = from_ascends 2 None lines rows is
     by_head lines false is = absurd (wrong_is_right (1, Form) rows is)
 

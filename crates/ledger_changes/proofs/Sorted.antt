@@ -26,16 +26,19 @@ ascend_none = λ k d low high. absurd (omega (arith, high))
 pub ascend_one : (row : Row) → AreNondecreasing (row ∷ [])
 ascend_one row = λ k d low high. absurd (omega (arith, high))
 
-pub ascend_tail : (row : Row) (rows : List Row) → AreNondecreasing (row ∷ rows) → AreNondecreasing rows
+pub ascend_tail : (row : Row) (rows : List Row) → AreNondecreasing (row ∷ rows)
+    → AreNondecreasing rows
 ascend_tail row rows up = λ k d low high.
     let next : suc k + 1 ≡ suc (k + 1) = omega arith in
     subst (λ (n : ℕ). is_lt (key_cmp (get_or (row ∷ rows) n d).key (get_or rows k d).key) ≡ false)
     next (up (suc k) d (omega arith) (omega (arith, high)))
 
-pub ascend_head : (row next : Row) (rows : List Row) → AreNondecreasing (row ∷ next ∷ rows) → NotBelow row next
+pub ascend_head : (row next : Row) (rows : List Row) → AreNondecreasing (row ∷ next ∷ rows)
+    → NotBelow row next
 ascend_head row next rows up = up 0 row (omega arith) (omega arith)
 
-pub ascend_more : (row next : Row) (rows : List Row) → NotBelow row next → AreNondecreasing (next ∷ rows)
+pub ascend_more : (row next : Row) (rows : List Row) → NotBelow row next
+    → AreNondecreasing (next ∷ rows)
     → AreNondecreasing (row ∷ next ∷ rows)
 ascend_more row next rows first up = each
   where

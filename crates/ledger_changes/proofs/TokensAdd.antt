@@ -35,7 +35,8 @@ one_share : (x : List ℕ) (n : ℕ) (tokens : List (List ℕ)) → IsStrictlySo
     → Contains tokens x → sum_by (share x n) tokens ≡ n
 one_share x n [] increasing is = absurd (omega (arith, is.1))
 one_share x n (t ∷ tokens) increasing is =
-    by_test (is_same_text t x) refl (one_share x n tokens (sorted_tail text_cmp t tokens increasing))
+    by_test (is_same_text t x) refl
+    (one_share x n tokens (sorted_tail text_cmp t tokens increasing))
   where
     sum : sum_by (share x n) (t ∷ tokens) ≡ share x n t + sum_by (share x n) tokens
     sum = sum_by-cons (share x n) t tokens
@@ -123,7 +124,8 @@ unfolding of_one
 tokens_add old new changes tokens are by =
     let all = recursion_from_All (Listed tokens) changes by.all in
     let after = sums_by_token (λ change. cents_of change.after) tokens by.increasing changes all in
-    let before = sums_by_token (λ change. cents_of change.before) tokens by.increasing changes all in
+    let before = sums_by_token (λ change. cents_of change.before) tokens by.increasing changes
+    all in
     let up = adds_up old new changes are (λ key charge. charge.cents) in
     let weight_after = sum_same
     (λ change. weight_of (λ key charge. charge.cents) change.key change.after)

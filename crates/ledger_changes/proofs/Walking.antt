@@ -1,11 +1,14 @@
 -- Two ledgers that are read side by side: what was given, and what is left.
-use Rattle.std.proofs.Common.{◌≡◌, ◌+◌, ℕ, Bool, true, false, List, [], ◌∷◌, ◌++◌, length, Option, Some, None, Ok, Err}
-use Rattle.std.proofs.Common.{refl, sym, ap, subst, ◌∙◌, arith, append-nil, append_assoc, filter, if◌then◌else◌, length-append, IfSome, option_map, inl, inr, ◌⊎◌}
+use Rattle.std.proofs.Common.{◌≡◌, ◌+◌, ℕ, Bool, true, false, List, [], ◌∷◌, ◌++◌, length, Option}
+use Rattle.std.proofs.Common.{Some, None, Ok, Err}
+use Rattle.std.proofs.Common.{refl, sym, ap, subst, ◌∙◌, arith, append-nil, append_assoc, filter}
+use Rattle.std.proofs.Common.{if◌then◌else◌, length-append, IfSome, option_map, inl, inr, ◌⊎◌}
 use Rattle.std.specs.declared.cmp.Ordering.{Ordering}
 use Rattle.std.specs.declared.cmp.Ordering.TheVariants.{Less, Equal, Greater}
 use Rattle.std.proofs.lemmas.List.Elements.{filter-append}
 use Rattle.ledger_fields.specs.Rows.{Row}
-use Rattle.ledger_changes.specs.Changes.{Pair, beside, changes_between, is_changed, pairs_by, pairs_with}
+use Rattle.ledger_changes.specs.Changes.{Pair, beside, changes_between, is_changed, pairs_by}
+use Rattle.ledger_changes.specs.Changes.{pairs_with}
 use Rattle.ledger_changes.specs.Given.{After, IsGivenAfter, Left, Said, Walked, Wrote}
 use Rattle.ledger_changes.specs.inside.Walks.{GoesOn, IsWhole, StopsAt}
 use Rattle.ledger_changes.specs.inside.Pairs.{next_sides, pairs_of, sides_by}
@@ -13,7 +16,8 @@ use Rattle.line_folds.specs.Folds.{lines_of}
 use Rattle.ledger_changes.specs.Ledgers.{NamesFirstWrong, cons_row, rows_from, rows_of}
 use Rattle.ledger_changes.specs.Rows.{key_cmp}
 use Rattle.ledger_changes.specs.Texts.{correction_line, corrections_lines, is_removed, removed_in}
-use Rattle.ledger_changes.specs.Tokens.{TokenSum, all_lines, change_lines, changes_of_both, head_of, last_sums}
+use Rattle.ledger_changes.specs.Tokens.{TokenSum, all_lines, change_lines, changes_of_both, head_of}
+use Rattle.ledger_changes.specs.Tokens.{last_sums}
 use Rattle.ledger_changes.specs.Tokens.{lines_of_changes, sums_line, sums_with, text_of}
 use Rattle.ledger_changes.specs.declared.changes.Corrections.{Corrections}
 use Rattle.ledger_changes.specs.declared.fault.Bill.{Bill}
@@ -28,7 +32,8 @@ use Rattle.ledger_changes.specs.inside.Views.{row_in, sum_in}
 -- ---- the text of corrections, in two parts
 lines_more : (by_token : Bool) (last : Option TokenSum) (done more : List Pair)
     → lines_of_changes by_token last (done ++ more)
-    ≡ lines_of_changes by_token last done ++ lines_of_changes by_token (last_sums by_token last done) more
+    ≡ lines_of_changes by_token last done ++ lines_of_changes by_token
+    (last_sums by_token last done) more
 lines_more by_token last [] more = refl
 lines_more by_token last (change ∷ done) more =
     ap (λ (lines : List ℕ). change_lines by_token last change ++ lines)
@@ -38,9 +43,11 @@ lines_more by_token last (change ∷ done) more =
     (lines_of_changes by_token (last_sums by_token (sums_with by_token last change) done) more))
 
 sums_more : (by_token : Bool) (last : Option TokenSum) (done more : List Pair)
-    → last_sums by_token last (done ++ more) ≡ last_sums by_token (last_sums by_token last done) more
+    → last_sums by_token last (done ++ more)
+    ≡ last_sums by_token (last_sums by_token last done) more
 sums_more by_token last [] more = refl
-sums_more by_token last (change ∷ done) more = sums_more by_token (sums_with by_token last change) done more
+sums_more by_token last (change ∷ done) more =
+    sums_more by_token (sums_with by_token last change) done more
 
 removed_more : (changes more : List Pair)
     → removed_in (changes ++ more) ≡ removed_in changes + removed_in more
@@ -50,7 +57,8 @@ removed_more changes more =
 
 plain_from : (changes : List Pair) → lines_of_changes false None changes ≡ corrections_lines changes
 plain_from [] = refl
-plain_from (change ∷ changes) = ap (λ (lines : List ℕ). correction_line change ++ lines) (plain_from changes)
+plain_from (change ∷ changes) =
+    ap (λ (lines : List ℕ). correction_line change ++ lines) (plain_from changes)
 
 no_sums_open : (changes : List Pair) → last_sums false None changes ≡ None
 no_sums_open [] = refl
@@ -58,7 +66,8 @@ no_sums_open (change ∷ changes) = no_sums_open changes
 
 pub plain_lines : (changes : List Pair) → all_lines false changes ≡ corrections_lines changes
 plain_lines changes =
-    ap (λ (l : Option TokenSum). lines_of_changes false None changes ++ sums_line l) (no_sums_open changes)
+    ap (λ (l : Option TokenSum). lines_of_changes false None changes ++ sums_line l)
+    (no_sums_open changes)
     ∙ append-nil (lines_of_changes false None changes) ∙ plain_from changes
 
 -- ---- the next pair
@@ -106,7 +115,8 @@ steps (Some old) None olds news is also =
 steps None (Some new) olds news is also =
     ap (λ (rows : List Row). beside rows (new ∷ news)) is
     ∙ ap (λ (rows : List Row). pairs_of None (Some new) ++ beside rows news) (sym is)
-steps (Some old) (Some new) olds news is also = by_order old new (key_cmp old.key new.key) refl olds news is also
+steps (Some old) (Some new) olds news is also =
+    by_order old new (key_cmp old.key new.key) refl olds news is also
 
 -- ---- what a ledger still says
 abbrev pub HasRow : Option Row → Said → Type 0
@@ -121,10 +131,16 @@ row_of_said (Some row) number (Some text) said is =
     let t : rows_with (Some row) number text ≡ said = cc in
     (rows_from (number + 1) (Some row) (lines_of text), sym t)
 
-heads : (row : Option Row) (said : Said) (rows : List Row) → HasRow row said → said ≡ Ok rows → Heads row rows
+heads : (row : Option Row) (said : Said) (rows : List Row) → HasRow row said → said ≡ Ok rows
+    → Heads row rows
 heads None said rows is right = let t : [] ≡ rows = cc in sym t
-heads (Some row) said rows (Err wrong, is) right = absurd (let t : Err wrong ≡ Ok rows = sym is ∙ right in cc)
-heads (Some row) said rows (Ok more, is) right = (more, let t : row ∷ more ≡ rows = (let u : Ok (row ∷ more) ≡ Ok rows = sym is ∙ right in cc) in sym t)
+heads (Some row) said rows (Err wrong, is) right =
+    absurd (let t : Err wrong ≡ Ok rows = sym is ∙ right in cc)
+heads (Some row) said rows (Ok more, is) right = (
+  more,
+  let t : row ∷ more ≡ rows = (let u : Ok (row ∷ more) ≡ Ok rows = sym is ∙ right in cc) in
+      sym t,
+)
 
 with_ok : (row : Option Row) (rows : List Row) → with_row row (Ok rows) ≡ Ok (rows_in row ++ rows)
 with_ok None rows = refl
@@ -134,11 +150,13 @@ with_err : (row : Option Row) (wrong : ℕ × WrongLine) → with_row row (Err w
 with_err None wrong = refl
 with_err (Some row) wrong = refl
 
-changes_more : (b a : Option Row) (old' new' : Said) → ((olds news : List Row) → old' ≡ Ok olds → new' ≡ Ok news
+changes_more : (b a : Option Row) (old' new' : Said)
+    → ((olds news : List Row) → old' ≡ Ok olds → new' ≡ Ok news
     → beside (rows_in b ++ olds) (rows_in a ++ news) ≡ pairs_of b a ++ beside olds news)
     → changes_of_both (with_row b old') (with_row a new')
     ≡ After (filter is_changed (pairs_of b a)) (changes_of_both old' new')
-changes_more b a (Err wrong) new' each = ap (λ (s : Said). changes_of_both s (with_row a new')) (with_err b wrong)
+changes_more b a (Err wrong) new' each =
+    ap (λ (s : Said). changes_of_both s (with_row a new')) (with_err b wrong)
 changes_more b a (Ok olds) (Err wrong) each =
     ap (λ (s : Said). changes_of_both s (with_row a (Err wrong))) (with_ok b olds)
     ∙ ap (λ (s : Said). changes_of_both (Ok (rows_in b ++ olds)) s) (with_err a wrong)
@@ -146,17 +164,21 @@ changes_more b a (Ok olds) (Ok news) each =
     ap (λ (s : Said). changes_of_both s (with_row a (Ok news))) (with_ok b olds)
     ∙ ap (λ (s : Said). changes_of_both (Ok (rows_in b ++ olds)) s) (with_ok a news)
     ∙ ap (λ (pairs : List Pair). Some (filter is_changed pairs)) (each olds news refl refl)
-    ∙ ap (λ (changes : List Pair). Some changes) (filter-append is_changed (pairs_of b a) (beside olds news))
+    ∙ ap (λ (changes : List Pair). Some changes)
+    (filter-append is_changed (pairs_of b a) (beside olds news))
 
 after_none : (rest : Option (List Pair)) → rest ≡ After [] rest
 after_none None = refl
 after_none (Some pairs) = refl
 
-after_more : (done more : List Pair) (rest : Option (List Pair)) → After done (After more rest) ≡ After (done ++ more) rest
+after_more : (done more : List Pair) (rest : Option (List Pair))
+    → After done (After more rest) ≡ After (done ++ more) rest
 after_more done more None = refl
-after_more done more (Some pairs) = ap (λ (l : List Pair). Some l) (sym (append_assoc done more pairs))
+after_more done more (Some pairs) =
+    ap (λ (l : List Pair). Some l) (sym (append_assoc done more pairs))
 
-pub walk_first : (by_token : Bool) (o n : Option Said) (old new : Said) → o ≡ Some old → n ≡ Some new
+pub walk_first : (by_token : Bool) (o n : Option Said) (old new : Said) → o ≡ Some old
+    → n ≡ Some new
     → Walked by_token (head_of by_token) 0 None o n old new
 walk_first by_token o n old new is_old is_new = record {
   old = old;
@@ -169,26 +191,30 @@ walk_first by_token o n old new is_old is_new = record {
     wrong_old = λ wrong is. is;
     wrong_new = λ wrong is. is;
   };
-  wrote = record { written = sym (append-nil (head_of by_token)); open_sums = refl; counted = refl };
+  wrote = record
+      { written = sym (append-nil (head_of by_token)); open_sums = refl; counted = refl };
 }
 
-wrong_with : (row : Option Row) (said rest : Said) (wrong : ℕ × WrongLine) → said ≡ with_row row rest → rest ≡ Err wrong
+wrong_with : (row : Option Row) (said rest : Said) (wrong : ℕ × WrongLine)
+    → said ≡ with_row row rest → rest ≡ Err wrong
     → said ≡ Err wrong
 wrong_with row said rest wrong is bad = is ∙ ap (with_row row) bad ∙ with_err row wrong
 
-pub left_more : (o n : Option Row) (old0 new0 old new old' new' : Said) (done : List Pair) (b a : Option Row) (h k : Bool)
+pub left_more : (o n : Option Row) (old0 new0 old new old' new' : Said) (done : List Pair)
+    (b a : Option Row) (h k : Bool)
     → (h, k) ≡ next_sides o n → b ≡ taken_if h o → a ≡ taken_if k n → HasRow o old → HasRow n new
     → old ≡ with_row b old' → new ≡ with_row a new' → Left old0 new0 old new done
     → Left old0 new0 old' new' (done ++ filter is_changed (pairs_of b a))
-left_more o n old0 new0 old new old' new' done b a h k sides is_b is_a row_o row_n is_old is_new left = record {
-  left = left.left
-      ∙ ap (λ (s : Said). After done (changes_of_both s new)) is_old
-      ∙ ap (λ (s : Said). After done (changes_of_both (with_row b old') s)) is_new
-      ∙ ap (After done) (changes_more b a old' new' each)
-      ∙ after_more done (filter is_changed (pairs_of b a)) (changes_of_both old' new');
-  wrong_old = λ wrong is. left.wrong_old wrong (wrong_with b old old' wrong is_old is);
-  wrong_new = λ wrong is. left.wrong_new wrong (wrong_with a new new' wrong is_new is);
-}
+left_more o n old0 new0 old new old' new' done b a h k sides is_b is_a row_o row_n is_old is_new
+    left = record {
+      left = left.left
+          ∙ ap (λ (s : Said). After done (changes_of_both s new)) is_old
+          ∙ ap (λ (s : Said). After done (changes_of_both (with_row b old') s)) is_new
+          ∙ ap (After done) (changes_more b a old' new' each)
+          ∙ after_more done (filter is_changed (pairs_of b a)) (changes_of_both old' new');
+      wrong_old = λ wrong is. left.wrong_old wrong (wrong_with b old old' wrong is_old is);
+      wrong_new = λ wrong is. left.wrong_new wrong (wrong_with a new new' wrong is_new is);
+    }
   where
     b_is : b ≡ taken_if (next_sides o n).0 o
     b_is = is_b ∙ ap (λ (p : Bool × Bool). taken_if p.0 o) sides
@@ -199,20 +225,26 @@ left_more o n old0 new0 old new old' new' done b a h k sides is_b is_a row_o row
     each : (olds news : List Row) → old' ≡ Ok olds → new' ≡ Ok news
         → beside (rows_in b ++ olds) (rows_in a ++ news) ≡ pairs_of b a ++ beside olds news
     each olds news right_old right_new =
-        let head_o = heads o old (rows_in b ++ olds) row_o (is_old ∙ ap (with_row b) right_old ∙ with_ok b olds) in
-        let head_n = heads n new (rows_in a ++ news) row_n (is_new ∙ ap (with_row a) right_new ∙ with_ok a news) in
+        let head_o = heads o old (rows_in b ++ olds) row_o
+        (is_old ∙ ap (with_row b) right_old ∙ with_ok b olds) in
+        let head_n = heads n new (rows_in a ++ news) row_n
+        (is_new ∙ ap (with_row a) right_new ∙ with_ok a news) in
         let now = steps o n olds news
         (subst (λ (r : Option Row). Heads o (rows_in r ++ olds)) b_is head_o)
         (subst (λ (r : Option Row). Heads n (rows_in r ++ news)) a_is head_n) in
-        subst (λ (r : Option Row). beside (rows_in r ++ olds) (rows_in a ++ news) ≡ pairs_of r a ++ beside olds news) (sym b_is)
-        (subst (λ (r : Option Row). beside (rows_in (taken_if (next_sides o n).0 o) ++ olds) (rows_in r ++ news)
+        subst (λ (r : Option Row). beside (rows_in r ++ olds) (rows_in a ++ news)
+        ≡ pairs_of r a ++ beside olds news) (sym b_is)
+        (subst (λ (r : Option Row). beside (rows_in (taken_if (next_sides o n).0 o) ++ olds)
+        (rows_in r ++ news)
         ≡ pairs_of (taken_if (next_sides o n).0 o) r ++ beside olds news) (sym a_is) now)
 
-wrote_more : (by_token : Bool) (text more full : List ℕ) (removed counted : ℕ) (last last' : Option TokenSum)
+wrote_more : (by_token : Bool) (text more full : List ℕ) (removed counted : ℕ)
+    (last last' : Option TokenSum)
     (done now : List Pair) → Wrote by_token text removed last done → full ≡ text ++ more
     → more ≡ lines_of_changes by_token last now → last' ≡ last_sums by_token last now
     → counted ≡ removed + removed_in now → Wrote by_token full counted last' (done ++ now)
-wrote_more by_token text more full removed counted last last' done now wrote is_full lines sums count =
+wrote_more by_token text more full removed counted last last' done now wrote is_full lines sums
+    count =
     let sum = removed_more done now in
     let so_far = wrote.counted in
     record {
@@ -231,14 +263,21 @@ no_pair : (o n : Option Row) (sides : Bool × Bool) → sides ≡ next_sides o n
     → [] ≡ pairs_of (taken_if sides.0 o) (taken_if sides.1 n) → (o ≡ None) × (n ≡ None)
 no_pair None None sides is none = (refl, refl)
 no_pair (Some old) None sides is none =
-    absurd (let t : [] ≡ pairs_of (Some old) None = none ∙ ap (λ (p : Bool × Bool). pairs_of (taken_if p.0 (Some old)) (taken_if p.1 None)) is in cc)
+    absurd (let t : [] ≡ pairs_of (Some old) None =
+    none ∙ ap (λ (p : Bool × Bool). pairs_of (taken_if p.0 (Some old)) (taken_if p.1 None))
+    is in cc)
 no_pair None (Some new) sides is none =
-    absurd (let t : [] ≡ pairs_of None (Some new) = none ∙ ap (λ (p : Bool × Bool). pairs_of (taken_if p.0 None) (taken_if p.1 (Some new))) is in cc)
+    absurd (let t : [] ≡ pairs_of None (Some new) =
+    none ∙ ap (λ (p : Bool × Bool). pairs_of (taken_if p.0 None) (taken_if p.1 (Some new)))
+    is in cc)
 no_pair (Some old) (Some new) sides is none =
     absurd (some_pair (key_cmp old.key new.key)
-    (none ∙ ap (λ (p : Bool × Bool). pairs_of (taken_if p.0 (Some old)) (taken_if p.1 (Some new))) is))
+    (none ∙ ap (λ (p : Bool × Bool). pairs_of (taken_if p.0 (Some old)) (taken_if p.1 (Some new)))
+    is))
   where
-    some_pair : (order : Ordering) → [] ≡ pairs_of (taken_if (sides_by order).0 (Some old)) (taken_if (sides_by order).1 (Some new)) → ⊥
+    some_pair : (order : Ordering)
+        → [] ≡ pairs_of (taken_if (sides_by order).0 (Some old))
+        (taken_if (sides_by order).1 (Some new)) → ⊥
     some_pair Less e = cc
     some_pair Equal e = cc
     some_pair Greater e = cc
@@ -247,17 +286,20 @@ pub no_row : (row : Option Row) (said : Said) → HasRow row said → row ≡ No
 no_row None said is none = is
 no_row (Some row) said is none = absurd (cc)
 
-pub no_rows : (o n b a : Option Row) (h k : Bool) → (h, k) ≡ next_sides o n → b ≡ taken_if h o → a ≡ taken_if k n
+pub no_rows : (o n b a : Option Row) (h k : Bool) → (h, k) ≡ next_sides o n → b ≡ taken_if h o
+    → a ≡ taken_if k n
     → [] ≡ pairs_of b a → (o ≡ None) × (n ≡ None)
 no_rows o n b a h k sides is_b is_a none =
     no_pair o n (h, k) sides
-    (none ∙ ap (λ (r : Option Row). pairs_of r a) is_b ∙ ap (λ (r : Option Row). pairs_of (taken_if h o) r) is_a)
+    (none ∙ ap (λ (r : Option Row). pairs_of r a) is_b
+    ∙ ap (λ (r : Option Row). pairs_of (taken_if h o) r) is_a)
 
 all_given : (by_token : Bool) (text full : List ℕ) (removed : ℕ) (last : Option TokenSum)
     (old0 new0 old new_said : Said) (done : List Pair) → Left old0 new0 old new_said done
     → Wrote by_token text removed last done → old ≡ Ok [] → new_said ≡ Ok []
     → full ≡ text ++ sums_line last → IsWhole by_token full removed old0 new0
-all_given by_token text full removed last old0 new0 old new_said done left wrote no_old no_new is_full =
+all_given by_token text full removed last old0 new0 old new_said done left wrote no_old no_new
+    is_full =
     ap (option_map (text_of by_token)) (left.left
     ∙ ap (λ (s : Said). After done (changes_of_both s new_said)) no_old
     ∙ ap (λ (s : Said). After done (changes_of_both (Ok []) s)) no_new
@@ -268,21 +310,25 @@ all_given by_token text full removed last old0 new0 old new_said done left wrote
     whole : full ≡ head_of by_token ++ all_lines by_token done
     whole = is_full ∙ ap (λ (t : List ℕ). t ++ sums_line last) wrote.written
         ∙ append_assoc (head_of by_token) (lines_of_changes by_token None done) (sums_line last)
-        ∙ ap (λ (l : Option TokenSum). head_of by_token ++ (lines_of_changes by_token None done ++ sums_line l)) wrote.open_sums
+        ∙ ap (λ (l : Option TokenSum). head_of
+        by_token ++ (lines_of_changes by_token None done ++ sums_line l)) wrote.open_sums
 
 -- ---- what is to come
 -- More would make the text whole, or a line of a ledger is wrong.
 abbrev pub Outlook : Bool → List ℕ → Said → Said → Type 0
 Outlook by_token text old new =
     ((rest : List ℕ) × (removed : ℕ) × IsWhole by_token (text ++ rest) removed old new)
-    ⊎ (((wrong : ℕ × WrongLine) × (old ≡ Err wrong)) ⊎ ((wrong : ℕ × WrongLine) × (new ≡ Err wrong)))
+    ⊎ (((wrong : ℕ × WrongLine) × (old ≡ Err wrong))
+    ⊎ ((wrong : ℕ × WrongLine) × (new ≡ Err wrong)))
 
-rest_of : (by_token : Bool) (text : List ℕ) (removed : ℕ) (last : Option TokenSum) (done more : List Pair) → Wrote by_token text removed last done
+rest_of : (by_token : Bool) (text : List ℕ) (removed : ℕ) (last : Option TokenSum)
+    (done more : List Pair) → Wrote by_token text removed last done
     → (rest : List ℕ) × (head_of by_token ++ all_lines by_token (done ++ more) ≡ text ++ rest)
 rest_of by_token text removed last done more wrote = (
   lines ++ sums,
   ap (λ (t : List ℕ). head_of by_token ++ (t ++ sums)) (lines_more by_token None done more)
-      ∙ ap (λ (t : List ℕ). head_of by_token ++ t) (append_assoc (lines_of_changes by_token None done) lines sums)
+      ∙ ap (λ (t : List ℕ). head_of by_token ++ t)
+      (append_assoc (lines_of_changes by_token None done) lines sums)
       ∙ sym (append_assoc (head_of by_token) (lines_of_changes by_token None done) (lines ++ sums))
       ∙ ap (λ (t : List ℕ). t ++ (lines ++ sums)) (sym wrote.written),
 )
@@ -293,11 +339,13 @@ rest_of by_token text removed last done more wrote = (
     sums : List ℕ
     sums = sums_line (last_sums by_token None (done ++ more))
 
-pub outlook : (by_token : Bool) (text : List ℕ) (removed : ℕ) (last : Option TokenSum) (o n : Option Said) (old0 new0 : Said)
+pub outlook : (by_token : Bool) (text : List ℕ) (removed : ℕ) (last : Option TokenSum)
+    (o n : Option Said) (old0 new0 : Said)
     → Walked by_token text removed last o n old0 new0 → Outlook by_token text old0 new0
 outlook by_token text removed last o n (Err wrong) new0 w = inr (inl (wrong, refl))
 outlook by_token text removed last o n (Ok olds) (Err wrong) w = inr (inr (wrong, refl))
-outlook by_token text removed last o n (Ok olds) (Ok news) w = by (changes_of_both w.old w.new) w.rest.left
+outlook by_token text removed last o n (Ok olds) (Ok news) w =
+    by (changes_of_both w.old w.new) w.rest.left
   where
     by : (rest : Option (List Pair)) → Some (changes_between olds news) ≡ After w.done rest
         → Outlook by_token text (Ok olds) (Ok news)
@@ -312,7 +360,8 @@ outlook by_token text removed last o n (Ok olds) (Ok news) w = by (changes_of_bo
         )
 
 -- ---- behind both rows
-taken_row : (is_taken : Bool) (row : Option LedgerRow) → row_in (if is_taken then row else None) ≡ taken_if is_taken (row_in row)
+taken_row : (is_taken : Bool) (row : Option LedgerRow)
+    → row_in (if is_taken then row else None) ≡ taken_if is_taken (row_in row)
 taken_row true row = refl
 taken_row false row = refl
 
@@ -345,58 +394,76 @@ pub moved : (by_token : Bool) (text : List ℕ) (removed : ℕ) (last : Option T
     (option_map (rows_with (row_in old_row) old_number) old_left)
     (option_map (rows_with (row_in new_row) new_number) new_left) old0 new0
     → Moved by_token text removed last o n (pairs_of (row_in b) (row_in a)) old0 new0
-moved by_token text removed last o n old_row new_row b a old_number new_number old_left new_left sides old0 new0
+moved by_token text removed last o n old_row new_row b a old_number new_number old_left new_left
+    sides old0 new0
     is_sides is_b is_a old_moves new_moves w =
-    let was : Moves (row_in b) o w.old = subst (λ x. IfSome x (Moves (row_in b) o)) w.is_old old_moves in
+    let was : Moves (row_in b) o w.old =
+    subst (λ x. IfSome x (Moves (row_in b) o)) w.is_old old_moves in
     let (old', is_old, old_is) = was in
-    let now : Moves (row_in a) n w.new = subst (λ x. IfSome x (Moves (row_in a) n)) w.is_new new_moves in
+    let now : Moves (row_in a) n w.new =
+    subst (λ x. IfSome x (Moves (row_in a) n)) w.is_new new_moves in
     let (new', is_new, new_is) = now in
     let row_o = row_of_said (row_in old_row) old_number old_left w.old w.is_old in
     let row_n = row_of_said (row_in new_row) new_number new_left w.new w.is_new in
-    let b_is : row_in b ≡ taken_if sides.0 (row_in old_row) = ap row_in is_b ∙ taken_row sides.0 old_row in
-    let a_is : row_in a ≡ taken_if sides.1 (row_in new_row) = ap row_in is_a ∙ taken_row sides.1 new_row in
+    let b_is : row_in b ≡ taken_if sides.0 (row_in old_row) =
+    ap row_in is_b ∙ taken_row sides.0 old_row in
+    let a_is : row_in a ≡ taken_if sides.1 (row_in new_row) =
+    ap row_in is_a ∙ taken_row sides.1 new_row in
     record {
       old = old';
       new = new';
       is_old = is_old;
       is_new = is_new;
       done = w.done;
-      rest = left_more (row_in old_row) (row_in new_row) old0 new0 w.old w.new old' new' w.done (row_in b) (row_in a)
+      rest = left_more (row_in old_row) (row_in new_row) old0 new0 w.old w.new old' new' w.done
+          (row_in b) (row_in a)
           sides.0 sides.1 is_sides b_is a_is row_o row_n old_is new_is w.rest;
       wrote = w.wrote;
       over = λ none.
-          let (no_old, no_new) = no_rows (row_in old_row) (row_in new_row) (row_in b) (row_in a) sides.0 sides.1 is_sides b_is a_is none in (
-            ap (λ (r : Option Row). with_row r old') (sym (b_is ∙ taken_none sides.0 (row_in old_row) no_old))
+          let (no_old, no_new) =
+          no_rows (row_in old_row) (row_in new_row) (row_in b) (row_in a) sides.0 sides.1 is_sides
+          b_is a_is none in (
+            ap (λ (r : Option Row). with_row r old')
+                (sym (b_is ∙ taken_none sides.0 (row_in old_row) no_old))
                 ∙ sym old_is ∙ no_row (row_in old_row) w.old row_o no_old,
-            ap (λ (r : Option Row). with_row r new') (sym (a_is ∙ taken_none sides.1 (row_in new_row) no_new))
+            ap (λ (r : Option Row). with_row r new')
+                (sym (a_is ∙ taken_none sides.1 (row_in new_row) no_new))
                 ∙ sym new_is ∙ no_row (row_in new_row) w.new row_n no_new,
           );
     }
 
-pub moved_next : (by_token : Bool) (text more full : List ℕ) (removed counted : ℕ) (last last' : Option TokenSum)
-    (o n : Option Said) (pairs : List Pair) (pair : Pair) (old0 new0 : Said) → pair ∷ [] ≡ pairs → full ≡ text ++ more
+pub moved_next : (by_token : Bool) (text more full : List ℕ) (removed counted : ℕ)
+    (last last' : Option TokenSum)
+    (o n : Option Said) (pairs : List Pair) (pair : Pair) (old0 new0 : Said) → pair ∷ [] ≡ pairs
+    → full ≡ text ++ more
     → more ≡ lines_of_changes by_token last (filter is_changed (pair ∷ []))
     → last' ≡ last_sums by_token last (filter is_changed (pair ∷ []))
     → counted ≡ removed + removed_in (filter is_changed (pair ∷ []))
     → Moved by_token text removed last o n pairs old0 new0
     → Walked by_token full counted last' o n old0 new0
-moved_next by_token text more full removed counted last last' o n pairs pair old0 new0 is is_full lines sums count m = record {
-  old = m.old;
-  new = m.new;
-  is_old = m.is_old;
-  is_new = m.is_new;
-  done = m.done ++ filter is_changed (pair ∷ []);
-  rest = subst (λ (l : List Pair). Left old0 new0 m.old m.new (m.done ++ filter is_changed l)) (sym is) m.rest;
-  wrote = wrote_more by_token text more full removed counted last last' m.done (filter is_changed (pair ∷ [])) m.wrote is_full lines sums count;
-}
+moved_next by_token text more full removed counted last last' o n pairs pair old0 new0 is is_full
+    lines sums count m = record {
+      old = m.old;
+      new = m.new;
+      is_old = m.is_old;
+      is_new = m.is_new;
+      done = m.done ++ filter is_changed (pair ∷ []);
+      rest = subst (λ (l : List Pair). Left old0 new0 m.old m.new (m.done ++ filter is_changed l))
+          (sym is) m.rest;
+      wrote = wrote_more by_token text more full removed counted last last' m.done
+          (filter is_changed (pair ∷ [])) m.wrote is_full lines sums count;
+    }
 
-at_end : (old0 new0 old new : Said) (done pairs : List Pair) → [] ≡ pairs → Left old0 new0 old new (done ++ filter is_changed pairs)
+at_end : (old0 new0 old new : Said) (done pairs : List Pair) → [] ≡ pairs
+    → Left old0 new0 old new (done ++ filter is_changed pairs)
     → Left old0 new0 old new done
 at_end old0 new0 old new done pairs none left =
-    subst (Left old0 new0 old new) (ap (λ (l : List Pair). done ++ filter is_changed l) (sym none) ∙ append-nil done) left
+    subst (Left old0 new0 old new)
+    (ap (λ (l : List Pair). done ++ filter is_changed l) (sym none) ∙ append-nil done) left
 
 pub moved_end : (by_token : Bool) (text full : List ℕ) (removed : ℕ) (last : Option TokenSum)
-    (o n : Option Said) (pairs : List Pair) (old0 new0 : Said) → [] ≡ pairs → full ≡ text ++ sums_line last
+    (o n : Option Said) (pairs : List Pair) (old0 new0 : Said) → [] ≡ pairs
+    → full ≡ text ++ sums_line last
     → Moved by_token text removed last o n pairs old0 new0 → IsWhole by_token full removed old0 new0
 moved_end by_token text full removed last o n pairs old0 new0 none is_full m =
     let (no_old, no_new) = m.over none in
@@ -407,14 +474,16 @@ moved_end by_token text full removed last o n pairs old0 new0 none is_full m =
 other_bill : {A : Type 0} → Old ≡ New → A
 other_bill e = absurd (cc)
 
-pub named_old : (old_text new_text : List ℕ) (fault : CorrectionsFault) → IsWrongAs Old (rows_of old_text) fault
+pub named_old : (old_text new_text : List ℕ) (fault : CorrectionsFault)
+    → IsWrongAs Old (rows_of old_text) fault
     → NamesFirstWrong old_text new_text fault
 named_old old_text new_text (Line Old number why) is = is.1
 named_old old_text new_text (Line New number why) is = other_bill (sym is.0)
 named_old old_text new_text (Unread bill) is = tt
 named_old old_text new_text NoMemory is = tt
 
-pub named_new : (old_text new_text : List ℕ) (fault : CorrectionsFault) → IsWrongAs New (rows_of new_text) fault
+pub named_new : (old_text new_text : List ℕ) (fault : CorrectionsFault)
+    → IsWrongAs New (rows_of new_text) fault
     → NamesFirstWrong old_text new_text fault
 named_new old_text new_text (Line Old number why) is = other_bill is.0
 named_new old_text new_text (Line New number why) is = is.1
@@ -422,8 +491,10 @@ named_new old_text new_text (Unread bill) is = tt
 named_new old_text new_text NoMemory is = tt
 
 -- the line of the old ledger, of which this is left
-pub stops_old : (fault : CorrectionsFault) (bill : Bill) (by_token : Bool) (text : List ℕ) (removed : ℕ) (last : Option TokenSum)
-    (o n : Option Said) (old0 new0 : Said) → bill ≡ Old → IfSome o (λ said. IsWrongAs bill said fault)
+pub stops_old : (fault : CorrectionsFault) (bill : Bill) (by_token : Bool) (text : List ℕ)
+    (removed : ℕ) (last : Option TokenSum)
+    (o n : Option Said) (old0 new0 : Said) → bill ≡ Old
+    → IfSome o (λ said. IsWrongAs bill said fault)
     → Walked by_token text removed last o n old0 new0 → StopsAt fault old0 new0
 stops_old fault bill by_token text removed last o n old0 new0 is_old wrong w =
     by fault (subst (λ (b : Bill). IsWrongAs b w.old fault) is_old
@@ -435,8 +506,10 @@ stops_old fault bill by_token text removed last o n old0 new0 is_old wrong w =
     by (Unread bill) is = tt
     by NoMemory is = tt
 
-pub stops_new : (fault : CorrectionsFault) (bill : Bill) (by_token : Bool) (text : List ℕ) (removed : ℕ) (last : Option TokenSum)
-    (o n : Option Said) (old0 new0 : Said) → bill ≡ New → IfSome n (λ said. IsWrongAs bill said fault)
+pub stops_new : (fault : CorrectionsFault) (bill : Bill) (by_token : Bool) (text : List ℕ)
+    (removed : ℕ) (last : Option TokenSum)
+    (o n : Option Said) (old0 new0 : Said) → bill ≡ New
+    → IfSome n (λ said. IsWrongAs bill said fault)
     → Walked by_token text removed last o n old0 new0 → StopsAt fault old0 new0
 stops_new fault bill by_token text removed last o n old0 new0 is_new wrong w =
     by fault (subst (λ (b : Bill). IsWrongAs b w.new fault) is_new
@@ -449,7 +522,8 @@ stops_new fault bill by_token text removed last o n old0 new0 is_new wrong w =
     by NoMemory is = tt
 
 -- the same of the texts of both
-pub named_by : (fault : CorrectionsFault) (old_text new_text : List ℕ) → StopsAt fault (rows_of old_text) (rows_of new_text)
+pub named_by : (fault : CorrectionsFault) (old_text new_text : List ℕ)
+    → StopsAt fault (rows_of old_text) (rows_of new_text)
     → NamesFirstWrong old_text new_text fault
 named_by (Line Old number why) old_text new_text is = is
 named_by (Line New number why) old_text new_text is = is
@@ -457,9 +531,12 @@ named_by (Unread bill) old_text new_text is = tt
 named_by NoMemory old_text new_text is = tt
 
 -- ---- corrections that are given in pieces
-pub given_after : {R : Type 0} (remaining : R → Option (List ℕ)) (c : Corrections R) (by_token : Bool) (old_text new_text : List ℕ)
-    (end : Option ℕ) (text : List ℕ) → c.is_by_token ≡ by_token → c.old.bill ≡ Old → c.new.bill ≡ New
-    → GoesOn by_token end text c.tally.removed (sum_in c.tally.last) (rows_at remaining c.old) (rows_at remaining c.new)
+pub given_after : {R : Type 0} (remaining : R → Option (List ℕ)) (c : Corrections R)
+    (by_token : Bool) (old_text new_text : List ℕ)
+    (end : Option ℕ) (text : List ℕ) → c.is_by_token ≡ by_token → c.old.bill ≡ Old
+    → c.new.bill ≡ New
+    → GoesOn by_token end text c.tally.removed (sum_in c.tally.last) (rows_at remaining c.old)
+    (rows_at remaining c.new)
     (rows_of old_text) (rows_of new_text)
     → IsGivenAfter remaining c by_token old_text new_text end text
 given_after remaining c by_token old_text new_text None text by of_old of_new on =

@@ -141,7 +141,8 @@ kept fares checker after text piece fed lacks same started short = record {
   taken = subst (λ (r : LinesSoFar). HasTaken fares r fed.lines) (sym same) fed.taken;
   split = λ more. cut_more fares checker text piece fed more
       ∙ ap (λ (p : List ℕ). fed.lines ++ lines_of (p ++ more)) (sym started);
-  lacks = subst (Lacks 10) (sym started) (lacks-append 10 checker.started.items piece fed.lacks lacks);
+  lacks = subst (Lacks 10) (sym started)
+      (lacks-append 10 checker.started.items piece fed.lacks lacks);
   short = short;
 }
 
@@ -165,7 +166,8 @@ too_long fares checker text piece whole fed lacks started long more =
 -- a piece that ends a line
 line_cut : (fares : Fares) (checker : Checker) (text line : List ℕ)
     (fed : HasFed fares checker text) → IsLine line → (more : List ℕ)
-    → lines_of ((text ++ line) ++ more) ≡ fed.lines ++ (checker.started.items ++ line) ∷ lines_of more
+    → lines_of ((text ++ line) ++ more)
+    ≡ fed.lines ++ (checker.started.items ++ line) ∷ lines_of more
 line_cut fares checker text line fed is more =
     let started = checker.started.items in
     let whole : started ++ line ≡ (started ++ is.front) ++ 10 ∷ [] =
@@ -272,7 +274,8 @@ ended_complete fares checker text fed empty some =
       are = head.read.are;
       counted = head.read.counted;
       order = λ of are. head.read.order.early
-          ∙ ap (λ (es : List Entry). early_line (map tap_of_entry es)) (sym (head.read.only of are));
+          ∙ ap (λ (es : List Entry). early_line (map tap_of_entry es))
+          (sym (head.read.only of are));
     }
 
 -- a piece after a piece

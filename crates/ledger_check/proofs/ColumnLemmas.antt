@@ -13,7 +13,8 @@ use Rattle.line_forms.specs.FormLaws.{line_complete, number_complete, number_law
 use Rattle.line_forms.specs.Forms.{value_if}
 use Rattle.line_forms.specs.Numbers.{number_in}
 use Rattle.ledger_check.specs.Columns.{ColumnsAreReadBack, IsTraced, TracedLine, class_in}
-use Rattle.ledger_check.specs.Columns.{columns_in, cut_line, is_class_name, is_name_byte, last_field}
+use Rattle.ledger_check.specs.Columns.{columns_in, cut_line, is_class_name, is_name_byte}
+use Rattle.ledger_check.specs.Columns.{last_field}
 use Rattle.ledger_check.specs.Columns.{number_line, on, traced_text, untraced_line, untraced_lines}
 use Rattle.ledger_check.specs.Columns.{upload_in, with_byte}
 use Rattle.ledger_check.specs.Lines.{Lacks}

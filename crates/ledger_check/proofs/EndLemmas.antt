@@ -47,7 +47,8 @@ lines_some (next ∷ taken) some = omega (arith, length-append (lines_from taken
 -- the text ends behind a line
 pub ended_whole : (fares : Fares) (full_check : FullCheck) (subtracts : Bool) (full : FullBalance)
     (text written : List ℕ) (valid : List TapFields) (reported : List ℕ)
-    → HasFullyChecked fares full_check subtracts full text written valid → 0 < full_check.so_far.sums.lines
+    → HasFullyChecked fares full_check subtracts full text written valid
+    → 0 < full_check.so_far.sums.lines
     → full_check.started.items ≡ []
     → HasEnded fares subtracts full text written valid full_check.so_far.sums reported reported
 ended_whole fares full_check subtracts full text written valid reported is some none =
@@ -113,7 +114,8 @@ pub ended_cut : (fares : Fares) (full_check : FullCheck) (subtracts : Bool) (ful
     → AreSums full_check.so_far.sums taken → AreSums sums (next ∷ taken))
     → reported' ≡ reported ++ no_line_text sums.lines
     → HasEnded fares subtracts full text written valid sums reported reported'
-ended_cut fares full_check subtracts full text written valid finding sums reported reported' is not_whole
+ended_cut fares full_check subtracts full text written valid finding sums reported reported' is
+    not_whole
     none
     no_line grows grown =
     let next : TakenLine = record { line = is.started; finding = finding; wanted = [] } in

@@ -70,7 +70,8 @@ module _ (fares : Fares) (explainer after : Explainer) (entries : List Entry) (t
       let done = own explainer.token entries in
       record {
         holds = subst
-            (λ (ts : List TapIn). Represents (rules_of fares (bytes_of after.token)) after.account ts)
+            (λ (ts : List TapIn). Represents (rules_of fares (bytes_of after.token)) after.account
+            ts)
             (map-append (tap_of fares) done (tap ∷ [])
             ∙ ap (λ (t : TapIn). map (tap_of fares) done ++ t ∷ []) steps.is_tap
             ∙ sym (map-append (tap_of fares) done (entry ∷ []))) steps.explained.holds;

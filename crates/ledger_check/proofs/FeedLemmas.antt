@@ -28,11 +28,13 @@ fed_none fares full_check subtracts full text written valid reported is = (
 )
 
 -- a piece behind a piece
-pub fed_on : (fares : Fares) (middle after : FullCheck) (subtracts : Bool) (full full' : FullBalance)
+pub fed_on : (fares : Fares) (middle after : FullCheck) (subtracts : Bool)
+    (full full' : FullBalance)
     (text front piece written : List ℕ) (valid : List TapFields)
     (reported reported' reported'' : List ℕ)
     → (before : Fed fares middle subtracts full (text ++ front) written valid reported reported')
-    → Fed fares after subtracts full' ((text ++ front) ++ piece) (written ++ before.0) valid reported'
+    → Fed fares after subtracts full' ((text ++ front) ++ piece) (written ++ before.0) valid
+    reported'
     reported''
     → Fed fares after subtracts full' (text ++ (front ++ piece)) written valid reported reported''
 fed_on fares middle after subtracts full full' text front piece written valid reported reported'
@@ -43,7 +45,8 @@ fed_on fares middle after subtracts full full' text front piece written valid re
       subst (λ (t : List ℕ). HasFullyChecked fares after subtracts full' t
           (written ++ (before.0 ++ next.0))
           valid) (append_assoc text front piece)
-          (subst (λ (w : List ℕ). HasFullyChecked fares after subtracts full' ((text ++ front) ++ piece)
+          (subst (λ (w : List ℕ). HasFullyChecked fares after subtracts full'
+          ((text ++ front) ++ piece)
           w
           valid) (append_assoc written before.0 next.0) next.2),
     )

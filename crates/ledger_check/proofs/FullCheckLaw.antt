@@ -15,7 +15,8 @@ use Rattle.fare_texts.specs.Explainers.{next_entry}
 use Rattle.ledger_check.specs.Ledger.{AreNext, IsNext, IsNextLine, token_number}
 use Rattle.ledger_check.specs.Lines.{lines_of}
 use Rattle.ledger_check.specs.Orders.{tap_of_entry}
-use Rattle.ledger_check.specs.FullChecks.{AreTaken, IsCounted, IsJudged, IsLineOfTap, FullChecksDecide}
+use Rattle.ledger_check.specs.FullChecks.{AreTaken, IsCounted, IsJudged, IsLineOfTap}
+use Rattle.ledger_check.specs.FullChecks.{FullChecksDecide}
 use Rattle.ledger_check.specs.FullChecks.{TakenLine, decreases_after, lines_from, one_wrong, run_of}
 use Rattle.ledger_check.specs.FullChecks.{run_with, taps_from, taps_with, remark_for, with_first}
 use Rattle.ledger_check.specs.FullChecks.{wrong_count}

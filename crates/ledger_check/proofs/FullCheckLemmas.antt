@@ -14,7 +14,8 @@ use Rattle.fare_texts.specs.LedgerLines.{head_text}
 use Rattle.ledger_check.specs.Lines.{IsLine, Lacks, lines_of}
 use Rattle.ledger_check.specs.FullChecks.{IsJudged, IsLineOfTap, IsTaken, TakenLine, lines_from}
 use Rattle.ledger_check.specs.FullChecks.{run_of, run_with, remark_text}
-use Rattle.ledger_check.specs.FullCheckStates.{AreSums, HasFullyChecked, HasRunExplainer, HasTakenLines}
+use Rattle.ledger_check.specs.FullCheckStates.{AreSums, HasFullyChecked, HasRunExplainer}
+use Rattle.ledger_check.specs.FullCheckStates.{HasTakenLines}
 use Rattle.ledger_check.specs.FullCheckStates.{IsKept}
 use Rattle.ledger_check.specs.inside.FullChecks.{HasFound, HasJudged, IsFirstFinding, TookLine}
 use Rattle.ledger_check.specs.declared.full_check.LinesTaken.{LinesTaken}
@@ -185,22 +186,24 @@ split_part lines text started piece split more =
     ap lines_of (append_assoc text piece more) ∙ split (piece ++ more)
     ∙ ap (λ (t : List ℕ). lines ++ lines_of t) (sym (append_assoc started piece more))
 
-pub kept_piece : (fares : Fares) (full_check after : FullCheck) (subtracts : Bool) (full : FullBalance)
+pub kept_piece : (fares : Fares) (full_check after : FullCheck) (subtracts : Bool)
+    (full : FullBalance)
     (text piece written : List ℕ) (valid : List TapFields)
     → (is : HasFullyChecked fares full_check subtracts full text written valid) → Lacks 10 piece
     → after.so_far ≡ full_check.so_far
     → IsKept after.started.items (is.started ++ piece)
     → HasFullyChecked fares after subtracts full (text ++ piece) (written ++ []) valid
-kept_piece fares full_check after subtracts full text piece written valid is lacks same kept = record {
-  taken = is.taken;
-  lines = subst (λ (s : LinesTaken). HasTakenLines fares s is.taken) (sym same) is.lines;
-  started = is.started ++ piece;
-  kept = kept;
-  lacks = lacks-append 10 is.started piece is.lacks lacks;
-  split = split_part (lines_from is.taken) text is.started piece is.split;
-  reported = append-nil written ∙ is.reported;
-  subtracted = is.subtracted;
-}
+kept_piece fares full_check after subtracts full text piece written valid is lacks same kept =
+    record {
+      taken = is.taken;
+      lines = subst (λ (s : LinesTaken). HasTakenLines fares s is.taken) (sym same) is.lines;
+      started = is.started ++ piece;
+      kept = kept;
+      lacks = lacks-append 10 is.started piece is.lacks lacks;
+      split = split_part (lines_from is.taken) text is.started piece is.split;
+      reported = append-nil written ∙ is.reported;
+      subtracted = is.subtracted;
+    }
 
 -- a piece that ends a line
 pub split_line_at : (lines : List (List ℕ)) (text started line : List ℕ)
@@ -221,11 +224,13 @@ split_line_at lines text started line split lacks is more =
     ∙ sym (append_assoc lines ((started ++ line) ∷ []) (lines_of more))
 
 -- a line that has begun ends with the line behind it
-pub line_ends : (started line : List ℕ) → Lacks 10 started → (is : IsLine line) → IsLine (started ++ line)
+pub line_ends : (started line : List ℕ) → Lacks 10 started → (is : IsLine line)
+    → IsLine (started ++ line)
 line_ends started line lacks is = record {
   front = started ++ is.front;
   lacks = lacks-append 10 started is.front lacks is.lacks;
-  shown = ap (λ (l : List ℕ). started ++ l) is.shown ∙ sym (append_assoc started is.front (10 ∷ []));
+  shown = ap (λ (l : List ℕ). started ++ l) is.shown
+      ∙ sym (append_assoc started is.front (10 ∷ []));
 }
 
 -- the next line was taken, and nothing is begun behind it
@@ -234,10 +239,12 @@ pub took_line_of : (fares : Fares) (full_check after : FullCheck) (subtracts : B
     (reported reported' : List ℕ)
     → (is : HasFullyChecked fares full_check subtracts full text written valid) → IsLine line
     → after.started.items ≡ []
-    → TookLine fares is.taken (is.started ++ line) after.so_far subtracts full full' reported reported'
+    → TookLine fares is.taken (is.started ++ line) after.so_far subtracts full full' reported
+    reported'
     → (more : List ℕ) × (reported' ≡ reported ++ more)
     × HasFullyChecked fares after subtracts full' (text ++ line) (written ++ more) valid
-took_line_of fares full_check after subtracts full full' text line written valid reported reported' is
+took_line_of fares full_check after subtracts full full' text line written valid reported reported'
+    is
     ends none
     took = (
       remark_text (length is.taken + 1) took.next.finding.remark took.next.wanted,

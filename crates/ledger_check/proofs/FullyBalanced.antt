@@ -31,7 +31,8 @@ started left (Some s) full valid same none is =
     absurd (nowhere is.before is.after s is.holds)
 
 -- one that was left was struck out
-pub subtracted_missing : (old new : FullBalance) (valid subtracted : List TapFields) (tap : TapFields)
+pub subtracted_missing : (old new : FullBalance) (valid subtracted : List TapFields)
+    (tap : TapFields)
     → new.surplus ≡ old.surplus → HasOneMore old.missing new.missing tap
     → IsFullBalance old valid subtracted → IsFullBalance new valid (subtracted ++ tap ∷ [])
 subtracted_missing old new valid subtracted tap kept more is = record {
@@ -51,7 +52,8 @@ subtracted_missing old new valid subtracted tap kept more is = record {
 }
 
 -- one that was not left was struck out
-pub subtracted_surplus : (old new : FullBalance) (valid subtracted : List TapFields) (tap : TapFields)
+pub subtracted_surplus : (old new : FullBalance) (valid subtracted : List TapFields)
+    (tap : TapFields)
     → new.missing ≡ old.missing → left_at old.missing tap ≡ 0
     → HasOneMore new.surplus old.surplus tap
     → IsFullBalance old valid subtracted → IsFullBalance new valid (subtracted ++ tap ∷ [])

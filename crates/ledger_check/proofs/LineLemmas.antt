@@ -76,7 +76,8 @@ begin : (byte : ℕ) (text : List ℕ) → byte ≢ 10
     → lines_of (byte ∷ text) ≡ started_with byte (lines_of text)
 unfolding lines_of
 begin byte text other =
-    ap (λ (test : Bool). cond test ((byte ∷ []) ∷ lines_of text) (started_with byte (lines_of text)))
+    ap (λ (test : Bool). cond test ((byte ∷ []) ∷ lines_of text)
+    (started_with byte (lines_of text)))
     (ne_eqb byte 10 other)
 
 -- the first line of a text
@@ -89,7 +90,8 @@ lines-line (byte ∷ front) rest lacks =
     ∙ ap (λ (ls : List (List ℕ)). started_with byte ls) (lines-line front rest lacks.1)
 
 -- a text without a newline is one line
-pub lines-part : (started : List ℕ) → Lacks 10 started → 0 < length started → lines_of started ≡ started ∷ []
+pub lines-part : (started : List ℕ) → Lacks 10 started → 0 < length started
+    → lines_of started ≡ started ∷ []
 unfolding lines_of started_with
 lines-part [] lacks some = absurd (omega arith)
 lines-part (byte ∷ []) lacks some = begin byte [] lacks.0

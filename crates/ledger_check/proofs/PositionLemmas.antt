@@ -91,7 +91,8 @@ none_unnamed : (o : Option TapFields) → named_of (option_map unnamed o) ≡ fa
 none_unnamed None = refl
 none_unnamed (Some tap) = refl
 
-none_in : (taps : List TapFields) (position : ℕ) → named_of (at_position (map unnamed taps) position) ≡ false
+none_in : (taps : List TapFields) (position : ℕ)
+    → named_of (at_position (map unnamed taps) position) ≡ false
 none_in taps zero = refl
 none_in taps (suc position) =
     let next : suc position ≡ position + 1 = omega arith in

@@ -16,7 +16,8 @@ use Rattle.ledger_check.specs.FirstLines.{FullChecksGoOn}
 use Rattle.ledger_check.specs.Lines.{lines_of}
 use Rattle.ledger_check.specs.Orders.{tap_of_entry}
 use Rattle.ledger_check.specs.FullChecks.{AreTaken, IsCounted, IsJudged, IsTaken, TakenLine}
-use Rattle.ledger_check.specs.FullChecks.{end_text, decreases_after, lines_from, one_wrong, remark_for}
+use Rattle.ledger_check.specs.FullChecks.{end_text, decreases_after, lines_from, one_wrong}
+use Rattle.ledger_check.specs.FullChecks.{remark_for}
 use Rattle.ledger_check.specs.FullChecks.{remark_lines}
 use Rattle.ledger_check.specs.FullChecks.{remark_text, run_of, run_with, taps_from, taps_with}
 use Rattle.ledger_check.specs.FullChecks.{with_first, wrong_count}
@@ -59,8 +60,10 @@ counted_same fares run line a b remark remark' wanted wanted' is also =
     record {
       entry = entry;
       remarks = is.is_remark
-          ∙ ap (λ (e : Entry). remark_for (decreases_after run e.token) (bytes_eq line wanted)) entry
-          ∙ ap (λ (w : List ℕ). remark_for (decreases_after run b.entry.token) (bytes_eq line w)) wants
+          ∙ ap (λ (e : Entry). remark_for (decreases_after run e.token) (bytes_eq line wanted))
+          entry
+          ∙ ap (λ (w : List ℕ). remark_for (decreases_after run b.entry.token) (bytes_eq line w))
+          wants
           ∙ sym also.is_remark;
       wants = wants;
     }

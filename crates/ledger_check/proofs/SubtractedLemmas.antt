@@ -25,7 +25,8 @@ use Rattle.ledger_check.proofs.ReplayLemmas.{tap_of_next, tap_same}
 -- the head line has no tap
 pub subtracted_head : (fares : Fares) (lines : List (List ℕ)) (line : List ℕ) (balance : Balance)
     (valid : List TapFields) → lines ≡ []
-    → AreSubtracted fares lines balance valid → AreSubtracted fares (lines ++ line ∷ []) balance valid
+    → AreSubtracted fares lines balance valid
+    → AreSubtracted fares (lines ++ line ∷ []) balance valid
 subtracted_head fares [] line balance valid none subtracted = record {
   taps = subtracted.taps;
   reported = λ entries are. ap (map tap_of_entry) (none_left fares [] entries are)
@@ -56,17 +57,19 @@ pub subtracted_more : (fares : Fares) (lines rest : List (List ℕ)) (line : Lis
     → ((valid subtracted : List TapFields) → IsBalance old valid subtracted
     → IsBalance new valid (subtracted ++ fields ∷ []))
     → AreSubtracted fares lines old valid → AreSubtracted fares (lines ++ line ∷ []) new valid
-subtracted_more fares lines rest line tap fields old new valid is reports same subtracts subtracted = record {
-  taps = subtracted.taps ++ fields ∷ [];
-  reported =
-      subst (λ (ls : List (List ℕ)). AreTapsOfLines fares (ls ++ line ∷ [])
-      (subtracted.taps ++ fields ∷ [])) (sym is)
-      (subst (λ (t : TapFields). AreTapsOfLines fares (head_text ∷ (rest ++ line ∷ []))
-      (subtracted.taps ++ t ∷ [])) (sym same)
-      (line_more fares rest line subtracted.taps tap reports
-      (subst (λ (ls : List (List ℕ)). AreTapsOfLines fares ls subtracted.taps) is subtracted.reported)));
-  is = subtracts valid subtracted.taps subtracted.is;
-}
+subtracted_more fares lines rest line tap fields old new valid is reports same subtracts
+    subtracted = record {
+      taps = subtracted.taps ++ fields ∷ [];
+      reported =
+          subst (λ (ls : List (List ℕ)). AreTapsOfLines fares (ls ++ line ∷ [])
+          (subtracted.taps ++ fields ∷ [])) (sym is)
+          (subst (λ (t : TapFields). AreTapsOfLines fares (head_text ∷ (rest ++ line ∷ []))
+          (subtracted.taps ++ t ∷ [])) (sym same)
+          (line_more fares rest line subtracted.taps tap reports
+          (subst (λ (ls : List (List ℕ)). AreTapsOfLines fares ls subtracted.taps) is
+          subtracted.reported)));
+      is = subtracts valid subtracted.taps subtracted.is;
+    }
 
 pub took_subtracted : (fares : Fares) (checker after : Checker) (old new : Balance)
     (text line whole : List ℕ) (valid : List TapFields) (reported : Option Verdict)
@@ -80,7 +83,8 @@ took_subtracted fares checker after old new text line whole valid None is ends j
       fed = took_whole fares checker after text line whole is.fed ends joined empty taken;
       subtracted = subtracted;
     }
-took_subtracted fares checker after old new text line whole valid (Some verdict) is ends joined empty
+took_subtracted fares checker after old new text line whole valid (Some verdict) is ends joined
+    empty
     taken subtracted = subtracted
 
 pub none_reported : (reported : Option Verdict) (P : Type 0) → is_some reported ≡ false

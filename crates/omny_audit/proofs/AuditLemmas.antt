@@ -35,7 +35,8 @@ sound_is some full false live fares ledger valid found sound is =
     some live fares ledger valid found sound is
 
 -- a report that is right is that of the ledger's entries
-own_of : ReportVerdictsDecide → (ends : Option (List UploadEnd)) (fares : Fares) (ledger : List ℕ) (report : Option (List ℕ))
+own_of : ReportVerdictsDecide
+    → (ends : Option (List UploadEnd)) (fares : Fares) (ledger : List ℕ) (report : Option (List ℕ))
     (legal : Bool) (rest : List ℕ) (fits : Bool) (entries : List Entry)
     → IsReportLine ends fares ledger report legal rest fits → fits ≡ true
     → IsLedgerOf fares entries ledger → HasOwnReport ends report entries
@@ -46,7 +47,8 @@ own_of verdicts ends fares ledger (Some report) true rest fits entries line is o
     (verdicts ends entries report line.verdict (line.true_of entries of)).0 (sym line.reported ∙ is)
 
 -- and that of the ledger's entries is right
-fits_of : ReportVerdictsDecide → (ends : Option (List UploadEnd)) (fares : Fares) (ledger : List ℕ) (report : Option (List ℕ))
+fits_of : ReportVerdictsDecide
+    → (ends : Option (List UploadEnd)) (fares : Fares) (ledger : List ℕ) (report : Option (List ℕ))
     (legal : Bool) (rest : List ℕ) (fits : Bool) (entries : List Entry) → legal ≡ true
     → IsReportLine ends fares ledger report legal rest fits → IsLedgerOf fares entries ledger
     → HasOwnReport ends report entries → fits ≡ true
@@ -74,7 +76,8 @@ positions_right (Some uploads) read is = by_wrong (wrong_position uploads read) 
         let bad : ◌≡◌ {A = Option PositionFault} None (Some wrong) = is in absurd (cc)
 
 right_positions : (uploads : Option (List (List TapFields))) (read : List ReadLine)
-    (fault : Option PositionFault) → IsPositionFault uploads read fault → HasRightPositions uploads read
+    (fault : Option PositionFault) → IsPositionFault uploads read fault
+    → HasRightPositions uploads read
     → fault ≡ None
 right_positions None read fault is has = is
 right_positions (Some uploads) read fault is has =
@@ -112,7 +115,8 @@ right_columns None looked file read reported right look is has = is.1
 right_columns (Some wanted) false file read reported right look is has = absurd (false_true look)
 right_columns (Some wanted) true file read reported right look is has =
     is.4 ∙ ap (λ (w : Option WrongClass). not (is_some w) && not (is_some is.1)) has.1
-    ∙ ap (λ (f : Option PositionFault). not (is_some f)) (right_positions wanted.uploads read is.1 is.2
+    ∙ ap (λ (f : Option PositionFault). not (is_some f))
+    (right_positions wanted.uploads read is.1 is.2
     has.2)
 
 looked_at : (all legal : Bool) → legal ≡ true → (all || legal) ≡ true

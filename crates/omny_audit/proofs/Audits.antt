@@ -1,6 +1,7 @@
 -- What an audit has read, and what it may leave.
 use Rattle.std.proofs.Common.{◌≡◌, ◌∙◌, ◌++◌, ℕ, Bool, true, false, List, [], ◌∷◌, Option, None}
-use Rattle.std.proofs.Common.{Global, Some, Vec, ap, append_assoc, inl, inr, length, refl, subst, sym, ⊎_elim}
+use Rattle.std.proofs.Common.{Global, Some, Vec, ap, append_assoc, inl, inr, length, refl, subst}
+use Rattle.std.proofs.Common.{sym, ⊎_elim}
 use Rattle.std.proofs.lemmas.Bool.{true≢false}
 use Rattle.std.specs.Prelude.{◌⊎◌, ◌||◌, Err, unwrap_or}
 use Rattle.std.specs.Io.KnownBytes.{Appends, Consumes, IsAtEnd}
@@ -72,7 +73,8 @@ checked_more fares subtracts valid (First checker balance (Some verdict)) text w
 checked_more fares subtracts valid (All full_check full) text written rest has is = absurd cc
 
 -- a piece more, up to the first wrong line
-pub first_fed : (fares : Fares) (subtracts : Bool) (valid : List TapFields) (checker after : Checker)
+pub first_fed : (fares : Fares) (subtracts : Bool) (valid : List TapFields)
+    (checker after : Checker)
     (balance left : Balance) (before verdict : Option Verdict) (text piece written : List ℕ)
     → before ≡ None
     → (HasFed fares checker text → IsFed fares after (text ++ piece) verdict)
@@ -80,11 +82,14 @@ pub first_fed : (fares : Fares) (subtracts : Bool) (valid : List TapFields) (che
     → IfUndecided verdict (HasSubtracted fares after left (text ++ piece) valid))
     → HasChecked fares subtracts valid (First checker balance before) text written
     → HasChecked fares subtracts valid (First after left verdict) (text ++ piece) written
-first_fed fares subtracts valid checker after balance left (Some old) verdict text piece written none
+first_fed fares subtracts valid checker after balance left (Some old) verdict text piece written
+    none
     fed subtracted has = absurd cc
-first_fed fares subtracts valid checker after balance left None None text piece written none fed subtracted
+first_fed fares subtracts valid checker after balance left None None text piece written none fed
+    subtracted
     has = (subtracted has.0, has.1)
-first_fed fares subtracts valid checker after balance left None (Some verdict) text piece written none
+first_fed fares subtracts valid checker after balance left None (Some verdict) text piece written
+    none
     fed subtracted has = (fed has.0.fed, subtracted has.0, has.1)
 
 pub decided_ends : (audit : Audit) (valid : List TapFields) (file written more : List ℕ)

@@ -58,7 +58,8 @@ module _ (request : AuditRequest) where
   first_table = among_tables request.table.first
       (one_of request.table.first (table_files request.table) (inl refl))
 
-  pub among_uploads : (name : List ℕ) → Contains request.uploads name → Contains (files_of request) name
+  pub among_uploads : (name : List ℕ) → Contains request.uploads name
+      → Contains (files_of request) name
   among_uploads name is = Contains-append_right (table_files request.table) _ name
       (Contains-append_left (request.uploads ++ named_file request.report) _ name
       (Contains-append_left request.uploads (named_file request.report) name is))
@@ -196,7 +197,8 @@ started_none Right out = record { front = []; grown = Appends-nil out; rest = []
 -- what an audit of these files ends as
 pub ends_audit : (request : AuditRequest) (run : Run) (result : Result Bool Fault) → AuditsDecide
     → (files : HasLoaded request run.loaded run.loaded')
-    → EndsAs (given_of request files) files.ledger run.refused request.ledger run.ended run.out run.out'
+    → EndsAs (given_of request files) files.ledger run.refused request.ledger run.ended run.out
+    run.out'
     result → EndsAudit request run result
 ends_audit request run (Ok success) decide files is = record {
   text = is.0;
@@ -218,7 +220,8 @@ ends_audit request run (Err fault) decide files is = record {
 -- a finding that was written, and kept
 pub audits_kept : (request : AuditRequest) (loaded loaded' : Option (List Loaded))
     (out out' last : Option (List ℕ)) (success : Bool) → Keeps out' last
-    → Audits request loaded loaded' out out' success → Audits request loaded loaded' out last success
+    → Audits request loaded loaded' out out' success
+    → Audits request loaded loaded' out last success
 audits_kept request loaded loaded' out out' last success kept done = record {
   text = done.text;
   found = done.found;

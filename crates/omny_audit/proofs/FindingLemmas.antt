@@ -25,7 +25,8 @@ pub not_legal : (fares : Fares) (text : List ℕ) (valid : Option (List TapField
 not_legal fares text valid false is = (refl, refl)
 not_legal fares text valid true is = absurd cc
 
-pub alone : (fares : Fares) (text : List ℕ) (valid : List TapFields) (has legal : Bool) → has ≡ false
+pub alone : (fares : Fares) (text : List ℕ) (valid : List TapFields) (has legal : Bool)
+    → has ≡ false
     → legal ≡ true
     → IsDifferenceLine fares text (if has then Some valid else None) legal [] true
 alone fares text valid false true none is = (refl, refl)
@@ -68,11 +69,12 @@ even_decides differ fares text None true rest success decide second =
     (λ is. let ledger = decide.0 refl in (ledger.0, ledger.1, tt), λ right. second.1)
 even_decides differ fares text (Some valid) true rest success decide (None, shown, even, of) =
     (λ is. let ledger = decide.0 refl in (ledger.0, ledger.1, of ledger.0 ledger.1), λ right. even)
-even_decides differ fares text (Some valid) true rest success decide (Some difference, shown, even, of) = (
-  λ is. absurd (false_true (sym even ∙ is)),
-  λ right. absurd
-      (differ valid (map tap_of_entry right.0) difference (of right.0 right.1) right.2),
-)
+even_decides differ fares text (Some valid) true rest success decide
+    (Some difference, shown, even, of) = (
+      λ is. absurd (false_true (sym even ∙ is)),
+      λ right. absurd
+          (differ valid (map tap_of_entry right.0) difference (of right.0 right.1) right.2),
+    )
 
 -- which line a true verdict reports as earlier than the one before it
 early_is : (fares : Fares) (text : List ℕ) (verdict : Verdict) (entries : List Entry)
@@ -91,7 +93,8 @@ pub decides : Differ → VerdictsDecide
 decides differ verdicts live fares text valid reported success finding =
     let verdict = finding.verdict in
     let decide = verdicts fares text verdict finding.is_verdict in
-    let even = even_decides differ fares text valid (is_legal verdict) finding.rest finding.even decide
+    let even = even_decides differ fares text valid (is_legal verdict) finding.rest finding.even
+    decide
     finding.second in
     let order : (entries : List Entry) → IsLedgerOf fares entries text
     → (live || not (is_some (early_in verdict)))

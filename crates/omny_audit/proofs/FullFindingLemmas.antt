@@ -60,7 +60,8 @@ pub end_legal : (valid : Option (List TapFields)) (taps : List TapFields) (legal
     (rest : List ℕ) (success : Bool)
     → IsDifferencesEnd valid taps legal rest success → success ≡ true → legal ≡ true
 end_legal None taps legal rest success second right = sym second.1 ∙ right
-end_legal (Some valid) taps legal rest success (missing, surplus, lacks, lacks_too, shown, all) right =
+end_legal (Some valid) taps legal rest success (missing, surplus, lacks, lacks_too, shown, all)
+    right =
     (and_parts legal (are_none missing surplus) (sym all ∙ right)).0
 
 pub end_success : (valid : Option (List TapFields)) (taps : List TapFields) (legal : Bool)
@@ -130,4 +131,5 @@ pub end_beside : (valid taps missing surplus : List TapFields) (has legal even :
     → IsDifferencesEnd (if has then Some valid else None) taps legal text (legal && even)
 end_beside valid taps missing surplus true legal even text some lacks lacks_too shown is =
     (missing, surplus, lacks, lacks_too, shown, ap (λ (b : Bool). legal && b) is)
-end_beside valid taps missing surplus false legal even text some lacks lacks_too shown is = absurd cc
+end_beside valid taps missing surplus false legal even text some lacks lacks_too shown is =
+    absurd cc

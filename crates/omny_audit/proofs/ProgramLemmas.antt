@@ -146,7 +146,8 @@ pub reads_ledger : (before opened_to after : Option (List Loaded)) (name : Optio
     → IsAllOf (prepend_known started left') file
     → AreWanted fares texts (has_traced_head started) kept wanted
     → ReadsLedger before after name fares texts uploads wanted file
-reads_ledger before opened_to after name left left' head started fares texts file kept uploads wanted
+reads_ledger before opened_to after name left left' head started fares texts file kept uploads
+    wanted
     opens same_loads reads enough same_head same_uploads all named =
     let rest = subst (λ (h : List ℕ). IsAllOf (prepend_known h left') file) same_head all in
     record {

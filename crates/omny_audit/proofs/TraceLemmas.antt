@@ -26,7 +26,8 @@ use Rattle.omny_audit.specs.Traced.{ReadLine, class_text, position_text}
 use Rattle.omny_audit.specs.Traced.{NamesTapWithColumns, TapWithColumns, Wanted, class_fault}
 use Rattle.omny_audit.specs.Traced.{have_position, lines_read, traced_by, wrong_class}
 use Rattle.omny_audit.specs.Traced.{wrong_position}
-use Rattle.omny_audit.specs.inside.Traced.{HasColumns, HasLines, HasPositions, HasReadAll, HasReadAs}
+use Rattle.omny_audit.specs.inside.Traced.{HasColumns, HasLines, HasPositions, HasReadAll}
+use Rattle.omny_audit.specs.inside.Traced.{HasReadAs}
 use Rattle.omny_audit.specs.inside.Traced.{HasTraced, IsKeptOf, uploads_in, wanted_by}
 use Rattle.omny_audit.specs.inside.Traced.{wanted_of, wrong_position_in}
 use Rattle.omny_audit.specs.declared.traced.PositionFault.{PositionFault}
@@ -93,7 +94,8 @@ no_tap_placed (Some positions) wrong line read has = record {
 }
 
 -- what the columns are held against stays the same
-pub wanted_same : (a b : LinesRead) → a.names ≡ b.names → uploads_in a.positions ≡ uploads_in b.positions
+pub wanted_same : (a b : LinesRead) → a.names ≡ b.names
+    → uploads_in a.positions ≡ uploads_in b.positions
     → wanted_of a ≡ wanted_of b
 wanted_same a b names uploads =
     ap (λ (n : ClassNames). wanted_with (class_by n) (uploads_in a.positions)) names
@@ -139,7 +141,8 @@ pub took_cut : (so_far after : LinesRead) (kept whole : List ℕ) (cut : TracedL
     → after.wrong_class ≡ option_or so_far.wrong_class
     (class_fault (class_by so_far.names) (so_far.lines + 1) traced)
     → after.names ≡ so_far.names → NamesTapWithColumns (Some cut) traced
-    → HasPositions after.positions after.wrong_position (record { line = whole; traced = traced } ∷ read)
+    → HasPositions after.positions after.wrong_position
+    (record { line = whole; traced = traced } ∷ read)
     → HasLines after (record { line = whole; traced = traced } ∷ read)
 took_cut so_far after kept whole cut traced read has same is count class names reports positions =
     record {
@@ -297,7 +300,8 @@ ended_cut trace after file reported text text' read is some (next, same, has) wr
       has.columns,
     )
   where
-    some_started : (kept started : List ℕ) → IsKeptOf kept started → 0 < length kept → 0 < length started
+    some_started : (kept started : List ℕ) → IsKeptOf kept started → 0 < length kept
+        → 0 < length started
     some_started kept started (inl same) some = subst (λ (l : List ℕ). 0 < length l) same some
     some_started kept started (inr (left, right)) some = omega (arith, right)
 
@@ -360,7 +364,8 @@ pub columns_reported : (trace : TracedPieces) (looked : Bool) (o : Option Traced
     → (read : List ReadLine) × AreColumnsReported (wanted_by o) looked file read
     (class_text (class_by trace.so_far.names) trace.so_far.wrong_class
     ++ position_text (uploads_in trace.so_far.positions) fault) right
-columns_reported trace looked o file fault right classes positions is look of_classes of_positions both
+columns_reported trace looked o file fault right classes positions is look of_classes of_positions
+    both
     found
     all = subst (λ (o : Option TracedPieces). ReportedOf trace fault file right o looked)
     (sym is)

@@ -26,7 +26,8 @@ if_not A B b e which = subst (λ (x : Bool). MatchBool x A B) e which
 
 -- what is done for words that ask for a bill of named files
 pub charges_named : (request : Request) (after : List Load) (out' : Option (List ℕ))
-    → ChargesNamed request → Does request (λ _. None) file (Some []) (Some after) (Some []) out' true
+    → ChargesNamed request
+    → Does request (λ _. None) file (Some []) (Some after) (Some []) out' true
     → ChargesFiles request [] after (Some []) out'
 charges_named request after out' names does =
     charges_files request file [] after (Some []) out' (λ name. refl) names.some

@@ -1,6 +1,7 @@
 -- The lines of parts, copied one after the other.
 use Rattle.std.proofs.Common.{◌≡◌, ◌∙◌, ◌+◌, ℕ, Bool, true, false, List, [], ◌∷◌, ◌++◌, map}
-use Rattle.std.proofs.Common.{Option, Some, None, Result, Ok, Err, IfSome, option_map, refl, sym, ap, subst}
+use Rattle.std.proofs.Common.{Option, Some, None, Result, Ok, Err, IfSome, option_map, refl, sym}
+use Rattle.std.proofs.Common.{ap, subst}
 use Rattle.std.proofs.Common.{append_assoc, append-nil, arith, length, ◌<◌}
 use Rattle.std.specs.Prelude.{flat_map}
 use Rattle.std.specs.Io.KnownBytes.{Appends}
@@ -8,7 +9,8 @@ use Rattle.std.proofs.KnownBytes.{Appends-nil, Appends-trans}
 use Rattle.fare_texts.specs.WrittenOut.{Begins}
 use Rattle.histories.specs.Sums.{sums_of}
 use Rattle.tap_views.specs.declared.token.Token.{Token}
-use Rattle.line_folds.specs.Folds.{AppendsPrefix, HasWritten, StopsAs, bounded, carry, lines_of, run, written, written_on}
+use Rattle.line_folds.specs.Folds.{AppendsPrefix, HasWritten, StopsAs, bounded, carry, lines_of}
+use Rattle.line_folds.specs.Folds.{run, written, written_on}
 use Rattle.line_folds.specs.declared.lines.Stop.{Stop}
 use Rattle.line_folds.specs.declared.lines.Stop.TheVariants.{Line as StopLine, Unread as StopUnread}
 use Rattle.line_folds.specs.declared.lines.Stop.TheVariants.{Unwritten, NoMemory as StopMemory}
@@ -117,7 +119,8 @@ module _ {R : Type 0} (remaining : R → Option (List ℕ)) (position : ℕ) (la
     lines = lines_of rest;
   } ≡ view
       → section_of position last view
-      ≡ section_ended position (run never (bounded Form section_step) opening.number start (lines_of rest))
+      ≡ section_ended position
+      (run never (bounded Form section_step) opening.number start (lines_of rest))
   said_by_run view rest is =
       ap (section_of position last) (sym is)
       ∙ ap (λ s. section_ended position
@@ -125,7 +128,8 @@ module _ {R : Type 0} (remaining : R → Option (List ℕ)) (position : ℕ) (la
 
   pub section_ok : (number : ℕ) (view : OpenView) → open_view remaining opening ≡ Some view
       → IfSome (remaining opening.from) (λ text. StopsAs
-      (run never (bounded Form section_step) opening.number start (lines_of text)) end left (Ok number))
+      (run never (bounded Form section_step) opening.number start (lines_of text)) end left
+      (Ok number))
       → IfSome (remaining opening.from) (λ text. HasWritten {W = Wrong} before after
       (written never (bounded Form section_step) line_itself start (lines_of text)) (Ok number))
       → section_end end ≡ None
@@ -147,7 +151,8 @@ module _ {R : Type 0} (remaining : R → Option (List ℕ)) (position : ℕ) (la
   pub section_wrong : (number : ℕ) (why : Wrong) (view : OpenView)
       → open_view remaining opening ≡ Some view
       → IfSome (remaining opening.from) (λ text. StopsAs
-      (run never (bounded Form section_step) opening.number start (lines_of text)) end left (Ok number))
+      (run never (bounded Form section_step) opening.number start (lines_of text)) end left
+      (Ok number))
       → section_end end ≡ Some why
       → Copied {T = Option Token} (λ (s : SectionView). s.last) (section_of position last view)
       (flat_map (λ line. line) view.lines) before after (Err (Line position number why))
@@ -184,9 +189,11 @@ module _ {R : Type 0} (remaining : R → Option (List ℕ)) (position : ℕ) (la
           ∙ ap (λ (v : OpenView). flat_map (λ line. line) v.lines) same) some
       through (Err wrong) is done = absurd (cc)
 
-  pub section_fault : (stop : Stop Wrong) (view : OpenView) → open_view remaining opening ≡ Some view
+  pub section_fault : (stop : Stop Wrong) (view : OpenView)
+      → open_view remaining opening ≡ Some view
       → IfSome (remaining opening.from) (λ text. StopsAs
-      (run never (bounded Form section_step) opening.number start (lines_of text)) end left (Err stop))
+      (run never (bounded Form section_step) opening.number start (lines_of text)) end left
+      (Err stop))
       → IfSome (remaining opening.from) (λ text. HasWritten before after
       (written never (bounded Form section_step) line_itself start (lines_of text)) (Err stop))
       → Copied {T = Option Token} (λ (s : SectionView). s.last) (section_of position last view)
@@ -197,8 +204,11 @@ module _ {R : Type 0} (remaining : R → Option (List ℕ)) (position : ℕ) (la
       ∙ ap (section_ended position) (if_known _ (remaining opening.from) rest here stops) in
       (said, λ s is_ok. absurd (let e = sym said ∙ is_ok in cc))
   section_fault StopUnread view is stops wrote =
-      let (rest, here, same) = view_of remaining opening view is in
-      (tt, prefix_of StopUnread view rest same (if_known _ (remaining opening.from) rest here wrote))
+      let (rest, here, same) = view_of remaining opening view is in (
+        tt,
+        prefix_of StopUnread view rest same
+            (if_known _ (remaining opening.from) rest here wrote),
+      )
   section_fault StopLong view is stops wrote =
       let (rest, here, same) = view_of remaining opening view is in
       (tt, prefix_of StopLong view rest same (if_known _ (remaining opening.from) rest here wrote))
@@ -206,11 +216,15 @@ module _ {R : Type 0} (remaining : R → Option (List ℕ)) (position : ℕ) (la
       let (rest, here, same) = view_of remaining opening view is in
       (tt, prefix_of Unwritten view rest same (if_known _ (remaining opening.from) rest here wrote))
   section_fault StopMemory view is stops wrote =
-      let (rest, here, same) = view_of remaining opening view is in
-      (tt, prefix_of StopMemory view rest same (if_known _ (remaining opening.from) rest here wrote))
+      let (rest, here, same) = view_of remaining opening view is in (
+        tt,
+        prefix_of StopMemory view rest same
+            (if_known _ (remaining opening.from) rest here wrote),
+      )
 
 -- ---- all parts
-open_more : {R : Type 0} (remaining : R → Option (List ℕ)) (opening : Open R) (opens : List (Open R))
+open_more : {R : Type 0} (remaining : R → Option (List ℕ)) (opening : Open R)
+    (opens : List (Open R))
     (views : List OpenView) → AreOpen remaining (opening ∷ opens) views
     → (view : OpenView) × (more : List OpenView) × (views ≡ view ∷ more)
     × (open_view remaining opening ≡ Some view) × AreOpen remaining opens more
@@ -243,7 +257,8 @@ copies_none remaining all left before is = λ views are. (
   Appends-nil before,
 )
 
-pub copies_more : {R : Type 0} (remaining : R → Option (List ℕ)) (all : List (Open R)) (position : ℕ)
+pub copies_more : {R : Type 0} (remaining : R → Option (List ℕ)) (all : List (Open R))
+    (position : ℕ)
     (last next : Option Token) (left more : List (Open R)) (opening : Open R)
     (before now after : Option (List ℕ)) → left ≡ opening ∷ more
     → CopiesAt remaining all position last left before now
@@ -251,7 +266,8 @@ pub copies_more : {R : Type 0} (remaining : R → Option (List ℕ)) (all : List
     → Copied (λ (s : SectionView). s.last) (section_of position last view)
     (flat_map (λ line. line) view.lines) now after (Ok next))
     → CopiesAt remaining all (position + 1) next more before after
-copies_more remaining all position last next left more opening before now after split at_all copied =
+copies_more remaining all position last next left more opening before now after split at_all
+    copied =
     λ views are.
     let (rest, lefts, same, front, lines, wrote) = at_all views are in
     let (view, others, shown, here, trailing) = open_more remaining opening more rest
@@ -260,7 +276,8 @@ copies_more remaining all position last next left more opening before now after 
       others,
       trailing,
       same ∙ ap (sections_of position last) shown
-          ∙ ap (λ r. and_then r (λ (s : SectionView). sections_of (position + 1) s.last others)) said
+          ∙ ap (λ r. and_then r (λ (s : SectionView). sections_of (position + 1) s.last others))
+          said
           ∙ ap (λ l. sections_of (position + 1) l others) last_is,
       front ++ flat_map (λ line. line) view.lines,
       lines ∙ ap (λ (vs : List OpenView). front ++ lines_left vs) shown
@@ -273,7 +290,8 @@ ok_through : {S T : Type 0} (said : Result S WrongLine) (next : S → Result T W
 ok_through (Ok s) next t is = (s, refl)
 ok_through (Err wrong) next t is = absurd (cc)
 
-pub copies_fault : {R : Type 0} (remaining : R → Option (List ℕ)) (all : List (Open R)) (position : ℕ)
+pub copies_fault : {R : Type 0} (remaining : R → Option (List ℕ)) (all : List (Open R))
+    (position : ℕ)
     (last : Option Token) (left more : List (Open R)) (opening : Open R)
     (before now after : Option (List ℕ)) (fault : MergeFault) → left ≡ opening ∷ more
     → CopiesAt remaining all position last left before now
@@ -283,7 +301,8 @@ pub copies_fault : {R : Type 0} (remaining : R → Option (List ℕ)) (all : Lis
     → (views : List OpenView) → AreOpen remaining all views
     → Copied {T = Unit {0}} (λ (s : Option Token). tt) (sections_of 0 None views) (lines_left views)
     before after (Err fault)
-copies_fault remaining all position last left more opening before now after fault split at_all copied views
+copies_fault remaining all position last left more opening before now after fault split at_all
+    copied views
     are =
     let (rest, lefts, same, front, lines, wrote) = at_all views are in
     let (view, others, shown, here, trailing) = open_more remaining opening more rest
@@ -295,7 +314,8 @@ copies_fault remaining all position last left more opening before now after faul
       fault_same (sections_of 0 None views) _ fault whole (fault_goes _ next fault is),
       λ end ok.
           let (s, said) = ok_through (section_of position last view) next end (sym whole ∙ ok) in
-          subst (AppendsPrefix before after) (sym (lines ∙ ap (λ (vs : List OpenView). front ++ lines_left vs) shown))
+          subst (AppendsPrefix before after)
+          (sym (lines ∙ ap (λ (vs : List OpenView). front ++ lines_left vs) shown))
           (prefix_after before now after front (lines_left (view ∷ others)) wrote
           (prefix_more now after (flat_map (λ line. line) view.lines) (lines_left others)
           (some s said))),
@@ -314,7 +334,8 @@ copies_all remaining all position last left before after none at_all views are =
       last,
       same ∙ ap (sections_of position last) no_rest,
       refl,
-      subst (Appends before after) (sym (lines ∙ ap (λ (vs : List OpenView). front ++ lines_left vs) no_rest
+      subst (Appends before after)
+          (sym (lines ∙ ap (λ (vs : List OpenView). front ++ lines_left vs) no_rest
           ∙ append-nil front)) wrote,
     )
 
@@ -322,7 +343,8 @@ copies_all remaining all position last left before after none at_all views are =
 pub begins_prefix : (before after : Option (List ℕ)) (text : List ℕ) → Begins before after text
     → AppendsPrefix before after text
 begins_prefix None after text begins = tt
-begins_prefix (Some old) after text begins = (begins.front, begins.rest, begins.whole, begins.written)
+begins_prefix (Some old) after text begins =
+    (begins.front, begins.rest, begins.whole, begins.written)
 
 merged_text : (s : FrontsView) (views : List OpenView) (text : List ℕ)
     → merged (s, views) ≡ Ok text

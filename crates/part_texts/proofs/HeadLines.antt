@@ -1,6 +1,7 @@
 -- The lines of a part's head are read back, and each is one line.
 use Rattle.std.proofs.Common.{◌≡◌, ◌∙◌, ◌+◌, ◌<◌, ◌^◌, ℕ, List, [], ◌∷◌, ◌++◌, codes}
-use Rattle.std.proofs.Common.{Option, Some, None, refl, sym, ap, subst, arith, append_assoc, option_map}
+use Rattle.std.proofs.Common.{Option, Some, None, refl, sym, ap, subst, arith, append_assoc}
+use Rattle.std.proofs.Common.{option_map}
 use Rattle.std.specs.Fmt.{decimal}
 use Rattle.line_forms.specs.Forms.{IsFirst, IsForm, IsThen, then_read}
 use Rattle.line_forms.specs.FormLaws.{line_complete, then_law}
@@ -23,7 +24,8 @@ position_begins w none position text rest is =
 to_begins : IsFirst BeginsWithNoDigit IsToText
 to_begins None text rest is =
     subst (λ (x : List ℕ). BeginsWithNoDigit (x ++ rest)) (sym is) refl
-to_begins (Some position) text rest is = position_begins (codes " to ") (λ rest. refl) position text rest is
+to_begins (Some position) text rest is =
+    position_begins (codes " to ") (λ rest. refl) position text rest is
 
 then_begins : IsFirst BeginsWithNoDigit (IsThen (IsPositionText (codes " from ")) IsToText)
 then_begins value text rest is =
@@ -31,7 +33,8 @@ then_begins value text rest is =
     (subst BeginsWithNoDigit (sym (append_assoc is.0 is.1 rest))
     (position_begins (codes " from ") (λ rest. refl) value.0 is.0 (is.1 ++ rest) is.2))
 
-span_form : IsForm (IsThen (IsCount (codes "file ")) (IsThen (IsPositionText (codes " from ")) IsToText))
+span_form : IsForm
+    (IsThen (IsCount (codes "file ")) (IsThen (IsPositionText (codes " from ")) IsToText))
     BeginsWithNoDigit
     (then_read (count_at (codes "file ")) (then_read (position_read (codes " from ")) to_read))
 span_form =
@@ -39,9 +42,11 @@ span_form =
     (then_law (position_law (codes " from ")) to_law to_begins) then_begins
 
 abbrev position_words : List ℕ → Position → List ℕ
-position_words w position = (w ++ decimal position.offset) ++ (codes " skip " ++ decimal position.skip)
+position_words w position =
+    (w ++ decimal position.offset) ++ (codes " skip " ++ decimal position.skip)
 
-position_says : (w : List ℕ) (position : Position) → PositionFits position → IsPositionText w position (position_words w position)
+position_says : (w : List ℕ) (position : Position) → PositionFits position
+    → IsPositionText w position (position_words w position)
 position_says w position fits = (
   (position.offset, position.skip),
   (
@@ -62,21 +67,27 @@ to_says : (to : Option Position) → EndFits to → IsToText to (to_words to)
 to_says None fits = refl
 to_says (Some position) fits = position_says (codes " to ") position fits
 
-position_joined : (w a s b rest : List ℕ) → w ++ ((a ++ (s ++ b)) ++ rest) ≡ ((w ++ a) ++ (s ++ b)) ++ rest
+position_joined : (w a s b rest : List ℕ)
+    → w ++ ((a ++ (s ++ b)) ++ rest) ≡ ((w ++ a) ++ (s ++ b)) ++ rest
 position_joined w a s b rest = simp append_assoc
 
-to_joined : (to : Option Position) → codes " to " ++ (to_text to ++ 10 ∷ []) ≡ to_words to ++ 10 ∷ []
+to_joined : (to : Option Position)
+    → codes " to " ++ (to_text to ++ 10 ∷ []) ≡ to_words to ++ 10 ∷ []
 to_joined None = refl
 to_joined (Some position) =
-    position_joined (codes " to ") (decimal position.offset) (codes " skip ") (decimal position.skip) (10 ∷ [])
+    position_joined (codes " to ") (decimal position.offset) (codes " skip ")
+    (decimal position.skip) (10 ∷ [])
 
 span_spelled : (file : ℕ) (span : FileSpan) → span_line file span
-    ≡ ((codes "file " ++ decimal file) ++ (position_words (codes " from ") span.from ++ to_words span.to)) ++ 10 ∷ []
+    ≡ ((codes "file " ++ decimal file)
+    ++ (position_words (codes " from ") span.from ++ to_words span.to)) ++ 10 ∷ []
 unfolding span_line
 span_spelled file span =
-    ap (λ (x : List ℕ). codes "file " ++ (decimal file ++ (codes " from " ++ (position_text span.from ++ x))))
+    ap (λ (x : List ℕ). codes
+    "file " ++ (decimal file ++ (codes " from " ++ (position_text span.from ++ x))))
     (to_joined span.to)
-    ∙ joined (codes "file ") (decimal file) (codes " from ") (decimal span.from.offset) (codes " skip ")
+    ∙ joined (codes "file ") (decimal file) (codes " from ") (decimal span.from.offset)
+    (codes " skip ")
     (decimal span.from.skip) (to_words span.to) (10 ∷ [])
   where
     joined : (f n w a s b t e : List ℕ) → f ++ (n ++ (w ++ ((a ++ (s ++ b)) ++ (t ++ e))))
@@ -88,7 +99,8 @@ pub span_complete : (file : ℕ) (span : FileSpan) → file < 2 ^ 64 → SpanFit
 span_complete file span small fits =
     ap span_in (span_spelled file span)
     ∙ ap (option_map span_with) (line_complete span_form refl (file, (span.from, span.to))
-    ((codes "file " ++ decimal file) ++ (position_words (codes " from ") span.from ++ to_words span.to)) (
+    ((codes "file " ++ decimal file)
+    ++ (position_words (codes " from ") span.from ++ to_words span.to)) (
       _,
       _,
       (decimal file, (small, refl), refl),
@@ -96,7 +108,8 @@ span_complete file span small fits =
       refl,
     ))
 
-position_is_one : (position : Position) (most : ℕ) (line : List ℕ) → PositionFits position → IsOneLine most line
+position_is_one : (position : Position) (most : ℕ) (line : List ℕ) → PositionFits position
+    → IsOneLine most line
     → IsOneLine (20 + (6 + (20 + most))) (position_text position ++ line)
 position_is_one position most line fits is =
     subst (IsOneLine (20 + (6 + (20 + most))))
@@ -109,7 +122,8 @@ position_is_one position most line fits is =
 
 to_is_one : (to : Option Position) → EndFits to → IsOneLine 100 (to_text to ++ 10 ∷ [])
 to_is_one None fits = weaker _ 100 _ (omega arith) (word (codes "end") _ _ refl over)
-to_is_one (Some position) fits = weaker _ 100 _ (omega arith) (position_is_one position 0 (10 ∷ []) fits over)
+to_is_one (Some position) fits =
+    weaker _ 100 _ (omega arith) (position_is_one position 0 (10 ∷ []) fits over)
 
 pub span_is_one : (file : ℕ) (span : FileSpan) → file < 2 ^ 64 → SpanFits span
     → IsOneLine 1000 (span_line file span)
@@ -117,4 +131,5 @@ unfolding span_line
 span_is_one file span small fits =
     weaker _ 1000 _ (omega arith)
     (word (codes "file ") _ _ refl (counted file _ _ small (word (codes " from ") _ _ refl
-    (position_is_one span.from _ _ fits.0 (word (codes " to ") _ _ refl (to_is_one span.to fits.1))))))
+    (position_is_one span.from _ _ fits.0
+    (word (codes " to ") _ _ refl (to_is_one span.to fits.1))))))

@@ -1,5 +1,6 @@
 -- The head of a part, written line by line.
-use Rattle.std.proofs.Common.{◌≡◌, ◌∙◌, ◌+◌, ◌<◌, ℕ, List, [], ◌∷◌, ◌++◌, length, take, get_or, length-take}
+use Rattle.std.proofs.Common.{◌≡◌, ◌∙◌, ◌+◌, ◌<◌, ℕ, List, [], ◌∷◌, ◌++◌, length, take, get_or}
+use Rattle.std.proofs.Common.{length-take}
 use Rattle.std.proofs.Common.{sym, ap, append_assoc, append-nil, add-zero, arith}
 use Rattle.std.specs.Prelude.{codes, None}
 use Rattle.std.specs.Fmt.{decimal}

@@ -1,6 +1,8 @@
 -- Reports of parts of a history follow each other, and are merged into the report of the whole.
-use Rattle.std.proofs.Common.{◌≡◌, ◌∙◌, ◌+◌, ◌<◌, ◌≤◌, ◌^◌, ◌||◌, ℕ, Bool, true, false, cond, List, [], ◌∷◌, ◌++◌, length, map}
-use Rattle.std.proofs.Common.{Option, Some, None, Ok, Result, refl, sym, ap, subst, arith, append_assoc, append-nil, length-append, All}
+use Rattle.std.proofs.Common.{◌≡◌, ◌∙◌, ◌+◌, ◌<◌, ◌≤◌, ◌^◌, ◌||◌, ℕ, Bool, true, false, cond, List}
+use Rattle.std.proofs.Common.{[], ◌∷◌, ◌++◌, length, map}
+use Rattle.std.proofs.Common.{Option, Some, None, Ok, Result, refl, sym, ap, subst, arith}
+use Rattle.std.proofs.Common.{append_assoc, append-nil, length-append, All}
 use Rattle.std.specs.Prelude.{flat_map, nat_eq, nat_lt}
 use Rattle.std.specs.BTreeSet.{insert_key}
 use Rattle.std.specs.List.{AllByRecursion}
@@ -11,7 +13,8 @@ use Rattle.std.specs.declared.cmp.Ordering.TheVariants.{Less, Equal, Greater}
 use Rattle.std.proofs.lemmas.Bool.Decides.{nat_tests}
 use Rattle.std.proofs.lemmas.Cmp.{nat_cmp_total}
 use Rattle.std.proofs.lemmas.List.{length-map, map-append}
-use Rattle.std.proofs.lemmas.List.Elements.{All-head, All-tail, All-nil, All-cons, recursion_from_All}
+use Rattle.std.proofs.lemmas.List.Elements.{All-head, All-tail, All-nil, All-cons}
+use Rattle.std.proofs.lemmas.List.Elements.{recursion_from_All}
 use Rattle.std.proofs.lemmas.Map.Views.{All-insert_key}
 use Rattle.tap_views.specs.Token.{token_cmp}
 use Rattle.tap_views.specs.TokenOrder.{AreBelow}
@@ -21,20 +24,24 @@ use Rattle.tap_views.proofs.TokenLemmas.{token_cmp-total, token_cmp-ties}
 use Rattle.histories.specs.Increasing.{increasing}
 use Rattle.histories.specs.Sums.{Sums, add_all, add_sums, sums, sums_of_replies}
 use Rattle.histories.specs.Entry.{own}
-use Rattle.histories.specs.SumsByKey.{entries_of_validator, sums_by_token, sums_by_validator, token_of, tokens, validator_of, validators}
+use Rattle.histories.specs.SumsByKey.{entries_of_validator, sums_by_token, sums_by_validator}
+use Rattle.histories.specs.SumsByKey.{token_of, tokens, validator_of, validators}
 use Rattle.histories.specs.declared.entry.Entry.{Entry}
 use Rattle.histories.proofs.IncreasingLemmas.{increasing-is}
 use Rattle.histories.proofs.SumsByToken.{by_token_joined}
 use Rattle.histories.proofs.SumsLemmas.{add_assoc, add_none, none_add, sums-append, sums-taps}
 use Rattle.report_texts.specs.Report.{report}
 use Rattle.part_texts.specs.Fronts.{is_above, may_end, no_sums, starts, sums_within, taps_before}
-use Rattle.part_texts.specs.HistoryParts.{AreRight, AreIncreasing, Fits, HistoryPart, added, histories_of, numbers_of, report_of, whole_history}
+use Rattle.part_texts.specs.HistoryParts.{AreRight, AreIncreasing, Fits, HistoryPart, added}
+use Rattle.part_texts.specs.HistoryParts.{histories_of, numbers_of, report_of, whole_history}
 use Rattle.part_texts.specs.Merged.{merge_of}
 use Rattle.sorted_taps.specs.Positions.{AreWhole, DoJoin, first_position}
 use Rattle.part_texts.specs.Sections.{is_token_above}
 use Rattle.part_texts.specs.Shown.{PartReport, part_text, sum_up}
 use Rattle.part_texts.specs.inside.Shown.{are_joined, is_none_after}
-use Rattle.part_texts.specs.inside.Shown.{IsNextPart, IsRight, SoFar, adds_to, are_next_parts, are_posted_to, are_increasing, are_tokens_increasing, last_of, nothing_so_far, tokens_of}
+use Rattle.part_texts.specs.inside.Shown.{IsNextPart, IsRight, SoFar, adds_to, are_next_parts}
+use Rattle.part_texts.specs.inside.Shown.{are_posted_to, are_increasing, are_tokens_increasing}
+use Rattle.part_texts.specs.inside.Shown.{last_of, nothing_so_far, tokens_of}
 use Rattle.sorted_taps.specs.declared.positions.Position.{Position}
 use Rattle.sorted_taps.specs.declared.positions.FileSpan.{FileSpan}
 use Rattle.part_texts.proofs.KeySums.{all_added, tokens_add, validators_add}
@@ -54,7 +61,8 @@ all_add : {K : Type 0} (s all : Sums) (list : List (K × Sums)) → all ≡ add_
 all_add s all [] is few = sym (is ∙ add_none s)
 all_add s all (one ∷ more) is few =
     let next = add_sums s one.1 in
-    let rest : all ≡ add_sums next (all_added more) = is ∙ sym (add_assoc s one.1 (all_added more)) in
+    let rest : all ≡ add_sums next (all_added more) =
+    is ∙ sym (add_assoc s one.1 (all_added more)) in
     let taps : all.taps ≡ next.taps + (all_added more).taps = ap (λ (x : Sums). x.taps) rest in
     (next, within s one.1 next refl (omega (arith, taps, few)), all_add next all more rest few)
 
@@ -82,7 +90,8 @@ unfolding sums_by_validator validators
 validators_increase history =
     increase_above _ None (increasing nat_cmp (map validator_of history))
     (none_above (increasing nat_cmp (map validator_of history)))
-    (increasing-is nat_cmp_total (λ a b tied. grind (arith, nat_tests, tied)) (map validator_of history)).increases
+    (increasing-is nat_cmp_total (λ a b tied. grind (arith, nat_tests, tied))
+    (map validator_of history)).increases
 
 -- the last token is below these
 abbrev pub LastIsBelow : Option Token → List Token → Type 0
@@ -101,12 +110,14 @@ tokens_above f last (k ∷ keys) below increases =
     first_above (Some token) below = ap is_lt below.0
 
 -- what holds of all keys holds of them in their order
-pub all_ascending : {K : Type 0} (cmp : K → K → Ordering) (P : K → Type 0) (keys : List K) → All P keys
+pub all_ascending : {K : Type 0} (cmp : K → K → Ordering) (P : K → Type 0) (keys : List K)
+    → All P keys
     → All P (increasing cmp keys)
 unfolding increasing
 all_ascending cmp P [] all = All-nil P
 all_ascending cmp P (key ∷ keys) all =
-    All-insert_key cmp key P (increasing cmp keys) (all_ascending cmp P keys (All-tail P key keys all))
+    All-insert_key cmp key P (increasing cmp keys)
+    (all_ascending cmp P keys (All-tail P key keys all))
     (All-head P key keys all)
 
 pub below_front : (last : Option Token) (xs ys : List Token) → LastIsBelow last (xs ++ ys)
@@ -154,7 +165,8 @@ pub next_last : (last : Option Token) (history : List Entry) (later : List Token
 unfolding sums_by_token tokens
 next_last last history later below increase =
     last_below _ last (increasing token_cmp (map token_of history)) later below
-    (all_ascending token_cmp (λ t. All (λ u. token_cmp t u ≡ Less) later) (map token_of history) increase)
+    (all_ascending token_cmp (λ t. All (λ u. token_cmp t u ≡ Less) later) (map token_of history)
+    increase)
 
 -- ---- how many keys there are
 insert_few : {K : Type 0} (cmp : K → K → Ordering) (keys : List K) (key : K)
@@ -181,7 +193,8 @@ unfolding sums_by_token tokens
 tokens_few history =
     omega (
       arith,
-      length-map {B = Token × Sums} (increasing token_cmp (map token_of history)) (λ t. (t, sums (own t history))),
+      length-map {B = Token × Sums} (increasing token_cmp (map token_of history))
+          (λ t. (t, sums (own t history))),
       increasing_few token_cmp (map token_of history),
       length-map history token_of,
     )
@@ -248,7 +261,8 @@ may_last (span ∷ spans) all = (
   may_last spans (All-tail (λ end. end ≡ None) span.to (to_ends spans) all),
 )
 
-pub may_end_all : (spans : List FileSpan) (later : List (List FileSpan)) → DoJoin (to_ends spans) later
+pub may_end_all : (spans : List FileSpan) (later : List (List FileSpan))
+    → DoJoin (to_ends spans) later
     → MayAllEnd (is_none_after later) spans
 may_end_all spans [] all = may_last spans all
 may_end_all spans (next ∷ later) join = may_all spans
@@ -266,8 +280,10 @@ posted_first news (n ∷ ns) posted few =
       omega (arith, few),
       omega (arith, few),
       omega (arith, few),
-      subst (λ all. are_posted_to true (news ++ (0 + n) ∷ []) (posted + n) ns all (posted + (n + sum_up ns)))
-          (ap (λ k. (news ++ k ∷ []) ++ ns) (let e : 0 + n ≡ n = omega arith in e) ∙ append_assoc news (n ∷ []) ns)
+      subst (λ all. are_posted_to true (news ++ (0 + n) ∷ []) (posted + n) ns all
+          (posted + (n + sum_up ns)))
+          (ap (λ k. (news ++ k ∷ []) ++ ns) (let e : 0 + n ≡ n = omega arith in e)
+          ∙ append_assoc news (n ∷ []) ns)
           (subst (λ s. are_posted_to true (news ++ (0 + n) ∷ []) (posted + n) ns
           ((news ++ (0 + n) ∷ []) ++ ns) s) sum
           (posted_first (news ++ (0 + n) ∷ []) ns (posted + n) (omega (arith, few)))),
@@ -348,14 +364,16 @@ part_right p fits few =
       validators = fits.validators;
       validators_increase = validators_increase p.history;
       validators_add = all_add no_sums (sums p.history) (sums_by_validator p.history)
-          (validators_add p.history ∙ sym (no_sums_add (all_added (sums_by_validator p.history)))) small;
+          (validators_add p.history ∙ sym (no_sums_add (all_added (sums_by_validator p.history))))
+          small;
       tokens_number = omega (arith, number, few);
       tokens = fits.tokens;
       tokens_add = all_add no_sums (sums p.history) (sums_by_token p.history)
           (tokens_add p.history ∙ sym (no_sums_add (all_added (sums_by_token p.history)))) small;
     }
 
-one_part : (first last : Bool) (ends : List (Option Position)) (taps : List ℕ) (history : List Entry)
+one_part : (first last : Bool) (ends : List (Option Position)) (taps : List ℕ)
+    (history : List Entry)
     (last_one : Option Token) (p : HistoryPart) → Fits p
     → (first || nat_eq (length p.spans) (length ends)) ≡ true
     → are_joined first last ends p.spans (to_ends p.spans)
@@ -377,7 +395,8 @@ one_part first last ends taps history last_one p fits files joined posted few in
     ap length (by_token_joined history p.history increase)
     ∙ length-append (sums_by_token history) (sums_by_token p.history) in
     let sum : 0 + sum_up p.taps ≡ (sums p.history).taps =
-    (let e : 0 + sum_up p.taps ≡ sum_up p.taps = omega arith in e) ∙ fits.posted ∙ sym (sums-taps p.history) in
+    (let e : 0 + sum_up p.taps ≡ sum_up p.taps = omega arith in e) ∙ fits.posted
+    ∙ sym (sums-taps p.history) in
     record {
       right = part_right p fits (omega (arith, all, few));
       files = files;
@@ -420,7 +439,8 @@ below_both (x ∷ xs) ys zs below =
 abbrev pub spans_of : List HistoryPart → List (List FileSpan)
 spans_of parts = map (λ (p : HistoryPart). p.spans) parts
 
-none_after : (ps : List HistoryPart) → is_none_after (spans_of ps) ≡ is_none_after (map report_of ps)
+none_after : (ps : List HistoryPart)
+    → is_none_after (spans_of ps) ≡ is_none_after (map report_of ps)
 none_after [] = refl
 none_after (p ∷ ps) = refl
 
@@ -439,7 +459,8 @@ record GoesOn (files : ℕ) (taps : List ℕ) (history : List Entry) (last : Opt
   fit : AllByRecursion Fits parts
   few : length (history ++ whole_history parts) < 2 ^ 64
 
-pub tokens_both : (xs ys : List Entry) → map token_of (xs ++ ys) ≡ map token_of xs ++ map token_of ys
+pub tokens_both : (xs ys : List Entry)
+    → map token_of (xs ++ ys) ≡ map token_of xs ++ map token_of ys
 tokens_both xs ys = map-append token_of xs ys
 
 -- behind one part more
@@ -463,15 +484,18 @@ goes_further files taps history last p ps goes uploads =
       increase = goes.increase.1;
       above = subst (λ (ts : List Token). AreBelow ts (map token_of rest))
           (sym (tokens_both history p.history))
-          (below_append (map token_of history) (map token_of p.history) (map token_of rest) above_rest
+          (below_append (map token_of history) (map token_of p.history) (map token_of rest)
+          above_rest
           goes.increase.0);
       below = next_last last p.history (map token_of rest) below_rest goes.increase.0;
       fit = goes.fit.1;
-      few = subst (λ n. n < 2 ^ 64) (sym (ap length (append_assoc history p.history rest))) goes.few;
+      few = subst (λ n. n < 2 ^ 64) (sym (ap length (append_assoc history p.history rest)))
+          goes.few;
     }
 
 -- what one part needs of what goes on
-record IsNext (taps : List ℕ) (history : List Entry) (last : Option Token) (p : HistoryPart) : Type 0
+record IsNext (taps : List ℕ) (history : List Entry) (last : Option Token) (p : HistoryPart) : Type
+    0
   where
     few : length (history ++ p.history) < 2 ^ 64
     above : AreBelow (map token_of history) (map token_of p.history)
@@ -525,7 +549,8 @@ follow files ends taps history last (p ∷ ps) number join goes =
     added_length taps p.taps same ∙ goes.fit.0.uploads ∙ goes.number.0 in
     let small : 0 + sum_up p.taps < 2 ^ 64 = (let s = is.sums in omega (arith, s)) in
     let ends_valid = may_end_all p.spans (spans_of ps) join.1 in
-    let joined : are_joined false (is_none_after (map report_of ps)) ends p.spans (to_ends p.spans) =
+    let joined : are_joined false (is_none_after (map report_of ps)) ends p.spans
+    (to_ends p.spans) =
     subst (λ b. are_joined false b ends p.spans (to_ends p.spans)) (none_after ps)
     (subst (λ e. are_joined false (is_none_after (spans_of ps)) e p.spans (to_ends p.spans))
     (append-nil (from_ends p.spans) ∙ sym join.0)
@@ -538,7 +563,8 @@ follow files ends taps history last (p ∷ ps) number join goes =
     is.above is.below in
     let (all_ends, all_last, more) = follow files (to_ends p.spans) (added taps p.taps)
     (history ++ p.history) (last_of last (sums_by_token p.history)) ps
-    (ends_length p.spans ∙ goes.number.0) join.1 (goes_further files taps history last p ps goes uploads)
+    (ends_length p.spans ∙ goes.number.0) join.1
+    (goes_further files taps history last p ps goes uploads)
     in (
       all_ends,
       all_last,
@@ -578,9 +604,11 @@ begins files p ps right =
     (joined_first (is_none_after (spans_of ps)) [] p.spans whole.0 ends_valid) in
     let posted : are_posted_to true [] 0 p.taps (added [] p.taps) (0 + sum_up p.taps) =
     posted_first [] p.taps 0 small in
-    let part = one_part true (is_none_after (map report_of ps)) [] [] [] None p right.fit.0 refl joined
+    let part = one_part true (is_none_after (map report_of ps)) [] [] [] None p right.fit.0 refl
+    joined
     posted (omega (arith, all, few)) (All-nil _) tt in
-    let goes : GoesOn files (added [] p.taps) ([] ++ p.history) (last_of None (sums_by_token p.history)) ps =
+    let goes : GoesOn files (added [] p.taps) ([] ++ p.history)
+    (last_of None (sums_by_token p.history)) ps =
     record {
       number = right.number.1;
       uploads = right.fit.0.uploads ∙ right.number.0;
@@ -591,12 +619,15 @@ begins files p ps right =
       fit = right.fit.1;
       few = few;
     } in
-    let (all_ends, all_last, more) = follow files (to_ends p.spans) (added [] p.taps) ([] ++ p.history)
-    (last_of None (sums_by_token p.history)) ps (ends_length p.spans ∙ right.number.0) whole.1 goes in (
+    let (all_ends, all_last, more) =
+    follow files (to_ends p.spans) (added [] p.taps) ([] ++ p.history)
+    (last_of None (sums_by_token p.history)) ps (ends_length p.spans ∙ right.number.0) whole.1
+    goes in (
       all_ends,
       all_last,
       (
-        so_far (to_ends p.spans) (added [] p.taps) ([] ++ p.history) (last_of None (sums_by_token p.history)),
+        so_far (to_ends p.spans) (added [] p.taps) ([] ++ p.history)
+            (last_of None (sums_by_token p.history)),
         subst (λ s. IsNextPart true (is_none_after (map report_of ps)) s (report_of p)
             (so_far (to_ends p.spans) (added [] p.taps) ([] ++ p.history)
             (last_of None (sums_by_token p.history)))) (sym starts_as) part,

@@ -1,5 +1,6 @@
 -- The sums of validators, as the program keeps them.
-use Rattle.std.proofs.Common.{◌≡◌, ◌∙◌, ℕ, Bool, true, false, cond, List, [], ◌∷◌, Option, Some, None, option_map, refl, sym, ap}
+use Rattle.std.proofs.Common.{◌≡◌, ◌∙◌, ℕ, Bool, true, false, cond, List, [], ◌∷◌, Option, Some}
+use Rattle.std.proofs.Common.{None, option_map, refl, sym, ap}
 use Rattle.std.specs.Prelude.{unwrap_or}
 use Rattle.std.specs.BTreeMap.{insert_entry, is_at}
 use Rattle.std.specs.Map.{lookup}
@@ -22,14 +23,16 @@ found_shown test (e ∷ entries) = by (found_shown test entries) (test e.0)
     by rest true = refl
     by rest false = rest
 
-pub kept_some : (test : ℕ → Bool) (entries : List (ℕ × Totals)) (found : Option Totals) (kept : Totals)
+pub kept_some : (test : ℕ → Bool) (entries : List (ℕ × Totals)) (found : Option Totals)
+    (kept : Totals)
     → found ≡ lookup test entries → found ≡ Some kept
     → sums_of kept ≡ unwrap_or (lookup test (shown_sums sums_of entries)) no_sums
 kept_some test entries found kept is some =
     sym (ap (λ o. unwrap_or o no_sums) (found_shown test entries)
     ∙ ap (λ o. unwrap_or (option_map sums_of o) no_sums) (sym is ∙ some))
 
-pub kept_none : (test : ℕ → Bool) (entries : List (ℕ × Totals)) (found : Option Totals) (kept : Sums)
+pub kept_none : (test : ℕ → Bool) (entries : List (ℕ × Totals)) (found : Option Totals)
+    (kept : Sums)
     → found ≡ lookup test entries → found ≡ None → kept ≡ no_sums
     → kept ≡ unwrap_or (lookup test (shown_sums sums_of entries)) no_sums
 kept_none test entries found kept is none same =
@@ -46,9 +49,11 @@ inserted_shown v totals (e ∷ entries) = by (inserted_shown v totals entries) (
     by : shown_sums sums_of (insert_entry nat_cmp entries v totals)
         ≡ insert_entry nat_cmp (shown_sums sums_of entries) v (sums_of totals)
         → (order : Ordering)
-        → shown_sums sums_of (match_ordering order ((v, totals) ∷ e ∷ entries) ((e.0, totals) ∷ entries)
+        → shown_sums sums_of
+        (match_ordering order ((v, totals) ∷ e ∷ entries) ((e.0, totals) ∷ entries)
         (e ∷ insert_entry nat_cmp entries v totals))
-        ≡ match_ordering order ((v, sums_of totals) ∷ (e.0, sums_of e.1) ∷ shown_sums sums_of entries)
+        ≡ match_ordering order
+        ((v, sums_of totals) ∷ (e.0, sums_of e.1) ∷ shown_sums sums_of entries)
         ((e.0, sums_of totals) ∷ shown_sums sums_of entries)
         ((e.0, sums_of e.1) ∷ insert_entry nat_cmp (shown_sums sums_of entries) v (sums_of totals))
     by rest Less = refl
@@ -60,7 +65,8 @@ pub added_one : (v : ℕ) (old new : List (ℕ × Totals)) (kept sum : Sums) (al
     → Some (sums_of all) ≡ sums_within kept sum → new ≡ insert_entry nat_cmp old v all
     → with_validator (shown_sums sums_of old) (v, sum) ≡ Some (shown_sums sums_of new)
 added_one v old new kept sum all is fits put =
-    ap (λ s. option_map (λ sums. insert_entry nat_cmp (shown_sums sums_of old) v sums) (sums_within s sum))
+    ap (λ s. option_map (λ sums. insert_entry nat_cmp (shown_sums sums_of old) v sums)
+    (sums_within s sum))
     (sym is)
     ∙ ap (option_map (λ sums. insert_entry nat_cmp (shown_sums sums_of old) v sums)) (sym fits)
     ∙ ap Some (sym (inserted_shown v all old) ∙ ap (shown_sums sums_of) (sym put))
@@ -70,6 +76,7 @@ pub not_added : (v : ℕ) (old : List (ℕ × Totals)) (kept sum : Sums)
     → None ≡ sums_within kept sum
     → with_validator (shown_sums sums_of old) (v, sum) ≡ None
 not_added v old kept sum is full =
-    ap (λ s. option_map (λ sums. insert_entry nat_cmp (shown_sums sums_of old) v sums) (sums_within s sum))
+    ap (λ s. option_map (λ sums. insert_entry nat_cmp (shown_sums sums_of old) v sums)
+    (sums_within s sum))
     (sym is)
     ∙ ap (option_map (λ sums. insert_entry nat_cmp (shown_sums sums_of old) v sums)) (sym full)

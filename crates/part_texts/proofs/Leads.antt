@@ -1,5 +1,6 @@
 -- Runs over texts whose lines are known.
-use Rattle.std.proofs.Common.{◌≡◌, ◌∙◌, ◌+◌, ◌==◌, ℕ, Bool, false, cond, List, [], ◌∷◌, ◌++◌, length}
+use Rattle.std.proofs.Common.{◌≡◌, ◌∙◌, ◌+◌, ◌==◌, ℕ, Bool, false, cond, List, [], ◌∷◌, ◌++◌}
+use Rattle.std.proofs.Common.{length}
 use Rattle.std.proofs.Common.{Result, Ok, Err, refl, sym, ap, arith, append_assoc, length-append}
 use Rattle.std.specs.Prelude.{nat_lt}
 use Rattle.std.proofs.lemmas.Bool.Decides.{nat_tests}
@@ -14,7 +15,8 @@ cut : (front text : List ℕ) → HasNoFeed front
     → lines_of (front ++ 10 ∷ text) ≡ (front ++ 10 ∷ []) ∷ lines_of text
 cut [] text none = refl
 cut (x ∷ front) text none =
-    ap (λ b. cond b ((x ∷ []) ∷ lines_of (front ++ 10 ∷ text)) (to_first x (lines_of (front ++ 10 ∷ text))))
+    ap (λ b. cond b ((x ∷ []) ∷ lines_of (front ++ 10 ∷ text))
+    (to_first x (lines_of (front ++ 10 ∷ text))))
     (no_ten x none.0)
     ∙ ap (to_first x) (cut front text none.1)
 
@@ -42,7 +44,8 @@ Leads done long step s text count t =
 
 module _ {S W : Type 0} (done : S → Bool) (long : W) (step : S → List ℕ → Result S W) where
   pub by_nothing : (s : S) → Leads done long step s [] 0 s
-  by_nothing s number rest = ap (λ n. run done (bounded long step) n s (lines_of rest)) (omega arith)
+  by_nothing s number rest =
+      ap (λ n. run done (bounded long step) n s (lines_of rest)) (omega arith)
 
   pub by_line : (s t : S) (line : List ℕ) → IsOneLine 1000 line → done s ≡ false
       → step s line ≡ Ok t → Leads done long step s line 1 t
@@ -58,6 +61,7 @@ module _ {S W : Type 0} (done : S → Bool) (long : W) (step : S → List ℕ �
   pub by_both : (s t u : S) (a b : List ℕ) (m n : ℕ) → Leads done long step s a m t
       → Leads done long step t b n u → Leads done long step s (a ++ b) (m + n) u
   by_both s t u a b m n first second number rest =
-      ap (λ (l : List ℕ). run done (bounded long step) number s (lines_of l)) (append_assoc a b rest)
+      ap (λ (l : List ℕ). run done (bounded long step) number s (lines_of l))
+      (append_assoc a b rest)
       ∙ first number (b ++ rest) ∙ second (number + m) rest
       ∙ ap (λ k. run done (bounded long step) k u (lines_of rest)) (omega arith)

@@ -1,6 +1,8 @@
 -- What is merged of ledgers of parts of a history is the ledger of the whole history.
-use Rattle.std.proofs.Common.{◌≡◌, ◌∙◌, ◌+◌, ◌<◌, ◌^◌, ◌||◌, ℕ, Bool, true, false, List, [], ◌∷◌, ◌++◌, length, map}
-use Rattle.std.proofs.Common.{Option, Some, None, Ok, refl, sym, ap, subst, arith, append_assoc, append-nil, All}
+use Rattle.std.proofs.Common.{◌≡◌, ◌∙◌, ◌+◌, ◌<◌, ◌^◌, ◌||◌, ℕ, Bool, true, false, List, [], ◌∷◌}
+use Rattle.std.proofs.Common.{◌++◌, length, map}
+use Rattle.std.proofs.Common.{Option, Some, None, Ok, refl, sym, ap, subst, arith, append_assoc}
+use Rattle.std.proofs.Common.{append-nil, All}
 use Rattle.std.specs.Prelude.{flat_map}
 use Rattle.std.specs.List.{AllByRecursion, AllZip}
 use Rattle.std.specs.declared.cmp.Ordering.TheVariants.{Less}
@@ -29,8 +31,10 @@ use Rattle.part_texts.specs.LedgerParts.{DoJoinUp, IsPartLedger}
 use Rattle.part_texts.specs.Merged.{merge_of}
 use Rattle.part_texts.specs.Shown.{SpanFits}
 use Rattle.part_texts.specs.inside.Shown.{are_joined, is_none_after}
-use Rattle.part_texts.specs.inside.ShownLedgers.{PartLedger, all_lines, are_next_ledgers, ledger_text}
-use Rattle.part_texts.proofs.HistoryParts.{all_ascending, ends_length, from_ends, joined_first, joined_next, may_end_all, same_number, spans_of, to_ends}
+use Rattle.part_texts.specs.inside.ShownLedgers.{PartLedger, all_lines, are_next_ledgers}
+use Rattle.part_texts.specs.inside.ShownLedgers.{ledger_text}
+use Rattle.part_texts.proofs.HistoryParts.{all_ascending, ends_length, from_ends, joined_first}
+use Rattle.part_texts.proofs.HistoryParts.{joined_next, may_end_all, same_number, spans_of, to_ends}
 use Rattle.part_texts.proofs.ShownLedgers.{ledgers_merge}
 
 -- ---- ledgers of histories, one behind the other
@@ -96,7 +100,8 @@ module _ (fares : Fares) where
     rest,
     subst (λ (es : List Entry). AreLedgerLines fares k es lines)
         (sym (All-head (λ t. own t other ≡ own t history) k keys same)) are,
-    lines_moved history other keys rest (All-tail (λ t. own t other ≡ own t history) k keys same) each,
+    lines_moved history other keys rest (All-tail (λ t. own t other ≡ own t history) k keys same)
+        each,
     shown,
   )
 
@@ -136,7 +141,8 @@ module _ (fares : Fares) where
       record { spans = p.spans; lines = are.0.over.lines } ∷ ledgers_of ps ts are.1
 
   pub texts_are : (parts : List HistoryPart) (texts : List (List ℕ))
-      (are : AllZip (IsPartLedger fares) parts texts) → map ledger_text (ledgers_of parts texts are) ≡ texts
+      (are : AllZip (IsPartLedger fares) parts texts)
+      → map ledger_text (ledgers_of parts texts are) ≡ texts
   texts_are [] [] are = refl
   texts_are [] (t ∷ ts) are = absurd are
   texts_are (p ∷ ps) [] are = absurd are
@@ -203,7 +209,8 @@ module _ (fares : Fares) where
   whole_lines [] (t ∷ ts) are increase = absurd are
   whole_lines (p ∷ ps) [] are increase = absurd are
   whole_lines (p ∷ ps) (t ∷ ts) are increase =
-      joined_lines p.history (whole_history ps) are.0.over.lines (all_lines (ledgers_of ps ts are.1))
+      joined_lines p.history (whole_history ps) are.0.over.lines
+      (all_lines (ledgers_of ps ts are.1))
       increase.0 are.0.over.of_each (whole_lines ps ts are.1 increase.1)
 
   -- THE law: what is merged is the ledger of the whole history
@@ -215,7 +222,8 @@ module _ (fares : Fares) where
   merged_is_whole files p ps (t ∷ ts) join are text is = record {
     lines = all_lines (ledgers_of (p ∷ ps) (t ∷ ts) are);
     of_each = whole_lines (p ∷ ps) (t ∷ ts) are join.increase;
-    whole = ledgers_merge (record { spans = p.spans; lines = are.0.over.lines }) (ledgers_of ps ts are.1)
+    whole = ledgers_merge (record { spans = p.spans; lines = are.0.over.lines })
+        (ledgers_of ps ts are.1)
         (first_ledgers files p ps t ts are join) text
         (ap merge_of (texts_are (p ∷ ps) (t ∷ ts) are) ∙ is);
   }

@@ -1,6 +1,8 @@
 -- The fronts of parts, read one after the other.
-use Rattle.std.proofs.Common.{◌≡◌, ◌∙◌, ◌+◌, ℕ, Bool, true, false, cond, List, [], ◌∷◌, ◌++◌, length, map}
-use Rattle.std.proofs.Common.{Option, Some, Result, Ok, Err, IfSome, option_map, refl, sym, ap, subst, arith}
+use Rattle.std.proofs.Common.{◌≡◌, ◌∙◌, ◌+◌, ℕ, Bool, true, false, cond, List, [], ◌∷◌, ◌++◌}
+use Rattle.std.proofs.Common.{length, map}
+use Rattle.std.proofs.Common.{Option, Some, Result, Ok, Err, IfSome, option_map, refl, sym, ap}
+use Rattle.std.proofs.Common.{subst, arith}
 use Rattle.std.specs.Prelude.{nat_le}
 use Rattle.std.proofs.lemmas.Bool.Decides.{nat_tests}
 use Rattle.std.proofs.lemmas.List.{map-append}
@@ -37,7 +39,8 @@ front_ok position number s new text left (rest, is, ran) done = (
       (Ok (new, opened (number, new, lines_of rest))) (Err (position, (number, Form)))) done,
 )
 
-pub front_short : (position number : ℕ) (s new : FrontsView) (text : List ℕ) (left : Option (List ℕ))
+pub front_short : (position number : ℕ) (s new : FrontsView) (text : List ℕ)
+    (left : Option (List ℕ))
     → StopsAs (run front_done (bounded Form front_step) 1 s (lines_of text)) new left (Ok number)
     → front_done new ≡ false
     → IsFaultOf (front_of position s text) (Line position number Form)
@@ -162,7 +165,8 @@ pub opens_more : {R : Type 0} (remaining : R → Option (List ℕ)) (all : List 
     → opening.is_ledger ≡ next.is_ledger → opening.left ≡ left_at next.stage
     → sums_of opening.part ≡ next.part → more_opens ≡ opens ++ opening ∷ []
     → OpensAt remaining all first next more_opens more
-opens_more remaining all first now mid next opens more_opens opening left more r position count split at_all
+opens_more remaining all first now mid next opens more_opens opening left more r position count
+    split at_all
     at_position number begin read ledger tokens part pushed = λ texts are.
     let (rest, lefts, views, opened_views, same) = at_all texts are in
     let (text, others, shown, here, trailing) = left_more remaining r more rest
@@ -181,7 +185,8 @@ opens_more remaining all first now mid next opens more_opens opening left more r
           ∙ sym (map-append (λ (view : OpenView). Some view) views (view ∷ [])),
       same ∙ ap (fronts_of now views) shown
           ∙ ap (λ said. and_then said (λ read. fronts_of read.0 (views ++ read.1 ∷ []) others))
-          (sym (next_front remaining now mid opens views more others position count text at_position whole
+          (sym (next_front remaining now mid opens views more others position count text at_position
+          whole
           begin opened_views trailing) ∙ said),
     )
 
@@ -206,7 +211,8 @@ pub opens_fault : {R : Type 0} (remaining : R → Option (List ℕ)) (all : List
     → IfSome (remaining r) (λ text. IsFaultOf (front_of position mid text) fault)
     → (texts : List (List ℕ)) → AreLeft remaining all texts
     → IsFaultOf (fronts_of first [] texts) fault
-opens_fault remaining all first now mid opens left more r position count fault split at_all at_position
+opens_fault remaining all first now mid opens left more r position count fault split at_all
+    at_position
     number begin read texts are =
     let (rest, lefts, views, opened_views, same) = at_all texts are in
     let (text, others, shown, here, trailing) = left_more remaining r more rest
@@ -216,7 +222,8 @@ opens_fault remaining all first now mid opens left more r position count fault s
     fault_same (fronts_of first [] texts) _ fault (same ∙ ap (fronts_of now views) shown)
     (fault_goes _ (λ read. fronts_of read.0 (views ++ read.1 ∷ []) others) fault
     (subst (λ r. IsFaultOf r fault)
-    (next_front remaining now mid opens views more others position count text at_position whole begin
+    (next_front remaining now mid opens views more others position count text at_position whole
+    begin
     opened_views trailing) (if_known _ (remaining r) text here read)))
 
 pub opens_all : {R : Type 0} (remaining : R → Option (List ℕ)) (all : List R)

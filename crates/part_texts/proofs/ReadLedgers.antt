@@ -1,6 +1,8 @@
 -- Ledgers of parts of a history are merged, if each of their lines has the form of a ledger's line.
-use Rattle.std.proofs.Common.{◌≡◌, ◌∙◌, ◌+◌, ◌≤◌, ℕ, Bool, true, false, not, codes, List, [], ◌∷◌, ◌++◌, length, map}
-use Rattle.std.proofs.Common.{Option, Some, None, Ok, option_map, refl, sym, ap, subst, arith, append_assoc, All}
+use Rattle.std.proofs.Common.{◌≡◌, ◌∙◌, ◌+◌, ◌≤◌, ℕ, Bool, true, false, not, codes, List, [], ◌∷◌}
+use Rattle.std.proofs.Common.{◌++◌, length, map}
+use Rattle.std.proofs.Common.{Option, Some, None, Ok, option_map, refl, sym, ap, subst, arith}
+use Rattle.std.proofs.Common.{append_assoc, All}
 use Rattle.std.specs.Prelude.{flat_map}
 use Rattle.std.specs.List.{AllByRecursion, AllZip}
 use Rattle.std.specs.List.Sorted.{IsStrictlySortedBy}
@@ -10,7 +12,8 @@ use Rattle.std.specs.declared.cmp.Ordering.TheVariants.{Less, Equal, Greater}
 use Rattle.std.proofs.lemmas.Bool.Decides.{nat_tests}
 use Rattle.std.proofs.lemmas.List.{map-append}
 use Rattle.std.specs.Fmt.{decimal}
-use Rattle.std.proofs.lemmas.List.Elements.{All-cons, All-head, All-nil, All-tail, All-weaker, recursion_from_All}
+use Rattle.std.proofs.lemmas.List.Elements.{All-cons, All-head, All-nil, All-tail, All-weaker}
+use Rattle.std.proofs.lemmas.List.Elements.{recursion_from_All}
 use Rattle.tap_views.specs.Token.{Fits as TokenFits, token_cmp}
 use Rattle.tap_views.specs.TokenOrder.{AreBelow}
 use Rattle.tap_views.specs.declared.token.Token.{Token}
@@ -22,7 +25,8 @@ use Rattle.histories.specs.SumsByKey.{token_of, tokens}
 use Rattle.histories.specs.declared.entry.Entry.{Entry}
 use Rattle.histories.proofs.IncreasingLemmas.{increasing-is}
 use Rattle.fare_texts.specs.Ledger.{AreLinesOfEach, IsLedgerOver}
-use Rattle.fare_texts.specs.LedgerLines.{AreLedgerLinesAfter, IsLedgerLineAfter, entry_fields, head_text, line_head}
+use Rattle.fare_texts.specs.LedgerLines.{AreLedgerLinesAfter, IsLedgerLineAfter, entry_fields}
+use Rattle.fare_texts.specs.LedgerLines.{head_text, line_head}
 use Rattle.ledger_fields.specs.Lines.{row_in}
 use Rattle.ledger_fields.specs.Rows.{Row}
 use Rattle.report_texts.specs.Forms.{token_read}
@@ -32,8 +36,10 @@ use Rattle.part_texts.specs.HistoryParts.{AreIncreasing, HistoryPart, histories_
 use Rattle.part_texts.specs.LedgerParts.{AreReadable, DoJoinUp, IsPartLedger, IsReadableLine}
 use Rattle.part_texts.specs.Merged.{merge_of}
 use Rattle.part_texts.specs.Sections.{may_follow}
-use Rattle.part_texts.specs.inside.ShownLedgers.{EntryLine, IsEntryLine, PartLedger, all_lines, are_read, do_follow, last_entry, lines_of_entries}
-use Rattle.part_texts.proofs.HistoryParts.{LastIsBelow, all_ascending, below_front, below_increasing, tokens_both}
+use Rattle.part_texts.specs.inside.ShownLedgers.{EntryLine, IsEntryLine, PartLedger, all_lines}
+use Rattle.part_texts.specs.inside.ShownLedgers.{are_read, do_follow, last_entry, lines_of_entries}
+use Rattle.part_texts.proofs.HistoryParts.{LastIsBelow, all_ascending, below_front}
+use Rattle.part_texts.proofs.HistoryParts.{below_increasing, tokens_both}
 use Rattle.part_texts.proofs.LedgerParts.{first_ledgers, ledgers_of, texts_are, whole_lines}
 use Rattle.part_texts.proofs.ShownLedgers.{ledgers_read}
 
@@ -101,7 +107,8 @@ module _ (fares : Fares) (history : List Entry) (readable : AreReadable fares hi
 itself : (token : Token) → not (is_lt (token_cmp token token)) ≡ true
 itself token = grind (arith, nat_tests)
 
-not_after : (last token : Token) → token_cmp last token ≡ Less → not (is_lt (token_cmp token last)) ≡ true
+not_after : (last token : Token) → token_cmp last token ≡ Less
+    → not (is_lt (token_cmp token last)) ≡ true
 not_after last token less =
     ap (λ o. not (is_lt o)) (token_cmp-total.antisymm token last ∙ ap ordering_reverse less)
 
@@ -116,7 +123,8 @@ follow_same : (token : Token) (entries : List EntryLine)
 follow_same token [] same = tt
 follow_same token (e ∷ entries) same = (
   ap (λ (t : Token). not (is_lt (token_cmp t token))) same.0 ∙ itself token,
-  subst (λ (t : Token). do_follow false (Some t) entries) (sym same.0) (follow_same token entries same.1),
+  subst (λ (t : Token). do_follow false (Some t) entries) (sym same.0)
+      (follow_same token entries same.1),
 )
 
 follow_one : (first : Bool) (last : Option Token) (token : Token) (entries : List EntryLine)
@@ -125,7 +133,8 @@ follow_one : (first : Bool) (last : Option Token) (token : Token) (entries : Lis
 follow_one first last token [] same below = tt
 follow_one first last token (e ∷ entries) same below = (
   ap (may_follow first last) same.0 ∙ may first last token below,
-  subst (λ (t : Token). do_follow false (Some t) entries) (sym same.0) (follow_same token entries same.1),
+  subst (λ (t : Token). do_follow false (Some t) entries) (sym same.0)
+      (follow_same token entries same.1),
 )
 
 abbrev trailing : Bool → List EntryLine → Bool
@@ -152,13 +161,15 @@ last_both last (e ∷ a) b = last_both (Some e.token) a b
 
 last_below : (token : Token) (last : Option Token) (entries : List EntryLine) (later : List Token)
     → AllByRecursion (λ e. e.token ≡ token) entries → LastIsBelow last later
-    → AllByRecursion (λ z. token_cmp token z ≡ Less) later → LastIsBelow (last_entry last entries) later
+    → AllByRecursion (λ z. token_cmp token z ≡ Less) later
+    → LastIsBelow (last_entry last entries) later
 last_below token last [] later same below less = below
 last_below token last (e ∷ entries) later same below less =
     last_below token (Some e.token) entries later same.1
     (subst (λ (t : Token). LastIsBelow (Some t) later) (sym same.0) less) less
 
-lines_both : (a b : List EntryLine) → lines_of_entries (a ++ b) ≡ lines_of_entries a ++ lines_of_entries b
+lines_both : (a b : List EntryLine)
+    → lines_of_entries (a ++ b) ≡ lines_of_entries a ++ lines_of_entries b
 lines_both [] b = refl
 lines_both (e ∷ a) b =
     ap (λ (t : List ℕ). e.line ++ t) (lines_both a b)
@@ -198,10 +209,13 @@ module _ (fares : Fares) (history : List Entry) (readable : AreReadable fares hi
   unfolding IsStrictlySortedBy
   each_line first last [] text fits increases below end ends none =
       record { entries = []; shown = none; fit = tt; follow = tt; below = end }
-  each_line first last (k ∷ keys) text fits increases below end ends (lines, rest, are, each, shown) =
+  each_line first last (k ∷ keys) text fits increases below end ends
+      (lines, rest, are, each, shown) =
       let here = token_lines fares history readable k [] (own k history) lines fits.0 refl are in
-      let more = each_line (trailing first here.entries) (last_entry last here.entries) keys rest fits.1
-      increases.1 (last_below k last here.entries keys here.same (below_rest last k keys below) increases.0)
+      let more = each_line (trailing first here.entries) (last_entry last here.entries) keys rest
+      fits.1
+      increases.1
+      (last_below k last here.entries keys here.same (below_rest last k keys below) increases.0)
       (last_below k last here.entries later here.same end ends.0) ends.1 each in
       record {
         entries = here.entries ++ more.entries;
@@ -210,8 +224,10 @@ module _ (fares : Fares) (history : List Entry) (readable : AreReadable fares hi
             ∙ sym (lines_both here.entries more.entries);
         fit = fit_both here.entries more.entries here.fit more.fit;
         follow = follow_both first last here.entries more.entries
-            (follow_one first last k here.entries here.same (below_one last k keys below)) more.follow;
-        below = subst (λ l. LastIsBelow l later) (sym (last_both last here.entries more.entries)) more.below;
+            (follow_one first last k here.entries here.same (below_one last k keys below))
+            more.follow;
+        below = subst (λ l. LastIsBelow l later) (sym (last_both last here.entries more.entries))
+            more.below;
       }
 
   part_read : (last : Option Token) (text : List ℕ) → TokensFit history
@@ -222,9 +238,12 @@ module _ (fares : Fares) (history : List Entry) (readable : AreReadable fares hi
   part_read last text fits below end increase lines =
       let keys = map token_of history in
       each_line true last (increasing token_cmp keys) text
-      (recursion_from_All TokenFits (increasing token_cmp keys) (all_ascending token_cmp TokenFits keys (mapped history fits)))
-      (increasing-is token_cmp-total token_cmp-ties keys).increases (below_increasing last keys below) end
-      (recursion_from_All (λ k. AllByRecursion (λ z. token_cmp k z ≡ Less) later) (increasing token_cmp keys)
+      (recursion_from_All TokenFits (increasing token_cmp keys)
+      (all_ascending token_cmp TokenFits keys (mapped history fits)))
+      (increasing-is token_cmp-total token_cmp-ties keys).increases
+      (below_increasing last keys below) end
+      (recursion_from_All (λ k. AllByRecursion (λ z. token_cmp k z ≡ Less) later)
+      (increasing token_cmp keys)
       (all_ascending token_cmp (λ k. AllByRecursion (λ z. token_cmp k z ≡ Less) later) keys
       (All-weaker (λ k. All (λ z. token_cmp k z ≡ Less) later)
       (λ k. AllByRecursion (λ z. token_cmp k z ≡ Less) later)
@@ -251,7 +270,8 @@ module _ (fares : Fares) where
       let rest = whole_history ps in
       let (front, back) = below_front last (map token_of p.history) (map token_of rest)
       (subst (LastIsBelow last) (tokens_both p.history rest) below) in
-      let here = part_read fares p.history read.0.1 (map token_of rest) last are.0.over.lines read.0.0 front
+      let here = part_read fares p.history read.0.1 (map token_of rest) last are.0.over.lines
+      read.0.0 front
       back increase.0 are.0.over.of_each in (
         here.entries,
         here.shown,

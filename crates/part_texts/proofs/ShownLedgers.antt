@@ -1,6 +1,8 @@
 -- Ledgers of parts, as they are printed, are merged into the ledger of the whole.
-use Rattle.std.proofs.Common.{◌≡◌, ◌∙◌, ◌+◌, ◌<◌, ◌≤◌, ◌^◌, ◌||◌, ℕ, Bool, true, false, cond, List, [], ◌∷◌, ◌++◌, length, map}
-use Rattle.std.proofs.Common.{Option, Some, None, Result, Ok, Err, refl, sym, ap, subst, arith, append_assoc, append-nil, length-append, codes}
+use Rattle.std.proofs.Common.{◌≡◌, ◌∙◌, ◌+◌, ◌<◌, ◌≤◌, ◌^◌, ◌||◌, ℕ, Bool, true, false, cond, List}
+use Rattle.std.proofs.Common.{[], ◌∷◌, ◌++◌, length, map}
+use Rattle.std.proofs.Common.{Option, Some, None, Result, Ok, Err, refl, sym, ap, subst, arith}
+use Rattle.std.proofs.Common.{append_assoc, append-nil, length-append, codes}
 use Rattle.std.specs.Prelude.{flat_map, nat_eq}
 use Rattle.std.specs.Str.{bytes_eq}
 use Rattle.std.proofs.Math.Bool.{or-true}
@@ -20,11 +22,15 @@ use Rattle.part_texts.specs.Fronts.{FrontsView, no_fronts, no_sums}
 use Rattle.part_texts.specs.FrontSteps.{front_done, front_step, said, where_holds}
 use Rattle.part_texts.specs.EntryLines.{entry_token_in}
 use Rattle.part_texts.specs.Sections.{SectionView, may_follow, section_step}
-use Rattle.part_texts.specs.Merged.{OpenView, WrongLine, and_then, end_or, front_end, front_of, fronts_of, is_none_left, lines_left, merge_of, merged, section_ended, section_of, sections_of, whole_front}
+use Rattle.part_texts.specs.Merged.{OpenView, WrongLine, and_then, end_or, front_end, front_of}
+use Rattle.part_texts.specs.Merged.{fronts_of, is_none_left, lines_left, merge_of, merged}
+use Rattle.part_texts.specs.Merged.{section_ended, section_of, sections_of, whole_front}
 use Rattle.part_texts.specs.Heads.{span_lines}
 use Rattle.part_texts.specs.Shown.{SpanFits}
 use Rattle.part_texts.specs.inside.Shown.{are_joined, is_none_after}
-use Rattle.part_texts.specs.inside.ShownLedgers.{EntryLine, IsEntryLine, PartLedger, all_lines, are_next_ledgers, are_read, do_follow, last_entry, ledger_text, lines_of_entries}
+use Rattle.part_texts.specs.inside.ShownLedgers.{EntryLine, IsEntryLine, PartLedger, all_lines}
+use Rattle.part_texts.specs.inside.ShownLedgers.{are_next_ledgers, are_read, do_follow, last_entry}
+use Rattle.part_texts.specs.inside.ShownLedgers.{ledger_text, lines_of_entries}
 use Rattle.sorted_taps.specs.declared.positions.Position.{Position}
 use Rattle.part_texts.specs.declared.fronts.Stage.{Stage}
 use Rattle.part_texts.specs.declared.fronts.Stage.TheVariants.{Head, Files, Entries}
@@ -44,7 +50,8 @@ head_is_one = record {
   front = codes
       "token,line,moment,validator,mode,answer,cents,window_start,window_end,ride,reason,points_at";
   no_feed = tested (codes
-      "token,line,moment,validator,mode,answer,cents,window_start,window_end,ride,reason,points_at") refl;
+      "token,line,moment,validator,mode,answer,cents,window_start,window_end,ride,reason,points_at")
+      refl;
   short = omega arith;
   shown = refl;
 }
@@ -81,7 +88,8 @@ front_leads first last ledger ends next p may few fit files joined =
     (ledger_at first last ledger (Files n n) ends) (ledger_at first last ledger (Files n 0) next)
     (number_line (codes "part files ") n) (span_lines 0 p.spans) 1 n
     (head_taken first last ledger [] no_sums no_sums no_sums [] 0 ends n few files)
-    (spans_taken first last ledger [] no_sums no_sums no_sums [] 0 n 0 ends next p.spans (let e : 0 + n ≡ n = omega arith in e) few fit
+    (spans_taken first last ledger [] no_sums no_sums no_sums [] 0 n 0 ends next p.spans
+    (let e : 0 + n ≡ n = omega arith in e) few fit
     joined))
     (header_taken first last ledger n next may)
 
@@ -95,7 +103,8 @@ ledger_opened number p = record {
   lines = lines_of p.lines;
 }
 
-front_shown : (position : ℕ) (first last ledger : Bool) (ends next : List (Option Position)) (p : PartLedger)
+front_shown : (position : ℕ) (first last ledger : Bool) (ends next : List (Option Position))
+    (p : PartLedger)
     → (first || ledger) ≡ true → length p.spans < 2 ^ 64 → AllByRecursion SpanFits p.spans
     → (first || nat_eq (length p.spans) (length ends)) ≡ true
     → are_joined first last ends p.spans next
@@ -128,7 +137,8 @@ none_left (p ∷ ps) = refl
 fronts_shown : (was_first was_last : Bool) (stage : Stage) (ends : List (Option Position))
     (opens : List OpenView) (parts : List PartLedger)
     → are_next_ledgers (nat_eq (length opens) 0) ends parts
-    → (first final : Bool) × (end : Stage) × (all_ends : List (Option Position)) × (more : List OpenView)
+    → (first final : Bool) × (end : Stage) × (all_ends : List (Option Position))
+    × (more : List OpenView)
     × are_opened parts more
     × (fronts_of (ledger_at was_first was_last true stage ends) opens (map ledger_text parts)
     ≡ Ok (ledger_at first final true end all_ends, opens ++ more))
@@ -158,9 +168,11 @@ fronts_shown was_first was_last stage ends opens (p ∷ ps) (next, few, fit, fil
           (λ read. fronts_of read.0 (opens ++ read.1 ∷ []) (map ledger_text ps))) (none_left ps)
           ∙ ap (λ r. and_then r (λ (read : FrontsView × OpenView).
           fronts_of read.0 (opens ++ read.1 ∷ []) (map ledger_text ps)))
-          (front_shown (length opens) first final true ends next p (or-true first) few fit files joined)
+          (front_shown (length opens) first final true ends next p (or-true first) few fit files
+          joined)
           ∙ same
-          ∙ ap (λ os. Ok (ledger_at f l true end all_ends, os)) (append_assoc opens (opening ∷ []) more),
+          ∙ ap (λ os. Ok (ledger_at f l true end all_ends, os))
+          (append_assoc opens (opening ∷ []) more),
     )
 
 left_shown : (parts : List PartLedger) (opens : List OpenView) → are_opened parts opens
@@ -183,7 +195,8 @@ fronts_merge p ps (next, few, fit, files, joined, others) =
     let final = is_none_after ps in
     let (f, l, end, all_ends, more, opened_rest, same) =
     fronts_shown true final Entries next (opening ∷ []) ps others in
-    let opened_all : are_opened (p ∷ ps) (opening ∷ more) = (1 + front_count p, refl, opened_rest) in
+    let opened_all : are_opened (p ∷ ps) (opening ∷ more) =
+    (1 + front_count p, refl, opened_rest) in
     let s = ledger_at f l true end all_ends in (
       opening ∷ more,
       opened_all,
@@ -195,7 +208,8 @@ fronts_merge p ps (next, few, fit, files, joined, others) =
           (front_shown 0 true final false [] next p refl few fit files joined)
           ∙ same)
           ∙ ap (λ (t : List ℕ). and_then (sections_of 0 None (opening ∷ more))
-          (λ (last : Option Token). Ok (head_text ++ t))) (left_shown (p ∷ ps) (opening ∷ more) opened_all),
+          (λ (last : Option Token). Ok (head_text ++ t)))
+          (left_shown (p ∷ ps) (opening ∷ more) opened_all),
     )
 
 is_ok : {S E : Type 0} (r : Result S E) (t text : List ℕ)
@@ -236,12 +250,14 @@ after_entries first (entry ∷ more) = after_entries false more
 
 entries_taken : (first : Bool) (last : Option Token) (entries : List EntryLine)
     → AllByRecursion IsEntryLine entries → do_follow first last entries
-    → Leads never Form section_step (entries_at first last) (lines_of_entries entries) (length entries)
+    → Leads never Form section_step (entries_at first last) (lines_of_entries entries)
+    (length entries)
     (entries_at (after_entries first entries) (last_entry last entries))
 entries_taken first last [] fit follow =
     by_nothing never Form section_step (entries_at first last)
 entries_taken first last (entry ∷ more) fit follow =
-    subst (λ n. Leads never Form section_step (entries_at first last) (lines_of_entries (entry ∷ more)) n
+    subst (λ n. Leads never Form section_step (entries_at first last)
+    (lines_of_entries (entry ∷ more)) n
     (entries_at (after_entries false more) (last_entry (Some entry.token) more)))
     (let e : 1 + length more ≡ length (entry ∷ more) = omega arith in e)
     (by_both never Form section_step (entries_at first last) (entries_at false (Some entry.token))
@@ -254,7 +270,8 @@ entries_taken first last (entry ∷ more) fit follow =
     ∙ ap (λ b. where_holds b Order (Ok (entries_at false (Some entry.token)))) follow.0))
     (entries_taken false (Some entry.token) more fit.1 follow.1))
 
-one_section : (position number : ℕ) (last : Option Token) (p : PartLedger) (entries : List EntryLine)
+one_section : (position number : ℕ) (last : Option Token) (p : PartLedger)
+    (entries : List EntryLine)
     → p.lines ≡ lines_of_entries entries
     → AllByRecursion IsEntryLine entries → do_follow true last entries
     → section_of position last (ledger_opened number p)
@@ -264,7 +281,8 @@ one_section position number last p entries shown fit follow =
     (entries_at true last) (lines_of l))) (shown ∙ sym (append-nil (lines_of_entries entries)))
     ∙ ap (section_ended position) (entries_taken true last entries fit follow number [])
 
-sections_shown : (position : ℕ) (last : Option Token) (parts : List PartLedger) (opens : List OpenView)
+sections_shown : (position : ℕ) (last : Option Token) (parts : List PartLedger)
+    (opens : List OpenView)
     → are_read last parts → are_opened parts opens
     → (end : Option Token) × (sections_of position last opens ≡ Ok end)
 sections_shown position last [] [] are opened_all = (last, refl)
@@ -272,7 +290,8 @@ sections_shown position last [] (opening ∷ opens) are opened_all = absurd open
 sections_shown position last (p ∷ ps) [] are opened_all = absurd opened_all
 sections_shown position last (p ∷ ps) (opening ∷ opens) (entries, lines, fit, follow, more)
     (number, shown, others) =
-    let (end, rest) = sections_shown (position + 1) (last_entry last entries) ps opens more others in (
+    let (end, rest) = sections_shown (position + 1) (last_entry last entries) ps opens more
+    others in (
       end,
       ap (λ (o : OpenView). and_then (section_of position last o)
           (λ (s : SectionView). sections_of (position + 1) s.last opens)) shown
@@ -288,4 +307,5 @@ pub ledgers_read : (p : PartLedger) (ps : List PartLedger) → are_next_ledgers 
 ledgers_read p ps are read =
     let (opens, opened_all, same) = fronts_merge p ps are in
     let (end, sections) = sections_shown 0 None (p ∷ ps) opens read opened_all in
-    same ∙ ap (λ r. and_then r (λ (last : Option Token). Ok (head_text ++ all_lines (p ∷ ps)))) sections
+    same ∙ ap (λ r. and_then r (λ (last : Option Token). Ok (head_text ++ all_lines (p ∷ ps))))
+    sections

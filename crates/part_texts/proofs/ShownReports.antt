@@ -1,6 +1,8 @@
 -- Reports of parts, as they are printed, are merged into the report of the whole.
-use Rattle.std.proofs.Common.{◌≡◌, ◌∙◌, ◌+◌, ◌<◌, ◌||◌, ℕ, Bool, true, false, cond, List, [], ◌∷◌, ◌++◌, length, map}
-use Rattle.std.proofs.Common.{Option, Some, None, Result, Ok, Err, refl, sym, ap, subst, arith, append_assoc, append-nil, length-append, codes}
+use Rattle.std.proofs.Common.{◌≡◌, ◌∙◌, ◌+◌, ◌<◌, ◌||◌, ℕ, Bool, true, false, cond, List, [], ◌∷◌}
+use Rattle.std.proofs.Common.{◌++◌, length, map}
+use Rattle.std.proofs.Common.{Option, Some, None, Result, Ok, Err, refl, sym, ap, subst, arith}
+use Rattle.std.proofs.Common.{append_assoc, append-nil, length-append, codes}
 use Rattle.std.specs.Prelude.{◌==◌, flat_map, nat_eq}
 use Rattle.std.proofs.lemmas.Bool.Decides.{nat_tests}
 use Rattle.std.proofs.lemmas.List.Concat.{flat_map-append}
@@ -16,16 +18,23 @@ use Rattle.report_texts.specs.declared.wrong.Wrong.TheVariants.{Form}
 use Rattle.part_texts.specs.Fronts.{FrontsView, no_fronts, no_sums}
 use Rattle.part_texts.specs.FrontSteps.{front_done, front_step}
 use Rattle.part_texts.specs.Sections.{SectionView, section_end, section_step}
-use Rattle.part_texts.specs.Merged.{OpenView, WrongLine, and_then, end_or, front_end, front_of, fronts_of, is_none_left, lines_left, merge_of, merged, opened, report_front, section_ended, section_of, sections_of, whole_front}
+use Rattle.part_texts.specs.Merged.{OpenView, WrongLine, and_then, end_or, front_end, front_of}
+use Rattle.part_texts.specs.Merged.{fronts_of, is_none_left, lines_left, merge_of, merged, opened}
+use Rattle.part_texts.specs.Merged.{report_front, section_ended, section_of, sections_of}
+use Rattle.part_texts.specs.Merged.{whole_front}
 use Rattle.part_texts.specs.Heads.{span_lines}
 use Rattle.part_texts.specs.Shown.{PartReport, part_text}
 use Rattle.part_texts.specs.inside.Shown.{is_none_after}
-use Rattle.part_texts.specs.inside.Shown.{IsNextPart, SoFar, are_next_parts, last_of, nothing_so_far, tokens_of, whole_text}
+use Rattle.part_texts.specs.inside.Shown.{IsNextPart, SoFar, are_next_parts, last_of}
+use Rattle.part_texts.specs.inside.Shown.{nothing_so_far, tokens_of, whole_text}
 use Rattle.sorted_taps.specs.declared.positions.Position.{Position}
 use Rattle.part_texts.specs.declared.fronts.Stage.{Stage}
-use Rattle.part_texts.specs.declared.fronts.Stage.TheVariants.{Head, Files, Uploads, AfterTotals, Validators, Tokens}
+use Rattle.part_texts.specs.declared.fronts.Stage.TheVariants.{Head, Files, Uploads, AfterTotals}
+use Rattle.part_texts.specs.declared.fronts.Stage.TheVariants.{Validators, Tokens}
 use Rattle.part_texts.proofs.Leads.{Leads, by_both}
-use Rattle.part_texts.proofs.ShownFronts.{FrontLeads, at, head_taken, last_key, posted_taken, spans_taken, tokens_head_taken, totals_taken, uploads_taken, validators_head_taken, validators_taken}
+use Rattle.part_texts.proofs.ShownFronts.{FrontLeads, at, head_taken, last_key, posted_taken}
+use Rattle.part_texts.proofs.ShownFronts.{spans_taken, tokens_head_taken, totals_taken}
+use Rattle.part_texts.proofs.ShownFronts.{uploads_taken, validators_head_taken, validators_taken}
 use Rattle.part_texts.proofs.ShownSections.{never, tokens_at, tokens_end, tokens_taken}
 use Rattle.part_texts.proofs.WholeTexts.{map_length}
 
@@ -36,9 +45,11 @@ joined_first byte [] = refl
 joined_first byte (line ∷ lines) = refl
 
 joined_with : (byte : ℕ) (text : List ℕ) (b : Bool) → flat_map (λ l. l) (lines_of text) ≡ text
-    → flat_map (λ l. l) (cond b ((byte ∷ []) ∷ lines_of text) (to_first byte (lines_of text))) ≡ byte ∷ text
+    → flat_map (λ l. l) (cond b ((byte ∷ []) ∷ lines_of text) (to_first byte (lines_of text)))
+    ≡ byte ∷ text
 joined_with byte text true rest = ap (λ (l : List ℕ). byte ∷ l) rest
-joined_with byte text false rest = joined_first byte (lines_of text) ∙ ap (λ (l : List ℕ). byte ∷ l) rest
+joined_with byte text false rest =
+    joined_first byte (lines_of text) ∙ ap (λ (l : List ℕ). byte ∷ l) rest
 
 pub lines_joined : (text : List ℕ) → flat_map (λ l. l) (lines_of text) ≡ text
 lines_joined [] = refl
@@ -100,19 +111,25 @@ front_leads first last old so_far before after p is =
     let s1 = at first last false (Files files files) e0 t0 old so_far before.totals v0 k in
     let s2 = at first last false (Files files 0) e1 t0 old so_far before.totals v0 k in
     let s3 = at first last false (Uploads files files 0) e1 t0 old so_far before.totals v0 k in
-    let s4 = at first last false (Uploads files 0 p.totals.taps) e1 t1 old so_far before.totals v0 k in
+    let s4 = at first last false (Uploads files 0 p.totals.taps) e1 t1 old so_far before.totals v0
+    k in
     let s5 = at first last false AfterTotals e1 t1 p.totals no_sums after.totals v0 k in
-    let s6 = at first last false (Validators (length p.validators) None) e1 t1 p.totals no_sums after.totals v0 k in
-    let s7 = at first last false (Validators 0 (last_key first last e1 t1 k None p.validators)) e1 t1 p.totals
+    let s6 = at first last false (Validators (length p.validators) None) e1 t1 p.totals no_sums
+    after.totals v0 k in
+    let s7 = at first last false (Validators 0 (last_key first last e1 t1 k None p.validators)) e1
+    t1 p.totals
     p.totals after.totals v1 k in
     let s8 = at first last false (Tokens (length p.tokens)) e1 t1 p.totals p.totals after.totals v1
     (k + length p.tokens) in
-    let l1 = head_taken first last false t0 old so_far before.totals v0 k e0 files r.files is.files in
-    let l2 = spans_taken first last false t0 old so_far before.totals v0 k files 0 e0 e1 p.spans (let e : 0 + files ≡ files = omega arith in e) r.files
+    let l1 = head_taken first last false t0 old so_far before.totals v0 k e0 files r.files
+    is.files in
+    let l2 = spans_taken first last false t0 old so_far before.totals v0 k files 0 e0 e1 p.spans
+    (let e : 0 + files ≡ files = omega arith in e) r.files
     r.spans is.joined in
     let l3 = uploads_taken first last t0 old so_far before.totals v0 k e1 files r.files in
     let l4 : FrontLeads s3 (upload_lines 0 (map Posted p.taps)) (length p.taps) s4 =
-    subst (λ n. FrontLeads (at first last false (Uploads files n 0) e1 t0 old so_far before.totals v0 k)
+    subst (λ n. FrontLeads
+    (at first last false (Uploads files n 0) e1 t0 old so_far before.totals v0 k)
     (upload_lines 0 (map Posted p.taps)) (length p.taps) s4) r.uploads
     (posted_taken first last e1 old so_far before.totals v0 k files 0 0 p.totals.taps t0 t1 p.taps
     (let u = r.uploads in omega (arith, u)) r.files is.posted) in
@@ -132,17 +149,24 @@ front_leads first last old so_far before after p is =
     let a6 : List ℕ = a5 ++ number_line (codes "validators ") (length p.validators) in
     let a7 : List ℕ = a6 ++ flat_map validator_line p.validators in
     let two = by_both front_done Form front_step s0 s1 s2 a1 (span_lines 0 p.spans) 1 files l1 l2 in
-    let three = by_both front_done Form front_step s0 s2 s3 a2 (number_line (codes "uploads ") files)
+    let three = by_both front_done Form front_step s0 s2 s3 a2
+    (number_line (codes "uploads ") files)
     (1 + files) 1 two l3 in
-    let four = by_both front_done Form front_step s0 s3 s4 a3 (upload_lines 0 (map Posted p.taps)) ((1 + files) + 1) (length p.taps) three l4
+    let four = by_both front_done Form front_step s0 s3 s4 a3 (upload_lines 0 (map Posted p.taps))
+    ((1 + files) + 1) (length p.taps) three l4
     in
-    let five = by_both front_done Form front_step s0 s4 s5 a4 (totals_line p.totals) (((1 + files) + 1) + length p.taps) 1 four
+    let five = by_both front_done Form front_step s0 s4 s5 a4 (totals_line p.totals)
+    (((1 + files) + 1) + length p.taps) 1 four
     l5 in
-    let six = by_both front_done Form front_step s0 s5 s6 a5 (number_line (codes "validators ") (length p.validators)) ((((1 + files) + 1) + length p.taps) + 1) 1
+    let six = by_both front_done Form front_step s0 s5 s6 a5
+    (number_line (codes "validators ") (length p.validators))
+    ((((1 + files) + 1) + length p.taps) + 1) 1
     five l6 in
-    let seven = by_both front_done Form front_step s0 s6 s7 a6 (flat_map validator_line p.validators)
+    let seven = by_both front_done Form front_step s0 s6 s7 a6
+    (flat_map validator_line p.validators)
     (((((1 + files) + 1) + length p.taps) + 1) + 1) (length p.validators) six l7 in
-    let eight = by_both front_done Form front_step s0 s7 s8 a7 (number_line (codes "tokens ") (length p.tokens))
+    let eight = by_both front_done Form front_step s0 s7 s8 a7
+    (number_line (codes "tokens ") (length p.tokens))
     ((((((1 + files) + 1) + length p.taps) + 1) + 1) + length p.validators) 1 seven l8 in
     subst (λ n. FrontLeads s0 (front_lines p) (front_count p)
     (at first last false (Tokens (length p.tokens)) e1 t1 p.totals p.totals after.totals v1 n))
@@ -194,11 +218,13 @@ none_left : (ps : List PartReport) → is_none_left (map part_text ps) ≡ is_no
 none_left [] = refl
 none_left (p ∷ ps) = refl
 
-pub one_more : (opens : List OpenView) (opening : OpenView) → nat_eq (length (opens ++ opening ∷ [])) 0 ≡ false
+pub one_more : (opens : List OpenView) (opening : OpenView)
+    → nat_eq (length (opens ++ opening ∷ [])) 0 ≡ false
 one_more opens opening =
     let n = length-append opens (opening ∷ []) in grind (arith, nat_tests, n)
 
-pub fronts_shown : (was_first was_last : Bool) (stage : Stage) (old so_far : Sums) (before after : SoFar)
+pub fronts_shown : (was_first was_last : Bool) (stage : Stage) (old so_far : Sums)
+    (before after : SoFar)
     (opens : List OpenView) (parts : List PartReport)
     → are_next_parts (nat_eq (length opens) 0) before parts after
     → (first last : Bool) × (end : Stage) × (part so : Sums) × (more : List OpenView)
@@ -214,15 +240,18 @@ fronts_shown was_first was_last stage old so_far before after opens [] are = (
   [],
   tt,
   ap (λ s. Ok (trailing was_first was_last stage old so_far s, opens)) are
-      ∙ ap (λ os. Ok (trailing was_first was_last stage old so_far after, os)) (sym (append-nil opens)),
+      ∙ ap (λ os. Ok (trailing was_first was_last stage old so_far after, os))
+      (sym (append-nil opens)),
 )
-fronts_shown was_first was_last stage old so_far before after opens (p ∷ ps) (next, is, more_parts) =
+fronts_shown was_first was_last stage old so_far before after opens (p ∷ ps)
+    (next, is, more_parts) =
     let first = nat_eq (length opens) 0 in
     let last = is_none_after ps in
     let opening = opened_at (1 + front_count p) p in
     let t = trailing first last (Tokens (length p.tokens)) p.totals p.totals next in
     let (f, l, end, part, so, more, opened_rest, same) =
-    fronts_shown first last (Tokens (length p.tokens)) p.totals p.totals next after (opens ++ opening ∷ []) ps
+    fronts_shown first last (Tokens (length p.tokens)) p.totals p.totals next after
+    (opens ++ opening ∷ []) ps
     (subst (λ b. are_next_parts b next ps after) (sym (one_more opens opening)) more_parts) in (
       f,
       l,
@@ -231,13 +260,15 @@ fronts_shown was_first was_last stage old so_far before after opens (p ∷ ps) (
       so,
       opening ∷ more,
       (1 + front_count p, refl, opened_rest),
-      ap (λ b. and_then (front_of (length opens) (trailing first b Head old so_far before) (part_text p))
+      ap (λ b. and_then
+          (front_of (length opens) (trailing first b Head old so_far before) (part_text p))
           (λ read. fronts_of read.0 (opens ++ read.1 ∷ []) (map part_text ps))) (none_left ps)
           ∙ ap (λ r. and_then r (λ (read : FrontsView × OpenView).
           fronts_of read.0 (opens ++ read.1 ∷ []) (map part_text ps)))
           (front_shown (length opens) first last old so_far before next p is)
           ∙ same
-          ∙ ap (λ os. Ok (trailing f l end part so after, os)) (append_assoc opens (opening ∷ []) more),
+          ∙ ap (λ os. Ok (trailing f l end part so after, os))
+          (append_assoc opens (opening ∷ []) more),
     )
 
 -- ---- all sections
@@ -254,8 +285,10 @@ one_section position number first last before after p is =
     let t = tokens_at 0 (last_of before.last p.tokens) p.totals p.totals in
     let text = flat_map token_line p.tokens in
     ap (λ (l : List ℕ). section_ended position (run never (bounded Form section_step) number
-    (tokens_at (length p.tokens) before.last p.totals no_sums) (lines_of l))) (sym (append-nil text))
-    ∙ ap (section_ended position) (tokens_taken before.last p.totals no_sums p.totals p.tokens r.tokens
+    (tokens_at (length p.tokens) before.last p.totals no_sums) (lines_of l)))
+    (sym (append-nil text))
+    ∙ ap (section_ended position)
+    (tokens_taken before.last p.totals no_sums p.totals p.tokens r.tokens
     is.increase r.tokens_add number [])
     ∙ ap (end_or (position, (number + length p.tokens, Form)) t)
     (tokens_end (last_of before.last p.tokens) p.totals)
@@ -314,7 +347,8 @@ reports_merge p ps all are =
     ∙ ap (λ (n : ℕ). Ok (report_front (trailing first last end part so (record all { tokens = n }))
     ++ flat_map token_line (tokens_of (p ∷ ps)))) number
     ∙ ap Ok (joined (uploads_section (map Posted all.taps)) (totals_line all.totals)
-    (validators_section all.validators) (number_line (codes "tokens ") (length (tokens_of (p ∷ ps))))
+    (validators_section all.validators)
+    (number_line (codes "tokens ") (length (tokens_of (p ∷ ps))))
     (flat_map token_line (tokens_of (p ∷ ps))))
   where
     from_none : (n : ℕ) → 0 + n ≡ n

@@ -1,5 +1,6 @@
 -- The lines of a part's tokens, as they are printed, are taken.
-use Rattle.std.proofs.Common.{◌≡◌, ◌∙◌, ◌+◌, ◌-◌, ℕ, suc, Bool, true, false, cond, List, [], ◌∷◌, length}
+use Rattle.std.proofs.Common.{◌≡◌, ◌∙◌, ◌+◌, ◌-◌, ℕ, suc, Bool, true, false, cond, List, [], ◌∷◌}
+use Rattle.std.proofs.Common.{length}
 use Rattle.std.proofs.Common.{Option, Some, None, Ok, refl, ap, subst, arith}
 use Rattle.std.specs.Prelude.{flat_map, nat_lt}
 use Rattle.std.proofs.lemmas.Bool.Decides.{nat_tests}
@@ -38,7 +39,8 @@ one_taken : (left : ℕ) (last : Option Token) (part so_far next : Sums) (sum : 
     → section_step (tokens_at (suc left) last part so_far) (token_line sum)
     ≡ Ok (tokens_at left (Some sum.0) part next)
 one_taken left last part so_far next sum fits above adds =
-    let made = λ (token : Token) (so_far : Sums). tokens_at (suc left - 1) (Some token) part so_far in
+    let made = λ (token : Token) (so_far : Sums). tokens_at (suc left - 1) (Some token) part
+    so_far in
     let some : nat_lt 0 (suc left) ≡ true = grind (arith, nat_tests) in
     ap (λ b. where_holds b Form (said (token_line_in (token_line sum)) (λ (sum : Token × Sums).
     where_holds (is_token_above last sum.0) Order
@@ -50,10 +52,12 @@ one_taken left last part so_far next sum fits above adds =
     ∙ ap (λ b. where_holds b Order (found_or OtherTotals (sums_within so_far sum.1) (λ so_far.
     Ok (made sum.0 so_far)))) above
     ∙ ap (λ r. found_or OtherTotals r (λ so_far. Ok (made sum.0 so_far))) adds
-    ∙ ap (λ n. Ok (tokens_at n (Some sum.0) part next)) (let e : suc left - 1 ≡ left = omega arith in e)
+    ∙ ap (λ n. Ok (tokens_at n (Some sum.0) part next))
+    (let e : suc left - 1 ≡ left = omega arith in e)
 
 pub tokens_taken : (last : Option Token) (part so_far all : Sums) (tokens : List (Token × Sums))
-    → AllByRecursion IsTokenSum tokens → are_tokens_increasing last tokens → adds_to so_far tokens all
+    → AllByRecursion IsTokenSum tokens → are_tokens_increasing last tokens
+    → adds_to so_far tokens all
     → Leads never Form section_step (tokens_at (length tokens) last part so_far)
     (flat_map token_line tokens) (length tokens) (tokens_at 0 (last_of last tokens) part all)
 tokens_taken last part so_far all [] fit increase adds =

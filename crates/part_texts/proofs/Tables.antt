@@ -1,5 +1,6 @@
 -- The sums by validator of a history, added to those of the history before it.
-use Rattle.std.proofs.Common.{◌≡◌, ◌∙◌, ◌+◌, ◌≤◌, ◌^◌, ◌||◌, ℕ, Bool, true, false, cond, List, [], ◌∷◌, ◌++◌, length, map, filter}
+use Rattle.std.proofs.Common.{◌≡◌, ◌∙◌, ◌+◌, ◌≤◌, ◌^◌, ◌||◌, ℕ, Bool, true, false, cond, List, []}
+use Rattle.std.proofs.Common.{◌∷◌, ◌++◌, length, map, filter}
 use Rattle.std.proofs.Common.{Some, None, option_map, refl, sym, ap, subst, arith}
 use Rattle.std.specs.Prelude.{nat_le, unwrap_or}
 use Rattle.std.specs.BTreeMap.{insert_entry}
@@ -21,7 +22,8 @@ use Rattle.std.proofs.lemmas.List.Elements.{filter-append}
 use Rattle.histories.specs.Entry.{is_at, reply_of}
 use Rattle.histories.specs.Increasing.{increasing}
 use Rattle.histories.specs.Sums.{Sums, add_sums, sums, sums_of_replies}
-use Rattle.histories.specs.SumsByKey.{entries_of_validator, sums_by_validator, validator_of, validators}
+use Rattle.histories.specs.SumsByKey.{entries_of_validator, sums_by_validator, validator_of}
+use Rattle.histories.specs.SumsByKey.{validators}
 use Rattle.histories.specs.declared.entry.Entry.{Entry}
 use Rattle.histories.proofs.IncreasingLemmas.{increasing-is, increasing-unique}
 use Rattle.tap_views.proofs.Choices.{or_swap}
@@ -99,18 +101,22 @@ found f v (k ∷ keys) none = found_at (nat_cmp v k) refl (found f v keys)
     found_at : (order : Ordering) → nat_cmp v k ≡ order
         → ((has keys v ≡ false → f v ≡ no_sums)
         → unwrap_or (lookup (is_key (nat_cmp v)) (table f keys)) no_sums ≡ f v)
-        → unwrap_or (cond (is_eq (nat_cmp v k)) (Some (f k)) (lookup (is_key (nat_cmp v)) (table f keys)))
+        → unwrap_or
+        (cond (is_eq (nat_cmp v k)) (Some (f k)) (lookup (is_key (nat_cmp v)) (table f keys)))
         no_sums ≡ f v
     found_at Equal tied more =
-        ap (λ o. unwrap_or (cond (is_eq o) (Some (f k)) (lookup (is_key (nat_cmp v)) (table f keys))) no_sums)
+        ap (λ o. unwrap_or
+        (cond (is_eq o) (Some (f k)) (lookup (is_key (nat_cmp v)) (table f keys))) no_sums)
         tied
         ∙ ap f (sym (number_ties v k tied))
     found_at Less order more =
-        ap (λ o. unwrap_or (cond (is_eq o) (Some (f k)) (lookup (is_key (nat_cmp v)) (table f keys))) no_sums)
+        ap (λ o. unwrap_or
+        (cond (is_eq o) (Some (f k)) (lookup (is_key (nat_cmp v)) (table f keys))) no_sums)
         order
         ∙ more (λ out. none (ap (λ o. is_eq o || has keys v) order ∙ out))
     found_at Greater order more =
-        ap (λ o. unwrap_or (cond (is_eq o) (Some (f k)) (lookup (is_key (nat_cmp v)) (table f keys))) no_sums)
+        ap (λ o. unwrap_or
+        (cond (is_eq o) (Some (f k)) (lookup (is_key (nat_cmp v)) (table f keys))) no_sums)
         order
         ∙ more (λ out. none (ap (λ o. is_eq o || has keys v) order ∙ out))
 
@@ -134,12 +140,14 @@ insert-member (k ∷ keys) key q = member_at (nat_cmp key k) refl (insert-member
         ∙ or_swap (eq_by_cmp nat_cmp q k) (eq_by_cmp nat_cmp q key) (has keys q)
 
 insert-above : (low : ℕ) (keys : List ℕ) (key : ℕ) → AllByRecursion (λ z. nat_cmp low z ≡ Less) keys
-    → nat_cmp low key ≡ Less → AllByRecursion (λ z. nat_cmp low z ≡ Less) (insert_key nat_cmp keys key)
+    → nat_cmp low key ≡ Less
+    → AllByRecursion (λ z. nat_cmp low z ≡ Less) (insert_key nat_cmp keys key)
 insert-above low [] key above less = (less, tt)
 insert-above low (k ∷ keys) key above less =
     above_at (nat_cmp key k) (insert-above low keys key above.1 less)
   where
-    above_at : (o : Ordering) → AllByRecursion (λ z. nat_cmp low z ≡ Less) (insert_key nat_cmp keys key)
+    above_at : (o : Ordering)
+        → AllByRecursion (λ z. nat_cmp low z ≡ Less) (insert_key nat_cmp keys key)
         → AllByRecursion (λ z. nat_cmp low z ≡ Less)
         (match_ordering o (key ∷ k ∷ keys) (k ∷ keys) (k ∷ insert_key nat_cmp keys key))
     above_at Less more = (less, above)
@@ -150,7 +158,8 @@ insert-increases : (keys : List ℕ) (key : ℕ) → IsStrictlySortedBy nat_cmp 
     → IsStrictlySortedBy nat_cmp (insert_key nat_cmp keys key)
 unfolding IsStrictlySortedBy
 insert-increases [] key increases = (tt, tt)
-insert-increases (k ∷ keys) key increases = increases_at (nat_cmp key k) refl (insert-increases keys key increases.1)
+insert-increases (k ∷ keys) key increases =
+    increases_at (nat_cmp key k) refl (insert-increases keys key increases.1)
   where
     increases_at : (o : Ordering) → nat_cmp key k ≡ o
         → IsStrictlySortedBy nat_cmp (insert_key nat_cmp keys key)
@@ -206,9 +215,11 @@ keys_inserted xs ys =
     let back = increasing-is nat_cmp_total number_ties (map validator_of ys) in
     let whole = increasing-is nat_cmp_total number_ties (map validator_of (xs ++ ys)) in
     increasing-unique nat_cmp_total number_ties _ _
-    (inserted_increase (increasing nat_cmp (map validator_of xs)) (increasing nat_cmp (map validator_of ys)) front.increases)
+    (inserted_increase (increasing nat_cmp (map validator_of xs))
+    (increasing nat_cmp (map validator_of ys)) front.increases)
     whole.increases
-    (λ q. inserted_has (increasing nat_cmp (map validator_of xs)) (increasing nat_cmp (map validator_of ys)) q
+    (λ q. inserted_has (increasing nat_cmp (map validator_of xs))
+    (increasing nat_cmp (map validator_of ys)) q
     ∙ ap (λ b. b || has (increasing nat_cmp (map validator_of ys)) q) (front.same q)
     ∙ ap (λ b. has (map validator_of xs) q || b) (back.same q)
     ∙ sym (has_append (map validator_of xs) (map validator_of ys) q)
@@ -244,13 +255,15 @@ pub none_at : (v : ℕ) (entries : List Entry) → has (validators entries) v �
 unfolding validators
 none_at v entries none =
     nothing_summed (entries_of_validator v entries)
-    (no_entries v entries (sym ((increasing-is nat_cmp_total number_ties (map validator_of entries)).same v) ∙ none))
+    (no_entries v entries
+    (sym ((increasing-is nat_cmp_total number_ties (map validator_of entries)).same v) ∙ none))
 
 both_at : (v : ℕ) (xs ys : List Entry)
     → at_validator v (xs ++ ys) ≡ add_sums (at_validator v xs) (at_validator v ys)
 unfolding entries_of_validator
 both_at v xs ys =
-    ap sums (filter-append (is_at v) xs ys) ∙ sums-append (filter (is_at v) xs) (filter (is_at v) ys)
+    ap sums (filter-append (is_at v) xs ys)
+    ∙ sums-append (filter (is_at v) xs) (filter (is_at v) ys)
 
 -- sums of no more taps than any run has
 fewer : (v : ℕ) (entries : List Entry) → length (entries_of_validator v entries) ≤ length entries
@@ -307,7 +320,8 @@ module _ (xs ys : List Entry) (few : length (xs ++ ys) ≤ 2 ^ 95) where
       ap (λ s. option_map (λ sums. insert_entry nat_cmp (table (mixed done) keys) v sums)
       (sums_within s (at_validator v ys))) here
       ∙ ap (option_map (λ sums. insert_entry nat_cmp (table (mixed done) keys) v sums))
-      (within (at_validator v xs) (at_validator v ys) (at_validator v (xs ++ ys)) (both_at v xs ys) small)
+      (within (at_validator v xs) (at_validator v ys) (at_validator v (xs ++ ys)) (both_at v xs ys)
+      small)
       ∙ ap Some (set_one (mixed done) (mixed (v ∷ done)) v (at_validator v (xs ++ ys)) keys
       (mixed_here done v) (mixed_other done v) increases)
 
@@ -403,5 +417,6 @@ module _ (xs ys : List Entry) (few : length (xs ++ ys) ≤ 2 ^ 95) where
       (all_same (mixed (done_after [] (validators ys))) (λ k. at_validator k (xs ++ ys))
       (inserted (validators xs) (validators ys)) ends_as)
       ∙ ap (table (λ k. at_validator k (xs ++ ys))) (keys_inserted xs ys))
-      (all_more [] (validators xs) (validators ys) front.increases back.increases (all_out (validators ys))
+      (all_more [] (validators xs) (validators ys) front.increases back.increases
+      (all_out (validators ys))
       (λ k absent. absent))

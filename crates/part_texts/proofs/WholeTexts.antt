@@ -1,5 +1,6 @@
 -- The front of the whole's report, written line by line.
-use Rattle.std.proofs.Common.{◌≡◌, ◌∙◌, ◌+◌, ◌<◌, ℕ, List, [], ◌∷◌, ◌++◌, length, take, get_or, length-take}
+use Rattle.std.proofs.Common.{◌≡◌, ◌∙◌, ◌+◌, ◌<◌, ℕ, List, [], ◌∷◌, ◌++◌, length, take, get_or}
+use Rattle.std.proofs.Common.{length-take}
 use Rattle.std.proofs.Common.{refl, sym, ap, append_assoc, append-nil, arith, codes, map}
 use Rattle.std.proofs.lemmas.List.{map-append, take_more}
 use Rattle.std.specs.Prelude.{flat_map}
@@ -23,7 +24,8 @@ map_length f (x ∷ xs) = let rest = map_length f xs in omega (arith, rest)
 
 -- what was written of the uploads before one, and the line of that one
 uploads_more : (start : List ℕ) (taps : List ℕ) (d i : ℕ) → i < length taps
-    → (start ++ upload_lines 0 (map Posted (take i taps))) ++ upload_line i (Posted (get_or taps i d))
+    → (start ++ upload_lines 0 (map Posted (take i taps))) ++ upload_line i
+    (Posted (get_or taps i d))
     ≡ start ++ upload_lines 0 (map Posted (take (i + 1) taps))
 uploads_more start taps d i within =
     let one = get_or taps i d in
@@ -38,7 +40,8 @@ uploads_more start taps d i within =
 
 -- one more
 shown_more : (items : List (Bor ℕ × Bor Totals)) (validator : Bor ℕ) (totals : Bor Totals)
-    → flat_map validator_line (shown_sums sums_of (map deref_pair (items ++ (validator, totals) ∷ [])))
+    → flat_map validator_line
+    (shown_sums sums_of (map deref_pair (items ++ (validator, totals) ∷ [])))
     ≡ flat_map validator_line (shown_sums sums_of (map deref_pair items))
     ++ (codes "validator "
     ++ (decimal validator.now ++ (codes " " ++ counts_text (sums_of totals.now))))
@@ -68,7 +71,8 @@ line_written old now new items validator totals first second =
 -- the pieces of the front
 pub front_joined : (s : FrontsView) (uploads validators : ℕ) (none a b c d e whole : List ℕ)
     → uploads ≡ length s.taps → validators ≡ length s.validators → none ≡ []
-    → a ≡ none ++ number_line (codes "uploads ") uploads → b ≡ a ++ upload_lines 0 (map Posted s.taps)
+    → a ≡ none ++ number_line (codes "uploads ") uploads
+    → b ≡ a ++ upload_lines 0 (map Posted s.taps)
     → c ≡ b ++ totals_line s.totals → d ≡ c ++ number_line (codes "validators ") validators
     → e ≡ d ++ flat_map validator_line s.validators
     → whole ≡ e ++ number_line (codes "tokens ") s.tokens → whole ≡ report_front s
@@ -83,7 +87,8 @@ front_joined s uploads validators none a b c d e whole n m p0 p1 p2 p3 p4 p5 p6 
     ∙ ap (number_line (codes "uploads ")) (n ∙ sym (map_length Posted s.taps)) in
     let b_is : b ≡ u ++ l = p2 ∙ ap (λ x. x ++ l) a_is in
     let c_is : c ≡ (u ++ l) ++ t = p3 ∙ ap (λ x. x ++ t) b_is in
-    let d_is : d ≡ ((u ++ l) ++ t) ++ v = p4 ∙ ap (λ x. x ++ number_line (codes "validators ") validators) c_is
+    let d_is : d ≡ ((u ++ l) ++ t) ++ v =
+    p4 ∙ ap (λ x. x ++ number_line (codes "validators ") validators) c_is
     ∙ ap (λ x. ((u ++ l) ++ t) ++ number_line (codes "validators ") x) m in
     let e_is : e ≡ (((u ++ l) ++ t) ++ v) ++ f = p5 ∙ ap (λ x. x ++ f) d_is in
     p6 ∙ ap (λ x. x ++ k) e_is ∙ joined u l t v f k

@@ -71,7 +71,8 @@ pub wrong_read : (end : ℕ) (text : List ℕ) (names : List (List ℕ)) (rest p
     → IsWrongBy wrong piece
     → (rest ≡ piece ++ end ∷ trailing) ⊎ ((rest ≡ piece) × (trailing ≡ []))
     → IsFirstWrong end text number wrong
-wrong_read end text names rest piece trailing number wrong read some is_number lacks is_wrong split =
+wrong_read end text names rest piece trailing number wrong read some is_number lacks is_wrong
+    split =
     record {
       before = names;
       are_names = read.are_names;

@@ -74,7 +74,8 @@ tables_push first before word loaded_before loaded_before' loaded_before'' texts
 
 -- the words up to a place
 abbrev pub words_to : List ℕ → List (Bor (List ℕ)) → ℕ → TableNames
-words_to first words position = record { first = first; later = map (λ w. w.now) (take position words) }
+words_to first words position =
+    record { first = first; later = map (λ w. w.now) (take position words) }
 
 -- one more table
 pub tables_on : (first : List ℕ) (words : List (Bor (List ℕ))) (position : ℕ) (other : Bor (List ℕ))
@@ -92,7 +93,8 @@ tables_on first words position other within before between after texts more text
     (subst (λ (ws : List (List ℕ)). LoadsTables (record { first = first; later = ws }) before after
     (texts ++ text ∷ []) next)
     (sym (map_more (λ (w : Bor (List ℕ)). w.now) words position other within))
-    (tables_push first (map (λ w. w.now) (take position words)) (get_or words position other).now before
+    (tables_push first (map (λ w. w.now) (take position words)) (get_or words position other).now
+    before
     between after texts text all next loads one follows))
 
 -- each word has a text, and each text adds a table

@@ -1,5 +1,6 @@
 -- A true verdict says that a report is the ledger's exactly if it is.
-use Rattle.std.proofs.Common.{◌≡◌, ◌∙◌, ℕ, Bool, true, false, List, ◌++◌, length, Option, Some, None}
+use Rattle.std.proofs.Common.{◌≡◌, ◌∙◌, ℕ, Bool, true, false, List, ◌++◌, length, Option, Some}
+use Rattle.std.proofs.Common.{None}
 use Rattle.std.proofs.Common.{Result, Ok, Err, append_assoc, codes, refl, sym, ap, eq-eqb, eqb-true}
 use Rattle.std.specs.Prelude.{◌↔◌, nat_eq, sum_by}
 use Rattle.std.proofs.lemmas.Bool.{false≢true}

@@ -12,7 +12,8 @@ joined : List (List ℕ) → List ℕ
 joined [] = []
 joined (line ∷ lines) = line ++ joined lines
 
-started_joined : (byte : ℕ) (lines : List (List ℕ)) → joined (started_with byte lines) ≡ byte ∷ joined lines
+started_joined : (byte : ℕ) (lines : List (List ℕ))
+    → joined (started_with byte lines) ≡ byte ∷ joined lines
 unfolding started_with joined
 started_joined byte [] = refl
 started_joined byte (line ∷ lines) = refl

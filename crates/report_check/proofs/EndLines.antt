@@ -1,6 +1,8 @@
 -- The lines of uploads say how these ended, and nothing else.
-use Rattle.std.proofs.Common.{◌≡◌, ◌∙◌, ℕ, zero, suc, ◌+◌, ◌<◌, ◌^◌, All, Bool, true, false, List, []}
-use Rattle.std.proofs.Common.{◌∷◌, ◌++◌, length, Option, Some, None, Result, Ok, Err, codes, refl, sym}
+use Rattle.std.proofs.Common.{◌≡◌, ◌∙◌, ℕ, zero, suc, ◌+◌, ◌<◌, ◌^◌, All, Bool, true, false, List}
+use Rattle.std.proofs.Common.{[]}
+use Rattle.std.proofs.Common.{◌∷◌, ◌++◌, length, Option, Some, None, Result, Ok, Err, codes, refl}
+use Rattle.std.proofs.Common.{sym}
 use Rattle.std.proofs.Common.{ap, subst, arith, append_assoc, append-nil, length-append, option_map}
 use Rattle.std.proofs.Common.{◌-◌, ◌≤◌, eq-eqb, nat_eq}
 use Rattle.std.specs.Fmt.{decimal}
@@ -23,7 +25,8 @@ use Rattle.report_texts.specs.inside.EndWords.{end_words, fault_number}
 use Rattle.tap_views.specs.declared.upload_end.UploadEnd.{UploadEnd}
 use Rattle.tap_views.specs.declared.upload_end.UploadEnd.TheVariants.{Posted, Refused, Cut, Undrawn}
 use Rattle.report_check.specs.Reports.{IsReportEnd}
-use Rattle.report_check.specs.Uploads.{cut_or, end_at, end_if, end_in, ends_from, found_or, numbered}
+use Rattle.report_check.specs.Uploads.{cut_or, end_at, end_if, end_in, ends_from, found_or}
+use Rattle.report_check.specs.Uploads.{numbered}
 use Rattle.report_check.specs.Uploads.{or_else, unfinished_in, uploads_in}
 
 -- ---- one line
@@ -37,7 +40,8 @@ count_upload number end small =
 pub end_complete : (number : ℕ) (end : UploadEnd) → number < 2 ^ 64 → IsReportEnd end
     → end_in (upload_line number end) ≡ Some (number, end)
 end_complete number (Posted taps) small fits =
-    ap (λ (o : Option (ℕ × UploadEnd)). or_else o (unfinished_in (upload_line number (Posted taps))))
+    ap (λ (o : Option (ℕ × UploadEnd)). or_else o
+    (unfinished_in (upload_line number (Posted taps))))
     (upload_complete number (Posted taps) small fits)
 end_complete number (Refused taps offset fault) small fits =
     ap (λ (o : Option (ℕ × UploadEnd)). or_else o
@@ -181,7 +185,8 @@ upload_line_is number end small fits =
 pub line_first : (line trailing : List ℕ) → IsLine line
     → lines_of (line ++ trailing) ≡ line ∷ lines_of trailing
 line_first line trailing is =
-    ap lines_of (ap (λ (t : List ℕ). t ++ trailing) is.shown ∙ append_assoc is.front (10 ∷ []) trailing)
+    ap lines_of
+    (ap (λ (t : List ℕ). t ++ trailing) is.shown ∙ append_assoc is.front (10 ∷ []) trailing)
     ∙ lines-line is.front trailing is.lacks
     ∙ ap (λ (l : List ℕ). l ∷ lines_of trailing) (sym is.shown)
 
@@ -189,7 +194,8 @@ ends_complete : (more ends : List UploadEnd) (trailing : List ℕ) → AllByRecu
     → length ends + length more < 2 ^ 64
     → ends_from (length more) ends (lines_of (upload_lines (length ends) more ++ trailing))
     ≡ Ok (ends ++ more)
-ends_complete [] ends trailing each small = ap (λ (es : List UploadEnd). Ok es) (sym (append-nil ends))
+ends_complete [] ends trailing each small =
+    ap (λ (es : List UploadEnd). Ok es) (sym (append-nil ends))
 ends_complete (end ∷ more) ends trailing each small =
     let n = length ends in
     let here : n < 2 ^ 64 = omega (arith, small) in

@@ -1,5 +1,6 @@
 -- The lines of a ledger whose entries were added.
-use Rattle.std.proofs.Common.{◌≡◌, ◌≢◌, ℕ, ◌<◌, ◌≤◌, ◌^◌, Bool, true, false, List, [], ◌∷◌, ◌++◌, length}
+use Rattle.std.proofs.Common.{◌≡◌, ◌≢◌, ℕ, ◌<◌, ◌≤◌, ◌^◌, Bool, true, false, List, [], ◌∷◌, ◌++◌}
+use Rattle.std.proofs.Common.{length}
 use Rattle.std.proofs.Common.{map, Some, None, All, refl, sym, ap, subst, ◌∙◌, arith, append_assoc}
 use Rattle.std.proofs.Common.{append-nil, length-append, ⊎_elim}
 use Rattle.std.specs.Prelude.{MatchBool}
@@ -123,7 +124,8 @@ too_many fares sums lines line is some many =
     omega (arith, few, long, many, length-map earlier without_moment))
 
 -- a line whose token falls
-pub is_decrease : (fares : Fares) (sums : LineSums) (lines : List (List ℕ)) (line : List ℕ) (read : Entry)
+pub is_decrease : (fares : Fares) (sums : LineSums) (lines : List (List ℕ)) (line : List ℕ)
+    (read : Entry)
     (is : AreSummed fares sums lines) → sums.has_head ≡ true
     → ((earlier : List Entry) (entry : Entry) → IsNext fares earlier entry line
     → Some read ≡ Some (without_moment entry))
@@ -202,7 +204,8 @@ head_length = omega arith
 
 -- a line that is neither the head line nor an entry's stands in no ledger
 no_line : (fares : Fares) (lines : List (List ℕ)) (line : List ℕ) (after : List (List ℕ))
-    → line ≢ head_text → ((earlier : List Entry) (entry : Entry) → ¬ (IsNext fares earlier entry line))
+    → line ≢ head_text
+    → ((earlier : List Entry) (entry : Entry) → ¬ (IsNext fares earlier entry line))
     → (entries : List Entry) (others : List (List ℕ))
     → lines ++ line ∷ after ≡ head_text ∷ others → AreNext fares [] entries others → ⊥
 no_line fares [] line after other none entries others is are =

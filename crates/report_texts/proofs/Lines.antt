@@ -1,5 +1,6 @@
 -- The lines of a report are read back: the line of a value says this value, and no other line does.
-use Rattle.std.proofs.Common.{◌≡◌, ℕ, zero, suc, ◌+◌, ◌*◌, ◌<◌, ◌≤◌, ◌^◌, ◌&&◌, Bool, true, false, List, [], ◌∷◌, ◌++◌}
+use Rattle.std.proofs.Common.{◌≡◌, ℕ, zero, suc, ◌+◌, ◌*◌, ◌<◌, ◌≤◌, ◌^◌, ◌&&◌, Bool, true, false}
+use Rattle.std.proofs.Common.{List, [], ◌∷◌, ◌++◌}
 use Rattle.std.proofs.Common.{Option, Some, None, option_map, codes, cond, nat_eq, nat_le, nat_lt}
 use Rattle.std.proofs.Common.{refl, sym, ap, subst, ◌∙◌, append_assoc, arith}
 use Rattle.std.specs.Fmt.{decimal}
@@ -11,12 +12,20 @@ use Rattle.fare_texts.specs.ReportLines.{number_line, token_line, validator_line
 use Rattle.histories.specs.Sums.{Sums}
 use Rattle.tap_views.specs.Token.{Fits, bytes_of}
 use Rattle.tap_views.specs.declared.token.Token.{Token}
-use Rattle.line_forms.specs.Forms.{IsAfter, IsForm, IsThen, said_by, then_read, after_read, value_if}
-use Rattle.line_forms.specs.FormLaws.{after_law, line_complete, line_sound, number_law, then_law, wide_64}
+use Rattle.line_forms.specs.Forms.{IsAfter, IsForm, IsThen, said_by, then_read, after_read}
+use Rattle.line_forms.specs.Forms.{value_if}
+use Rattle.line_forms.specs.FormLaws.{after_law, line_complete, line_sound, number_law, then_law}
+use Rattle.line_forms.specs.FormLaws.{wide_64}
 use Rattle.line_forms.specs.Numbers.{BeginsWithNoDigit, IsNumber}
-use Rattle.report_texts.specs.Forms.{Counted, count_at, counts_read, end_in, end_or, fault_by, head_in, refused_by, refused_in, sums_by, sums_with, token_line_in, token_read, totals_in, upload_if, upload_in, validator_if, validator_in}
-use Rattle.report_texts.specs.FormLaws.{IsCount, IsCountedText, IsCountsText, IsTokenDigits, count_form, counts_law, begins, begins_then, some_one, token_law, value_if_some, begins_chosen}
-use Rattle.report_texts.specs.Numbers.{AreCounts, IsNameAlone, IsTokenSum, IsUploadEnd, IsValidatorSum}
+use Rattle.report_texts.specs.Forms.{Counted, count_at, counts_read, end_in, end_or, fault_by}
+use Rattle.report_texts.specs.Forms.{head_in, refused_by, refused_in, sums_by, sums_with}
+use Rattle.report_texts.specs.Forms.{token_line_in, token_read, totals_in, upload_if, upload_in}
+use Rattle.report_texts.specs.Forms.{validator_if, validator_in}
+use Rattle.report_texts.specs.FormLaws.{IsCount, IsCountedText, IsCountsText, IsTokenDigits}
+use Rattle.report_texts.specs.FormLaws.{count_form, counts_law, begins, begins_then, some_one}
+use Rattle.report_texts.specs.FormLaws.{token_law, value_if_some, begins_chosen}
+use Rattle.report_texts.specs.Numbers.{AreCounts, IsNameAlone, IsTokenSum, IsUploadEnd}
+use Rattle.report_texts.specs.Numbers.{IsValidatorSum}
 use Rattle.report_texts.specs.Report.{upload_line}
 use Rattle.report_texts.specs.inside.EndWords.{end_words, fault_number}
 use Rattle.report_texts.proofs.EndTexts.{refused_spelled, small_number}
@@ -66,24 +75,30 @@ counted_shown word n text is =
 
 -- ---- the order of texts that are appended
 in_order : (w t p pd r rd c cd s sd u ud z zd e : List ℕ)
-    → ((w ++ t) ++ ((p ++ pd) ++ ((r ++ rd) ++ ((c ++ cd) ++ ((s ++ sd) ++ ((u ++ ud) ++ (z ++ zd)))))))
+    → ((w ++ t)
+    ++ ((p ++ pd) ++ ((r ++ rd) ++ ((c ++ cd) ++ ((s ++ sd) ++ ((u ++ ud) ++ (z ++ zd)))))))
     ++ e
-    ≡ w ++ (t ++ (p ++ (pd ++ (r ++ (rd ++ (c ++ (cd ++ (s ++ (sd ++ (u ++ (ud ++ (z ++ (zd ++ e)))))))))))))
+    ≡ w ++ (t
+    ++ (p ++ (pd ++ (r ++ (rd ++ (c ++ (cd ++ (s ++ (sd ++ (u ++ (ud ++ (z ++ (zd ++ e)))))))))))))
 in_order w t p pd r rd c cd s sd u ud z zd e = simp append_assoc
 
 in_halves : (w t p pd r rd c cd s sd u ud z zd e : List ℕ)
-    → (w ++ (t ++ (p ++ (pd ++ (r ++ (rd ++ (c ++ cd))))))) ++ (s ++ (sd ++ (u ++ (ud ++ (z ++ (zd ++ e))))))
-    ≡ w ++ (t ++ (p ++ (pd ++ (r ++ (rd ++ (c ++ (cd ++ (s ++ (sd ++ (u ++ (ud ++ (z ++ (zd ++ e)))))))))))))
+    → (w ++ (t ++ (p ++ (pd ++ (r ++ (rd ++ (c ++ cd)))))))
+    ++ (s ++ (sd ++ (u ++ (ud ++ (z ++ (zd ++ e))))))
+    ≡ w ++ (t
+    ++ (p ++ (pd ++ (r ++ (rd ++ (c ++ (cd ++ (s ++ (sd ++ (u ++ (ud ++ (z ++ (zd ++ e)))))))))))))
 in_halves w t p pd r rd c cd s sd u ud z zd e = simp append_assoc
 
 -- the counts behind `taps `, with the line feed
 counts_line : (s : Sums) → counts_text s ≡ counted_text (codes "taps ") (counted_of s) ++ 10 ∷ []
 unfolding first_counts last_counts
 counts_line s =
-    in_halves (codes "taps ") (decimal s.taps) (codes " paid ") (decimal s.paid) (codes " transfers ")
+    in_halves (codes "taps ") (decimal s.taps) (codes " paid ") (decimal s.paid)
+    (codes " transfers ")
     (decimal s.transfers) (codes " capped ") (decimal s.capped) (codes " stale ") (decimal s.stale)
     (codes " unknown ") (decimal s.unknown) (codes " cents ") (decimal s.cents) (10 ∷ [])
-    ∙ sym (in_order (codes "taps ") (decimal s.taps) (codes " paid ") (decimal s.paid) (codes " transfers ")
+    ∙ sym (in_order (codes "taps ") (decimal s.taps) (codes " paid ") (decimal s.paid)
+    (codes " transfers ")
     (decimal s.transfers) (codes " capped ") (decimal s.capped) (codes " stale ") (decimal s.stale)
     (codes " unknown ") (decimal s.unknown) (codes " cents ") (decimal s.cents) (10 ∷ []))
 
@@ -94,7 +109,8 @@ counts_after word s =
     ap (λ (x : List ℕ). word ++ x) (counts_line s)
     ∙ moved word (codes "taps ") (decimal s.taps) _ (10 ∷ [])
   where
-    moved : (a w t more e : List ℕ) → a ++ (((w ++ t) ++ more) ++ e) ≡ (((a ++ w) ++ t) ++ more) ++ e
+    moved : (a w t more e : List ℕ)
+        → a ++ (((w ++ t) ++ more) ++ e) ≡ (((a ++ w) ++ t) ++ more) ++ e
     moved a w t more e = simp append_assoc
 
 -- ---- sums
@@ -174,7 +190,8 @@ counts_of n s word text is made =
 pub totals_complete : (s : Sums) → AreCounts s → totals_in (totals_line s) ≡ Some s
 totals_complete s are =
     ap totals_in (counts_after (codes "totals ") s)
-    ∙ line_complete (counts_law (codes "totals taps ")) refl s _ (sums_say (codes "totals taps ") s are)
+    ∙ line_complete (counts_law (codes "totals taps ")) refl s _
+    (sums_say (codes "totals taps ") s are)
 
 pub totals_sound : (line : List ℕ) (s : Sums) → totals_in line ≡ Some s
     → AreCounts s × (line ≡ totals_line s)
@@ -184,7 +201,8 @@ totals_sound line s e =
     (are, shown ∙ ap (λ (x : List ℕ). x ++ 10 ∷ []) same ∙ sym (counts_after (codes "totals ") s))
 
 -- ---- heads of sections
-pub head_complete : (word : List ℕ) (n : ℕ) → n < 2 ^ 64 → head_in word (number_line word n) ≡ Some n
+pub head_complete : (word : List ℕ) (n : ℕ) → n < 2 ^ 64
+    → head_in word (number_line word n) ≡ Some n
 head_complete word n small =
     ap (head_in word) (sym (append_assoc word (decimal n) (10 ∷ [])))
     ∙ line_complete (count_form word) refl n (word ++ decimal n) (count_says word n small)
@@ -219,11 +237,17 @@ pub validator_complete : (sum : ℕ × Sums) → IsValidatorSum sum
     → validator_in (validator_line sum) ≡ Some sum
 validator_complete sum is =
     let small : sum.0 < 2 ^ 64 = (let b = is.validator in omega (arith, b)) in
-    let below : nat_lt sum.0 (2 ^ 32) ≡ true = (let b = is.validator in grind (arith, nat_tests, b)) in
+    let below : nat_lt sum.0 (2 ^ 32) ≡ true =
+    (let b = is.validator in grind (arith, nat_tests, b)) in
     ap validator_in (key_line (codes "validator ") (decimal sum.0) sum.1)
     ∙ ap validator_if (line_complete validator_form refl sum
-    ((codes "validator " ++ decimal sum.0) ++ counted_text (codes " taps ") (counted_of sum.1))
-    (_, _, count_says (codes "validator ") sum.0 small, sums_say (codes " taps ") sum.1 is.counts, refl))
+    ((codes "validator " ++ decimal sum.0) ++ counted_text (codes " taps ") (counted_of sum.1)) (
+      _,
+      _,
+      count_says (codes "validator ") sum.0 small,
+      sums_say (codes " taps ") sum.1 is.counts,
+      refl,
+    ))
     ∙ ap (λ b. value_if b sum) below
 
 validator_some : (r : Option (ℕ × Sums)) (sum : ℕ × Sums) → validator_if r ≡ Some sum
@@ -237,7 +261,8 @@ pub validator_sound : (line : List ℕ) (sum : ℕ × Sums) → validator_in lin
     → IsValidatorSum sum × (line ≡ validator_line sum)
 validator_sound line sum e =
     let (read, small) = validator_some _ sum e in
-    let (text, (a, b, first, (n, is, made), same), shown) = line_sound validator_form line sum read in
+    let (text, (a, b, first, (n, is, made), same), shown) =
+    line_sound validator_form line sum read in
     let (are, counts) = counts_of n sum.1 (codes " taps ") b is made in (
       record { validator = grind (arith, nat_tests, small); counts = are },
       shown
@@ -248,12 +273,15 @@ validator_sound line sum e =
     )
 
 -- ---- tokens
-token_form : IsForm (IsThen (IsAfter (codes "token ") IsTokenDigits) (IsCountsText (codes " taps ")))
-    BeginsWithNoDigit (then_read (after_read (codes "token ") token_read) (counts_read (codes " taps ")))
+token_form : IsForm
+    (IsThen (IsAfter (codes "token ") IsTokenDigits) (IsCountsText (codes " taps ")))
+    BeginsWithNoDigit
+    (then_read (after_read (codes "token ") token_read) (counts_read (codes " taps ")))
 token_form =
     then_law (after_law (codes "token ") token_law) (counts_law (codes " taps ")) (λ v t r says. tt)
 
-pub token_complete : (sum : Token × Sums) → IsTokenSum sum → token_line_in (token_line sum) ≡ Some sum
+pub token_complete : (sum : Token × Sums) → IsTokenSum sum
+    → token_line_in (token_line sum) ≡ Some sum
 token_complete sum is =
     let digits = encode_lower (bytes_of sum.0) in
     ap token_line_in (key_line (codes "token ") digits sum.1)
@@ -295,7 +323,8 @@ refused_form : IsForm (IsThen (IsCount (codes " refused ")) (IsThen (IsCount (co
     (then_read (count_at (codes " at ")) (count_at (codes " L"))))
 refused_form =
     then_law (count_form (codes " refused "))
-    (then_law (count_form (codes " at ")) (count_form (codes " L")) (begins (codes " L") (λ rest. refl)))
+    (then_law (count_form (codes " at ")) (count_form (codes " L"))
+    (begins (codes " L") (λ rest. refl)))
     (begins_then _ (codes " at ") (begins (codes " at ") (λ rest. refl)))
 
 refused_line : (taps offset : ℕ) (fault : LayoutFault) → end_words (Refused taps offset fault)
@@ -311,7 +340,8 @@ refused_line taps offset fault =
 
 end_complete : (end : UploadEnd) → IsUploadEnd end → end_in (end_words end) ≡ Some end
 end_complete (Posted taps) fits =
-    ap (λ r. end_or r (refused_in (end_words (Posted taps)))) (head_complete (codes " posted ") taps fits)
+    ap (λ r. end_or r (refused_in (end_words (Posted taps))))
+    (head_complete (codes " posted ") taps fits)
 end_complete (Refused taps offset fault) fits =
     ap refused_by (ap (said_by (then_read (count_at (codes " refused "))
     (then_read (count_at (codes " at ")) (count_at (codes " L"))))) (refused_line taps offset fault)
@@ -342,7 +372,8 @@ pub upload_complete : (upload : ℕ) (end : UploadEnd) → upload < 2 ^ 64 → I
     → upload_in (upload_line upload end) ≡ Some (upload, end)
 upload_complete upload end small fits =
     ap upload_in (upload_spelled upload end)
-    ∙ ap upload_if ((count_form (codes "upload ")).complete upload (codes "upload " ++ decimal upload)
+    ∙ ap upload_if
+    ((count_form (codes "upload ")).complete upload (codes "upload " ++ decimal upload)
     (end_words end) (count_says (codes "upload ") upload small) refl)
     ∙ ap (option_map (λ (end : UploadEnd). (upload, end))) (end_complete end fits)
 
@@ -370,7 +401,8 @@ no_fault number =
 fault_named : (number : ℕ) (fault : LayoutFault) → fault_by number ≡ Some fault
     → IsNameAlone fault × (number ≡ fault_number fault)
 fault_named zero fault e = absurd (cc)
-fault_named (suc zero) fault e = subst (λ f. IsNameAlone f × (1 ≡ fault_number f)) (some_one e) (refl, refl)
+fault_named (suc zero) fault e =
+    subst (λ f. IsNameAlone f × (1 ≡ fault_number f)) (some_one e) (refl, refl)
 fault_named (suc (suc zero)) fault e =
     subst (λ f. IsNameAlone f × (2 ≡ fault_number f)) (some_one e) (tt, refl)
 fault_named (suc (suc (suc zero))) fault e =
@@ -392,9 +424,11 @@ refused_sound : (r : Option (ℕ × (ℕ × ℕ))) (text : List ℕ) (end : Uplo
     → IsUploadEnd end × (text ≡ end_words end)
 refused_sound None text end is e = absurd (cc)
 refused_sound (Some n) text end is e =
-    let (fault, found, same) = option_some (λ fault. Refused n.0 n.1.0 fault) (fault_by n.1.1) end e in
+    let (fault, found, same) =
+    option_some (λ fault. Refused n.0 n.1.0 fault) (fault_by n.1.1) end e in
     let (name, number) = fault_named n.1.1 fault found in
-    let (line, (a, b, taps, (c, d, offset, last, two), one), shown) = line_sound refused_form text n is in
+    let (line, (a, b, taps, (c, d, offset, last, two), one), shown) =
+    line_sound refused_form text n is in
     subst (λ (x : UploadEnd). IsUploadEnd x × (text ≡ end_words x)) same (
       (taps.1.0, offset.1.0, name),
       shown ∙ ap (λ (x : List ℕ). x ++ 10 ∷ [])
@@ -418,11 +452,13 @@ upload_some : (r : Option (ℕ × List ℕ)) (line : List ℕ) (upload : ℕ) (e
     → ((upload < 2 ^ 64) × IsUploadEnd end) × (line ≡ upload_line upload end)
 upload_some None line upload end is e = absurd (cc)
 upload_some (Some parts) line upload end is e =
-    let (found, one, both) = option_some (λ (end : UploadEnd). (parts.0, end)) (end_in parts.1) (upload, end) e
+    let (found, one, both) =
+    option_some (λ (end : UploadEnd). (parts.0, end)) (end_in parts.1) (upload, end) e
     in
     let (fits, words) = end_sound _ parts.1 found refl one in
     let (text, says, shown) = (count_form (codes "upload ")).sound line parts.0 parts.1 is in
-    subst (λ (x : ℕ × UploadEnd). ((x.0 < 2 ^ 64) × IsUploadEnd x.1) × (line ≡ upload_line x.0 x.1)) both (
+    subst (λ (x : ℕ × UploadEnd). ((x.0 < 2 ^ 64) × IsUploadEnd x.1) × (line ≡ upload_line x.0 x.1))
+    both (
       (says.1.0, fits),
       shown ∙ ap (λ (x : List ℕ). x ++ parts.1) (count_shown (codes "upload ") parts.0 text says)
           ∙ ap (λ (x : List ℕ). (codes "upload " ++ decimal parts.0) ++ x) words

@@ -24,7 +24,8 @@ abbrev pub Early : TapFields → Type 0
 Early tap = tap.moment < moment_limit
 
 -- one list more
-pub joined_more : (lists : List (Vec TapFields Global)) (position : ℕ) (other : Vec TapFields Global)
+pub joined_more : (lists : List (Vec TapFields Global)) (position : ℕ)
+    (other : Vec TapFields Global)
     → position < length lists
     → joined (take (position + 1) lists)
     ≡ joined (take position lists) ++ (get_or lists position other).items
@@ -62,7 +63,8 @@ sound_at token lists position other within early nondecreasing =
       early = (All-split Early here trailing (All-split Early before (here ++ trailing)
           (subst (λ (ts : List TapFields). All Early ts) (sym whole) early)).1).0;
       from = last_token token before;
-      nondecreasing = nondecreasing_within token (last_token token before) before here trailing (joined lists) whole
+      nondecreasing = nondecreasing_within token (last_token token before) before here trailing
+          (joined lists) whole
           nondecreasing refl;
     }
 
@@ -71,7 +73,8 @@ pub joined_append : (xs ys : List (Vec TapFields Global))
 joined_append xs ys = flat_map-append (λ (list : Vec TapFields Global). list.items) xs ys
 
 -- what holds of the element at a place holds of the one that is lent there
-pub at_provided : {A : Type 0} (P : A → Type 0) (xs : List A) (position : ℕ) (provided : Option (Bor A))
+pub at_provided : {A : Type 0} (P : A → Type 0) (xs : List A) (position : ℕ)
+    (provided : Option (Bor A))
     → IsItemAt xs position provided → ((x : A) → slice_get xs position ≡ Some x → P x)
     → IfSome provided (λ x. P x.now)
 at_provided P xs position None is holds = tt

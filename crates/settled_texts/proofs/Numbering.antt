@@ -78,7 +78,8 @@ numbered_batch upload old now new done batch position was is more =
     mapped (t ∷ taps) = let rest = mapped taps in omega (arith, rest)
 
 -- one upload more
-pub traced_push : (upload number : ℕ) (readings : List ValidBatchesView) (reading : ValidBatchesView)
+pub traced_push : (upload number : ℕ) (readings : List ValidBatchesView)
+    (reading : ValidBatchesView)
     → number ≡ upload + length readings
     → traced_from upload (readings ++ reading ∷ [])
     ≡ traced_from upload readings ++ numbered number 1 (valid_fields reading)

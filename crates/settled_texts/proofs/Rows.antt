@@ -57,14 +57,16 @@ not_below_zero high low =
     (not_below low (nat_cmp low 0) (ranks low 0))
 
 -- taps in canonical order do not fall from the least token
-pub canonical_nondecreasing : (least : Token) (taps : List TapFields) → least ≡ record { high = 0; low = 0 }
+pub canonical_nondecreasing : (least : Token) (taps : List TapFields)
+    → least ≡ record { high = 0; low = 0 }
     → All HasName taps → IsSorted tap_cmp taps → TapsNondecreasingFrom least taps
 canonical_nondecreasing least [] is names sorted = tt
 canonical_nondecreasing least (a ∷ taps) is names sorted =
     let pairs = sorted_pairs (a ∷ taps) sorted in
     let token = token_of_tap a in (
       ap (λ (t : Token). is_lt (token_cmp token t)) is ∙ not_below_zero token.high token.low,
-      nondecreasing_from a taps (All-head HasName a taps names) (All-tail HasName a taps names) pairs.0
+      nondecreasing_from a taps (All-head HasName a taps names) (All-tail HasName a taps names)
+          pairs.0
           pairs.1,
     )
 
@@ -79,7 +81,8 @@ posted_from fares earlier token (tap ∷ taps) (up, nondecreasing) = (
       nondecreasing,
 )
 
-nondecreasing_whole : (token : Token) (entries : List Entry) → NondecreasingFrom token entries → Nondecreasing entries
+nondecreasing_whole : (token : Token) (entries : List Entry) → NondecreasingFrom token entries
+    → Nondecreasing entries
 nondecreasing_whole token [] nondecreasing = tt
 nondecreasing_whole token (entry ∷ entries) nondecreasing = nondecreasing.1
 
@@ -87,4 +90,5 @@ nondecreasing_whole token (entry ∷ entries) nondecreasing = nondecreasing.1
 pub posted_nondecreasing : (fares : Fares) (token : Token) (taps : List TapFields)
     → TapsNondecreasingFrom token taps → Nondecreasing (posted_after fares [] taps)
 posted_nondecreasing fares token taps nondecreasing =
-    nondecreasing_whole token (posted_after fares [] taps) (posted_from fares [] token taps nondecreasing)
+    nondecreasing_whole token (posted_after fares [] taps)
+    (posted_from fares [] token taps nondecreasing)

@@ -27,7 +27,8 @@ use Rattle.settled_texts.specs.ExplainedTaps.{AreExplained, TapsNondecreasingFro
 
 -- ---- the tokens
 
-pub nondecreasing_append : (token : Token) (xs ys : List TapFields) → TapsNondecreasingFrom token (xs ++ ys)
+pub nondecreasing_append : (token : Token) (xs ys : List TapFields)
+    → TapsNondecreasingFrom token (xs ++ ys)
     → TapsNondecreasingFrom token xs × TapsNondecreasingFrom (last_token token xs) ys
 nondecreasing_append token [] ys nondecreasing = (tt, nondecreasing)
 nondecreasing_append token (x ∷ xs) ys (up, nondecreasing) =
@@ -47,7 +48,8 @@ pub none_reported : (fares : Fares) (earlier : List Entry) (explainer : Explaine
 unfolding posted_after
 none_reported fares earlier explainer consumed = record {
   are = refl;
-  consumed = subst (λ (es : List Entry). HasConsumed fares explainer es) (sym (append-nil earlier)) consumed;
+  consumed = subst (λ (es : List Entry). HasConsumed fares explainer es) (sym (append-nil earlier))
+      consumed;
 }
 
 -- the lines of two lists of taps, one after the other
@@ -64,12 +66,14 @@ reported_append fares earlier xs ys explainer next lines more front back =
       are = subst (λ (es : List Entry). AreLinesAlong fares earlier es (lines ++ more)) (sym joined)
           (along_append fares earlier first second lines more front.are back.are);
       consumed = subst (λ (es : List Entry). HasConsumed fares next (earlier ++ es)) (sym joined)
-          (subst (λ (es : List Entry). HasConsumed fares next es) (append_assoc earlier first second)
+          (subst (λ (es : List Entry). HasConsumed fares next es)
+          (append_assoc earlier first second)
           back.consumed);
     }
 
 -- explained taps have lines, and so have those behind them
-pub reported_then : (fares : Fares) (earlier : List Entry) (done next trailing taps : List TapFields)
+pub reported_then : (fares : Fares) (earlier : List Entry)
+    (done next trailing taps : List TapFields)
     (explainer : Explainer) (lines others : List ℕ) → done ++ (next ++ trailing) ≡ taps
     → AreExplained fares earlier done explainer lines
     → AreLinesAlong fares (earlier ++ posted_after fares earlier done)
@@ -86,7 +90,8 @@ reported_then fares earlier done next trailing taps explainer lines others whole
     (sym (posted_append fares (earlier ++ first) next trailing))
     (along_append fares (earlier ++ first) second third others last.0 along last.1) in
     let all = along_append fares earlier first
-    (posted_after fares (earlier ++ first) (next ++ trailing)) lines (others ++ last.0) explained.are
+    (posted_after fares (earlier ++ first) (next ++ trailing)) lines (others ++ last.0)
+    explained.are
     back in (
       last.0,
       subst (λ (ts : List TapFields). AreLinesAlong fares earlier (posted_after fares earlier ts)
@@ -136,7 +141,8 @@ pub explained_started_on : (fares : Fares) (earlier : List Entry)
     → GoesOut a old b new lines → Begins b c (new ++ others)
     → (all : List ℕ) × AreLinesAlong fares earlier (posted_after fares earlier taps) all
     × Begins a c (old ++ all)
-explained_started_on fares earlier done next trailing taps explainer lines others a b c old new whole
+explained_started_on fares earlier done next trailing taps explainer lines others a b c old new
+    whole
     explained along
     gone started
     =
@@ -195,20 +201,24 @@ one_reported fares earlier tap explainer next line its same consumed is explaine
     }
 
 -- a tap is not below the token of the taps before it
-pub nondecreasing_here : (from token : Token) (taps : List TapFields) (position : ℕ) (other : TapFields)
-    → position < length taps → TapsNondecreasingFrom from taps → token ≡ last_token from (take position taps)
+pub nondecreasing_here : (from token : Token) (taps : List TapFields) (position : ℕ)
+    (other : TapFields)
+    → position < length taps → TapsNondecreasingFrom from taps
+    → token ≡ last_token from (take position taps)
     → IsUpTo token (token_of_tap (get_or taps position other))
 nondecreasing_here from token taps position other within nondecreasing is =
     let parts : take position taps ++ get_or taps position other ∷ drop (position + 1) taps ≡ taps =
     ap (λ (ts : List TapFields). take position taps ++ ts)
     (sym (rw (add-one) (drop-cons taps position other within))) ∙ take-append-drop position taps in
     subst (λ (t : Token). IsUpTo t (token_of_tap (get_or taps position other))) (sym is)
-    (nondecreasing_append from (take position taps) (get_or taps position other ∷ drop (position + 1) taps)
+    (nondecreasing_append from (take position taps)
+    (get_or taps position other ∷ drop (position + 1) taps)
     (subst (λ (ts : List TapFields). TapsNondecreasingFrom from ts) (sym parts) nondecreasing)).1.0
 
 -- taps in the middle do not fall from the token before them
 pub nondecreasing_within : (from token : Token) (done some trailing taps : List TapFields)
-    → done ++ (some ++ trailing) ≡ taps → TapsNondecreasingFrom from taps → token ≡ last_token from done
+    → done ++ (some ++ trailing) ≡ taps → TapsNondecreasingFrom from taps
+    → token ≡ last_token from done
     → TapsNondecreasingFrom token some
 nondecreasing_within from token done some trailing taps whole nondecreasing is =
     let rest = nondecreasing_append from done (some ++ trailing)

@@ -173,7 +173,8 @@ pub both_runs : (origin : ℕ → Origin) (start middle end : ℕ) (part_of : Li
 both_runs origin start middle end part_of parts lists more ends later r s t one other joined =
     record {
       files = one.files ++ other.files;
-      read = both_joined origin start middle end one.files other.files r s t one.read other.read joined;
+      read = both_joined origin start middle end one.files other.files r s t one.read other.read
+          joined;
       tokens = All-append HasValidTokens one.files other.files one.tokens other.tokens;
       inside = both_split part_of parts one.files other.files lists more ends later one.inside
           other.inside;

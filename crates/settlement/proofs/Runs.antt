@@ -31,7 +31,8 @@ whole_rest position taps =
     take_all (length taps - position) (drop position taps) (omega (arith, long))
 
 -- the first taps are below those from the edge on
-pub edge_below : (taps : List TapFields) (position run : ℕ) → IsEdge taps position → position ≤ length taps
+pub edge_below : (taps : List TapFields) (position run : ℕ) → IsEdge taps position
+    → position ≤ length taps
     → AreTapsBelow (take position taps) (take run (drop position taps))
 edge_below taps position run edge within =
     λ i d inside. λ j e there.
@@ -42,7 +43,8 @@ edge_below taps position run edge within =
     let j_run : j < run = omega (arith, there, j_low) in
     let j_in : position + j < length taps = omega (arith, there, j_low, left) in
     ap (λ (t : TapFields). token_cmp (token_of_tap t)
-    (token_of_tap (get_or (take run (drop position taps)) j e))) (get_or-take position taps i d i_low)
+    (token_of_tap (get_or (take run (drop position taps)) j e)))
+    (get_or-take position taps i d i_low)
     ∙ ap (λ (t : TapFields). token_cmp (token_of_tap (get_or taps i d)) (token_of_tap t))
     (get_or-take run (drop position taps) j e j_run ∙ get_or-drop position taps j e)
     ∙ ap (λ (t : TapFields). token_cmp (token_of_tap (get_or taps i d)) (token_of_tap t))
@@ -71,7 +73,8 @@ next_run fares taps position run sorted names edge within is = record {
       ∙ posted_below fares (take position taps) (take run (drop position taps))
       (to_tokens (take position taps) (take run (drop position taps))
       (edge_below taps position run edge within))
-      ∙ ap (λ (ts : List TapFields). posted fares (take position taps) ++ posted fares (take run ts))
+      ∙ ap (λ (ts : List TapFields). posted fares (take position taps) ++ posted fares
+      (take run ts))
       (sym rest);
   room = λ entries few.
       let both = length-append entries (posted fares (take run (from position taps))) in
@@ -135,7 +138,8 @@ run_below fares taps position run before edge within is below =
     let B : List Token → List TapFields → Type 0 =
     λ tokens ts. AreBelow tokens (map token_of_tap (take run ts)) in
     let P : Token → Type 0 =
-    λ token. All (λ o. token_cmp token o ≡ Less) (map token_of_tap (take run (drop position taps))) in
+    λ token. All (λ o. token_cmp token o ≡ Less)
+    (map token_of_tap (take run (drop position taps))) in
     let old : AreBelow (map token_of before) (map token_of_tap (take run (drop position taps))) =
     All-weaker (λ token. All (λ o. token_cmp token o ≡ Less) (map token_of_tap taps)) P
     (λ token all. narrow token taps position run all) (map token_of before) below in

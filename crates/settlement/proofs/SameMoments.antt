@@ -52,7 +52,8 @@ stale_answer fares earlier entry (Some position) at known not =
     (reply_stale (rules_of fares (bytes_of entry.token)) earlier (tap_of fares entry)
     (mode_of_position position) (ap (option_map mode_of_position) at) not)
 
-pub same_moment_is_stale : (fares : Fares) (before : List Entry) (entry : Entry) (after : List Entry)
+pub same_moment_is_stale : (fares : Fares) (before : List Entry) (entry : Entry)
+    (after : List Entry)
     → IsLegal fares (before ++ entry ∷ after) → HasSameMoment fares before entry
     → is_some (mode_at fares entry.moment entry.validator) ≡ true → entry.answer ≡ Stale
 unfolding IsReplied

@@ -110,7 +110,8 @@ module _ (uploads : List (List ℕ)) (ends : List UploadEnd) (parts : List (List
       → IsCanonical (map fields_of valid) (flat_map (λ list. list) lists)
   whole_order lists zip =
       let as_many = sym (AllZip-long IsCanonical parts lists zip) in
-      positions_are_canonical position_of (ranges_in_order split.bounds) (map fields_of valid) split.tokens
+      positions_are_canonical position_of (ranges_in_order split.bounds) (map fields_of valid)
+      split.tokens
       lists
       (subst (λ n. All (λ tap. position_of tap < n) (map fields_of valid)) as_many all_within)
       (λ position inside.

@@ -143,7 +143,8 @@ pub next_edge : (taps : List TapFields) (position run : ℕ) (token : Token) →
 next_edge taps position run token sorted names edge within same next some =
     λ i j d low high inside. by_position i j d low high inside (cases_lt i position)
   where
-    by_position : (i j : ℕ) (d : TapFields) → i < position + run → position + run ≤ j → j < length taps
+    by_position : (i j : ℕ) (d : TapFields) → i < position + run → position + run ≤ j
+        → j < length taps
         → (i < position) ⊎ (position ≤ i)
         → token_cmp (token_of_tap (get_or taps i d)) (token_of_tap (get_or taps j d)) ≡ Less
     by_position i j d low high inside (inl before) =

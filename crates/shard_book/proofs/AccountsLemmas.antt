@@ -12,7 +12,8 @@ use Rattle.account_rule.specs.TokenRules.{TokenRules}
 use Rattle.account_rule.specs.Represents.{Represents}
 use Rattle.shard_book.specs.declared.accounts.Accounts.{Accounts}
 use Rattle.shard_book.specs.declared.accounts.KeptAccount.{KeptAccount}
-use Rattle.shard_book.specs.inside.Accounts.{IsKept, IsKeptOrFresh, HasPositionFor, IsPosition, StillRepresents}
+use Rattle.shard_book.specs.inside.Accounts.{IsKept, IsKeptOrFresh, HasPositionFor, IsPosition}
+use Rattle.shard_book.specs.inside.Accounts.{StillRepresents}
 use Rattle.shard_book.specs.inside.Accounts.{counted, kept_at}
 use Rattle.histories.specs.Counts.{sums_of_counts}
 use Rattle.shard_book.specs.inside.Packed.{KeepPositions, tokens_of}
@@ -54,7 +55,8 @@ kept_in (Some pair) other = pair.1
 
 -- what stands at a token's place is what was kept of it, or fresh
 pub found : {old new : Accounts} {token there : Token} {position : ℕ} {here : KeptAccount}
-    → HasPositionFor old new token position → slice_get new.map.entries position ≡ Some (there, here)
+    → HasPositionFor old new token position
+    → slice_get new.map.entries position ≡ Some (there, here)
     → IsKeptOrFresh (kept_at old token) here
 unfolding kept_in
 found {old} {new} {token} {there} {position} {here} made at =
@@ -71,7 +73,8 @@ at_position accounts token there position kept same at is =
     record { kept = kept; at = at ∙ ap (λ (t : Token). Some (t, kept)) same; is = is }
 
 -- what is at its place need not be made
-pub made_before : (accounts : Accounts) (token : Token) (position : ℕ) → IsPosition accounts token position
+pub made_before : (accounts : Accounts) (token : Token) (position : ℕ)
+    → IsPosition accounts token position
     → HasPositionFor accounts accounts token position
 made_before accounts token position there =
     record {

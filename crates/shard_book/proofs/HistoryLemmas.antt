@@ -75,7 +75,8 @@ ended left (first ∷ right) position past within same =
 
 -- so lists of two lengths differ at the end of the shorter
 pub ends-apart : (left right : List Entry) (position : ℕ) → (length left ≡ length right → ⊥)
-    → position ≡ min (length left) (length right) → slice_get left position ≡ slice_get right position → ⊥
+    → position ≡ min (length left) (length right)
+    → slice_get left position ≡ slice_get right position → ⊥
 ends-apart left right position apart is same =
     ⊎_elim
     (λ (shorter : length left < length right). ended left right position (omega arith) (omega arith)

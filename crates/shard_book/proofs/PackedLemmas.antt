@@ -99,7 +99,8 @@ answer-same packed token answer is =
 
 -- a packed entry stands for the entry of the token at its place
 pub entry-at : (tokens : List Token) (packed : PackedEntry) (token : Token)
-    → slice_get tokens packed.position ≡ Some token → entry_of tokens packed ≡ with_token packed token
+    → slice_get tokens packed.position ≡ Some token
+    → entry_of tokens packed ≡ with_token packed token
 unfolding entry_of
 entry-at tokens packed token at =
     ap (λ (found : Option Token). with_token packed (unwrap_or found no_token)) at
@@ -170,7 +171,8 @@ history-same before after packed next same placed keep =
 
 -- and with one entry more for one more
 pub history-push : (before after : List Token) (packed next : List PackedEntry) (more : PackedEntry)
-    (entry : Entry) → next ≡ packed ++ more ∷ [] → ArePlaced before packed → KeepPositions before after
+    (entry : Entry) → next ≡ packed ++ more ∷ [] → ArePlaced before packed
+    → KeepPositions before after
     → entry_of after more ≡ entry → history_of after next ≡ history_of before packed ++ entry ∷ []
 history-push before after packed next more entry is placed keep holds =
     ap (history_of after) is

@@ -444,7 +444,8 @@ full_reported home there old a b is same f =
 pub full_pass_is : (held : ℕ) (a b : Seat) → IsPass held a → FindsFull a b → IsPass held b
 full_pass_is held a b p f = pass_goes_on held a b p f.goes_on (omega (arith, f.count))
 
-pub visit_reported : (home there : TableId) (old : PassView) (a b c : Seat) (number : ℕ) (book : Book)
+pub visit_reported : (home there : TableId) (old : PassView) (a b c : Seat) (number : ℕ)
+    (book : Book)
     (visit : List Entry) → knows home a ≡ old → there ≡ home → HasBookOut a b number book
     → c ≡ gave_back b visit
     → IsLegal b.0.opened.book.value.table (history_of_visits (visits_of b.0.marks ++ visit ∷ []))

@@ -28,7 +28,8 @@ pub all_posted : (numbers : List ℕ) → are_posted (map Posted numbers) ≡ tr
 all_posted [] = refl
 all_posted (number ∷ numbers) = all_posted numbers
 
-pub plain_ends : (files : List (List ℕ)) (lists : List (List TapFields)) → AreSortedFiles files lists
+pub plain_ends : (files : List (List ℕ)) (lists : List (List TapFields))
+    → AreSortedFiles files lists
     → ArePlainEnds files (map Posted (map length lists))
 plain_ends [] [] sorted = tt
 plain_ends [] (list ∷ lists) sorted =

@@ -249,7 +249,8 @@ parts_ended fares files [] are whole = absurd whole
 parts_ended fares files (part ∷ parts) are whole =
     subst (λ (ns : List ℕ). ArePlainEnds files (map Posted ns))
     (counted_parts fares files part parts are)
-    (plain_ends files (rests files (part ∷ parts)) (whole_files fares files (part ∷ parts) are whole))
+    (plain_ends files (rests files (part ∷ parts))
+    (whole_files fares files (part ∷ parts) are whole))
 
 -- ---- the taps of all parts
 -- all taps of the parts are in canonical order, and the histories are theirs
@@ -351,7 +352,8 @@ pub record AreSettledParts (fares : Fares) (files : List (List ℕ)) (parts : Li
 
 pub settled_parts : (fares : Fares) (files : List (List ℕ)) (parts : List PartView)
     → ArePartsOf fares files parts → AreWhole (map (λ (part : PartView). part.spans) parts)
-    → AreIncreasing (map (λ (part : PartView). part.history) parts) → AreSettledParts fares files parts
+    → AreIncreasing (map (λ (part : PartView). part.history) parts)
+    → AreSettledParts fares files parts
 settled_parts fares files parts are whole increase =
     let all = all_taps fares files parts are increase in
     record {

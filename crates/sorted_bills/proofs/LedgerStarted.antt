@@ -76,7 +76,8 @@ batch_bytes : (layout : Layout) (bytes : List ℕ) (taps : List Tap) → IsBatch
 batch_bytes layout bytes taps is all =
     let body = flat_map (spelling layout) taps in
     let spelled = subst (λ bytes. All Byte bytes) is.spelled all in
-    let counted = All-back Byte (magic layout) (is.count ++ (0 ∷ 0 ∷ (shared layout ++ body))) spelled
+    let counted = All-back Byte (magic layout) (is.count ++ (0 ∷ 0 ∷ (shared layout ++ body)))
+    spelled
     in
     let zeros = All-back Byte is.count (0 ∷ 0 ∷ (shared layout ++ body)) counted in
     let after = All-tail Byte 0 (shared layout ++ body)
@@ -172,7 +173,8 @@ known_started : (fares : Fares) (known : List (Option (List ℕ))) (all : List (
 known_started fares known all lists started least start after law are sorted is least_is settled
     so_far =
     let (readers, consumed) = so_far.consumed all are in
-    let (rest, merged) = goes_on all lists started consumed.to so_far.taps sorted is consumed.taken in
+    let (rest, merged) =
+    goes_on all lists started consumed.to so_far.taps sorted is consumed.taken in
     let taps = so_far.taps ++ rest in
     let canonical = law lists taps (λ k d inside.
     subst (λ list. IsSorted tap_cmp list) (get_or_default lists k [] d inside)
@@ -210,11 +212,13 @@ pub ledger_started : (fares : Fares) (known : List (Option (List ℕ))) (numbers
     → IsSettledHistory fares all (posted fares taps))
     → IsStartedSoFar fares known [] started least start head_text after
     → HasStartedLedger fares known start after
-ledger_started fares known numbers started least start after law counted is least_is settled so_far =
+ledger_started fares known numbers started least start after law counted is least_is settled
+    so_far =
     elim (known_or_not known) [
       | inl are ↦
           let files = counted are.0 are.1 in
-          known_started fares known are.0 files.lists started least start after law are.1 files.sorted
+          known_started fares known are.0 files.lists started least start after law are.1
+          files.sorted
           (is are.0 are.1) least_is (settled are.0) so_far
       | inr none ↦ (
         head_text ++ so_far.lines,

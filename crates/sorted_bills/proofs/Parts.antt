@@ -34,7 +34,8 @@ UpTo last tap = IsUpTo (token_of_tap tap) last
 pub nondecreasing_between : (from : Token) (taps : List TapFields) → TapsNondecreasingFrom from taps
     → All (From from) taps × All (UpTo (last_token from taps)) taps
     × IsUpTo from (last_token from taps)
-nondecreasing_between from [] nondecreasing = (All-nil (From from), All-nil (UpTo from), up_itself from)
+nondecreasing_between from [] nondecreasing =
+    (All-nil (From from), All-nil (UpTo from), up_itself from)
 nondecreasing_between from (tap ∷ taps) (up, nondecreasing) =
     let token = token_of_tap tap in
     let last = last_token token taps in

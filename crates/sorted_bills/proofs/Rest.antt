@@ -98,7 +98,8 @@ left_started files lists started sorted is =
     let count = is.number in
     record {
       number = omega (arith, number, count);
-      each = λ k d inside. left_at_begin (get_or files k []) (get_or started k d) (get_or lists k [])
+      each = λ k d inside. left_at_begin (get_or files k []) (get_or started k d)
+          (get_or lists k [])
           (is.each k d inside) (sorted.each k (omega (arith, inside, count)));
     }
 

@@ -41,7 +41,8 @@ both_taken known old mid new xs ys first rest = record {
 }
 
 -- one tap more, which is not below the last token
-pub nondecreasing_more : (from : Token) (xs : List TapFields) (tap : TapFields) → TapsNondecreasingFrom from xs
+pub nondecreasing_more : (from : Token) (xs : List TapFields) (tap : TapFields)
+    → TapsNondecreasingFrom from xs
     → IsUpTo (last_token from xs) (token_of_tap tap) → TapsNondecreasingFrom from (xs ++ tap ∷ [])
 nondecreasing_more from [] tap nondecreasing up = (up, tt)
 nondecreasing_more from (x ∷ xs) tap (first, nondecreasing) up =
@@ -70,7 +71,8 @@ one_follows from taps last tap token are early named is up = record {
 pub nondecreasing_both : (from : Token) (xs ys : List TapFields) → TapsNondecreasingFrom from xs
     → TapsNondecreasingFrom (last_token from xs) ys → TapsNondecreasingFrom from (xs ++ ys)
 nondecreasing_both from [] ys first rest = rest
-nondecreasing_both from (x ∷ xs) ys (up, first) rest = (up, nondecreasing_both (token_of_tap x) xs ys first rest)
+nondecreasing_both from (x ∷ xs) ys (up, first) rest =
+    (up, nondecreasing_both (token_of_tap x) xs ys first rest)
 
 -- 16 bytes that a token is made of name it
 pub has_name : (tap : TapFields) (token : Token) → bytes_of token ≡ tap.token → Fits token

@@ -291,7 +291,8 @@ span_alike files positions ones others spans aligned many ends = record {
 -- ---- one file more
 pub placed_more : (files : List (List ℕ)) (positions : List Position) (readers : List TapReader)
     (position : Position) (reader : TapReader) → length positions ≡ length readers
-    → ArePlaced files positions readers → IsPlacedAnew (get_or files (length readers) []) position reader
+    → ArePlaced files positions readers
+    → IsPlacedAnew (get_or files (length readers) []) position reader
     → ArePlaced files (positions ++ position ∷ []) (readers ++ reader ∷ [])
 placed_more files positions readers position reader number placed at = record {
   each = λ k p d inside. each_more

@@ -53,7 +53,8 @@ module _ (readers : List TapReader) (tree : List Head) (is : IsRanked readers tr
       by_child (is.inner (position / 2) (omega (arith, more)) (omega (arith, within)) d)
       (cases_eq position (2 * (position / 2)))
     where
-      by_child : IsChosen (get_or tree (2 * (position / 2)) d) (get_or tree (2 * (position / 2) + 1) d)
+      by_child : IsChosen (get_or tree (2 * (position / 2)) d)
+          (get_or tree (2 * (position / 2) + 1) d)
           (get_or tree (position / 2) d)
           → (position ≡ 2 * (position / 2)) ⊎ (position ≢ 2 * (position / 2))
           → IsNotAfter (get_or tree 1 d).tap (get_or tree position d).tap
@@ -67,10 +68,12 @@ module _ (readers : List TapReader) (tree : List Head) (is : IsRanked readers tr
 
   -- the root is not after any other
   below_root : (fuel position : ℕ) (d : Head) → position ≤ fuel → 0 < position
-      → position < 2 * length readers → IsNotAfter (get_or tree 1 d).tap (get_or tree position d).tap
+      → position < 2 * length readers
+      → IsNotAfter (get_or tree 1 d).tap (get_or tree position d).tap
   below_root zero position d most some within = absurd (omega (arith, most, some))
   below_root (suc fuel) position d most some within =
-      by_case (cases_lt 1 position) (λ low up in_tree. below_root fuel (position / 2) d low up in_tree)
+      by_case (cases_lt 1 position)
+      (λ low up in_tree. below_root fuel (position / 2) d low up in_tree)
     where
       by_case : (1 < position) ⊎ (position ≤ 1)
           → (position / 2 ≤ fuel → 0 < position / 2 → position / 2 < 2 * length readers
@@ -95,7 +98,8 @@ module _ (readers : List TapReader) (tree : List Head) (is : IsRanked readers tr
   of_reader (suc fuel) position d enough some within =
       by_case (cases_lt position (length readers))
       (λ e. of_reader fuel (2 * position) d (omega (arith, enough, some)) (omega (arith, some)) e)
-      (λ e. of_reader fuel (2 * position + 1) d (omega (arith, enough, some)) (omega (arith, some)) e)
+      (λ e. of_reader fuel (2 * position + 1) d (omega (arith, enough, some)) (omega (arith, some))
+      e)
     where
       by_case : (position < length readers) ⊎ (length readers ≤ position)
           → (2 * position < 2 * length readers → IsOfReader (2 * position) d)
@@ -113,7 +117,8 @@ module _ (readers : List TapReader) (tree : List Head) (is : IsRanked readers tr
         where
           by_child : (get_or tree position d ≡ get_or tree (2 * position) d)
               ⊎ (get_or tree position d ≡ get_or tree (2 * position + 1) d)
-              → IsOfReader (2 * position) d → IsOfReader (2 * position + 1) d → IsOfReader position d
+              → IsOfReader (2 * position) d → IsOfReader (2 * position + 1) d
+              → IsOfReader position d
           by_child (inl same) (k, low, leaf) other = (k, low, same ∙ leaf)
           by_child (inr same) other (k, low, leaf) = (k, low, same ∙ leaf)
 

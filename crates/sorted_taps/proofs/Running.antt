@@ -108,7 +108,8 @@ module _ (files : List (List ℕ)) (at : ℕ) (other : Option TapFields) where
         subst (λ rs. AreTaken files (set readers at mid) run rs) (set-set readers at mid new)
             (run_taken run (set readers at mid) mid new (omega (arith, long, within))
             (λ k d low apart.
-            subst (λ r. IsNotAfter other (head_of r)) (sym (get_or-set_other readers at k mid d apart))
+            subst (λ r. IsNotAfter other (head_of r))
+            (sym (get_or-set_other readers at k mid d apart))
             (others k d (omega (arith, long, low)) apart))
             (λ d. get_or-set_same readers at mid d within) rest),
       )

@@ -146,7 +146,8 @@ pub consumed_on : (files : List (List ℕ)) (from readers end : List TapReader)
     → ((k : ℕ) (d : TapReader) → k < length readers
     → IsAlignedWith (get_or readers k d).passed (get_or end k d) (get_or span.end.items k d))
     → HaveConsumed files from (before ++ taps) end
-consumed_on files from readers end before taps span consumed is started at_begin sized ended at_end =
+consumed_on files from readers end before taps span consumed is started at_begin sized ended
+    at_end =
     let more : ℕ → ℕ = λ k. get_or (map (λ (r : TapReader). r.passed) readers) k 0 in
     let number = consumed.aligned.number in
     let begins = is.begins.number in
@@ -168,7 +169,8 @@ consumed_on files from readers end before taps span consumed is started at_begin
             number = omega (arith, a, b, e, base);
           };
     } in
-    let (last, taken, holds) = all_shifted files more consumed.to is.from taps is.consumed.to shifted
+    let (last, taken, holds) =
+    all_shifted files more consumed.to is.from taps is.consumed.to shifted
     is.consumed.taken in
     let as_long = holds.number in
     record {

@@ -20,7 +20,8 @@ none_added position_of lists = record {
 -- the fields of the taps at a place, in two lists
 pub fields-append : (position_of : List ℕ → ℕ) (position : ℕ) (xs ys : List Tap)
     → map fields_of (taps_at position_of position (xs ++ ys))
-    ≡ map fields_of (taps_at position_of position xs) ++ map fields_of (taps_at position_of position ys)
+    ≡ map fields_of (taps_at position_of position xs) ++ map fields_of
+    (taps_at position_of position ys)
 fields-append position_of position xs ys =
     ap (map fields_of) (filter-append (λ tap. position_of tap.token == position) xs ys)
     ∙ map-append fields_of (taps_at position_of position xs) (taps_at position_of position ys)
@@ -32,10 +33,12 @@ both_added position_of xs ys old now new one other = record {
   number = other.number ∙ one.number;
   each = λ position within.
       other.each position (subst (λ n. position < n) (sym one.number) within)
-      ∙ ap (λ fields. fields ++ map fields_of (taps_at position_of position ys)) (one.each position within)
+      ∙ ap (λ fields. fields ++ map fields_of (taps_at position_of position ys))
+      (one.each position within)
       ∙ append_assoc (get_or old position []) (map fields_of (taps_at position_of position xs))
       (map fields_of (taps_at position_of position ys))
-      ∙ ap (λ fields. get_or old position [] ++ fields) (sym (fields-append position_of position xs ys));
+      ∙ ap (λ fields. get_or old position [] ++ fields)
+      (sym (fields-append position_of position xs ys));
 }
 
 -- the taps of one batch more are added

@@ -30,7 +30,8 @@ pub field_within : (fields : List (List ℕ)) (position : ℕ) (value : List ℕ
 unfolding field_at
 field_within [] position value is = absurd (cc)
 field_within (f ∷ fields) zero value is = omega arith
-field_within (f ∷ fields) (suc position) value is = let rest = field_within fields position value is in
+field_within (f ∷ fields) (suc position) value is = let rest =
+    field_within fields position value is in
     omega (arith, rest)
 
 -- a place within the fields has one
@@ -46,7 +47,8 @@ some_same a b o is also = cc
 
 -- in a column a row has one value
 pub value_there : (head row : List (List ℕ)) (name value : List ℕ) (position : ℕ)
-    → IsColumn head name position → HasValue head row name value → field_at row position ≡ Some value
+    → IsColumn head name position → HasValue head row name value
+    → field_at row position ≡ Some value
 value_there head row name value position column has =
     subst (λ (p : ℕ). field_at row p ≡ Some value) (column.once has.position has.column.named)
     has.field
@@ -88,15 +90,18 @@ zip_more R [] (b ∷ ys) x y all is = absurd all
 zip_more R (a ∷ xs) [] x y all is = absurd all
 zip_more R (a ∷ xs) (b ∷ ys) x y all is = (all.0, zip_more R xs ys x y all.1 is)
 
-pub positions_more : (head : List (List ℕ)) (only : List Condition) (positions more : List ℕ) (k : ℕ)
-    (d : Condition) (position : ℕ) → AllZip (IsPositionOf head) (take k only) positions → k < length only
+pub positions_more : (head : List (List ℕ)) (only : List Condition) (positions more : List ℕ)
+    (k : ℕ)
+    (d : Condition) (position : ℕ) → AllZip (IsPositionOf head) (take k only) positions
+    → k < length only
     → more ≡ positions ++ position ∷ [] → IsPositionOf head (slice_index_or only k d) position
     → AllZip (IsPositionOf head) (take (k + 1) only) more
 positions_more head only positions more k d position all within pushed is =
     subst (λ ps. AllZip (IsPositionOf head) (take (k + 1) only) ps) (sym pushed)
     (subst (λ cs. AllZip (IsPositionOf head) cs (positions ++ position ∷ []))
     (sym (take_more only k d within))
-    (zip_more (IsPositionOf head) (take k only) positions (slice_index_or only k d) position all is))
+    (zip_more (IsPositionOf head) (take k only) positions (slice_index_or only k d) position all
+    is))
 
 -- what a search of the whole head has found
 pub column_found : (head : List (List ℕ)) (name : List ℕ) (end : ℕ) (found : Option ℕ)
@@ -166,12 +171,14 @@ wrong_moment choice head row bytes number text why.Moment token validator has no
     }
 
 -- what a validator's field stands for, by the number or by the device
-pub number_represents : (devices : Option (Bor DeviceTable)) (text : List ℕ) (made : Result ℕ Reason)
+pub number_represents : (devices : Option (Bor DeviceTable)) (text : List ℕ)
+    (made : Result ℕ Reason)
     → devices ≡ None → IfOk made (IsValidator text) → IfOk made (RepresentsValidator devices text)
 number_represents devices text made none is =
     subst (λ d. IfOk made (RepresentsValidator d text)) (sym none) is
 
-pub no_number_represents : (devices : Option (Bor DeviceTable)) (text : List ℕ) (made : Result ℕ Reason)
+pub no_number_represents : (devices : Option (Bor DeviceTable)) (text : List ℕ)
+    (made : Result ℕ Reason)
     → devices ≡ None → IfErr made (λ reason. (reason ≡ why.Validator) × IsNoValidator text)
     → IfErr made (IsWrongValidator devices text)
 no_number_represents devices text (Ok number) none is = tt
@@ -179,7 +186,8 @@ no_number_represents devices text (Err reason) none is =
     subst (IsWrongValidator devices text) (sym is.0)
     (subst (λ d. IsNoNumber d text) (sym none) is.1)
 
-pub device_represents : (devices : Option (Bor DeviceTable)) (table : Bor DeviceTable) (text : List ℕ)
+pub device_represents : (devices : Option (Bor DeviceTable)) (table : Bor DeviceTable)
+    (text : List ℕ)
     (made : Result ℕ Reason) → devices ≡ Some table
     → IfOk made (λ number. validator_of (devices_of table.now) text ≡ Some number)
     → IfOk made (RepresentsValidator devices text)
@@ -219,7 +227,8 @@ only_there head [] [] k all none = none
 only_there head [] (p ∷ positions) k all none = absurd all
 only_there head (c ∷ only) [] k all none = absurd all
 only_there head (c ∷ only) (p ∷ positions) zero all none = none p all.0
-only_there head (c ∷ only) (p ∷ positions) (suc k) all none = only_there head only positions k all.1 none
+only_there head (c ∷ only) (p ∷ positions) (suc k) all none =
+    only_there head only positions k all.1 none
 
 pub no_wanting : (choice : Choice) (head : List (List ℕ)) (positions : Positions)
     → ArePositions choice head positions → (column : Wanted) → ¬ (IsWanting choice head column)
@@ -231,8 +240,10 @@ no_wanting choice head positions are (wanted.Only k) none =
 
 -- a field that was not got is not there
 pub none_there : (fields : List (List ℕ)) (position : ℕ) (got : Option (Bor (List ℕ)))
-    → option_map (λ s. s.now) got ≡ field_at fields position → got ≡ None → ¬ (position < length fields)
-none_there fields position None is none within = let there = (field_there fields position within).1 in
+    → option_map (λ s. s.now) got ≡ field_at fields position → got ≡ None
+    → ¬ (position < length fields)
+none_there fields position None is none within = let there =
+    (field_there fields position within).1 in
     absurd (cc (is, there))
 none_there fields position (Some x) is none within = absurd (cc none)
 
@@ -259,7 +270,8 @@ pub met_more : (head row : List (List ℕ)) (only : List Condition) (positions :
     → field_at row (slice_index_or positions k e) ≡ Some (slice_index_or only k d).value.now
     → ((j : ℕ) (f : Condition) → j < k → IsMet head row (slice_index_or only j f))
     → (j : ℕ) (f : Condition) → j < k + 1 → IsMet head row (slice_index_or only j f)
-met_more head row only positions k d e all within field before j f inside = by_position (position j inside)
+met_more head row only positions k d e all within field before j f inside =
+    by_position (position j inside)
   where
     position : (j : ℕ) → j < k + 1 → (j < k) ⊎ (j ≡ k)
     position j inside = grind (arith, inside)

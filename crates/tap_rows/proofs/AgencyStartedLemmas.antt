@@ -50,7 +50,8 @@ pub going_started : {R : Type 0} (remaining : R → Option (List ℕ)) (choice :
     new_refused
     → ((taps : List TapFields) → AreWritten old here waiting taps → AreStarted taps old there)
     → IfSome text (λ bytes. IsUploadStarted choice bytes old there)
-going_started remaining choice positions None count reader waiting summary old here there old_refused
+going_started remaining choice positions None count reader waiting summary old here there
+    old_refused
     new_refused going started = tt
 going_started remaining choice positions (Some bytes) count reader waiting summary old here there
     old_refused new_refused going started =
@@ -74,7 +75,8 @@ pub going_kept : {R : Type 0} (remaining : R → Option (List ℕ)) (choice : Ch
     → IfSome text (λ bytes. IsUploadStarted choice bytes old here)
 going_kept remaining choice positions text count reader waiting summary old here old_refused
     new_refused going =
-    going_started remaining choice positions text count reader waiting summary old here here old_refused
+    going_started remaining choice positions text count reader waiting summary old here here
+    old_refused
     new_refused going (λ taps is. still_waiting old here waiting taps is)
 
 -- an upload that was written whole

@@ -144,7 +144,8 @@ pub devices_more : {R : Type 0} (remaining : R → Option (List ℕ)) (separator
     → HasConsumed remaining separator text (rows ++ row ∷ []) after)
     → IsDeviceRow row device → validator_of old device.0 ≡ None → new ≡ old ++ device ∷ []
     → HasDevices remaining separator text (count + 1) after new
-devices_more remaining separator text count reader after old new row device has consumed is none more =
+devices_more remaining separator text count reader after old new row device has consumed is none
+    more =
     subst (HasDevices remaining separator text (count + 1) after) (sym more) (record {
       rows = has.rows ++ row ∷ [];
       consumed = consumed (device_head ∷ has.rows) has.consumed;
@@ -163,9 +164,11 @@ pub row_fault : {R : Type 0} (remaining : R → Option (List ℕ)) (separator : 
     → ((rows : List (List (List ℕ))) → HasConsumed remaining separator text rows reader
     → HasConsumed remaining separator text (rows ++ row ∷ []) after)
     → number ≡ count + 2 → IsRowFault devices number row f → IsFaultBy separator text f
-row_fault remaining separator text count number reader after devices row fault.Head has consumed position
+row_fault remaining separator text count number reader after devices row fault.Head has consumed
+    position
     is = absurd is
-row_fault remaining separator text count number reader after devices row (fault.Row at why) has consumed
+row_fault remaining separator text count number reader after devices row (fault.Row at why) has
+    consumed
     position is =
     let there = consumed (device_head ∷ has.rows) has.consumed in
     record {

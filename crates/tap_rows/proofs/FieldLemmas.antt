@@ -69,7 +69,8 @@ before_last (x ∷ v) (y ∷ w) e =
     ap (λ z. z ∷ v) first ∙ ap (λ zs. y ∷ zs) (before_last v w tails)
 
 -- a field's text stands for one value at most
-pub one_value : (text value other : List ℕ) → FieldRepresents text value → FieldRepresents text other
+pub one_value : (text value other : List ℕ) → FieldRepresents text value
+    → FieldRepresents text other
     → value ≡ other
 one_value text value other (inl is) (inl also) = sym is.same ∙ also.same
 one_value text value other (inl is) (inr also) = absurd (is.unquoted (other ++ 34 ∷ []) also)

@@ -62,7 +62,8 @@ one_waits old new waiting taps tap is = record {
 }
 
 -- ---- from row to row
-pub going_first : {R : Type 0} (remaining : R → Option (List ℕ)) (choice : Choice) (positions : Positions)
+pub going_first : {R : Type 0} (remaining : R → Option (List ℕ)) (choice : Choice)
+    (positions : Positions)
     (text : Option (List ℕ)) (reader : Reader R) (waiting : List TapFields) (summary : Summary)
     (out old_refused new_refused : Option (List ℕ)) (head : List (List ℕ))
     → ArePositions choice head positions
@@ -70,7 +71,8 @@ pub going_first : {R : Type 0} (remaining : R → Option (List ℕ)) (choice : C
     → HasConsumed remaining choice.separator bytes (head ∷ []) reader) → waiting ≡ []
     → IsSummary [] [] summary
     → Appends old_refused new_refused (refusals_head choice.separator head)
-    → IsGoing remaining choice positions text 0 reader waiting summary out out old_refused new_refused
+    → IsGoing remaining choice positions text 0 reader waiting summary out out old_refused
+    new_refused
 going_first remaining choice positions text reader waiting summary out old_refused new_refused head
     columns consumed none summary_is appended = record {
       head = head;
@@ -95,7 +97,8 @@ going_first remaining choice positions text reader waiting summary out old_refus
       summary_is = summary_is;
     }
 
-pub going_more : {R : Type 0} (remaining : R → Option (List ℕ)) (choice : Choice) (positions : Positions)
+pub going_more : {R : Type 0} (remaining : R → Option (List ℕ)) (choice : Choice)
+    (positions : Positions)
     (text : Option (List ℕ)) (count number : ℕ) (reader after : Reader R)
     (waiting more : List TapFields)
     (summary next : Summary)
@@ -107,7 +110,8 @@ pub going_more : {R : Type 0} (remaining : R → Option (List ℕ)) (choice : Ch
     → ((bytes : List ℕ) (rows : List (List (List ℕ)))
     → HasConsumed remaining choice.separator bytes rows reader
     → HasConsumed remaining choice.separator bytes (rows ++ row ∷ []) after)
-    → ((head : List (List ℕ)) → ArePositions choice head positions → IsParseOf choice head row reading)
+    → ((head : List (List ℕ)) → ArePositions choice head positions
+    → IsParseOf choice head row reading)
     → AreEncodable (λ tap. tap.moment) more
     → ((taps : List TapFields) → AreWritten old here waiting taps
     → AreWritten old there more (taps ++ tap_of reading))
@@ -119,7 +123,8 @@ pub going_more : {R : Type 0} (remaining : R → Option (List ℕ)) (choice : Ch
     → IsSummary (rows ++ row ∷ []) (readings ++ reading ∷ []) next)
     → IsGoing remaining choice positions text (count + 1) after more next old there old_refused
     there_refused
-going_more remaining choice positions text count number reader after waiting more summary next old here
+going_more remaining choice positions text count number reader after waiting more summary next old
+    here
     there old_refused here_refused there_refused row reading going position consumed is_parse room
     written appended counted =
     let long : length going.readings ≡ length going.rows =
@@ -134,7 +139,8 @@ going_more remaining choice positions text count number reader after waiting mor
       rows = going.rows ++ row ∷ [];
       readings = going.readings ++ reading ∷ [];
       columns = going.columns;
-      consumed = λ bytes known. consumed bytes (going.head ∷ going.rows) (going.consumed bytes known);
+      consumed = λ bytes known. consumed bytes (going.head ∷ going.rows)
+          (going.consumed bytes known);
       each = parses_more choice going.head going.rows going.readings row reading going.each
           (is_parse going.head going.columns);
       number = omega (arith, going.number, length-append going.rows (row ∷ []));
@@ -148,14 +154,16 @@ going_more remaining choice positions text count number reader after waiting mor
     }
 
 -- at the end of the text
-pub going_end : {R : Type 0} (remaining : R → Option (List ℕ)) (choice : Choice) (positions : Positions)
+pub going_end : {R : Type 0} (remaining : R → Option (List ℕ)) (choice : Choice)
+    (positions : Positions)
     (text : Option (List ℕ)) (count : ℕ) (reader : Reader R) (waiting : List TapFields)
     (summary : Summary)
     (old here there old_refused new_refused : Option (List ℕ))
     → IsGoing remaining choice positions text count reader waiting summary old here old_refused
     new_refused
     → ((bytes : List ℕ) (rows : List (List (List ℕ)))
-    → HasConsumed remaining choice.separator bytes rows reader → HasRecords choice.separator bytes rows)
+    → HasConsumed remaining choice.separator bytes rows reader
+    → HasRecords choice.separator bytes rows)
     → ((taps : List TapFields) → AreWritten old here waiting taps → AreWritten old there [] taps)
     → IfSome text (λ bytes. IsRowsEncoded choice bytes old there old_refused new_refused summary)
 going_end remaining choice positions None count reader waiting summary old here there old_refused

@@ -33,7 +33,8 @@ started_none text out = record {
 }
 
 -- nothing was written yet, of a reader whose text may be known
-pub started_known : (left out : Option (List ℕ)) → IfSome left (λ text. IsPartlyWritten text out out)
+pub started_known : (left out : Option (List ℕ))
+    → IfSome left (λ text. IsPartlyWritten text out out)
 started_known None out = tt
 started_known (Some text) out = started_none text out
 
@@ -57,7 +58,8 @@ front_rows text (tap ∷ taps) more rest (row, is) =
     let front = front_rows (drop_through 10 text) taps more rest is in (front.0, (row, front.1))
 
 pub started_writing : (text : List ℕ) (now : Option (List ℕ)) (count : ℕ) (pending : List TapFields)
-    (old new : Option (List ℕ)) → Writing text now count pending old new → IsPartlyWritten text old new
+    (old new : Option (List ℕ)) → Writing text now count pending old new
+    → IsPartlyWritten text old new
 started_writing text now count pending old new writing =
     let front = front_rows (drop_through 10 text) writing.done pending writing.reached.left
     writing.reached.rows in

@@ -8,7 +8,8 @@ use Rattle.std.specs.Prelude.{All}
 use Rattle.tap_views.specs.Layout.{Tap, Layout, Tap1, Tap2, IsBatch, IsTapOf, spelling}
 use Rattle.std.specs.List.{AllByRecursion}
 use Rattle.tap_views.specs.Files.{IsFile, taps_of_batches, AreValidTaps, AreValidTapsOfEach}
-use Rattle.tap_views.specs.Files.{HasNoBatch, HasUniqueParse, GivesBatch, ValidBatchesView, IsReadAs}
+use Rattle.tap_views.specs.Files.{HasNoBatch, HasUniqueParse, GivesBatch, ValidBatchesView}
+use Rattle.tap_views.specs.Files.{IsReadAs}
 use Rattle.tap_views.specs.declared.fault.LayoutFault.{LayoutFault}
 
 -- the rest of an upload is no longer than the upload

@@ -33,7 +33,8 @@ pub positions_more : (shard shards at : ℕ) (taps : List Tap) (tap : Tap)
 positions_more shard shards at [] tap = grind arith
 positions_more shard shards at (first ∷ taps) tap =
     let rest : positions_from shard shards (suc at) (taps ++ tap ∷ [])
-    ≡ positions_from shard shards (suc at) taps ++ position_of shard shards (suc at + length taps) tap
+    ≡ positions_from shard shards (suc at) taps ++ position_of shard shards (suc at + length taps)
+    tap
     = positions_more shard shards (suc at) taps tap in
     grind (arith, rest)
 
@@ -75,7 +76,8 @@ hold_more n lists taps tap own grown number is below grows held shard within =
 -- places in a batch give the shard's taps again
 -- the taps of `all` at places
 abbrev at_positions : List Tap → List ℕ → List Tap
-at_positions all positions = flat_map (λ position. option_to_list (slice_get all position)) positions
+at_positions all positions =
+    flat_map (λ position. option_to_list (slice_get all position)) positions
 
 -- if the first tap stands at its place in all
 run_step : (shard shards : ℕ) (before taps : List Tap) (tap : Tap) (own : Bool)
@@ -104,8 +106,10 @@ positions_run shard shards before (tap ∷ taps) =
     rw length-append (omega arith) in
     let rest : at_positions (before ++ tap ∷ taps)
     (positions_from shard shards (suc (length before)) taps) ≡ run_of shard shards taps
-    = sym (ap (λ list. at_positions list (positions_from shard shards (suc (length before)) taps)) all)
-    ∙ sym (ap (λ at. at_positions ((before ++ tap ∷ []) ++ taps) (positions_from shard shards at taps))
+    = sym (ap (λ list. at_positions list (positions_from shard shards (suc (length before)) taps))
+    all)
+    ∙ sym (ap
+    (λ at. at_positions ((before ++ tap ∷ []) ++ taps) (positions_from shard shards at taps))
     count)
     ∙ positions_run shard shards (before ++ tap ∷ []) taps in
     run_step shard shards before taps tap (shard_of_token tap.token shards == shard) rest
@@ -150,7 +154,8 @@ kept_left None shard shards taps kept = refl
 kept_left (Some positions) shard shards taps kept = rw kept (positions_run shard shards [] taps)
 
 pub kept_below : (positions : Option (Bor (List ℕ))) (shard shards : ℕ) (taps : List Tap)
-    → ArePositionsKept positions (positions_from shard shards 0 taps) → ArePositionsBelow positions (length taps)
+    → ArePositionsKept positions (positions_from shard shards 0 taps)
+    → ArePositionsBelow positions (length taps)
 kept_below None shard shards taps kept = tt
 kept_below (Some positions) shard shards taps kept =
     rw kept (positions_below shard shards 0 (length taps) taps (omega arith))

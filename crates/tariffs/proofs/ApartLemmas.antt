@@ -169,7 +169,8 @@ last_started-split n (r ∷ rest) zero front back =
     rw after
 last_started-split n (r ∷ rest) (suc i) front back =
     let before : nat_le r.0 n ≡ true = front 0 r (omega arith) (omega arith) in
-    let ih = last_started-split n rest i (λ k d low high. front (suc k) d (omega arith) (omega arith))
+    let ih = last_started-split n rest i
+    (λ k d low high. front (suc k) d (omega arith) (omega arith))
     (λ k d low high. back (suc k) d (omega arith) (omega arith)) in
     rw (last_of_cons r (take i rest), ih, before)
 
@@ -183,24 +184,28 @@ holds-increases (r ∷ s ∷ more) holds =
     let below : nat_lt r.0 s.0 ≡ true = grind (arith, nat_tests, two.begins, two.ends) in
     rw (below, holds-increases (s ∷ more) two.rest)
 
-increasing_adjacent : (firsts : List ℕ) → is_increasing firsts ≡ true → (k d : ℕ) → suc k < length firsts
+increasing_adjacent : (firsts : List ℕ) → is_increasing firsts ≡ true → (k d : ℕ)
+    → suc k < length firsts
     → get_or firsts k d < get_or firsts (suc k) d
 increasing_adjacent [] increasing k d inside = absurd (omega arith)
 increasing_adjacent (x ∷ []) increasing k d inside = absurd (omega arith)
 increasing_adjacent (x ∷ y ∷ more) increasing zero d inside =
     leb-true _ _ (and_parts (nat_lt x y) (is_increasing (y ∷ more)) increasing).0
 increasing_adjacent (x ∷ y ∷ more) increasing (suc k) d inside =
-    increasing_adjacent (y ∷ more) (and_parts (nat_lt x y) (is_increasing (y ∷ more)) increasing).1 k d
+    increasing_adjacent (y ∷ more) (and_parts (nat_lt x y) (is_increasing (y ∷ more)) increasing).1
+    k d
     (omega arith)
 
-increases : (firsts : List ℕ) → is_increasing firsts ≡ true → IsNonDecreasingBy (λ first. first) firsts
+increases : (firsts : List ℕ) → is_increasing firsts ≡ true
+    → IsNonDecreasingBy (λ first. first) firsts
 increases firsts increasing =
     IsNonDecreasingBy-from_all_adjacent (λ first. first) firsts
     (λ k d inside. rw add-one
     (let below = increasing_adjacent firsts increasing k d (omega arith) in omega (arith, below)))
 
 -- rising numbers are not below their places
-pub increasing-reaches : (firsts : List ℕ) → is_increasing firsts ≡ true → (k d : ℕ) → k < length firsts
+pub increasing-reaches : (firsts : List ℕ) → is_increasing firsts ≡ true → (k d : ℕ)
+    → k < length firsts
     → k ≤ get_or firsts k d
 increasing-reaches firsts increasing zero d inside = omega arith
 increasing-reaches firsts increasing (suc k) d inside =
@@ -232,7 +237,8 @@ find-all p q (x ∷ xs) all =
 
 parted : (n : ℕ) (firsts : List ℕ) → is_increasing firsts ≡ true
     → IsPartitionedBy (λ first. nat_le first n) firsts
-parted n firsts increasing = IsPartitionedBy-leb (λ first. first) firsts n (increases firsts increasing)
+parted n firsts increasing =
+    IsPartitionedBy-leb (λ first. first) firsts n (increases firsts increasing)
 
 halved : (n : ℕ) (firsts : List ℕ) (base size : ℕ) (d : ℕ) → is_increasing firsts ≡ true
     → IsSplitAt n firsts base size → 1 < size → base + size ≤ length firsts

@@ -133,7 +133,8 @@ next_month-found day year month (suc more) found above below started later =
       | inl before ↦
           let same : month ≡ found = elim (cases_lt month found) [
             | inl less ↦
-                let here = started month (omega arith) less in absurd (omega (arith, ints, before.1))
+                let here = started month (omega arith) less in
+                absurd (omega (arith, ints, before.1))
             | inr not_less ↦ omega arith
           ] in
           rw before.0 (ap (λ m. days_from_civil year m 1) same)

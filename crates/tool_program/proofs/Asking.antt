@@ -5,7 +5,8 @@ use Rattle.tool_words.specs.Request.{request_by, request_in, usage_error}
 use Rattle.tool_words.specs.ToolLine.{Parses, breaks, breaks_rule, program}
 use Rattle.tool_words.specs.declared.usage_error.UsageError.TheVariants.{Arguments}
 
-breaking : (o : Option (Text × List Row)) → ¬ (breaks o ≡ false) → request_in o ≡ usage_error Arguments
+breaking : (o : Option (Text × List Row)) → ¬ (breaks o ≡ false)
+    → request_in o ≡ usage_error Arguments
 breaking None not_so = absurd (not_so refl)
 breaking (Some e) not_so = go (breaks_rule e.0 e.1) refl
   where

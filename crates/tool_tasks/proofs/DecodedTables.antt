@@ -158,7 +158,8 @@ stops_again words loaded refused end end' fault unwritten out mid out' said said
       written = written_of_writing end' unwritten out out'
           (tap_table_of (stops.reported ++ stops.last)) (inl is)
           (begins_kept out mid out' (tap_table_of (stops.reported ++ stops.last))
-          (written_started fault out mid (tap_table_of (stops.reported ++ stops.last)) stops.written)
+          (written_started fault out mid (tap_table_of (stops.reported ++ stops.last))
+          stops.written)
           kept);
       right = right_of_writing refused stops.rest end' unwritten (inl is);
       lines = stops.lines;

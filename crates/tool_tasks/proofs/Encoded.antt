@@ -5,7 +5,8 @@ use Rattle.std.proofs.KnownBytes.{Appends-kept}
 use Rattle.fare_texts.proofs.Beginnings.{begins_kept}
 use Rattle.program_manners.specs.declared.output.WriteEnd.{WriteEnd}
 use Rattle.program_manners.specs.declared.output.WriteEnd.TheVariants as writes
-use Rattle.tap_rows.specs.TapTables.{IsBadRow, IsPartlyWritten, IsEncoded, IsOfTapTable, IsRowsFault}
+use Rattle.tap_rows.specs.TapTables.{IsBadRow, IsPartlyWritten, IsEncoded, IsOfTapTable}
+use Rattle.tap_rows.specs.TapTables.{IsRowsFault}
 use Rattle.tap_rows.specs.declared.column.Column.{Column}
 use Rattle.tap_rows.specs.declared.fault.RowsFault.{RowsFault}
 use Rattle.tap_rows.specs.declared.fault.RowsFault.TheVariants as rows

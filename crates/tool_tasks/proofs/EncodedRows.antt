@@ -336,7 +336,8 @@ wrong_devices word separator text loaded loaded' unread devices.NoMemory NoMemor
 wrong_devices word separator text loaded loaded' unread fault reported is opened wrong = absurd is
 
 -- the choice, by the table that was lent
-pub choice_of : (words : RowsWords) (table : Option DeviceTable) (provided : Option (Bor DeviceTable))
+pub choice_of : (words : RowsWords) (table : Option DeviceTable)
+    (provided : Option (Bor DeviceTable))
     (choice : Choice) → option_copied provided ≡ table
     → IsChoice words (option_map (λ d. devices_of d.now) provided) choice
     → IsChoice words (option_map devices_of table) choice
@@ -365,7 +366,8 @@ not_started words name word choice loaded loaded' unread unstarted failed end ne
 not_started words name word choice loaded loaded' unread unstarted failed end newly.Unmade
     (Unmade named) out is why =
     inl (inr (is, why (λ e. absurd (cc e))), Keeps-refl out)
-not_started words name word choice loaded loaded' unread unstarted failed end newly.NoMemory NoMemory
+not_started words name word choice loaded loaded' unread unstarted failed end newly.NoMemory
+    NoMemory
     out is why = inl (inl tt, Keeps-refl out)
 not_started words name word choice loaded loaded' unread unstarted failed end fault reported out is
     why = absurd is

@@ -1,5 +1,6 @@
 -- The file of an upload's good part.
-use Rattle.std.proofs.Common.{◌≡◌, ◌≢◌, ◌⊎◌, ℕ, Bool, true, false, List, Option, None, Some, Err, Ok}
+use Rattle.std.proofs.Common.{◌≡◌, ◌≢◌, ◌⊎◌, ℕ, Bool, true, false, List, Option, None, Some, Err}
+use Rattle.std.proofs.Common.{Ok}
 use Rattle.std.proofs.Common.{Result, inl, inr, refl, subst, sym, true≢false}
 use Rattle.std.specs.Prelude.{IfErr, IfOk, is_none, is_some, not}
 use Rattle.program_manners.specs.Loads.{Loaded}

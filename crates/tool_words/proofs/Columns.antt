@@ -27,7 +27,8 @@ parts_found word (Some p) at =
     (λ i. Some (at.0 i, at.1 i))
 
 -- the words with one more
-pub texts_more : (words : List (Bor Text)) (position : ℕ) (other : Bor Text) → position < length words
+pub texts_more : (words : List (Bor Text)) (position : ℕ) (other : Bor Text)
+    → position < length words
     → texts_of (take (position + 1) words)
     ≡ texts_of (take position words) ++ (get_or words position other).now ∷ []
 texts_more words position other within =
@@ -86,7 +87,8 @@ conditions_more words position other conditions more condition within is before 
     let word = (get_or words position other).now in
     let known : is_some (parts_of word) ≡ true = ap is_some (sym is) in
     let all : have_parts (texts_of (take position words) ++ word ∷ []) ≡ true =
-    list_all-append (λ (w : Text). is_some (parts_of w)) (texts_of (take position words)) (word ∷ [])
+    list_all-append (λ (w : Text). is_some (parts_of w)) (texts_of (take position words))
+    (word ∷ [])
     ∙ rw (before.0, known) refl in (
       ap have_parts (texts_more words position other within) ∙ all,
       ap (map condition_of) adds ∙ map-append condition_of conditions (condition ∷ [])
@@ -96,7 +98,8 @@ conditions_more words position other conditions more condition within is before 
     )
 
 -- a word is not COLUMN=VALUE
-pub lacks_parts : (words : List (Bor Text)) (position : ℕ) (other : Bor Text) → position < length words
+pub lacks_parts : (words : List (Bor Text)) (position : ℕ) (other : Bor Text)
+    → position < length words
     → None ≡ parts_of (get_or words position other).now → None ≡ conditions_in (texts_of words)
 lacks_parts words position other within none =
     let not_all : have_parts (texts_of words) ≡ false =

@@ -21,7 +21,8 @@ returns-clause-ended g c =
     × ArePlainEnds files made.ends.items
     × AreSettledTaps files (flat_map (λ list. list.items) made.lists.items))
     (λ made. ArePlainEnds (map bytes_in uploads) made.ends.items)
-    (λ made is. subst (λ fs. ArePlainEnds fs made.ends.items) (same_files uploads is.0 before after is.1) is.2)
+    (λ made is. subst (λ fs. ArePlainEnds fs made.ends.items)
+    (same_files uploads is.0 before after is.1) is.2)
     c.settled_taps.ensures
 
 pub returns-clause-order : goal.returns-clause-order

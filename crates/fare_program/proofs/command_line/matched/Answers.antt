@@ -49,15 +49,26 @@ only_workers (suc (suc (suc zero))) e lt same = absurd (true≢false (sym same))
 only_workers (suc (suc (suc (suc zero)))) e lt same = absurd (true≢false (sym same))
 only_workers (suc (suc (suc (suc (suc zero))))) e lt same = refl
 only_workers (suc (suc (suc (suc (suc (suc zero)))))) e lt same = absurd (true≢false (sym same))
-only_workers (suc (suc (suc (suc (suc (suc (suc zero))))))) e lt same = absurd (true≢false (sym same))
-only_workers (suc (suc (suc (suc (suc (suc (suc (suc zero)))))))) e lt same = absurd (true≢false (sym same))
-only_workers (suc (suc (suc (suc (suc (suc (suc (suc (suc zero))))))))) e lt same = absurd (true≢false (sym same))
-only_workers (suc (suc (suc (suc (suc (suc (suc (suc (suc (suc zero)))))))))) e lt same = absurd (true≢false (sym same))
-only_workers (suc (suc (suc (suc (suc (suc (suc (suc (suc (suc (suc zero))))))))))) e lt same = absurd (true≢false (sym same))
-only_workers (suc (suc (suc (suc (suc (suc (suc (suc (suc (suc (suc (suc zero)))))))))))) e lt same = absurd (true≢false (sym same))
-only_workers (suc (suc (suc (suc (suc (suc (suc (suc (suc (suc (suc (suc (suc zero))))))))))))) e lt same = absurd (true≢false (sym same))
-only_workers (suc (suc (suc (suc (suc (suc (suc (suc (suc (suc (suc (suc (suc (suc zero)))))))))))))) e lt same = absurd (true≢false (sym same))
-only_workers (suc (suc (suc (suc (suc (suc (suc (suc (suc (suc (suc (suc (suc (suc (suc j))))))))))))))) e lt same = absurd (omega arith)
+only_workers (suc (suc (suc (suc (suc (suc (suc zero))))))) e lt same =
+    absurd (true≢false (sym same))
+only_workers (suc (suc (suc (suc (suc (suc (suc (suc zero)))))))) e lt same =
+    absurd (true≢false (sym same))
+only_workers (suc (suc (suc (suc (suc (suc (suc (suc (suc zero))))))))) e lt same =
+    absurd (true≢false (sym same))
+only_workers (suc (suc (suc (suc (suc (suc (suc (suc (suc (suc zero)))))))))) e lt same =
+    absurd (true≢false (sym same))
+only_workers (suc (suc (suc (suc (suc (suc (suc (suc (suc (suc (suc zero))))))))))) e lt same =
+    absurd (true≢false (sym same))
+only_workers (suc (suc (suc (suc (suc (suc (suc (suc (suc (suc (suc (suc zero)))))))))))) e lt
+    same = absurd (true≢false (sym same))
+only_workers (suc (suc (suc (suc (suc (suc (suc (suc (suc (suc (suc (suc (suc zero))))))))))))) e lt
+    same = absurd (true≢false (sym same))
+only_workers
+    (suc (suc (suc (suc (suc (suc (suc (suc (suc (suc (suc (suc (suc (suc zero)))))))))))))) e lt
+    same = absurd (true≢false (sym same))
+only_workers
+    (suc (suc (suc (suc (suc (suc (suc (suc (suc (suc (suc (suc (suc (suc (suc j))))))))))))))) e lt
+    same = absurd (omega arith)
 
 only_shards : (j : ℕ) (e : Rule) → j < length program.top.rules
     → bytes_eq (slice_index_or program.top.rules j e).id (codes "shards") ≡ true → j ≡ 6
@@ -69,15 +80,25 @@ only_shards (suc (suc (suc zero))) e lt same = absurd (true≢false (sym same))
 only_shards (suc (suc (suc (suc zero)))) e lt same = absurd (true≢false (sym same))
 only_shards (suc (suc (suc (suc (suc zero))))) e lt same = absurd (true≢false (sym same))
 only_shards (suc (suc (suc (suc (suc (suc zero)))))) e lt same = refl
-only_shards (suc (suc (suc (suc (suc (suc (suc zero))))))) e lt same = absurd (true≢false (sym same))
-only_shards (suc (suc (suc (suc (suc (suc (suc (suc zero)))))))) e lt same = absurd (true≢false (sym same))
-only_shards (suc (suc (suc (suc (suc (suc (suc (suc (suc zero))))))))) e lt same = absurd (true≢false (sym same))
-only_shards (suc (suc (suc (suc (suc (suc (suc (suc (suc (suc zero)))))))))) e lt same = absurd (true≢false (sym same))
-only_shards (suc (suc (suc (suc (suc (suc (suc (suc (suc (suc (suc zero))))))))))) e lt same = absurd (true≢false (sym same))
-only_shards (suc (suc (suc (suc (suc (suc (suc (suc (suc (suc (suc (suc zero)))))))))))) e lt same = absurd (true≢false (sym same))
-only_shards (suc (suc (suc (suc (suc (suc (suc (suc (suc (suc (suc (suc (suc zero))))))))))))) e lt same = absurd (true≢false (sym same))
-only_shards (suc (suc (suc (suc (suc (suc (suc (suc (suc (suc (suc (suc (suc (suc zero)))))))))))))) e lt same = absurd (true≢false (sym same))
-only_shards (suc (suc (suc (suc (suc (suc (suc (suc (suc (suc (suc (suc (suc (suc (suc j))))))))))))))) e lt same = absurd (omega arith)
+only_shards (suc (suc (suc (suc (suc (suc (suc zero))))))) e lt same =
+    absurd (true≢false (sym same))
+only_shards (suc (suc (suc (suc (suc (suc (suc (suc zero)))))))) e lt same =
+    absurd (true≢false (sym same))
+only_shards (suc (suc (suc (suc (suc (suc (suc (suc (suc zero))))))))) e lt same =
+    absurd (true≢false (sym same))
+only_shards (suc (suc (suc (suc (suc (suc (suc (suc (suc (suc zero)))))))))) e lt same =
+    absurd (true≢false (sym same))
+only_shards (suc (suc (suc (suc (suc (suc (suc (suc (suc (suc (suc zero))))))))))) e lt same =
+    absurd (true≢false (sym same))
+only_shards (suc (suc (suc (suc (suc (suc (suc (suc (suc (suc (suc (suc zero)))))))))))) e lt same =
+    absurd (true≢false (sym same))
+only_shards (suc (suc (suc (suc (suc (suc (suc (suc (suc (suc (suc (suc (suc zero))))))))))))) e lt
+    same = absurd (true≢false (sym same))
+only_shards (suc (suc (suc (suc (suc (suc (suc (suc (suc (suc (suc (suc (suc (suc zero))))))))))))))
+    e lt same = absurd (true≢false (sym same))
+only_shards
+    (suc (suc (suc (suc (suc (suc (suc (suc (suc (suc (suc (suc (suc (suc (suc j))))))))))))))) e lt
+    same = absurd (omega arith)
 
 workers_given : (c : Command) (m : ArgMatches) → app_of c ≡ program → IsParsedFrom c m
     → HasNumber 16 (codes "workers") (rows_of (found_of m))

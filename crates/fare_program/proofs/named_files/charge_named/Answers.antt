@@ -28,7 +28,8 @@ returns-then-options-clause-ok g c =
       drawn = [];
       read = settled_prefetched request origin words is.0 _ _ some are c.if-options.true is.2;
       text = is.1;
-      shows = settled_request request c.args.table.now is.0 [] c.args.token is.1 success c.if-options.true
+      shows = settled_request request c.args.table.now is.0 [] c.args.token is.1 success
+          c.if-options.true
           is.3;
       written = is.4;
     })

@@ -39,7 +39,8 @@ pub returns-in_err-bytes-clause-right : goal.returns-in_err-bytes-clause-right
 returns-in_err-bytes-clause-right g c =
     let none : c.is_empty.result ≡ nat_eq (length c.args.names.now) 0 = c.is_empty.ensures in
     IfErr_handed_on c.from_residual.result c.in_err-bytes.field-0.0
-    (λ f. (request : Request) (under : List ℕ → Option (List ℕ)) (loaded after : Option (List Loaded))
+    (λ f. (request : Request) (under : List ℕ → Option (List ℕ))
+    (loaded after : Option (List Loaded))
     → request.files ≡ map (λ n. n.now) c.args.names.now
     → IsRightFault request under loaded after _ f)
     c.from_residual.ensures.1
@@ -50,7 +51,8 @@ pub returns-in_err-bytes-2-clause-right : goal.returns-in_err-bytes-2-clause-rig
 returns-in_err-bytes-2-clause-right g c =
     let no_name : Bor (List ℕ) = record { ref_ptr = (0, 0); now = [] } in
     IfErr_handed_on c.from_residual-in_err-bytes-2.result c.in_err-bytes-2.field-0.0
-    (λ f. (request : Request) (under : List ℕ → Option (List ℕ)) (loaded after : Option (List Loaded))
+    (λ f. (request : Request) (under : List ℕ → Option (List ℕ))
+    (loaded after : Option (List Loaded))
     → request.files ≡ map (λ n. n.now) c.args.names.now
     → IsRightFault request under loaded after _ f)
     c.from_residual-in_err-bytes-2.ensures.1

@@ -4,5 +4,6 @@ use Rattle.fare_program.proofs.program.load_files.Given as goal
 
 abbrev pub invariant-loop-name : goal.invariant-loop-name
 invariant-loop-name g l =
-    LoadsFiles (map (λ n. Some n.now) (take l.name-index l.names)) (g.S.FileSource.loaded l.fn.source)
+    LoadsFiles (map (λ n. Some n.now) (take l.name-index l.names))
+    (g.S.FileSource.loaded l.fn.source)
     (g.S.FileSource.loaded l.source) (map (λ f. f.items) l.files.items)

@@ -9,4 +9,5 @@ returns-in-Err-clause-right g c = λ request under loaded after none.
     c.of_load.ensures.right request under loaded after (g.S.FileSource.refused c.input.new.self)
     (inr (subst (λ (names : List (List ℕ)). IsOneOf (codes "standard input") (names_reported names))
     (sym none) (inl refl)))
-    (has_refused (g.S.FileSource.refused c.input.new.self) None c.in-Err.fault c.in-Err.ensures.fault)
+    (has_refused (g.S.FileSource.refused c.input.new.self) None c.in-Err.fault
+    c.in-Err.ensures.fault)

@@ -32,9 +32,11 @@ returns-in-Ok-work-clause-done g c = λ parses zero.
     let mine = request_of c.in-Ok.options in
     let mid = g.W.Write.contents c.work.new.out.writer in
     let success = c.finish.ensures.success zero in
-    subst (λ (request : Request). Does request under origin loaded loaded' out last true) c.in-Ok.ensures.request
+    subst (λ (request : Request). Does request under origin loaded loaded' out last true)
+    c.in-Ok.ensures.request
     (does_kept mine under origin loaded loaded' out mid last true c.finish.ensures.kept
-    (subst (λ (b : Bool). Does mine under origin loaded loaded' out mid b) success.0 c.in-Ok-work.ensures.ok))
+    (subst (λ (b : Bool). Does mine under origin loaded loaded' out mid b) success.0
+    c.in-Ok-work.ensures.ok))
 
 -- of the words that are no command line, help or the version is asked for
 asks_for : (words : List Text) (kind : ErrorKind) → IsRequest kind
@@ -86,11 +88,13 @@ returns-clause-faults g c = λ one.
         line_reported = c.report.ensures.line;
         write_failed = λ write. subst (λ (e : Option WriteEnd). e ≢ None) c.end.ensures
             (write_remembered end fault (sym reported ∙ write));
-        left = subst (λ (f : Fault). IsLeftBy request under origin loaded loaded' out out' f) (sym reported)
+        left = subst (λ (f : Fault). IsLeftBy request under origin loaded loaded' out out' f)
+            (sym reported)
             (left_remembered request under origin loaded loaded' out out' end fault
             (λ write late. c.in-Err-work.ensures.fault write
             (λ sorted is. late (subst (λ (a : Request). a.sorted ≡ true) same sorted) is))
-            (λ write of_bytes. subst (λ (a : Request). HasStarted a under origin loaded loaded' out out') same
+            (λ write of_bytes. subst
+            (λ (a : Request). HasStarted a under origin loaded loaded' out out') same
             (c.in-Err-work.ensures.started write
             (subst (λ (a : Request). AreOfBytes a under) (sym same) of_bytes))));
       },
@@ -127,7 +131,8 @@ returns-in-Ok-work-clause-faults g c = λ one.
         record {
           line_reported = unflushed.1.line_reported;
           write_failed = λ write. unflushed.1.write_failed;
-          left = λ of_bytes. started_done request under origin loaded loaded' out last c.in-Ok-work.succeeded
+          left = λ of_bytes. started_done request under origin loaded loaded' out last
+              c.in-Ok-work.succeeded
               done;
         },
       )))

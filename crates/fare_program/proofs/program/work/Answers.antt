@@ -38,7 +38,8 @@ returns-in-Some-2-clause-ok g c =
     let between = g.S.FileSource.loaded c.load_table.new.source in
     let last = g.S.FileSource.loaded c.charge_prefetched.new.source in
     let success = c.in-Some-2.success in
-    let done : IsChargedPrefetched request origin between last c.in_ok-table.table c.in_ok-token.token
+    let done : IsChargedPrefetched request origin between last c.in_ok-table.table
+    c.in_ok-token.token
     (Appends out new) success =
     subst (λ d. IfSome d (IsChargedPrefetched request origin between last c.in_ok-table.table
     c.in_ok-token.token (Appends out new))) c.in-Some-2.is c.in_ok-success.ensures.done in
@@ -50,7 +51,8 @@ returns-in-Some-2-clause-ok g c =
 pub returns-clause-ok : goal.returns-clause-ok
 returns-clause-ok g c =
     IfOk-weaker c.work_by_table.result _ _
-    (λ success done. does_untraced (request_of c.args.options.now) (g.D.Disk.bytes_under c.args.disk.now) (g.D.Disk.origin c.args.disk.now)
+    (λ success done. does_untraced (request_of c.args.options.now)
+    (g.D.Disk.bytes_under c.args.disk.now) (g.D.Disk.origin c.args.disk.now)
     _ _ _ _ success
     c.if-options.false (done _ _ (subst (λ after. LoadsTable (request_of c.args.options.now).table
     (g.S.FileSource.loaded c.args.source.now) after c.in_ok-table.table)
@@ -97,7 +99,8 @@ load_table-requires g c = c.in_ok-token.ensures.dates
 pub returns-then-options-clause-ok : goal.returns-then-options-clause-ok
 returns-then-options-clause-ok g c =
     IfOk-weaker c.work_traced.result _ _
-    (λ success runs. does_traced (request_of c.args.options.now) (g.D.Disk.bytes_under c.args.disk.now) (g.D.Disk.origin c.args.disk.now) _
+    (λ success runs. does_traced (request_of c.args.options.now)
+    (g.D.Disk.bytes_under c.args.disk.now) (g.D.Disk.origin c.args.disk.now) _
     _ _ _ success
     c.if-options.true runs)
     c.work_traced.ensures.ok
@@ -161,7 +164,8 @@ returns-in_err-table-clause-right_fault g c =
 
 -- ---- what a write that failed left
 -- no token is asked for if there is none
-no_token : (request : Option (List ℕ)) (token : Option Token) → IsTokenIn request token → token ≡ None
+no_token : (request : Option (List ℕ)) (token : Option Token) → IsTokenIn request token
+    → token ≡ None
     → request ≡ None
 no_token None token is none = refl
 no_token (Some digits) None is none = absurd is
@@ -175,7 +179,8 @@ no_usage_error fault is write = cc
 pub returns-in_err-token-clause-started : goal.returns-in_err-token-clause-started
 returns-in_err-token-clause-started g c =
     let p = err_from_is_err_and c.from_residual.result c.from_residual.ensures.1 in
-    rw p.1 (λ write other. absurd (no_usage_error _ c.in_err-token.ensures.status (sym p.2 ∙ write)))
+    rw p.1 (λ write other. absurd
+    (no_usage_error _ c.in_err-token.ensures.status (sym p.2 ∙ write)))
 
 pub returns-in_err-table-clause-started : goal.returns-in_err-table-clause-started
 returns-in_err-table-clause-started g c =
@@ -198,11 +203,14 @@ returns-in_err-success-clause-started g c =
     rw p.1 (λ write other. (
       success,
       started_by out out new started.text
-          (λ all. Does request under origin (g.S.FileSource.loaded c.args.source.now) last out all success)
+          (λ all. Does request under origin (g.S.FileSource.loaded c.args.source.now) last out all
+          success)
           (Keeps-refl out) started.written
           (λ all written. does_untraced request under origin _ _ out all success c.if-options.false
-          (does_prefetched request under origin _ between last c.in_ok-table.table c.in_ok-token.token
-          (Begins out new) out all success c.in_ok-table.ensures.ok c.in_ok-token.ensures.token started
+          (does_prefetched request under origin _ between last c.in_ok-table.table
+          c.in_ok-token.token
+          (Begins out new) out all success c.in_ok-table.ensures.ok c.in_ok-token.ensures.token
+          started
           written c.if-options-2.false)),
     ))
 
@@ -307,7 +315,8 @@ returns-in-Some-clause-started g c =
                 c.in-Some.word.now named
                 (record {
                   text = is.text;
-                  shows = λ files are. subst (λ (fares : Fares). IsPartText request.ledger fares files
+                  shows = λ files are. subst
+                      (λ (fares : Fares). IsPartText request.ledger fares files
                       is.text) (one_table table.0 f (sym table.1 ∙ same)) (is.shows files are);
                   written = is_written;
                 }),

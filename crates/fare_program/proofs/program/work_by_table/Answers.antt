@@ -25,7 +25,8 @@ returns-then-options-clause-ok g c =
     IfOk-weaker c.list.result _ _
     (λ success done loaded_before before loads is_token kept live. does_list
     (request_of c.args.options.now)
-    (g.D.Disk.bytes_under c.args.disk.now) (g.D.Disk.origin c.args.disk.now) loaded_before _ _ before _ _ success
+    (g.D.Disk.bytes_under c.args.disk.now) (g.D.Disk.origin c.args.disk.now) loaded_before _ _
+    before _ _ success
     c.args.table loads kept (map bytes_in c.deref-then-options.result.now)
     (subst (λ (fs : List (List ℕ)). LoadsFiles (names_to_load (request_of c.args.options.now).files)
     (g.S.FileSource.loaded c.args.source.now) (g.S.FileSource.loaded c.load_files.new.source) fs)
@@ -41,7 +42,8 @@ returns-in-Some-clause-ok g c =
     IfOk-weaker c.charge.result _ _
     (λ success done loaded_before before loads is_token kept live. does_charge
     (request_of c.args.options.now)
-    (g.D.Disk.bytes_under c.args.disk.now) (g.D.Disk.origin c.args.disk.now) loaded_before _ _ before _ _ success
+    (g.D.Disk.bytes_under c.args.disk.now) (g.D.Disk.origin c.args.disk.now) loaded_before _ _
+    before _ _ success
     c.args.table loads kept c.in-Some.table (map bytes_in c.in_ok-files.files.items) done.0
     c.args.token c.in-Some.is (inl loaded) is_token c.if-options.false live
     (done.1, done.2, done.3))
@@ -55,7 +57,8 @@ returns-clause-ok g c =
     IfOk-weaker c.list-in-None.result _ _
     (λ success done loaded_before before loads is_token kept live. does_list
     (request_of c.args.options.now)
-    (g.D.Disk.bytes_under c.args.disk.now) (g.D.Disk.origin c.args.disk.now) loaded_before _ _ before _ _ success
+    (g.D.Disk.bytes_under c.args.disk.now) (g.D.Disk.origin c.args.disk.now) loaded_before _ _
+    before _ _ success
     None (subst
     (LoadsTable (request_of c.args.options.now).table loaded_before
     (g.S.FileSource.loaded c.args.source.now))
@@ -92,15 +95,18 @@ returns-then-options-clause-started g c =
     let is = started write in (
       is.0,
       started_by before (g.W.Write.contents c.args.out.now) (g.W.Write.contents c.list.new.out) is.1
-          (λ all. DoesUntraced request under origin loaded_before (g.S.FileSource.loaded c.load_files.new.source)
+          (λ all. DoesUntraced request under origin loaded_before
+          (g.S.FileSource.loaded c.load_files.new.source)
           before
           all is.0)
           kept is.3
-          (λ all written. does_list request under origin loaded_before _ _ before _ all is.0 c.args.table
+          (λ all written. does_list request under origin loaded_before _ _ before _ all is.0
+          c.args.table
           loads
           kept (map bytes_in c.deref-then-options.result.now)
           (subst (λ (fs : List (List ℕ)). LoadsFiles (names_to_load request.files)
-          (g.S.FileSource.loaded c.args.source.now) (g.S.FileSource.loaded c.load_files.new.source) fs)
+          (g.S.FileSource.loaded c.args.source.now) (g.S.FileSource.loaded c.load_files.new.source)
+          fs)
           (ap (map bytes_in) (sym c.deref-then-options.ensures.value)) loaded)
           (inl c.if-options.true) (is.1, is.2, written)),
     ))
@@ -118,12 +124,15 @@ returns-in-Some-clause-started g c =
     (λ fault started write loaded_before before loads is_token kept live.
     let is = started write in (
       is.0,
-      started_by before (g.W.Write.contents c.args.out.now) (g.W.Write.contents c.charge.new.out) is.2
-          (λ all. DoesUntraced request under origin loaded_before (g.S.FileSource.loaded c.load_files.new.source)
+      started_by before (g.W.Write.contents c.args.out.now) (g.W.Write.contents c.charge.new.out)
+          is.2
+          (λ all. DoesUntraced request under origin loaded_before
+          (g.S.FileSource.loaded c.load_files.new.source)
           before
           all is.0)
           kept is.4
-          (λ all written. does_charge request under origin loaded_before _ _ before _ all is.0 c.args.table
+          (λ all written. does_charge request under origin loaded_before _ _ before _ all is.0
+          c.args.table
           loads
           kept c.in-Some.table (map bytes_in c.in_ok-files.files.items) is.1 c.args.token
           c.in-Some.is (inl loaded) is_token c.if-options.false live (is.2, is.3, written)),
@@ -144,16 +153,19 @@ returns-clause-started g c =
       is.0,
       started_by before (g.W.Write.contents c.args.out.now)
           (g.W.Write.contents c.list-in-None.new.out) is.1
-          (λ all. DoesUntraced request under origin loaded_before (g.S.FileSource.loaded c.load_files.new.source)
+          (λ all. DoesUntraced request under origin loaded_before
+          (g.S.FileSource.loaded c.load_files.new.source)
           before
           all is.0)
-          kept is.3 (λ all written. does_list request under origin loaded_before _ _ before _ all is.0 None
+          kept is.3
+          (λ all written. does_list request under origin loaded_before _ _ before _ all is.0 None
           (subst (LoadsTable request.table loaded_before (g.S.FileSource.loaded c.args.source.now))
           c.in-None.is
           loads)
           kept (map bytes_in c.deref-in-None.result.now)
           (subst (λ (fs : List (List ℕ)). LoadsFiles (names_to_load request.files)
-          (g.S.FileSource.loaded c.args.source.now) (g.S.FileSource.loaded c.load_files.new.source) fs)
+          (g.S.FileSource.loaded c.args.source.now) (g.S.FileSource.loaded c.load_files.new.source)
+          fs)
           (ap (map bytes_in) (sym c.deref-in-None.ensures.value)) loaded)
           (inr refl) (is.1, is.2, written)),
     ))

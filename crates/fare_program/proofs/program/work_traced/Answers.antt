@@ -84,7 +84,8 @@ pub returns-in_err-riders-clause-right : goal.returns-in_err-riders-clause-right
 returns-in_err-riders-clause-right g c =
     let request = request_of c.args.options.now in
     IfErr_handed_on c.from_residual-in_err-riders.result c.in_err-riders.field-0.0
-    (λ f. request.traced ≡ true → IsRightFault request (g.D.Disk.bytes_under c.args.disk.now) _ _ _ f)
+    (λ f. request.traced ≡ true
+    → IsRightFault request (g.D.Disk.bytes_under c.args.disk.now) _ _ _ f)
     c.from_residual-in_err-riders.ensures.1
     (λ traced. c.in_err-riders.ensures.right request (g.D.Disk.bytes_under c.args.disk.now) _ _ _
     (ap (option_map names_of) c.in-Some.is) traced c.in_ok-tables.ensures.ok)
@@ -93,7 +94,8 @@ pub returns-in_err-files-clause-right : goal.returns-in_err-files-clause-right
 returns-in_err-files-clause-right g c =
     let request = request_of c.args.options.now in
     IfErr_handed_on c.from_residual-in_err-files.result c.in_err-files.field-0.0
-    (λ f. request.traced ≡ true → IsRightFault request (g.D.Disk.bytes_under c.args.disk.now) _ _ _ f)
+    (λ f. request.traced ≡ true
+    → IsRightFault request (g.D.Disk.bytes_under c.args.disk.now) _ _ _ f)
     c.from_residual-in_err-files.ensures.1
     (λ traced. c.in_err-files.ensures.right request (g.D.Disk.bytes_under c.args.disk.now) _ _
     (ap (map name_in) (sym c.deref.ensures.value)))

@@ -102,7 +102,8 @@ returns c = λ files fares shards workers request token text run posted shows hi
     requested_of request.ledger request.explain files outcome fares history token text
     (ledger_same fares outcome history token text same table)
     (shown request.explain files outcome fares history token text
-    (same_report given outcome history some named here once whole c.one_increasing_list.ensures.numbers
+    (same_report given outcome history some named here once whole
+    c.one_increasing_list.ensures.numbers
     c.one_increasing_list.ensures.tokens)
     (λ t. explained_same fares outcome history t text (same t) table)
     (λ t. (same_statement given outcome history some named once whole t text).0)) shows

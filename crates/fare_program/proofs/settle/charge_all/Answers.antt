@@ -15,7 +15,8 @@ returns-then-options-clause-ok g c =
     let fares = c.args.table.now in
     let Read : List (List ℕ) → Type 0 =
     λ files. AreRead (g.U.Uploads.origin c.args.uploads.now) 0
-    (g.U.Uploads.number c.args.uploads.now) files c.args.calls.now.run c.write_ledger.new.calls.run in
+    (g.U.Uploads.number c.args.uploads.now) files c.args.calls.now.run
+    c.write_ledger.new.calls.run in
     let Written : List ℕ → Type 0 =
     λ text. Appends (g.W.Write.contents c.args.out.now) (g.W.Write.contents c.write_ledger.new.out)
     text in
@@ -25,7 +26,8 @@ returns-then-options-clause-ok g c =
     → ShowsSettled any fares files None text success) × Written text)
     (λ success. (files : List (List ℕ)) × (text : List ℕ) × Read files
     × ShowsSettled request fares files None text success × Written text)
-    (λ success is. (is.0, is.1, is.2, is.3 request c.if-options.true, is.4)) c.write_ledger.ensures.ok
+    (λ success is. (is.0, is.1, is.2, is.3 request c.if-options.true, is.4))
+    c.write_ledger.ensures.ok
 
 pub returns-clause-ok : goal.returns-clause-ok
 returns-clause-ok g c =

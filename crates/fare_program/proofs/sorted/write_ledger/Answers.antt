@@ -19,7 +19,8 @@ returns-in-Ok-clause-ok g c = λ ledger.
             history = made.history;
             is_settled = made.is_settled;
             shows = subst (λ (b : Bool). MatchBool b (IsLedgerOver fares made.history None text)
-                (IsTextOver request.explain None fares all made.history text)) (sym ledger) made.over;
+                (IsTextOver request.explain None fares all made.history text)) (sym ledger)
+                made.over;
             ends = c.in-Ok._ends.items;
             ended = c.in-Ok.ensures.ended all are;
             succeeded = sym c.in-Ok.ensures.posted;
@@ -48,7 +49,8 @@ returns-in-Err-clause-started g c = λ write ledger bytes.
             history = made.history;
             is_settled = made.is_settled;
             shows = subst (λ (b : Bool). MatchBool b (IsLedgerOver fares made.history None text)
-                (IsTextOver request.explain None fares all made.history text)) (sym ledger) made.over;
+                (IsTextOver request.explain None fares all made.history text)) (sym ledger)
+                made.over;
             ends = ends;
             ended = plain;
             succeeded = sym success;

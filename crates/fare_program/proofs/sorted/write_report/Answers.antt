@@ -48,7 +48,8 @@ returns-in_err-write_billed-in-Ok-clause-started g c =
     let ends = c.in-Ok.made.ends.items in
     rw p.1 (λ write other. record {
       text = report_over ends history;
-      shows = λ all are. shows_bill request c.args.table.now all None (report_over ends history) true
+      shows = λ all are. shows_bill request c.args.table.now all None (report_over ends history)
+          true
           (not_true request.ledger other) refl
           (record {
             history = history;

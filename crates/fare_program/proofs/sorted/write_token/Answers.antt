@@ -18,7 +18,8 @@ returns-in_ok-write_text-in-Ok-clause-ok g c =
           record {
             history = history;
             is_settled = c.posted_taps.ensures.history fares all made.order made.settled;
-            shows = shows all history (own_is ∙ ap (posted fares) (sym c.deref-in-Ok.ensures.value));
+            shows = shows all history
+                (own_is ∙ ap (posted fares) (sym c.deref-in-Ok.ensures.value));
             ends = c.in-Ok.made.ends.items;
             ended = c.in-Ok.ensures.ended all are;
             succeeded = sym c.in-Ok.ensures.posted;
@@ -45,7 +46,8 @@ returns-in_err-write_text-in-Ok-clause-started g c =
           record {
             history = history;
             is_settled = c.posted_taps.ensures.history fares all made.order made.settled;
-            shows = shows all history (own_is ∙ ap (posted fares) (sym c.deref-in-Ok.ensures.value));
+            shows = shows all history
+                (own_is ∙ ap (posted fares) (sym c.deref-in-Ok.ensures.value));
             ends = c.in-Ok.made.ends.items;
             ended = c.in-Ok.ensures.ended all are;
             succeeded = sym c.in-Ok.ensures.posted;

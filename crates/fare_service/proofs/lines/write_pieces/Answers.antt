@@ -16,7 +16,8 @@ use Rattle.fare_service.proofs.lines.write_pieces.Goals as goal
 pub loop-spot-init : goal.loop-spot-init
 loop-spot-init g c = record {
   consumed = consumed_first c.args.table.now _ (c.of-explainer.ensures.explained c.args.table.now);
-  nondecreasing = subst (λ (t : Token). NondecreasingFrom t (entries_at_spots c.args.books.now c.args.spots.now))
+  nondecreasing = subst
+      (λ (t : Token). NondecreasingFrom t (entries_at_spots c.args.books.now c.args.spots.now))
       (sym c.of-explainer.ensures.token) c.requires.nondecreasing;
   few = omega (arith, c.of-explainer.ensures.none);
   written = [];
@@ -48,7 +49,8 @@ loop-spot-preserved g c =
     let taken = seen_taken books list i _ c.loop-spot-test.true in
     let gone_on = c.go_on_to.ensures.consumed fares done inv.consumed
     (subst (λ (e : Entry). IsUpTo c.loop-spot.explainer.token e.token) (sym is)
-    (ascend_here books list i _ c.loop-spot.explainer.token c.loop-spot-test.true inv.nondecreasing)) in
+    (ascend_here books list i _ c.loop-spot.explainer.token c.loop-spot-test.true
+    inv.nondecreasing)) in
     let own_done = own c.go_on_to.new.explainer.token done in
     let line = c.in-Ok.ensures.line own_done gone_on.explained in
     let after = subst
@@ -61,9 +63,11 @@ loop-spot-preserved g c =
     record {
       consumed = subst (λ (es : List Entry). HasConsumed fares c.write_next.new.self es) (sym taken)
           (subst (λ (e : Entry). HasConsumed fares c.write_next.new.self (done ++ e ∷ [])) is next);
-      nondecreasing = subst (λ (t : Token). NondecreasingFrom t (drop (i + 1) (entries_at_spots books list)))
+      nondecreasing = subst
+          (λ (t : Token). NondecreasingFrom t (drop (i + 1) (entries_at_spots books list)))
           (sym (c.in-Ok.ensures.token ∙ c.go_on_to.ensures.token ∙ ap (λ (e : Entry). e.token) is))
-          (ascend_on books list i _ c.loop-spot.explainer.token c.loop-spot-test.true inv.nondecreasing);
+          (ascend_on books list i _ c.loop-spot.explainer.token c.loop-spot-test.true
+          inv.nondecreasing);
       few = omega (arith, c.in-Ok.ensures.number, c.go_on_to.ensures.few, inv.few);
       written = inv.written ++ line.0;
       along = subst (λ (es : List Entry). AreLinesAlong fares [] es (inv.written ++ line.0))

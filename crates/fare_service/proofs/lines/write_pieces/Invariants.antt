@@ -8,7 +8,8 @@ use Rattle.fare_service.proofs.lines.write_pieces.Given as goal
 abbrev pub invariant-loop-spot : goal.invariant-loop-spot
 invariant-loop-spot g l = record {
   consumed : HasConsumed l.table l.explainer (take l.spot-index (entries_at_spots l.books l.spots));
-  nondecreasing : NondecreasingFrom l.explainer.token (drop l.spot-index (entries_at_spots l.books l.spots));
+  nondecreasing : NondecreasingFrom l.explainer.token
+      (drop l.spot-index (entries_at_spots l.books l.spots));
   few : l.explainer.number ≤ l.spot-index;
   written : List ℕ;
   along : AreLinesAlong l.table [] (take l.spot-index (entries_at_spots l.books l.spots)) written;

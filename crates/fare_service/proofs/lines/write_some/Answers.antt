@@ -12,9 +12,11 @@ use Rattle.fare_service.proofs.lines.write_some.Goals as goal
 
 pub write_pieces-requires-clause-nondecreasing : goal.write_pieces-requires-clause-nondecreasing
 write_pieces-requires-clause-nondecreasing g c =
-    subst (λ (e : Entry). NondecreasingFrom e.token (entries_at_spots c.args.books.now c.args.spots.now))
+    subst (λ (e : Entry). NondecreasingFrom e.token
+    (entries_at_spots c.args.books.now c.args.spots.now))
     (sym c.entry.ensures)
-    (ascend_first c.args.books.now c.args.spots.now c.in-Some.first.now (sym c.in-Some.ensures.value)
+    (ascend_first c.args.books.now c.args.spots.now c.in-Some.first.now
+    (sym c.in-Some.ensures.value)
     c.requires.nondecreasing)
 
 -- no entry has no line

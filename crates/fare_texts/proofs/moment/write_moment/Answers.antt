@@ -8,5 +8,6 @@ returns c =
     put.2 ∙ ap (λ (none : List ℕ). put.0 ++ none) c.new-line.ensures ∙ append-nil put.0 in (
       put.0,
       put.1,
-      c.in_ok-append_to.ensures ∙ ap (λ (line : List ℕ). string_bytes c.args.text.now ++ line) whole,
+      c.in_ok-append_to.ensures
+          ∙ ap (λ (line : List ℕ). string_bytes c.args.text.now ++ line) whole,
     )

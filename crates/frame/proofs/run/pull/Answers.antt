@@ -3,7 +3,8 @@ use Rattle.world.specs.Run.{with_flushed}
 use Rattle.frame.specs.Ends.{no_answer}
 use Rattle.frame.specs.Tasks.{with_piece}
 use Rattle.frame.specs.declared.stop.Stop.TheVariants.{NoMemory, Unwritten}
-use Rattle.frame.proofs.Laws.{did_nothing, flush_halts, goes_end, goes_more, right_started, task_halts, write_halts}
+use Rattle.frame.proofs.Laws.{did_nothing, flush_halts, goes_end, goes_more, right_started}
+use Rattle.frame.proofs.Laws.{task_halts, write_halts}
 use Rattle.frame.proofs.run.pull.Goals as goal
 
 pub loop-init : goal.loop-init
@@ -75,7 +76,8 @@ returns-in-Err-put-clause-halted g c =
     (g.T.Task.names request) start a (g.W.Inputs.run c.next.new.files) c.next.new.piece.items
     c.in-Ok-More.field-0 c.in-Ok-More.use_of c.in-Ok-More.field-0-is
     (c.in-Ok-More.ensures.given start loads a has is) in
-    write_halts g.T.Task.right g.T.Task.names (g.T.Task.request t) (g.T.Task.request c.args.task.now)
+    write_halts g.T.Task.right g.T.Task.names (g.T.Task.request t)
+    (g.T.Task.request c.args.task.now)
     start (g.W.Inputs.run c.put.new.world) more
     (with_piece a c.in-Ok-More.use_of c.next.new.piece.items) c.in-Err-put.why
     (c.in-Ok-More.ensures.request ∙ c.loop.invariant.0) (g.met.T.Task.started t more

@@ -1,4 +1,5 @@
-use Rattle.std.proofs.Common.{◌∙◌, ◌∷◌, ◌++◌, [], ap, append_assoc, append-nil, filter, refl, subst, sym, Option, List, ℕ, option_map}
+use Rattle.std.proofs.Common.{◌∙◌, ◌∷◌, ◌++◌, [], ap, append_assoc, append-nil, filter, refl, subst}
+use Rattle.std.proofs.Common.{sym, Option, List, ℕ, option_map}
 use Rattle.std.specs.Prelude.{option_to_list}
 use Rattle.std.proofs.lemmas.Result.{err_from_is_err_and}
 use Rattle.ledger_changes.specs.Changes.{is_changed}
@@ -47,13 +48,18 @@ returns-in_default-clause-given g c = λ a b text w.
     let piece = c.loop.piece.items in
     let last = sum_in c.loop.tally.last in
     let sides = c.next_sides-has_old.ensures
-    ∙ ap (λ (row : Option LedgerRow). next_sides (row_in row) (row_in c.row-in-loop.result.now)) c.row.ensures
-    ∙ ap (λ (row : Option LedgerRow). next_sides (row_in c.loop.old.row) (row_in row)) c.row-in-loop.ensures in
+    ∙ ap (λ (row : Option LedgerRow). next_sides (row_in row) (row_in c.row-in-loop.result.now))
+    c.row.ensures
+    ∙ ap (λ (row : Option LedgerRow). next_sides (row_in c.loop.old.row) (row_in row))
+    c.row-in-loop.ensures in
     let o = rows_at g.R.Read.remaining c.row_if.new.self in
     let n = rows_at g.R.Read.remaining c.row_if-in-loop.new.self in
     let pairs = pairs_of (row_in c.in_ok-before.before) (row_in c.in_ok-after.after) in
-    let none = sym (ap (λ (pair : Option LinePair). option_to_list (option_map pair_of pair)) c.in_default.is) ∙ c.of_rows.ensures in
-    moved_end by_token (text ++ piece) (text ++ c.push_sums.new.text.items) c.loop.tally.removed last
+    let none = sym
+    (ap (λ (pair : Option LinePair). option_to_list (option_map pair_of pair)) c.in_default.is)
+    ∙ c.of_rows.ensures in
+    moved_end by_token (text ++ piece) (text ++ c.push_sums.new.text.items) c.loop.tally.removed
+    last
     o n pairs a b none (ap (λ (p : List ℕ). text ++ p) c.in_ok-push_sums.ensures
     ∙ sym (append_assoc text piece (sums_line last)))
     (moved by_token (text ++ piece) c.loop.tally.removed last o n c.loop.old.row c.loop.new.row
@@ -71,22 +77,29 @@ loop-preserved g c = record {
       let piece = c.loop.piece.items in
       let last = sum_in c.loop.tally.last in
       let sides = c.next_sides-has_old.ensures
-      ∙ ap (λ (row : Option LedgerRow). next_sides (row_in row) (row_in c.row-in-loop.result.now)) c.row.ensures
-      ∙ ap (λ (row : Option LedgerRow). next_sides (row_in c.loop.old.row) (row_in row)) c.row-in-loop.ensures in
+      ∙ ap (λ (row : Option LedgerRow). next_sides (row_in row) (row_in c.row-in-loop.result.now))
+      c.row.ensures
+      ∙ ap (λ (row : Option LedgerRow). next_sides (row_in c.loop.old.row) (row_in row))
+      c.row-in-loop.ensures in
       let o = rows_at g.R.Read.remaining c.row_if.new.self in
       let n = rows_at g.R.Read.remaining c.row_if-in-loop.new.self in
       let pairs = pairs_of (row_in c.in_ok-before.before) (row_in c.in_ok-after.after) in
       let pair = pair_of c.in-Some.pair in
-      let some = sym (ap (λ (pair : Option LinePair). option_to_list (option_map pair_of pair)) c.in-Some.is) ∙ c.of_rows.ensures in
-      moved_next by_token (text ++ piece) (lines_of_changes by_token last (filter is_changed (pair ∷ [])))
+      let some = sym
+      (ap (λ (pair : Option LinePair). option_to_list (option_map pair_of pair)) c.in-Some.is)
+      ∙ c.of_rows.ensures in
+      moved_next by_token (text ++ piece)
+      (lines_of_changes by_token last (filter is_changed (pair ∷ [])))
       (text ++ c.take_pair.new.piece.items) c.loop.tally.removed c.take_pair.new.tally.removed last
       (sum_in c.take_pair.new.tally.last) o n pairs pair a b some
       (ap (λ (p : List ℕ). text ++ p) c.in_ok-take_pair.ensures.lines
-      ∙ sym (append_assoc text piece (lines_of_changes by_token last (filter is_changed (pair ∷ [])))))
+      ∙ sym (append_assoc text piece
+      (lines_of_changes by_token last (filter is_changed (pair ∷ [])))))
       refl c.in_ok-take_pair.ensures.sums c.in_ok-take_pair.ensures.removed
       (moved by_token (text ++ piece) c.loop.tally.removed last o n c.loop.old.row c.loop.new.row
       c.in_ok-before.before c.in_ok-after.after c.loop.old.number c.loop.new.number
       (g.R.Read.remaining c.loop.old.from) (g.R.Read.remaining c.loop.new.from)
       c.next_sides-has_old.result a b sides c.in_ok-before.ensures.row c.in_ok-after.ensures.row
-      c.in_ok-before.ensures.moved c.in_ok-after.ensures.moved (c.loop.invariant.walked a b text w));
+      c.in_ok-before.ensures.moved c.in_ok-after.ensures.moved
+      (c.loop.invariant.walked a b text w));
 }

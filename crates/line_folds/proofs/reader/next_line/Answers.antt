@@ -22,7 +22,9 @@ returns-then-len-gt-MAX_LINE_BYTES g c =
 pub returns : goal.returns
 returns g c =
     let some : 0 < length c.read_until.new.buf.items = grind (arith, nat_tests) in
-    let short : nat_lt 1024 (length c.read_until.new.buf.items) ≡ false = grind (arith, nat_tests) in
-    next_whole (g.R.Read.remaining c.args.from.now) c.clear.new.self.items c.read_until.new.buf.items
+    let short : nat_lt 1024 (length c.read_until.new.buf.items) ≡ false =
+    grind (arith, nat_tests) in
+    next_whole (g.R.Read.remaining c.args.from.now) c.clear.new.self.items
+    c.read_until.new.buf.items
     (g.R.Read.remaining c.read_until.new.self) c.clear.ensures.items c.in-Ok.ensures.bytes
     c.in-Ok.ensures.rest some short

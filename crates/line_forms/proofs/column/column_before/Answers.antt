@@ -33,5 +33,6 @@ returns-in-Some-clause-within c =
     None =
     position_from_yields_List ends_column _ _ _ c.position.ensures.ran
     (YieldsList-from_slice text cc) (λ x b q k. search (rules, tests)) in
-    let same = found (ltb (column_in text) (length text)) (column_in text) c.in-Some.at (sym is ∙ c.in-Some.is) in
+    let same = found (ltb (column_in text) (length text)) (column_in text) c.in-Some.at
+    (sym is ∙ c.in-Some.is) in
     omega (arith, same, (front_column text).2)

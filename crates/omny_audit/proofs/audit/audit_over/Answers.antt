@@ -112,7 +112,8 @@ returns-in-Err-clause-ends g c =
             started_of (IsAuditText (given_in c.args.audit.now valid) whole) _ _ (now.0 ++ text)
                 (subst (λ (x : Given). (now.0 ++ text ≡ []) ⊎ IsAuditText x whole (now.0 ++ text))
                 now.1
-                (next_text c.loop-piece.audit c.next.new.self valid before.file piece (now.0 ++ text)
+                (next_text c.loop-piece.audit c.next.new.self valid before.file piece
+                (now.0 ++ text)
                 c.in-Ok-next.next.1 more
                 (ended_at c.in-Ok.count c.read_on.new.piece left c.in-Ok.ensures.bound.0
                 (λ zero. got.1 zero (omega arith)))

@@ -61,9 +61,11 @@ returns-clause-found c = λ fares text valid is balance.
         rest = wrote.0;
         shown = refl;
         even = c.is_even.result;
-        second = beside fares text valid c.args.subtracts (is_legal verdict) c.difference-difference.result
+        second = beside fares text valid c.args.subtracts (is_legal verdict)
+            c.difference-difference.result
             wrote.0 _ some legal wrote.1 c.is_even.ensures
-            (λ entries ledger. c.difference-difference.ensures valid _ (balance legal entries ledger));
+            (λ entries ledger. c.difference-difference.ensures valid _
+            (balance legal entries ledger));
         both = c.are_both.ensures ∙ ap (λ (b : Bool). c.is_even.result && b)
             (c.is_either-in_order.ensures
             ∙ ap (λ (b : Bool). c.args.live || not b) c.has_early.ensures);

@@ -38,7 +38,8 @@ returns-in_ok-found-in-None-clause-found c = λ fares valid text written has.
     let known = rw c.in-None.is at has in
     let is = c.finish-verdict.ensures.verdict fares text known.0.fed in
     let found = c.in_ok-found-in-None.ensures.found fares text valid is
-    (λ legal. c.finish-verdict.ensures.subtracted fares text c.args.balance.now valid known.0 legal) in (
+    (λ legal. c.finish-verdict.ensures.subtracted fares text c.args.balance.now valid known.0
+    legal) in (
       found.0,
       found.1,
       subst (λ (w : List ℕ). IsFinding c.args.live fares text

@@ -9,7 +9,8 @@ use Rattle.omny_audit.proofs.check.full_finding.Goals as goal
 pub returns : goal.returns
 returns c = λ fares valid text written has.
     let fully_checked = c.in_ok-fully_checked.fully_checked in
-    let ended = c.in_ok-fully_checked.ensures fares c.args.subtracts c.args.full.now text written valid
+    let ended = c.in_ok-fully_checked.ensures fares c.args.subtracts c.args.full.now text written
+    valid
     has in
     let taken = ended.0 in
     let legal = nat_eq (wrong_count taken) 0 in

@@ -1,4 +1,5 @@
-use Rattle.std.proofs.Common.{◌≡◌, List, [], true, false, refl, subst, sym, append-nil, rules, tests}
+use Rattle.std.proofs.Common.{◌≡◌, List, [], true, false, refl, subst, sym, append-nil, rules}
+use Rattle.std.proofs.Common.{tests}
 use Rattle.std.proofs.Common.{string_bytes}
 use Rattle.tap_views.specs.declared.encoder.TapFields.{TapFields}
 use Rattle.ledger_check.specs.FullBalances.{AreLacking}

@@ -7,5 +7,6 @@ pub returns-in-Err-clause-fault : goal.returns-in-Err-clause-fault
 returns-in-Err-clause-fault g c =
     let name = option_map (λ (n : Bor (List ℕ)). n.now) c.args.name in (
       ap (λ (n : Bor (List ℕ)). n.now) c.unwrap_or.ensures ∙ provided_name c.args.name _,
-      has_refused (g.S.FileSource.refused c.open.new.self) name c.in-Err.fault c.in-Err.ensures.fault,
+      has_refused (g.S.FileSource.refused c.open.new.self) name c.in-Err.fault
+          c.in-Err.ensures.fault,
     )

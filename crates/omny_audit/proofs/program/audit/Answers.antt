@@ -23,7 +23,8 @@ use Rattle.omny_audit.proofs.program.audit.Goals as goal
 pub returns-in-Err : goal.returns-in-Err
 returns-in-Err g c = record {
   is_cause = rw c.of_tables.ensures
-      (tables_cause (audit_request_of c.args.options.now) (g.S.FileSource.loaded c.args.source.now) (g.S.FileSource.loaded c.load_tables.new.source)
+      (tables_cause (audit_request_of c.args.options.now) (g.S.FileSource.loaded c.args.source.now)
+      (g.S.FileSource.loaded c.load_tables.new.source)
       (g.S.FileSource.refused c.load_tables.new.source) c.args.out.now.end
       c.in-Err.fault c.in-Err.ensures.right);
   started = started_none _ _;
@@ -35,13 +36,15 @@ returns-in_default g c = record { is_cause = tt; started = started_none _ _ }
 pub returns-in-Err-load_uploads : goal.returns-in-Err-load_uploads
 returns-in-Err-load_uploads g c =
     let request = audit_request_of c.args.options.now in record {
-      is_cause = load_cause request (g.S.FileSource.loaded c.args.source.now) (g.S.FileSource.loaded c.load_uploads.new.source)
+      is_cause = load_cause request (g.S.FileSource.loaded c.args.source.now)
+          (g.S.FileSource.loaded c.load_uploads.new.source)
           (g.S.FileSource.refused c.load_uploads.new.source) c.args.out.now.end
           request.uploads c.in-Err-load_uploads.fault
           (among_uploads request)
           (subst (λ (ns : List (Bor (List ℕ))). IsLoadFault (map (λ n. n.now) ns)
           (g.S.FileSource.loaded c.load_uploads.new.source)
-          (g.S.FileSource.refused c.load_uploads.new.source) c.in-Err-load_uploads.fault) c.as_slice-names.ensures.value
+          (g.S.FileSource.refused c.load_uploads.new.source) c.in-Err-load_uploads.fault)
+          c.as_slice-names.ensures.value
           c.in-Err-load_uploads.ensures.fault);
       started = started_none _ _;
     }
@@ -49,7 +52,8 @@ returns-in-Err-load_uploads g c =
 pub returns-in-Err-load_report : goal.returns-in-Err-load_report
 returns-in-Err-load_report g c =
     let request = audit_request_of c.args.options.now in record {
-      is_cause = load_cause request (g.S.FileSource.loaded c.args.source.now) (g.S.FileSource.loaded c.load_report.new.source)
+      is_cause = load_cause request (g.S.FileSource.loaded c.args.source.now)
+          (g.S.FileSource.loaded c.load_report.new.source)
           (g.S.FileSource.refused c.load_report.new.source) c.args.out.now.end
           (named_file request.report) c.in-Err-load_report.fault
           (among_reports request) c.in-Err-load_report.ensures.fault;
@@ -59,7 +63,8 @@ returns-in-Err-load_report g c =
 pub returns-in-Err-open_ledger : goal.returns-in-Err-open_ledger
 returns-in-Err-open_ledger g c =
     let request = audit_request_of c.args.options.now in record {
-      is_cause = load_cause request (g.S.FileSource.loaded c.args.source.now) (g.S.FileSource.loaded c.open_ledger.new.source)
+      is_cause = load_cause request (g.S.FileSource.loaded c.args.source.now)
+          (g.S.FileSource.loaded c.open_ledger.new.source)
           (g.S.FileSource.refused c.open_ledger.new.source) c.args.out.now.end
           (files_of request) (File c.in-Err-open_ledger.file) (λ name is. is)
           (file_fault (g.S.FileSource.refused c.open_ledger.new.source) (ledger_name request)
@@ -71,7 +76,8 @@ returns-in-Err-open_ledger g c =
 
 pub returns-in-Err-read_head : goal.returns-in-Err-read_head
 returns-in-Err-read_head g c = record {
-  is_cause = stream_cause (audit_request_of c.args.options.now) (g.S.FileSource.loaded c.args.source.now) (g.S.FileSource.loaded c.read_head.new.source)
+  is_cause = stream_cause (audit_request_of c.args.options.now)
+      (g.S.FileSource.loaded c.args.source.now) (g.S.FileSource.loaded c.read_head.new.source)
       (g.S.FileSource.refused c.read_head.new.source) c.args.out.now.end
       c.in-Err-read_head.fault
       (c.in-Err-read_head.ensures.fault _);
@@ -80,7 +86,8 @@ returns-in-Err-read_head g c = record {
 
 pub returns-in-Err-trace_of : goal.returns-in-Err-trace_of
 returns-in-Err-trace_of g c = record {
-  is_cause = class_cause (audit_request_of c.args.options.now) (g.S.FileSource.loaded c.args.source.now) (g.S.FileSource.loaded c.read_head.new.source)
+  is_cause = class_cause (audit_request_of c.args.options.now)
+      (g.S.FileSource.loaded c.args.source.now) (g.S.FileSource.loaded c.read_head.new.source)
       (g.S.FileSource.refused c.read_head.new.source) c.args.out.now.end
       (g.S.FileSource.loaded c.load_tables.new.source)
       (map (λ t. t.items) c.in-Ok.tables.texts.items) c.in-Ok.tables.fares
@@ -144,7 +151,8 @@ returns g c =
       texts = texts;
       loads_tables = c.in-Ok.ensures.ok;
       uploads = loaded.0;
-      loads_uploads = loads_same c.as_slice-names.result.now options.uploads.items _ _ loaded.0 names
+      loads_uploads = loads_same c.as_slice-names.result.now options.uploads.items _ _ loaded.0
+          names
           loaded.3;
       valid = loaded.1;
       are_valid = loaded.4.are_valid;

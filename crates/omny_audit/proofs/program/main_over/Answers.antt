@@ -1,4 +1,5 @@
-use Rattle.std.proofs.Common.{◌≡◌, ◌∙◌, ◌≤◌, ℕ, List, [], ap, arith, inl, inr, map, refl, string_bytes, subst, suc}
+use Rattle.std.proofs.Common.{◌≡◌, ◌∙◌, ◌≤◌, ℕ, List, [], ap, arith, inl, inr, map, refl}
+use Rattle.std.proofs.Common.{string_bytes, subst, suc}
 use Rattle.std.proofs.Common.{sym, zero}
 use Rattle.std.specs.Prelude.{◌⊎◌}
 use Rattle.std.proofs.KnownBytes.{Appends-kept, Appends-nil}
@@ -28,7 +29,8 @@ returns-in-Err-clause-ends g c = λ parses dated.
         started = record {
           front = [];
           grown = Appends-kept (g.W.Write.contents c.args.out.now.writer)
-              (g.W.Write.contents c.args.out.now.writer) (g.W.Write.contents c.show.new.out.writer) []
+              (g.W.Write.contents c.args.out.now.writer) (g.W.Write.contents c.show.new.out.writer)
+              []
               (Appends-nil (g.W.Write.contents c.args.out.now.writer)) refused.2;
           rest = [];
           right = inl refl;
@@ -88,7 +90,8 @@ returns-in-Err-clause-answers g c = λ unread.
     (λ one.
     let failed = c.show.ensures.fault one in (
       failed.0,
-      answer_cause (audit_request_by (map string_bytes c.args.words.now)) (g.S.FileSource.loaded c.args.source.now)
+      answer_cause (audit_request_by (map string_bytes c.args.words.now))
+          (g.S.FileSource.loaded c.args.source.now)
           (g.S.FileSource.loaded c.args.source.now) (g.S.FileSource.refused c.args.source.now)
           c.show.new.out.end failed.0 failed.1,
       failed.2,

@@ -7,7 +7,8 @@ use Rattle.part_texts.proofs.fronts.kept_of.Goals as goal
 
 pub returns-in-Some : goal.returns-in-Some
 returns-in-Some c =
-    kept_some (is_at (nat_cmp c.args.validator)) c.args.validators.now.entries (Some c.in-Some.kept.now)
+    kept_some (is_at (nat_cmp c.args.validator)) c.args.validators.now.entries
+    (Some c.in-Some.kept.now)
     c.in-Some.kept.now c.in-Some.ensures.value refl
 
 pub returns-in-None : goal.returns-in-None

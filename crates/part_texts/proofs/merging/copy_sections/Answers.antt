@@ -1,4 +1,5 @@
-use Rattle.std.proofs.Common.{◌≡◌, ◌∙◌, ◌+◌, ◌∷◌, [], ◌++◌, length, length-append, refl, sym, ap, subst, append_assoc, arith}
+use Rattle.std.proofs.Common.{◌≡◌, ◌∙◌, ◌+◌, ◌∷◌, [], ◌++◌, length, length-append, refl, sym, ap}
+use Rattle.std.proofs.Common.{subst, append_assoc, arith}
 use Rattle.std.proofs.lemmas.List.{nil_from_length}
 use Rattle.std.proofs.lemmas.Result.{err_from_is_err_and}
 use Rattle.part_texts.proofs.Copying.{CopiesAt, copies_all, copies_fault, copies_more, copies_none}
@@ -26,17 +27,32 @@ returns-in_err-last g c =
 pub loop-part-preserved : goal.loop-part-preserved
 loop-part-preserved g c =
     let split = c.in-Some.ensures.steps.0 in
-    let whole : length c.loop-part.yielded + length c.loop-part.part-iterator.rest.items ≡ length c.args.opens.items =
-    sym (length-append c.loop-part.yielded c.loop-part.part-iterator.rest.items) ∙ ap length c.loop-part.invariant.all in
-    let one : length c.loop-part.part-iterator.rest.items ≡ 1 + length c.next.new.self.rest.items = ap length split ∙ omega arith in
+    let whole : length c.loop-part.yielded + length c.loop-part.part-iterator.rest.items
+    ≡ length c.args.opens.items =
+    sym (length-append c.loop-part.yielded c.loop-part.part-iterator.rest.items)
+    ∙ ap length c.loop-part.invariant.all in
+    let one : length c.loop-part.part-iterator.rest.items ≡ 1 + length c.next.new.self.rest.items =
+    ap length split ∙ omega arith in
     let next : c.saturating_add-position.result ≡ c.loop-part.position + 1 =
-    omega (arith, whole, one, c.args.opens.ok.0, c.args.opens.small, c.loop-part.invariant.position, c.saturating_add-position.ensures) in
+    omega (
+      arith,
+      whole,
+      one,
+      c.args.opens.ok.0,
+      c.args.opens.small,
+      c.loop-part.invariant.position,
+      c.saturating_add-position.ensures,
+    ) in
     record {
       may = tt;
       ends = tt;
       all = append_assoc c.loop-part.yielded (c.in-Some.part ∷ []) c.next.new.self.rest.items
           ∙ ap (λ left. c.loop-part.yielded ++ left) (sym split) ∙ c.loop-part.invariant.all;
-      position = next ∙ omega (arith, c.loop-part.invariant.position, length-append c.loop-part.yielded (c.in-Some.part ∷ []));
+      position = next ∙ omega (
+        arith,
+        c.loop-part.invariant.position,
+        length-append c.loop-part.yielded (c.in-Some.part ∷ []),
+      );
       copies = subst (λ position. CopiesAt g.R.Read.remaining c.args.opens.items position
           c.in_ok-last.last c.next.new.self.rest.items (g.W.Write.contents c.args.out.now)
           (g.W.Write.contents c.copy_section.new.out)) (sym next)

@@ -19,7 +19,8 @@ returns-in_err-opens g c = λ texts are.
     let some : 0 < length c.args.parts.items =
     grind (arith, nat_tests, c.is_empty.ensures, c.if-is_empty.false) in
     rw (p.1, p.2) (merge_fault g.R.Read.remaining c.args.parts.items texts
-    (g.W.Write.contents c.args.out.now) (fronts_view c.new-fronts.result) c.in_err-opens.field-0.0 some
+    (g.W.Write.contents c.args.out.now) (fronts_view c.new-fronts.result) c.in_err-opens.field-0.0
+    some
     are c.new-fronts.ensures (c.in_err-opens.ensures texts are))
 
 pub returns : goal.returns
@@ -29,5 +30,6 @@ returns g c = λ texts are.
     let (views, opens, said) = c.in_ok-opens.ensures texts are in
     merge_whole g.R.Read.remaining c.args.parts.items texts (g.W.Write.contents c.args.out.now)
     (g.W.Write.contents c.write_whole.new.out) (fronts_view c.new-fronts.result)
-    (fronts_view c.read_fronts.new.fronts) views c.write_whole.result some are c.new-fronts.ensures said
+    (fronts_view c.read_fronts.new.fronts) views c.write_whole.result some are c.new-fronts.ensures
+    said
     (c.write_whole.ensures views opens)

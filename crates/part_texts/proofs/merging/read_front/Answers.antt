@@ -24,5 +24,6 @@ returns-in-Err g c =
     known_map _ _ (g.R.Read.remaining c.args.from.now) (λ text stops.
     subst (IsFaultOf (front_of c.args.position (fronts_view c.args.fronts.now) text))
     (sym c.fault_by.ensures)
-    (front_fault c.args.position (fronts_view c.args.fronts.now) (fronts_view c.fold_lines.new.fold) text
+    (front_fault c.args.position (fronts_view c.args.fronts.now) (fronts_view c.fold_lines.new.fold)
+    text
     (g.R.Read.remaining c.fold_lines.new.from) c.in-Err.stop stops)) c.in-Err.ensures.stops

@@ -1,4 +1,5 @@
-use Rattle.std.proofs.Common.{◌≡◌, ◌∙◌, ◌+◌, ◌∷◌, [], ◌++◌, length, length-append, refl, sym, ap, append_assoc, arith, rules}
+use Rattle.std.proofs.Common.{◌≡◌, ◌∙◌, ◌+◌, ◌∷◌, [], ◌++◌, length, length-append, refl, sym, ap}
+use Rattle.std.proofs.Common.{append_assoc, arith, rules}
 use Rattle.std.proofs.lemmas.List.{nil_from_length}
 use Rattle.std.proofs.lemmas.Result.{err_from_is_err_and}
 use Rattle.part_texts.specs.Fronts.{fronts_view}
@@ -21,14 +22,18 @@ returns-in_err-number g c =
     let split = c.in-Some.ensures.steps.0 in
     let all : c.len-count.result ≡ length c.args.parts.items = search rules in
     let at : c.len-position.result ≡ length c.loop-from.opens.items = search rules in
-    let whole : length c.loop-from.yielded + length c.loop-from.from-iterator.rest.items ≡ length c.args.parts.items =
-    sym (length-append c.loop-from.yielded c.loop-from.from-iterator.rest.items) ∙ ap length c.loop-from.invariant.all in
-    let number : c.len-count.result ≡ length c.loop-from.opens.items + length c.loop-from.from-iterator.rest.items =
+    let whole : length c.loop-from.yielded + length c.loop-from.from-iterator.rest.items
+    ≡ length c.args.parts.items =
+    sym (length-append c.loop-from.yielded c.loop-from.from-iterator.rest.items)
+    ∙ ap length c.loop-from.invariant.all in
+    let number : c.len-count.result
+    ≡ length c.loop-from.opens.items + length c.loop-from.from-iterator.rest.items =
     omega (arith, all, whole, c.loop-from.invariant.number) in
     rw (p.1, p.2) (opens_fault g.R.Read.remaining c.args.parts.items (fronts_view c.args.fronts.now)
     (fronts_view c.loop-from.fronts) (fronts_view c.begin.new.self) c.loop-from.opens.items
     c.loop-from.from-iterator.rest.items c.next.new.self.rest.items c.in-Some.from
-    c.len-position.result c.len-count.result c.in_err-number.field-0.0 split c.loop-from.invariant.opens
+    c.len-position.result c.len-count.result c.in_err-number.field-0.0 split
+    c.loop-from.invariant.opens
     at number c.begin.ensures c.in_err-number.ensures)
 
 pub loop-from-preserved : goal.loop-from-preserved
@@ -36,9 +41,12 @@ loop-from-preserved g c =
     let split = c.in-Some.ensures.steps.0 in
     let all : c.len-count.result ≡ length c.args.parts.items = search rules in
     let at : c.len-position.result ≡ length c.loop-from.opens.items = search rules in
-    let whole : length c.loop-from.yielded + length c.loop-from.from-iterator.rest.items ≡ length c.args.parts.items =
-    sym (length-append c.loop-from.yielded c.loop-from.from-iterator.rest.items) ∙ ap length c.loop-from.invariant.all in
-    let number : c.len-count.result ≡ length c.loop-from.opens.items + length c.loop-from.from-iterator.rest.items =
+    let whole : length c.loop-from.yielded + length c.loop-from.from-iterator.rest.items
+    ≡ length c.args.parts.items =
+    sym (length-append c.loop-from.yielded c.loop-from.from-iterator.rest.items)
+    ∙ ap length c.loop-from.invariant.all in
+    let number : c.len-count.result
+    ≡ length c.loop-from.opens.items + length c.loop-from.from-iterator.rest.items =
     omega (arith, all, whole, c.loop-from.invariant.number) in
     record {
       may = tt;
@@ -53,7 +61,8 @@ loop-from-preserved g c =
           (fronts_view c.read_front.new.fronts) c.loop-from.opens.items c.push.new.self.items _
           c.loop-from.from-iterator.rest.items c.next.new.self.rest.items c.in-Some.from
           c.len-position.result c.len-count.result split c.loop-from.invariant.opens at number
-          c.begin.ensures c.in_ok-number.ensures refl c.left_at.ensures refl c.in_ok-push.ensures.items;
+          c.begin.ensures c.in_ok-number.ensures refl c.left_at.ensures refl
+          c.in_ok-push.ensures.items;
     }
 
 pub returns : goal.returns

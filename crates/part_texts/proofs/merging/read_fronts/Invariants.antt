@@ -9,6 +9,7 @@ invariant-loop-from g l = record {
   ends : (goal.iterator-loop-from g).is_finite l.from-iterator;
   all : l.yielded ++ l.from-iterator.rest.items ≡ l.fn.parts.items;
   number : length l.opens.items ≡ length l.yielded;
-  opens : OpensAt g.R.Read.remaining l.fn.parts.items (fronts_view l.fn.fronts) (fronts_view l.fronts)
+  opens : OpensAt g.R.Read.remaining l.fn.parts.items (fronts_view l.fn.fronts)
+      (fronts_view l.fronts)
       l.opens.items l.from-iterator.rest.items;
 }

@@ -1,4 +1,5 @@
-use Rattle.std.proofs.Common.{◌≡◌, ◌∙◌, ◌++◌, List, ℕ, ap, codes, length, map, rules, string_bytes, sym}
+use Rattle.std.proofs.Common.{◌≡◌, ◌∙◌, ◌++◌, List, ℕ, ap, codes, length, map, rules, string_bytes}
+use Rattle.std.proofs.Common.{sym}
 use Rattle.fare_texts.specs.ReportLines.{number_line}
 use Rattle.report_texts.specs.Report.{upload_lines}
 use Rattle.tap_views.specs.declared.upload_end.UploadEnd.TheVariants.{Posted}
@@ -19,8 +20,10 @@ returns c =
     (validators ∙ sym (map_length _ s.validators.entries)) c.new-text.ensures.bytes
     c.in_ok-write_section_head.ensures
     (c.in_ok-write_uploads.ensures
-    ∙ ap (λ (ts : List ℕ). string_bytes c.write_section_head.new.text ++ upload_lines 0 (map Posted ts))
+    ∙ ap (λ (ts : List ℕ). string_bytes c.write_section_head.new.text ++ upload_lines 0
+    (map Posted ts))
     (c.deref.ensures.value ∙ c.into_vec-taps.ensures.items))
-    c.in_ok-write_totals.ensures c.in_ok-write_section_head-2.ensures c.in_ok-write_validators.ensures
+    c.in_ok-write_totals.ensures c.in_ok-write_section_head-2.ensures
+    c.in_ok-write_validators.ensures
     (ap (λ v. v.items) c.into_bytes.ensures.value ∙ c.in_ok-write_section_head-3.ensures
     ∙ ap (λ n. string_bytes c.write_validators.new.text ++ number_line (codes "tokens ") n) tokens)

@@ -14,7 +14,8 @@ returns-in_err-text g c =
 
 pub returns-in-Ok : goal.returns-in-Ok
 returns-in-Ok g c = λ views are.
-    let front : c.in_ok-text.text.items ≡ whole_front (fronts_view c.args.fronts) = c.in_ok-text.ensures in
+    let front : c.in_ok-text.text.items ≡ whole_front (fronts_view c.args.fronts) =
+    c.in_ok-text.ensures in
     whole_all (fronts_view c.args.fronts) views (g.W.Write.contents c.args.out.now)
     (g.W.Write.contents c.write_out.new.out) (g.W.Write.contents c.copy_sections.new.out)
     c.copy_sections.result
@@ -24,7 +25,8 @@ returns-in-Ok g c = λ views are.
 
 pub returns-in-Err : goal.returns-in-Err
 returns-in-Err g c = λ views are.
-    let front : c.in_ok-text.text.items ≡ whole_front (fronts_view c.args.fronts) = c.in_ok-text.ensures in
+    let front : c.in_ok-text.text.items ≡ whole_front (fronts_view c.args.fronts) =
+    c.in_ok-text.ensures in
     whole_unwritten (fronts_view c.args.fronts) views (g.W.Write.contents c.args.out.now)
     (g.W.Write.contents c.write_out.new.out) c.deref.result.now (c.deref.ensures.value ∙ front)
     c.in-Err.ensures.started

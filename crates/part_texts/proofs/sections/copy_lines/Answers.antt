@@ -22,7 +22,8 @@ returns-in-Err-clause-stops g c =
     let now = section_view c.loop-number.section in
     let held = g.W.Write.contents c.loop-number.out in
     let said : section_step now items ≡ Err c.in-Err.why =
-    subst (λ (l : List ℕ). section_step now l ≡ Err c.in-Err.why) c.deref.ensures.value c.in-Err.ensures in
+    subst (λ (l : List ℕ). section_step now l ≡ Err c.in-Err.why) c.deref.ensures.value
+    c.in-Err.ensures in
     stops_in (g.R.Read.remaining c.args.from.now) _ _
     (at_wrong never Form section_step itself c.args.first (section_view c.args.section.now)
     (g.R.Read.remaining c.args.from.now) c.loop-number.number now
@@ -37,7 +38,8 @@ returns-in-Err-clause-written g c =
     let now = section_view c.loop-number.section in
     let held = g.W.Write.contents c.loop-number.out in
     let said : section_step now items ≡ Err c.in-Err.why =
-    subst (λ (l : List ℕ). section_step now l ≡ Err c.in-Err.why) c.deref.ensures.value c.in-Err.ensures in
+    subst (λ (l : List ℕ). section_step now l ≡ Err c.in-Err.why) c.deref.ensures.value
+    c.in-Err.ensures in
     written_in (g.R.Read.remaining c.args.from.now) _ _
     (at_wrong never Form section_step itself c.args.first (section_view c.args.section.now)
     (g.R.Read.remaining c.args.from.now) c.loop-number.number now
@@ -57,7 +59,8 @@ returns-in-Err-write_out-clause-written g c =
     let old = g.W.Write.contents c.loop-number.out in
     let new = g.W.Write.contents c.write_out.new.out in
     let said : section_step now items ≡ Ok (section_view c.in-Ok.next) =
-    subst (λ (l : List ℕ). section_step now l ≡ Ok (section_view c.in-Ok.next)) c.deref.ensures.value
+    subst (λ (l : List ℕ). section_step now l ≡ Ok (section_view c.in-Ok.next))
+    c.deref.ensures.value
     c.in-Ok.ensures in
     let some : AppendsPrefix old new items =
     subst (AppendsPrefix old new) c.deref-in-loop-number.ensures.value
@@ -76,7 +79,8 @@ loop-number-preserved g c =
     let old = g.W.Write.contents c.loop-number.out in
     let new = g.W.Write.contents c.write_out.new.out in
     let said : section_step now items ≡ Ok (section_view c.in-Ok.next) =
-    subst (λ (l : List ℕ). section_step now l ≡ Ok (section_view c.in-Ok.next)) c.deref.ensures.value
+    subst (λ (l : List ℕ). section_step now l ≡ Ok (section_view c.in-Ok.next))
+    c.deref.ensures.value
     c.in-Ok.ensures in
     let all : Appends old new items =
     subst (Appends old new) c.deref-in-loop-number.ensures.value c.in-Ok-write_out.ensures.ok in

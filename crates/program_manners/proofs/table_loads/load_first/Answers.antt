@@ -28,7 +28,8 @@ returns-clause-right g c =
 
 pub returns-clause-kept : goal.returns-clause-kept
 returns-clause-kept g c =
-    named_kept _ _ c.in_ok-text.ensures.success _ _ c.in-Err.fault c.of_table.result c.of_table.ensures
+    named_kept _ _ c.in_ok-text.ensures.success _ _ c.in-Err.fault c.of_table.result
+    c.of_table.ensures
 
 pub returns-in_err-text-clause-right : goal.returns-in_err-text-clause-right
 returns-in_err-text-clause-right g c =

@@ -32,7 +32,8 @@ returns-clause-right g c =
 
 pub returns-clause-kept : goal.returns-clause-kept
 returns-clause-kept g c =
-    later_kept _ _ c.in_ok-text.ensures.success _ _ c.in-Err.fault c.of_next.result c.of_next.ensures
+    later_kept _ _ c.in_ok-text.ensures.success _ _ c.in-Err.fault c.of_next.result
+    c.of_next.ensures
 
 pub returns-in_err-text-clause-right : goal.returns-in_err-text-clause-right
 returns-in_err-text-clause-right g c =

@@ -43,9 +43,11 @@ loop-word-preserved g c =
       loads = subst
           (λ (ws : List (Bor (List ℕ))). LoadsTables (words_to first ws (position + 1)) before after
           more c.in_ok-tables-2.tables.fares) same
-          (tables_on first provided position no_word c.loop-word-test.true before between after texts more
+          (tables_on first provided position no_word c.loop-word-test.true before between after
+          texts more
           next.0 c.loop-word.tables.fares c.in_ok-tables-2.tables.fares
-          (subst (λ (ws : List (Bor (List ℕ))). LoadsTables (words_to first ws position) before between
+          (subst (λ (ws : List (Bor (List ℕ))). LoadsTables (words_to first ws position) before
+          between
           texts c.loop-word.tables.fares) (sym same) c.loop-word.invariant.loads)
           next.1 next.2 next.3);
       refused = c.in_ok-tables-2.ensures.success ∙ c.loop-word.invariant.refused;

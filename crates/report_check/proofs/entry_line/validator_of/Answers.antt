@@ -28,7 +28,8 @@ returns-in_err-digits c = λ number shown trailing moment validator one two earl
     second.1)
 
 pub returns-in_err-validator : goal.returns-in_err-validator
-returns-in_err-validator c = λ number shown trailing moment validator one two early reported small is.
+returns-in_err-validator c =
+    λ number shown trailing moment validator one two early reported small is.
     let first = c.in_ok-_number.ensures.found _ _ one is in
     let second = c.in_ok-shown.ensures.found _ _ two first.1 in
     let third = c.in_ok-digits.ensures.found _ _ (decimal_lacks validator (omega (arith, small)))

@@ -11,7 +11,8 @@ use Rattle.report_texts.proofs.forms.token_in.Goals as goal
 
 pub returns-then-is_err : goal.returns-then-is_err
 returns-then-is_err c =
-    sym (again_refused c.args.digits.now (decode_sized c.args.digits.now 16) c.decode_to_slice.result
+    sym (again_refused c.args.digits.now (decode_sized c.args.digits.now 16)
+    c.decode_to_slice.result
     c.decode_to_slice.new.out
     c.decode_to_slice.ensures.value (sym c.is_err.ensures.value ∙ c.if-is_err.true))
 

@@ -28,7 +28,8 @@ returns-clause-ok g c =
     last_out (g.W.Write.contents c.args.out.now) (g.W.Write.contents c.loop-position.out)
     (g.W.Write.contents c.write_out.new.out) c.args.text.now.items
     c.loop-position.text.items c.args.sums.now c.loop-position.position
-    (omega (arith, c.len-position-end.ensures, c.loop-position-test.false)) c.loop-position.invariant.lines
+    (omega (arith, c.len-position-end.ensures, c.loop-position-test.false))
+    c.loop-position.invariant.lines
     (subst (λ (text : List ℕ). Appends (g.W.Write.contents c.loop-position.out)
     (g.W.Write.contents c.write_out.new.out) text) c.as_slice.ensures.value
     c.in_ok-write_out.ensures.ok)
@@ -37,7 +38,8 @@ returns-clause-ok g c =
 pub returns-in_err-push_line-clause-started : goal.returns-in_err-push_line-clause-started
 returns-in_err-push_line-clause-started g c =
     let p = err_from_is_err_and c.from_residual.result c.from_residual.ensures.1 in
-    rw p.1 (lines_started (g.W.Write.contents c.args.out.now) (g.W.Write.contents c.loop-position.out)
+    rw p.1 (lines_started (g.W.Write.contents c.args.out.now)
+    (g.W.Write.contents c.loop-position.out)
     (g.W.Write.contents c.push_line.new.out) c.args.text.now.items c.loop-position.text.items
     c.args.sums.now c.loop-position.position c.loop-position.invariant.lines
     c.in_err-push_line.ensures.started)
@@ -46,7 +48,8 @@ pub returns-in_err-write_out-clause-started : goal.returns-in_err-write_out-clau
 returns-in_err-write_out-clause-started g c =
     let p = err_from_is_err_and c.from_residual-in_err-write_out.result
     c.from_residual-in_err-write_out.ensures.1 in
-    rw p.1 (lines_started (g.W.Write.contents c.args.out.now) (g.W.Write.contents c.loop-position.out)
+    rw p.1 (lines_started (g.W.Write.contents c.args.out.now)
+    (g.W.Write.contents c.loop-position.out)
     (g.W.Write.contents c.write_out.new.out) c.args.text.now.items c.loop-position.text.items
     c.args.sums.now c.loop-position.position c.loop-position.invariant.lines
     (subst (λ (text : List ℕ). Begins (g.W.Write.contents c.loop-position.out)

@@ -10,7 +10,8 @@ pub write_posted-requires-clause-explained : goal.write_posted-requires-clause-e
 write_posted-requires-clause-explained c =
     let up = subst (λ (t : Token). IsUpTo c.args.explainer.now.token t) (sym c.token_of.ensures)
     c.requires.up in
-    let consumed = c.go_on_to.ensures.consumed c.args.table.now c.requires.consumed.0 c.requires.consumed.1 up in
+    let consumed = c.go_on_to.ensures.consumed c.args.table.now c.requires.consumed.0
+    c.requires.consumed.1 up in
     (own c.go_on_to.new.explainer.token c.requires.consumed.0, consumed.explained)
 
 pub returns-clause-explained : goal.returns-clause-explained

@@ -13,7 +13,8 @@ use Rattle.tap_views.specs.declared.encoder.TapFields.{TapFields}
 use Rattle.tap_views.proofs.Lists.{all_done}
 use Rattle.settlement.specs.Posted.{posted_after}
 use Rattle.settled_texts.specs.ExplainedTaps.{AreExplained, last_token}
-use Rattle.settled_texts.proofs.TapsExplained.{nondecreasing_within, halves_of, last_append, none_reported}
+use Rattle.settled_texts.proofs.TapsExplained.{nondecreasing_within, halves_of, last_append}
+use Rattle.settled_texts.proofs.TapsExplained.{none_reported}
 use Rattle.settled_texts.proofs.TapsExplained.{reported_append, explained_started}
 use Rattle.settled_texts.proofs.lines.write_taps.Goals as goal
 
@@ -83,7 +84,8 @@ loop-rest-preserved g c =
     let inv = c.loop-rest.invariant in
     let stride = c.split_at.result.0.now in
     let trailing = c.split_at.result.1.now in
-    let halves = halves_of c.min.result c.loop-rest.rest.now stride trailing c.split_at.ensures.front
+    let halves = halves_of c.min.result c.loop-rest.rest.now stride trailing
+    c.split_at.ensures.front
     c.split_at.ensures.back in
     let next = c.in-Ok.ensures in
     let parts = length-append inv.done stride in

@@ -52,7 +52,8 @@ returns-in_err-write_out-clause-started g c =
     let whole = sat c.if-not-slot.false in
     let up = whole.first token c.requires.nondecreasing in
     let apart : token_eq token slot.first ≡ false = sym c.eq.ensures ∙ c.if-eq.false in
-    let explained = whole.explained earlier (none_below earlier token slot.first consumed.up up apart)
+    let explained = whole.explained earlier
+    (none_below earlier token slot.first consumed.up up apart)
     (up_weaker earlier token slot.first consumed.up up) in (
       string_bytes slot.text,
       explained.are,

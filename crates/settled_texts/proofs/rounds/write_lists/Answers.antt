@@ -12,7 +12,8 @@ use Rattle.tap_views.proofs.Lists.{All-split}
 use Rattle.settlement.specs.Posted.{posted_after}
 use Rattle.settled_texts.specs.ExplainedTaps.{AreExplained, last_token}
 use Rattle.settled_texts.proofs.Joined.{Early, joined, joined_append}
-use Rattle.settled_texts.proofs.TapsExplained.{nondecreasing_within, halves_of, last_append, none_reported}
+use Rattle.settled_texts.proofs.TapsExplained.{nondecreasing_within, halves_of, last_append}
+use Rattle.settled_texts.proofs.TapsExplained.{none_reported}
 use Rattle.settled_texts.proofs.TapsExplained.{reported_append, explained_started_on}
 use Rattle.std.proofs.lemmas.Result.{err_from_is_err_and}
 use Rattle.settled_texts.proofs.rounds.write_lists.Goals as goal

@@ -11,7 +11,8 @@ use Rattle.tap_views.specs.declared.encoder.TapFields.{TapFields}
 use Rattle.settlement.specs.Posted.{posted_after}
 use Rattle.settled_texts.specs.inside.WorkerSlots.{HasSat}
 use Rattle.settled_texts.specs.ExplainedTaps.{AreExplained, TapsNondecreasingFrom, last_token}
-use Rattle.settled_texts.proofs.Joined.{Early, at_provided, joined, joined_at, joined_more, sound_at}
+use Rattle.settled_texts.proofs.Joined.{Early, at_provided, joined, joined_at, joined_more}
+use Rattle.settled_texts.proofs.Joined.{sound_at}
 use Rattle.settled_texts.proofs.TapsExplained.{nondecreasing_within, last_append, none_reported}
 use Rattle.settled_texts.proofs.TapsExplained.{reported_append}
 use Rattle.settled_texts.proofs.TapsExplained.{explained_started_on}
@@ -50,7 +51,8 @@ write_list-requires-clause-nondecreasing g c =
     subst (λ (ts : List TapFields). TapsNondecreasingFrom c.loop-position.explainer.token ts)
     (sym (c.deref.ensures.value
     ∙ ap (λ (v : Vec TapFields Global). v.items) c.index-round-position.is))
-    (nondecreasing_within c.args.explainer.now.token c.loop-position.explainer.token (joined (take position round))
+    (nondecreasing_within c.args.explainer.now.token c.loop-position.explainer.token
+    (joined (take position round))
     list.items (joined (drop (position + 1) round)) (joined round)
     (joined_at round position _ c.loop-position-test.true) c.requires.nondecreasing
     c.loop-position.invariant.token)
@@ -88,7 +90,8 @@ write_list-requires-clause-sat g c =
     ∙ ap (option_map (λ (v : Vec TapFields Global). v.items))
     (slice_get-get_or round position c.index-round-position.result c.loop-position-test.true)
     ∙ ap Some (sym here) in
-    at_provided (HasSat c.args.table.now c.deref.result.now) c.sit.new.slots position c.get-slot.result
+    at_provided (HasSat c.args.table.now c.deref.result.now) c.sit.new.slots position
+    c.get-slot.result
     c.get-slot.ensures.lookup
     (λ slot there. c.sit.ensures.sat position slot c.deref.result.now there its)
 

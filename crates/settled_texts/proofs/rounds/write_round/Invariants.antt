@@ -10,7 +10,8 @@ use Rattle.settled_texts.proofs.rounds.write_round.Given as goal
 abbrev pub invariant-loop-position : goal.invariant-loop-position
 invariant-loop-position g l = record {
   explained : (earlier : List Entry) → HasConsumed l.table l.fn.explainer earlier
-      → (lines : List ℕ) × AreExplained l.table earlier (joined (take l.position l.round)) l.explainer
+      → (lines : List ℕ) × AreExplained l.table earlier (joined (take l.position l.round))
+      l.explainer
       lines
       × GoesOut (g.W.Write.contents l.fn.out) (string_bytes l.fn.text)
       (g.W.Write.contents l.out) (string_bytes l.text) lines;

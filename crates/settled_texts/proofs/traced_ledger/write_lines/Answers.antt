@@ -11,7 +11,8 @@ use Rattle.tap_views.specs.declared.encoder.TapFields.{TapFields}
 use Rattle.tap_views.specs.declared.token.Token.{Token}
 use Rattle.settlement.specs.Posted.{posted_after}
 use Rattle.settled_texts.specs.ExplainedTaps.{AreExplained, last_token}
-use Rattle.settled_texts.proofs.TapsExplained.{nondecreasing_within, halves_of, last_append, none_reported}
+use Rattle.settled_texts.proofs.TapsExplained.{nondecreasing_within, halves_of, last_append}
+use Rattle.settled_texts.proofs.TapsExplained.{none_reported}
 use Rattle.settled_texts.proofs.TapsExplained.{reported_all}
 use Rattle.settled_texts.proofs.TapsExplained.{reported_append, reported_then}
 use Rattle.std.proofs.lemmas.Result.{err_from_is_err_and}
@@ -62,7 +63,8 @@ explain-requires-clause-nondecreasing g c =
     let inv = c.loop-rest.invariant in
     let halves = halves_of c.min.result c.loop-rest.rest.now c.split_at.result.0.now
     c.split_at.result.1.now c.split_at.ensures.front c.split_at.ensures.back in
-    nondecreasing_within c.args.explainer.now.token c.loop-rest.explainer.token (taps_of_trace inv.done)
+    nondecreasing_within c.args.explainer.now.token c.loop-rest.explainer.token
+    (taps_of_trace inv.done)
     (taps_of_trace c.split_at.result.0.now) (taps_of_trace c.split_at.result.1.now)
     (taps_of_trace c.args.trace.now)
     (taps_whole inv.done c.split_at.result.0.now c.split_at.result.1.now c.loop-rest.rest.now
@@ -97,7 +99,8 @@ loop-rest-preserved g c =
     let trailing = c.split_at.result.1.now in
     let trace = c.args.trace.now in
     let classes = class_by c.args.names.now in
-    let halves = halves_of c.min.result c.loop-rest.rest.now stride trailing c.split_at.ensures.front
+    let halves = halves_of c.min.result c.loop-rest.rest.now stride trailing
+    c.split_at.ensures.front
     c.split_at.ensures.back in
     let next = c.in_ok-explain.ensures in
     let made = c.explain.new.self.lines.items in
@@ -179,7 +182,8 @@ returns-in_err-left-clause-started g c =
     let trace = c.args.trace.now in
     let left = c.loop-rest.left.now in
     let classes = class_by c.args.names.now in
-    let halves = halves_of c.min.result c.loop-rest.rest.now stride trailing c.split_at.ensures.front
+    let halves = halves_of c.min.result c.loop-rest.rest.now stride trailing
+    c.split_at.ensures.front
     c.split_at.ensures.back in
     let made = c.explain.new.self.lines.items in
     let explained = c.in_ok-explain.ensures.explained

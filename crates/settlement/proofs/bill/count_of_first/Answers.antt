@@ -25,7 +25,8 @@ returns-then-ne-clause-next c = λ tap inside same.
     false≢true (sym apart ∙ one)
 
 pub loop-position-preserved : goal.loop-position-preserved
-loop-position-preserved c = λ i tap below. by_position i tap below (cases_lt i c.loop-position.position)
+loop-position-preserved c =
+    λ i tap below. by_position i tap below (cases_lt i c.loop-position.position)
   where
     by_position : (i : ℕ) (tap : TapFields) → i < c.loop-position.position + 1
         → (i < c.loop-position.position) ⊎ (c.loop-position.position ≤ i)

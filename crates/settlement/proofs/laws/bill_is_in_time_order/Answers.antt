@@ -36,4 +36,5 @@ returns-clause-once c = λ fares history taps is each.
 pub returns-clause-same_moments : goal.returns-clause-same_moments
 returns-clause-same_moments c = λ fares before after entry is same_moment known.
     same_moment_is_stale fares before entry after
-    (legal_history fares (map bytes_in c.args.uploads.now) (before ++ entry ∷ after) is) same_moment known
+    (legal_history fares (map bytes_in c.args.uploads.now) (before ++ entry ∷ after) is) same_moment
+    known

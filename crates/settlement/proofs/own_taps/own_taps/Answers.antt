@@ -42,5 +42,6 @@ loop-number-preserved g c =
           (sym c.in_ok-push.ensures.items)
           (run_own_more origin c.args.start c.loop-number.number c.args.token old new
           c.loop-number.ends.items
-          upload.items end nothing_yet c.loop-number.calls.run c.read.new.calls.run inv.run c.in_ok-upload.ensures c.valid_tokens.ensures one);
+          upload.items end nothing_yet c.loop-number.calls.run c.read.new.calls.run inv.run
+          c.in_ok-upload.ensures c.valid_tokens.ensures one);
     }

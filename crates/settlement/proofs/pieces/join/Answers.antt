@@ -58,10 +58,13 @@ loop-piece-preserved c =
   where
     by_position : (part : ℕ) → (part < c.loop-piece.position) ⊎ (c.loop-piece.position ≤ part)
         → part < c.loop-piece.position + 1
-        → get_or (set c.loop-piece.parts c.loop-piece.position c.push.new.self) c.loop-piece.position []
+        → get_or (set c.loop-piece.parts c.loop-piece.position c.push.new.self)
+        c.loop-piece.position []
         ≡ c.push.new.self
-        → c.push.new.self ≡ get_or c.args.parts.now c.loop-piece.position [] ++ c.in-Some.piece.items
-        → get_or (map taps_in c.loop-piece.yielded ++ c.in-Some.piece.items ∷ []) c.loop-piece.position
+        → c.push.new.self ≡ get_or c.args.parts.now c.loop-piece.position
+        [] ++ c.in-Some.piece.items
+        → get_or (map taps_in c.loop-piece.yielded ++ c.in-Some.piece.items ∷ [])
+        c.loop-piece.position
         []
         ≡ c.in-Some.piece.items
         → get_or (set c.loop-piece.parts c.loop-piece.position c.push.new.self) part []

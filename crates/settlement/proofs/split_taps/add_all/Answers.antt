@@ -43,7 +43,8 @@ loop-number-preserved g c =
       run = subst
           (λ (ends : List UploadEnd). AreAddedBetween origin c.args.start (c.loop-number.number + 1)
           part_of
-          c.args.parts.now c.add_upload.new.self ends c.args.calls.now.run c.read.new.calls.run) (sym c.in_ok-push.ensures.items)
+          c.args.parts.now c.add_upload.new.self ends c.args.calls.now.run c.read.new.calls.run)
+          (sym c.in_ok-push.ensures.items)
           (run_more origin c.args.start c.loop-number.number part_of c.args.parts.now
           c.loop-number.parts
           c.add_upload.new.self c.loop-number.ends.items upload.items added c.by_fault.result

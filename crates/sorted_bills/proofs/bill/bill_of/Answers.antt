@@ -37,7 +37,8 @@ returns-clause-billed g c =
       few = omega (arith, few, long);
       settled = λ all are. c.posted_taps.ensures.history fares all made.taps
           (c.taken_taps_are_settled.ensures all begin new made.taps
-          (c.in_ok-taker.ensures.started all are) (made.taken.taken all are) at_end made.taken.named);
+          (c.in_ok-taker.ensures.started all are) (made.taken.taken all are) at_end
+          made.taken.named);
       ended = λ all are.
           subst (λ (ends : List UploadEnd). ArePlainEnds all ends)
           (sym (c.in_ok-ends.ensures.ends ∙ ap (map Posted) c.deref-2.ensures.value))

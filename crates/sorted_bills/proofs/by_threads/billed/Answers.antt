@@ -26,7 +26,8 @@ returns-clause-billed g c = λ fares few part most.
     (record {
       to = started;
       taken = refl;
-      aligned = subst (λ (rs : List TapReader). AreAlignedWith started rs) (sym c.deref.ensures.value)
+      aligned = subst (λ (rs : List TapReader). AreAlignedWith started rs)
+          (sym c.deref.ensures.value)
           (are_self_aligned started);
     }) (part.spanned files are) in
     let less = part.few in

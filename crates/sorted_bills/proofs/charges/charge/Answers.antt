@@ -8,7 +8,8 @@ use Rattle.settled_texts.specs.ExplainedTaps.{TapsNondecreasingFrom, last_token}
 use Rattle.settled_texts.proofs.TapsExplained.{last_append}
 use Rattle.sorted_bills.specs.inside.OpenBills.{IsOpenBill}
 use Rattle.sorted_bills.proofs.Counted.{late_no_write, late_says_nothing}
-use Rattle.sorted_bills.proofs.Takings.{Early, both_taken, nondecreasing_both, last_taken, none_taken}
+use Rattle.sorted_bills.proofs.Takings.{Early, both_taken, nondecreasing_both, last_taken}
+use Rattle.sorted_bills.proofs.Takings.{none_taken}
 use Rattle.sorted_bills.proofs.Takings.{none_there}
 use Rattle.sorted_bills.proofs.charges.charge.Goals as goal
 

@@ -19,11 +19,13 @@ loop-position-preserved g c = λ all are.
     let long = c.requires.len in
     let there : slice_get numbers position ≡ Some (Some c.in-Some.number) =
     slice_get-get_or numbers position _ test ∙ ap Some c.in-Some.is in
-    let made = c.requires.each position (Some c.in-Some.number) (Some (get_or all position [])) there
+    let made = c.requires.each position (Some c.in-Some.number) (Some (get_or all position []))
+    there
     (known_slice g.F.Placed.bytes files all position are (omega (arith, long, test))) in
     counted_more all position c.loop-position.all.items c.push.new.self.items made.0
     (c.loop-position.invariant all are) made.1
-    (c.in_ok-push-in-Some.ensures.items ∙ ap (λ (n : ℕ). c.loop-position.all.items ++ n ∷ []) made.2)
+    (c.in_ok-push-in-Some.ensures.items
+    ∙ ap (λ (n : ℕ). c.loop-position.all.items ++ n ∷ []) made.2)
 
 pub returns : goal.returns
 returns g c = λ all are.
@@ -31,5 +33,6 @@ returns g c = λ all are.
     let most = c.loop-position.auto.position-end in
     let past = c.loop-position-test.false in
     let long = c.requires.len in
-    counted_all all c.loop-position.position c.loop-position.all.items (c.loop-position.invariant all are)
+    counted_all all c.loop-position.position c.loop-position.all.items
+    (c.loop-position.invariant all are)
     (omega (arith, number, most, past, long))

@@ -9,5 +9,6 @@ returns-in-Ok-check_file g c = λ known there.
     let file = c.index-files-position.result in
     let within = c.if-position-files.false in
     subst (λ (bytes : Option (List ℕ)). HasNumber bytes c.in-Ok-check_file.number)
-    (known_there g.F.Placed.bytes c.args.files.now c.args.position file known (omega (arith, within))
+    (known_there g.F.Placed.bytes c.args.files.now c.args.position file known
+    (omega (arith, within))
     c.index-files-position.is there) c.in-Ok-check_file.ensures.sorted

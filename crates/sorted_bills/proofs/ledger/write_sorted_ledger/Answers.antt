@@ -40,7 +40,8 @@ write_ranges-requires-clause-explained g c κs within =
       explainer.token,
       bytes,
       waits,
-      explained_started fares (map g.F.Placed.bytes c.args.files.now) [] readers explainer bytes waits
+      explained_started fares (map g.F.Placed.bytes c.args.files.now) [] readers explainer bytes
+          waits
           (consumed_first fares explainer (c.of-explainer.ensures.explained fares)),
     )
 
@@ -60,7 +61,8 @@ returns-clause-ok g c =
     let bytes = g.W.Write.contents c.args.out.now in
     let waits = string_bytes c.in_ok-text.text in
     let explained = c.in_ok-write_ranges.ensures.explained [] started explainer.token bytes waits
-    (explained_started fares (map g.F.Placed.bytes c.args.files.now) [] started explainer bytes waits
+    (explained_started fares (map g.F.Placed.bytes c.args.files.now) [] started explainer bytes
+    waits
     (consumed_first fares explainer (c.of-explainer.ensures.explained fares))) in
     let history = posted fares explained.taps in (
       head_text ++ explained.lines,
@@ -71,7 +73,8 @@ returns-clause-ok g c =
             is_settled = c.posted_taps.ensures.history fares all explained.taps
                 (c.taken_taps_are_settled.ensures all started way.to explained.taps
                 (c.in_ok-taker.ensures.started all are) way.taken
-                (at_end_too way.to end way.aligned c.in_ok-write_ranges.ensures.end) explained.named);
+                (at_end_too way.to end way.aligned c.in_ok-write_ranges.ensures.end)
+                explained.named);
             over = ledger_along fares history explained.lines
                 (posted_nondecreasing fares explainer.token explained.taps explained.nondecreasing)
                 explained.explained.are;

@@ -13,7 +13,8 @@ use Rattle.settled_texts.specs.ExplainedTaps.{AreExplained, TapsNondecreasingFro
 use Rattle.sorted_taps.proofs.Spans.{consumed_further}
 use Rattle.sorted_bills.proofs.Counted.{late_is_late, late_says_nothing}
 use Rattle.sorted_bills.proofs.Takings.{Early}
-use Rattle.sorted_bills.proofs.Explained.{started_more, started_still, reported_more, reported_still}
+use Rattle.sorted_bills.proofs.Explained.{started_more, started_still, reported_more}
+use Rattle.sorted_bills.proofs.Explained.{reported_still}
 use Rattle.sorted_bills.proofs.lines_below.explain_below.Goals as goal
 
 pub loop-init : goal.loop-init
@@ -132,19 +133,23 @@ pub returns-in_err-take-clause-started : goal.returns-in_err-take-clause-started
 returns-in_err-take-clause-started g c =
     let p = err_from_is_err_and c.from_residual.result c.from_residual.ensures.1 in
     rw (p.1) (λ earlier started from start waited so_far.
-    started_still c.args.table.now (map g.F.Placed.bytes c.args.files.now) earlier started from start
+    started_still c.args.table.now (map g.F.Placed.bytes c.args.files.now) earlier started from
+    start
     waited c.loop.taker.merge.readers.items c.loop.explainer (g.W.Write.contents c.loop.out)
-    (string_bytes c.loop.text) (c.loop.invariant.explained earlier started from start waited so_far))
+    (string_bytes c.loop.text)
+    (c.loop.invariant.explained earlier started from start waited so_far))
 
 pub returns-then-number-left-clause-started : goal.returns-then-number-left-clause-started
 returns-then-number-left-clause-started g c = λ earlier started from start waited so_far.
-    started_still c.args.table.now (map g.F.Placed.bytes c.args.files.now) earlier started from start
+    started_still c.args.table.now (map g.F.Placed.bytes c.args.files.now) earlier started from
+    start
     waited c.loop.taker.merge.readers.items c.loop.explainer (g.W.Write.contents c.loop.out)
     (string_bytes c.loop.text) (c.loop.invariant.explained earlier started from start waited so_far)
 
 pub returns-clause-started : goal.returns-clause-started
 returns-clause-started g c = λ earlier started from start waited so_far.
-    started_still c.args.table.now (map g.F.Placed.bytes c.args.files.now) earlier started from start
+    started_still c.args.table.now (map g.F.Placed.bytes c.args.files.now) earlier started from
+    start
     waited c.loop.taker.merge.readers.items c.loop.explainer (g.W.Write.contents c.loop.out)
     (string_bytes c.loop.text) (c.loop.invariant.explained earlier started from start waited so_far)
 

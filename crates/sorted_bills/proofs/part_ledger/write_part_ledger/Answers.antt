@@ -36,7 +36,8 @@ explain_below-requires-clause-explained g c =
       explainer.token,
       bytes,
       waits,
-      explained_started fares (map g.F.Placed.bytes c.args.files.now) [] readers explainer bytes waits
+      explained_started fares (map g.F.Placed.bytes c.args.files.now) [] readers explainer bytes
+          waits
           (consumed_first fares explainer (c.of-explainer.ensures.explained fares)),
     )
 
@@ -74,7 +75,8 @@ returns-clause-ok g c =
           (ap length (sym same) ∙ many ∙ number)
           (c.in_ok-started.ensures.placed all are) way.taken
           (subst (λ (ss : List FileSpan). DoSpan all positions way.to ss) same
-          (span_alike all positions way.to end made way.aligned (omega (arith, aligned, after, many))
+          (span_alike all positions way.to end made way.aligned
+          (omega (arith, aligned, after, many))
           ends)) in (
             between.lists,
             history,

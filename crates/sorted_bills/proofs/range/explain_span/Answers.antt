@@ -23,7 +23,8 @@ explain_below-requires-clause-explained g c =
       explainer.token,
       bytes,
       waits,
-      explained_started fares (map g.F.Placed.bytes c.args.files.now) [] readers explainer bytes waits
+      explained_started fares (map g.F.Placed.bytes c.args.files.now) [] readers explainer bytes
+          waits
           (consumed_first fares explainer (c.requires.fresh fares)),
     )
 
@@ -62,7 +63,8 @@ returns-clause-lines g c = λ earlier none up.
         from = readers;
         begins = subst (λ (rs : List TapReader). AreAlignedWith rs c.in_ok-begin.begin.items)
             c.readers.ensures c.in_ok-begin.ensures;
-        consumed = subst (λ (v : Vec TapReader Global). HaveConsumed files readers explained.taps v.items)
+        consumed = subst
+            (λ (v : Vec TapReader Global). HaveConsumed files readers explained.taps v.items)
             (sym c.into_readers-end.ensures) (explained.consumed files are);
       };
       lines_are = record {

@@ -49,7 +49,8 @@ pub returns-in_err-pass_on-in-Some-clause-started : goal.returns-in_err-pass_on-
 returns-in_err-pass_on-in-Some-clause-started g c =
     let p = err_from_is_err_and c.from_residual.result c.from_residual.ensures.1 in
     rw (p.1) (λ earlier started from start waited so_far.
-    started_waiting c.args.table.now (map g.F.Placed.bytes c.args.files.now) earlier started from start
+    started_waiting c.args.table.now (map g.F.Placed.bytes c.args.files.now) earlier started from
+    start
     waited c.args.taker.now.merge.readers.items c.args.explainer.now
     (g.W.Write.contents c.args.out.now) (g.W.Write.contents c.pass_on.new.out)
     (string_bytes c.args.text.now) so_far c.in_err-pass_on-in-Some.ensures.started)

@@ -44,7 +44,8 @@ loop-position-preserved g c =
       ready = more.ready;
       few = omega (arith, before, next);
       ranges = more.ranges;
-      explained = λ earlier started from start waited so_far. more.explained earlier started from start
+      explained = λ earlier started from start waited so_far. more.explained earlier started from
+          start
           waited (c.loop-position.invariant.explained earlier started from start waited so_far);
     }
 
@@ -62,7 +63,8 @@ returns-in_err-write_position-clause-started g c =
 
 pub returns-then-left-gt0-clause-started : goal.returns-then-left-gt0-clause-started
 returns-then-left-gt0-clause-started g c = λ earlier started from start waited so_far.
-    started_still c.args.table.now (map g.F.Placed.bytes c.args.files.now) earlier started from start
+    started_still c.args.table.now (map g.F.Placed.bytes c.args.files.now) earlier started from
+    start
     waited c.loop-position.taker.merge.readers.items c.loop-position.explainer
     (g.W.Write.contents c.loop-position.out) (string_bytes c.loop-position.text)
     (c.loop-position.invariant.explained earlier started from start waited so_far)

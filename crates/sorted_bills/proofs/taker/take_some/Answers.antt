@@ -74,9 +74,11 @@ loop-run-preserved g c =
       taken = subst (λ (ts : List TapFields). AreTapsTaken known begin ts new) (sym takes.items)
           (both_taken known begin old new taps takes.more inv.taken
           (run_taken known old new taps after c.loop-run.last token takes follow));
-      nondecreasing = subst (λ (ts : List TapFields). TapsNondecreasingFrom from ts) (sym takes.items)
+      nondecreasing = subst (λ (ts : List TapFields). TapsNondecreasingFrom from ts)
+          (sym takes.items)
           (nondecreasing_both from taps takes.more inv.nondecreasing
-          (subst (λ (t : Token). TapsNondecreasingFrom t takes.more) inv.last follow.nondecreasing));
+          (subst (λ (t : Token). TapsNondecreasingFrom t takes.more) inv.last
+          follow.nondecreasing));
       last = follow.is_last ∙ ap (λ (t : Token). last_token t takes.more) inv.last
           ∙ sym (ap (λ (ts : List TapFields). last_token from ts) takes.items
           ∙ last_append from taps takes.more);

@@ -37,10 +37,12 @@ returns-clause-billed g c =
           let number = known_number g.F.Placed.bytes c.args.files.now all are in
           let readers = c.in_ok-started.ensures.ready.readers in
           let many = c.in_ok-spans.ensures.number in
-          let between = taken_between all c.in_ok-started.started.positions.items begin new spans made.taps
+          let between = taken_between all c.in_ok-started.started.positions.items begin new spans
+          made.taps
           (omega (arith, number, readers)) (omega (arith, number, many))
           (c.in_ok-started.ensures.placed all are) (made.taken.taken all are)
-          (subst (λ (rs : List TapReader). DoSpan all c.in_ok-started.started.positions.items rs spans)
+          (subst (λ (rs : List TapReader). DoSpan all c.in_ok-started.started.positions.items rs
+          spans)
           c.readers-readers.ensures
           (subst (λ (ps : List Position). DoSpan all ps c.readers-readers.result.now spans)
           c.deref-2.ensures.value (c.in_ok-spans.ensures.spanned all are))) in (

@@ -19,7 +19,8 @@ returns-clause-spanned g c = λ all are.
     c.in_ok-spans.spans.items taps (omega (arith, number, readers)) (omega (arith, number, many))
     (c.in_ok-started.ensures.placed all are) (taken.taken all are)
     (subst (λ (rs : List TapReader).
-    DoSpan all c.in_ok-started.started.positions.items rs c.in_ok-spans.spans.items) c.readers-readers.ensures
+    DoSpan all c.in_ok-started.started.positions.items rs c.in_ok-spans.spans.items)
+    c.readers-readers.ensures
     (subst (λ (ps : List Position).
     DoSpan all ps c.readers-readers.result.now c.in_ok-spans.spans.items) c.deref.ensures.value
     (c.in_ok-spans.ensures.spanned all are))) in (between.lists, between.spanned)

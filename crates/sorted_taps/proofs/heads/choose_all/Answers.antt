@@ -29,7 +29,8 @@ loop-position-preserved c =
     (record {
       leaves = leaves_kept readers tree (position - 1) anew.head (omega (arith, most, more))
           inv.leaves;
-      chosen = chosen_before (length readers) tree position (position - 1) anew.head (omega (arith, more))
+      chosen = chosen_before (length readers) tree position (position - 1) anew.head
+          (omega (arith, more))
           (omega (arith, more)) (omega (arith, most, size, more)) inv.chosen anew.chosen;
       most = omega (arith, most);
     })

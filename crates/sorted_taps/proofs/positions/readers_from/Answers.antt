@@ -18,7 +18,8 @@ loop-file-preserved g c =
     let room = inv.room in
     let number = inv.number in
     let many = inv.positions in
-    let items : c.push-in-loop-file.new.self.items ≡ readers ++ reader ∷ [] = c.in_ok-push-2.ensures.items in
+    let items : c.push-in-loop-file.new.self.items ≡ readers ++ reader ∷ [] =
+    c.in_ok-push-2.ensures.items in
     let set : c.push.new.self.items ≡ positions ++ position ∷ [] = c.in_ok-push.ensures.items in
     let more = ap length items ∙ length-append readers (reader ∷ []) in
     let then = ap length set ∙ length-append positions (position ∷ []) in

@@ -15,7 +15,8 @@ returns c = λ files from before taps consumed is.
     let alike = c.if-len-readers-2.false in
     let ended = c.args.span.end.ok.0 in
     let stop = c.loop-at-test.false in
-    consumed_on files from c.args.readers.now c.loop-at.end.items before taps c.args.span consumed is
+    consumed_on files from c.args.readers.now c.loop-at.end.items before taps c.args.span consumed
+    is
     (omega (arith, begin, same, started)) (λ k d low. inv.begins k d (omega (arith, low, stop)))
     (omega (arith, end, alike, ended)) inv.number
     (λ k d low. inv.counted k d (omega (arith, low, stop)))

@@ -25,7 +25,8 @@ loop-file-preserved g c =
           (each_more (λ k r. IsPositionedIn (get_or all k []) 0 [] r) readers reader
           (c.loop-file.invariant.each all are)
           (subst (λ n. IsPositionedIn (get_or all n []) 0 [] reader) (sym number)
-          (if_known (λ a. IsPositionedIn a 0 [] reader) (g.F.Placed.bytes file) (get_or all index [])
+          (if_known (λ a. IsPositionedIn a 0 [] reader) (g.F.Placed.bytes file)
+          (get_or all index [])
           (known_at g.F.Placed.bytes c.args.files.now all index file are c.loop-file-test.true
           c.file-item.is) c.in_ok-at.ensures.holds)));
     }

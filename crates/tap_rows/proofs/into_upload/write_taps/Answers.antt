@@ -60,7 +60,8 @@ returns-in_err-write_batch-in-None-clause-started g c =
     let here = g.W.Write.contents c.loop-count.out in
     let new = g.W.Write.contents c.write_batch-in-None.new.out in
     let P : List TapFields → Type 0 = λ taps. IsStartedAs taps here new in
-    let started = subst P c.deref-in-None.ensures.value c.in_err-write_batch-in-None.ensures.started in
+    let started = subst P c.deref-in-None.ensures.value
+    c.in_err-write_batch-in-None.ensures.started in
     let p = err_from_is_err_and c.from_residual-in_err-write_batch-in-None.result
     c.from_residual-in_err-write_batch-in-None.ensures.1 in
     rw p.1
@@ -77,7 +78,8 @@ returns-in_err-push-in-Some-clause-started g c =
     let here = g.W.Write.contents c.loop-count.out in
     let out = g.W.Write.contents c.if-len-eq-MAX_TAPS.out in
     let count = c.loop-count.count in
-    let started : IfSome old (λ text. IsPartlyWritten text out0 out) = elim c.if-len-eq-MAX_TAPS.branch [
+    let started : IfSome old (λ text. IsPartlyWritten text out0 out) =
+    elim c.if-len-eq-MAX_TAPS.branch [
       | then-len-eq-MAX_TAPS+in_ok-write_batch-in-Some w ↦
           let there = g.W.Write.contents w.write_batch.new.out in
           let P : List TapFields → Type 0 = λ taps. IsEncodedAs taps here there in

@@ -9,7 +9,8 @@ returns-then-position-eq0 c =
 
 pub returns-then-ranges-position : goal.returns-then-ranges-position
 returns-then-ranges-position c = λ before.
-    let next : suc (c.args.position - 1) ≡ c.args.position = omega (arith, c.if-position-eq0.false) in
+    let next : suc (c.args.position - 1) ≡ c.args.position =
+    omega (arith, c.if-position-eq0.false) in
     none_between c.args.number c.args.ranges.now (c.args.position - 1) _ c.requires.apart
     (omega (arith, next, c.requires.inside)) c.if-ranges-position.true
     (rw next (leb-true _ _ before))

@@ -8,7 +8,8 @@ use Rattle.tariffs.specs.declared.validators.RangeRest.{RangeRest}
 use Rattle.tariffs.proofs.validators.last_started.Goals as goal
 
 pub started_by_halves-requires : goal.started_by_halves-requires
-started_by_halves-requires c = rw c.requires.same (holds-increases c.args.ranges.now c.requires.apart)
+started_by_halves-requires c =
+    rw c.requires.same (holds-increases c.args.ranges.now c.requires.apart)
 
 pub returns : goal.returns
 returns c =

@@ -11,7 +11,8 @@ pub returns-in-Ok-clause-helped : goal.returns-in-Ok-clause-helped
 returns-in-Ok-clause-helped g c = λ not_so zero.
     let request = c.in-Ok.ensures.request in
     elim (c.task_over.ensures.misused (usage_error_text Arguments)
-    (ap usage_error_line (request.1 ∙ unparsed (map string_bytes c.args.words.now) request.0 not_so))) [
+    (ap usage_error_line
+    (request.1 ∙ unparsed (map string_bytes c.args.words.now) request.0 not_so))) [
       | inl misused ↦ absurd (omega (arith, zero, misused.0))
       | inr memory ↦ absurd (omega (arith, zero, memory.0))
     ]
@@ -20,7 +21,8 @@ pub returns-in-Ok-clause-wrong_words : goal.returns-in-Ok-clause-wrong_words
 returns-in-Ok-clause-wrong_words g c = λ not_so asks_not.
     let request = c.in-Ok.ensures.request in
     elim (c.task_over.ensures.misused (usage_error_text Arguments)
-    (ap usage_error_line (request.1 ∙ unparsed (map string_bytes c.args.words.now) request.0 not_so))) [
+    (ap usage_error_line
+    (request.1 ∙ unparsed (map string_bytes c.args.words.now) request.0 not_so))) [
       | inl misused ↦ inl misused.0
       | inr memory ↦ inr memory
     ]

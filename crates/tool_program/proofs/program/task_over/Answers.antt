@@ -71,14 +71,18 @@ returns-in-UsageError-clause-misused g c = λ line is.
       c.report_usage_error.ensures.status,
       subst (λ (l : List ℕ). LineWritten
           (g.E.Write.contents c.args.err.now.writer)
-          (g.E.Write.contents c.report_usage_error.new.err.writer) c.report_usage_error.new.err.failed l)
+          (g.E.Write.contents c.report_usage_error.new.err.writer)
+          c.report_usage_error.new.err.failed l)
           same
           c.report_usage_error.ensures.line,
     )
 
 pub returns-in-UsageError-clause-right : goal.returns-in-UsageError-clause-right
 returns-in-UsageError-clause-right g c = λ two.
-    inr (usage_error_text c.in-UsageError.usage_error, ap usage_error_line (ap request_of c.in-UsageError.is))
+    inr (
+      usage_error_text c.in-UsageError.usage_error,
+      ap usage_error_line (ap request_of c.in-UsageError.is),
+    )
 
 pub returns-in-Unshown-clause-right : goal.returns-in-Unshown-clause-right
 returns-in-Unshown-clause-right g c = λ two. inl (ap request_of c.in-Unshown.is)

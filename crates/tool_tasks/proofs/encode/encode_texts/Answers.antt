@@ -42,7 +42,8 @@ returns-in-Ok-finish-2-clause-fault g c = λ text again of_text of_again.
     let new = g.W.Write.contents c.finish-in-Err.new.out.writer in
     let fault = c.in-Err.fault in
     let reported = c.fault_of.result in
-    let started = subst (λ (o : Option (List ℕ)). IfSome o (λ t. IsPartlyWritten t old mid)) of_again
+    let started = subst (λ (o : Option (List ℕ)). IfSome o (λ t. IsPartlyWritten t old mid))
+    of_again
     c.in-Err.ensures.started in
     record {
       right = right_encode word text again c.finish-in-Err.new.out.end fault reported old new
@@ -63,7 +64,8 @@ returns-in-Err-finish-2-clause-fault g c = λ text again of_text of_again.
     let old = g.W.Write.contents c.args.out.now.writer in
     let mid = g.W.Write.contents c.encode.new.out.writer in
     let new = g.W.Write.contents c.finish-in-Err.new.out.writer in
-    let started = subst (λ (o : Option (List ℕ)). IfSome o (λ t. IsPartlyWritten t old mid)) of_again
+    let started = subst (λ (o : Option (List ℕ)). IfSome o (λ t. IsPartlyWritten t old mid))
+    of_again
     c.in-Err.ensures.started in
     record {
       right = right_encode_write c.args.word.now text again c.finish-in-Err.new.out.end

@@ -52,7 +52,8 @@ returns-in-Err-finish-clause-stops g c = λ kept is.
             once.text c.encode_some.new.out.end (g.K.Sink.failed c.finish.new.self)
             c.in-Err-finish.fault c.fault_of_unfinished.result _ _ c.fault_of_unfinished.ensures
             c.in-Err-finish.ensures.failed;
-        started = whole_started c.args.choice.now once.text (g.W.Write.contents c.args.out.now.writer)
+        started = whole_started c.args.choice.now once.text
+            (g.W.Write.contents c.args.out.now.writer)
             (g.W.Write.contents c.encode_some.new.out.writer) (contents c.in-Ok.file.writer)
             (contents c.encode_some.new.refused.writer) once.summary once.encoded;
       };

@@ -49,7 +49,8 @@ returns-clause-stops g c =
                 (of_bytes ∙ ap (λ (t : List ℕ). Some t) same ∙ sym of_later),
           ))
           (λ some. some refl);
-      started = started_so choice (g.T.Read.remaining c.args.again) later old mid new None None encoded
+      started = started_so choice (g.T.Read.remaining c.args.again) later old mid new None None
+          encoded
           of_later c.encode_rows-encoded.ensures.upload c.encode_rows-encoded.ensures.started
           c.end_rows.ensures.kept;
     }) c.end_rows.ensures.fault

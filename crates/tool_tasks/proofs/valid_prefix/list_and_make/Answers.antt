@@ -8,7 +8,11 @@ pub returns-in_err-upload-clause-stops : goal.returns-in_err-upload-clause-stops
 returns-in_err-upload-clause-stops g c =
     let p = err_from_is_err_and c.from_residual.result c.from_residual.ensures.1 in
     rw (p.1, p.2)
-    (inl (refl, inl (c.in_err-upload.ensures.refusal (c.args.words.now.upload.now ∷ []) (inl refl))))
+    (inl (
+      refl,
+      inl
+          (c.in_err-upload.ensures.refusal (c.args.words.now.upload.now ∷ []) (inl refl)),
+    ))
 
 pub returns-in_err-write_lines-clause-stops : goal.returns-in_err-write_lines-clause-stops
 returns-in_err-write_lines-clause-stops g c =

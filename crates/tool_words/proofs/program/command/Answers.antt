@@ -17,5 +17,6 @@ returns c = λ plain.
     ∙ ap (λ (a : App). with_subcommand a (subcommand (codes "merge") merge_rules)) two in
     IfOk-weaker c.with_leaf-4.result _ _
     (λ command is. is
-    ∙ ap (λ (a : App). with_subcommand a (subcommand (codes "corrections") corrections_rules)) three)
+    ∙ ap (λ (a : App). with_subcommand a (subcommand (codes "corrections") corrections_rules))
+    three)
     (c.with_leaf-4.ensures _ (c.in_ok-corrections_command.ensures plain) refl)

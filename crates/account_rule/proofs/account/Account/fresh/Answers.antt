@@ -9,7 +9,8 @@ use Rattle.account_rule.specs.Windows.{windows}
 use Rattle.account_rule.proofs.account.Account.fresh.Goals as goal
 
 pub returns-clause-holds : goal.returns-clause-holds
-unfolding Represents is_after is_later kept_of kept_trip last_trip trip_of kept_window window_of windows
+unfolding Represents is_after is_later kept_of kept_trip last_trip trip_of kept_window window_of
+    windows
     rides trips live live_after blocks_by last_block
 returns-clause-holds c = λ rules. record {
   last = λ moment. refl;

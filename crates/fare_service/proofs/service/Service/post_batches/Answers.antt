@@ -35,7 +35,8 @@ post_batch-requires-clause-room g c =
     let before = c.loop-batch.invariant in
     let done = c.loop-batch.yielded in
     let room : 24 * batches_taps done ≤ length c.args.file.now =
-    done_room c.args.file.now done c.loop-batch.valid.batches before.read.rest before.read.is_file in
+    done_room c.args.file.now done c.loop-batch.valid.batches before.read.rest
+    before.read.is_file in
     let small : length c.args.file.now < 2 ^ 64 =
     omega (arith, c.bytes_in-bytes.ensures, c.bytes_in-bytes.type_inv) in
     let few = posted_few (shards_of c.args.self.now) c.args.posting.now.passes.items

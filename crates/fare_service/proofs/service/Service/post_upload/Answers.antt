@@ -10,7 +10,8 @@ use Rattle.fare_service.proofs.service.Service.post_upload.Goals as goal
 pub returns-in-Ok-clause-worked : goal.returns-in-Ok-clause-worked
 returns-in-Ok-clause-worked g c =
     let P : UploadEnd → Type 0 =
-    λ end. Worked_as c.args.self.now c.args.upload c.args.file.now end c.args.posting.now.passes.items
+    λ end. Worked_as c.args.self.now c.args.upload c.args.file.now end
+    c.args.posting.now.passes.items
     c.post_batches-posted.new.posting.passes.items (sums_of c.args.posting.now.totals)
     (sums_of c.post_batches-posted.new.posting.totals) in
     subst P (sym c.by_fault.ensures)

@@ -58,9 +58,11 @@ loop-preserved g c =
     ∙ ap (λ (u : ℕ). c.loop.drawer.drawn ++ u ∷ []) (sym done.upload) in
     let L : List Origin → Type 0 = λ us. IsProvided (origin_at us c.in-Some-next_number.upload)
     c.loop.calls.run c.provide.new.calls.run c.in-Some-provide.file.now in
-    let provided = (subst L (ap (λ h. h.uploads) c.self.view_is) c.in-Some-provide.ensures.provided).loads
+    let provided =
+    (subst L (ap (λ h. h.uploads) c.self.view_is) c.in-Some-provide.ensures.provided).loads
     ∙ ap (λ (u : ℕ). with_loads c.loop.calls.run
-    (loads_from (origin_at c.args.self.now.uploads u) c.in-Some-provide.file.now)) (sym done.upload) in
+    (loads_from (origin_at c.args.self.now.uploads u) c.in-Some-provide.file.now))
+    (sym done.upload) in
     record {
       share = next_share c.args.self.now c.loop.drawer c.next_number.new.drawer
           c.loop.posting.passes.items c.post_drawn-goes_on.new.posting.passes.items
@@ -74,7 +76,8 @@ loop-preserved g c =
       going = going_next c.args.self.now c.args.share c.loop.drawer c.next_number.new.drawer
           c.loop.posting.passes.items c.post_drawn-goes_on.new.posting.passes.items
           (sums_of c.loop.posting.totals) (sums_of c.post_drawn-goes_on.new.posting.totals)
-          c.loop.done.items c.push_reserved.new.self.items c.in-Some-provide.file.now c.loop.calls.run
+          c.loop.done.items c.push_reserved.new.self.items c.in-Some-provide.file.now
+          c.loop.calls.run
           c.provide.new.calls.run next
           c.loop.invariant.going (ap (λ d. d.claims) e.2) drawn
           c.push_reserved.ensures.items done.worked provided done.full
@@ -99,7 +102,8 @@ returns-in_default-next_number-clause-stopped g c =
     let none = c.in_default-next_number.ensures.none in
     inr (none_next c.args.self.now c.loop.drawer c.next_number.new.drawer
     c.loop.posting.passes.items (sums_of c.loop.posting.totals) c.loop.done.items
-    c.loop.calls.run (ap (λ d. d.claims) none) (ap (λ d. d.drawn) none) c.args.share c.loop.invariant.going
+    c.loop.calls.run (ap (λ d. d.claims) none) (ap (λ d. d.drawn) none) c.args.share
+    c.loop.invariant.going
     (ap (λ d. d.seen) none))
 
 -- the last upload was cut
@@ -112,9 +116,11 @@ returns-then-not-goes_on-clause-share g c =
     ∙ ap (λ (u : ℕ). c.loop.drawer.drawn ++ u ∷ []) (sym done.upload) in
     let L : List Origin → Type 0 = λ us. IsProvided (origin_at us c.in-Some-next_number.upload)
     c.loop.calls.run c.provide.new.calls.run c.in-Some-provide.file.now in
-    let provided = (subst L (ap (λ h. h.uploads) c.self.view_is) c.in-Some-provide.ensures.provided).loads
+    let provided =
+    (subst L (ap (λ h. h.uploads) c.self.view_is) c.in-Some-provide.ensures.provided).loads
     ∙ ap (λ (u : ℕ). with_loads c.loop.calls.run
-    (loads_from (origin_at c.args.self.now.uploads u) c.in-Some-provide.file.now)) (sym done.upload) in
+    (loads_from (origin_at c.args.self.now.uploads u) c.in-Some-provide.file.now))
+    (sym done.upload) in
     next_share c.args.self.now c.loop.drawer c.next_number.new.drawer c.loop.posting.passes.items
     c.post_drawn-goes_on.new.posting.passes.items
     (sums_of c.loop.posting.totals) (sums_of c.post_drawn-goes_on.new.posting.totals)
@@ -135,15 +141,18 @@ returns-then-not-goes_on-clause-went_on g c =
     ∙ ap (λ (u : ℕ). c.loop.drawer.drawn ++ u ∷ []) (sym done.upload) in
     let L : List Origin → Type 0 = λ us. IsProvided (origin_at us c.in-Some-next_number.upload)
     c.loop.calls.run c.provide.new.calls.run c.in-Some-provide.file.now in
-    let provided = (subst L (ap (λ h. h.uploads) c.self.view_is) c.in-Some-provide.ensures.provided).loads
+    let provided =
+    (subst L (ap (λ h. h.uploads) c.self.view_is) c.in-Some-provide.ensures.provided).loads
     ∙ ap (λ (u : ℕ). with_loads c.loop.calls.run
-    (loads_from (origin_at c.args.self.now.uploads u) c.in-Some-provide.file.now)) (sym done.upload) in
+    (loads_from (origin_at c.args.self.now.uploads u) c.in-Some-provide.file.now))
+    (sym done.upload) in
     stopped_went_on c.args.self.now c.args.share _
     (cut_next c.args.self.now c.args.share c.loop.drawer c.next_number.new.drawer
     c.loop.posting.passes.items c.post_drawn-goes_on.new.posting.passes.items
     (sums_of c.loop.posting.totals) (sums_of c.post_drawn-goes_on.new.posting.totals)
     c.loop.done.items
-    c.push_reserved.new.self.items c.in-Some-provide.file.now c.loop.calls.run c.provide.new.calls.run next
+    c.push_reserved.new.self.items c.in-Some-provide.file.now c.loop.calls.run
+    c.provide.new.calls.run next
     c.loop.invariant.going (ap (λ d. d.claims) e.2) drawn
     c.push_reserved.ensures.items done.worked provided done.full
     (done.stops c.if-not-goes_on.true))
@@ -157,15 +166,18 @@ returns-then-not-goes_on-clause-stopped g c =
     ∙ ap (λ (u : ℕ). c.loop.drawer.drawn ++ u ∷ []) (sym done.upload) in
     let L : List Origin → Type 0 = λ us. IsProvided (origin_at us c.in-Some-next_number.upload)
     c.loop.calls.run c.provide.new.calls.run c.in-Some-provide.file.now in
-    let provided = (subst L (ap (λ h. h.uploads) c.self.view_is) c.in-Some-provide.ensures.provided).loads
+    let provided =
+    (subst L (ap (λ h. h.uploads) c.self.view_is) c.in-Some-provide.ensures.provided).loads
     ∙ ap (λ (u : ℕ). with_loads c.loop.calls.run
-    (loads_from (origin_at c.args.self.now.uploads u) c.in-Some-provide.file.now)) (sym done.upload) in
+    (loads_from (origin_at c.args.self.now.uploads u) c.in-Some-provide.file.now))
+    (sym done.upload) in
     inr
     (cut_next c.args.self.now c.args.share c.loop.drawer c.next_number.new.drawer
     c.loop.posting.passes.items c.post_drawn-goes_on.new.posting.passes.items
     (sums_of c.loop.posting.totals) (sums_of c.post_drawn-goes_on.new.posting.totals)
     c.loop.done.items
-    c.push_reserved.new.self.items c.in-Some-provide.file.now c.loop.calls.run c.provide.new.calls.run next
+    c.push_reserved.new.self.items c.in-Some-provide.file.now c.loop.calls.run
+    c.provide.new.calls.run next
     c.loop.invariant.going (ap (λ d. d.claims) e.2) drawn
     c.push_reserved.ensures.items done.worked provided done.full
     (done.stops c.if-not-goes_on.true))

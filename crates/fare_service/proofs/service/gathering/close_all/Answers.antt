@@ -147,6 +147,7 @@ loop-book-preserved c =
       );
       room = omega (arith, c.push_closed.ensures.capacity, c.loop-book.invariant.room);
       closed = subst P (sym done.appended)
-          (position_more (λ i b. IsClosedBy c.args.passes.items i b) c.loop-book.closed.items done.book
+          (position_more (λ i b. IsClosedBy c.args.passes.items i b) c.loop-book.closed.items
+          done.book
           c.loop-book.invariant.closed here);
     }

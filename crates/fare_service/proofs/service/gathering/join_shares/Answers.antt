@@ -55,7 +55,8 @@ loop-share-preserved c =
       left_len = omega (arith, steps.1, c.loop-share.invariant.left_len, ap length steps.0);
       joined = subst P c.share.view_is
           (joined_more c.args.draw.now c.args.books.now (length c.args.others.items + 1)
-          (c.args.first ∷ c.loop-share.yielded) inside c.loop-share.drawer c.join-in-loop-share.new.drawer
+          (c.args.first ∷ c.loop-share.yielded) inside c.loop-share.drawer
+          c.join-in-loop-share.new.drawer
           c.loop-share.passes.items c.join_passes.new.into.items below c.loop-share.invariant.joined
           c.join-in-loop-share.ensures.met c.join_passes.ensures.books c.join_passes.ensures.joined
           c.join_passes.ensures.claims);

@@ -26,7 +26,8 @@ loop-shard-preserved c =
     let P : List SharedBookView → Type 0 = AreOpened c.args.table.now c.args.shards in
     record {
       books = subst P (sym books)
-          (position_more (λ i b. IsBookOf c.args.table.now i c.args.shards b) c.loop-shard.books.items
+          (position_more (λ i b. IsBookOf c.args.table.now i c.args.shards b)
+          c.loop-shard.books.items
           c.in_ok-shared.shared c.loop-shard.invariant.books here);
       number = omega (
         arith,

@@ -8,7 +8,8 @@ use Rattle.fare_service.proofs.service.working.count.Goals as goal
 pub add-requires : goal.add-requires
 add-requires c =
     let replies = c.args.replies.now.items in
-    let count : (sums_of_tally c.loop-position.tally).taps ≡ length (take c.loop-position.position replies) =
+    let count : (sums_of_tally c.loop-position.tally).taps
+    ≡ length (take c.loop-position.position replies) =
     ap (λ (s : Sums). s.taps) c.loop-position.invariant
     ∙ taps_of_replies (take c.loop-position.position replies) in
     omega (arith, length-take-le c.loop-position.position replies (omega arith), c.requires)
@@ -22,7 +23,8 @@ loop-position-preserved c =
 pub totals-requires : goal.totals-requires
 totals-requires c =
     let replies = c.args.replies.now.items in
-    let count : (sums_of_tally c.loop-position.tally).taps ≡ length (take c.loop-position.position replies) =
+    let count : (sums_of_tally c.loop-position.tally).taps
+    ≡ length (take c.loop-position.position replies) =
     ap (λ (s : Sums). s.taps) c.loop-position.invariant
     ∙ taps_of_replies (take c.loop-position.position replies) in
     omega (arith, length-take-le c.loop-position.position replies (omega arith), c.requires)
@@ -30,7 +32,8 @@ totals-requires c =
 pub add_all-requires : goal.add_all-requires
 add_all-requires c =
     let replies = c.args.replies.now.items in
-    let count : (sums_of_tally c.loop-position.tally).taps ≡ length (take c.loop-position.position replies) =
+    let count : (sums_of_tally c.loop-position.tally).taps
+    ≡ length (take c.loop-position.position replies) =
     ap (λ (s : Sums). s.taps) c.loop-position.invariant
     ∙ taps_of_replies (take c.loop-position.position replies) in
     let same = ap (λ (s : Sums). s.taps) c.totals.ensures in

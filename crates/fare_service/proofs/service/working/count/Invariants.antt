@@ -4,4 +4,5 @@ use Rattle.histories.specs.Tally.{sums_of_tally}
 use Rattle.fare_service.proofs.service.working.count.Given as goal
 
 abbrev pub invariant-loop-position : goal.invariant-loop-position
-invariant-loop-position l = sums_of_tally l.tally ≡ sums_of_replies (take l.position l.replies.items)
+invariant-loop-position l =
+    sums_of_tally l.tally ≡ sums_of_replies (take l.position l.replies.items)

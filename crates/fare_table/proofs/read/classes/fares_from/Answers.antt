@@ -13,7 +13,8 @@ fares-step : (modes : List (List ℕ)) (fares next : List ℕ) (key : List ℕ) 
     (more : Members) (position cents : ℕ) → mode_named modes key ≡ Ok position
     → number_in the_key.Fares 0 100_000 value ≡ Ok cents → next ≡ set fares position cents
     → fares_from modes fares (member key value more) ≡ fares_from modes next more
-fares-step modes fares next key value more position cents named number same = rw (named, number, same)
+fares-step modes fares next key value more position cents named number same =
+    rw (named, number, same)
 
 pub loop-name-preserved : goal.loop-name-preserved
 loop-name-preserved c =
@@ -33,7 +34,8 @@ loop-name-preserved c =
       same =
           c.loop-name.invariant.same
           ∙ ap (λ more. fares_from modes fares (members_view more)) c.in-Some.ensures.steps
-          ∙ fares-step modes fares (set fares position cents) key value more position cents named number
+          ∙ fares-step modes fares (set fares position cents) key value more position cents named
+          number
           refl;
       bounds = All-set (λ one. one ≤ 100_000) fares position cents
           c.in_ok-cents.ensures.high c.loop-name.invariant.bounds;

@@ -17,14 +17,17 @@ reaches-None first (Some range) found = cc
 
 pub returns-in-Some : goal.returns-in-Some
 returns-in-Some c =
-    reaches-Some c.args.first c.in-Some.last (last_started c.args.rest.last c.args.ranges.now.entries)
+    reaches-Some c.args.first c.in-Some.last
+    (last_started c.args.rest.last c.args.ranges.now.entries)
     c.in-Some.ensures
-    ∙ sym (shares-last_started (c.args.first, c.args.rest) c.args.ranges.now.entries c.requires.order
+    ∙ sym (shares-last_started (c.args.first, c.args.rest) c.args.ranges.now.entries
+    c.requires.order
     c.requires.apart)
 
 pub returns-in-None : goal.returns-in-None
 returns-in-None c =
     reaches-None c.args.first (last_started c.args.rest.last c.args.ranges.now.entries)
     c.in-None.ensures
-    ∙ sym (shares-last_started (c.args.first, c.args.rest) c.args.ranges.now.entries c.requires.order
+    ∙ sym (shares-last_started (c.args.first, c.args.rest) c.args.ranges.now.entries
+    c.requires.order
     c.requires.apart)

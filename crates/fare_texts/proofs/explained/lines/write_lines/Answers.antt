@@ -51,7 +51,8 @@ loop-entry-preserved c =
           (c.in_ok-reason.ensures.explained done so_far.explained);
       of = c.in_ok-reason.ensures.token ∙ so_far.of;
       written = so_far.written ++ line.0;
-      are = next_explained fares c.args.token entries position _ within so_far.written line.0 _ _ why
+      are = next_explained fares c.args.token entries position _ within so_far.written line.0 _ _
+          why
           lack so_far.are line.1;
       whole = line.2 ∙ ap (λ t. t ++ line.0) so_far.whole
           ∙ append_assoc (string_bytes c.args.text.now) so_far.written line.0;

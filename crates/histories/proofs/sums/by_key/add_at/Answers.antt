@@ -10,7 +10,8 @@ add-requires g c =
     let room = room-kept g.K.PartialEq.eq g.K.SumKey.key_of c.args.tallies.now.entries c.of.result _
     1 c.requires
     (ap (λ (s : Sums). s.taps)
-    (kept-at c.args.tallies.now.entries c.args.position c.of.result c.pair_mut-kept.result.0.now tally
+    (kept-at c.args.tallies.now.entries c.args.position c.of.result c.pair_mut-kept.result.0.now
+    tally
     c.pair_mut-kept.result.1.now
     (get g.K.PartialEq.eq c.args.tallies.now c.of.result) at c.pair_mut-kept.ensures.value is)) in
     omega (arith, room)

@@ -13,6 +13,8 @@ returns-clause-given g c = λ old_text new_text is_old is_new.
       of_old = c.in_ok-old.ensures.bill;
       of_new = c.in_ok-new.ensures.bill;
       walked = walk_first c.args.is_by_token old new (rows_of old_text) (rows_of new_text)
-          (subst (λ x. IfSome x (λ text. old ≡ Some (rows_of text))) is_old c.in_ok-old.ensures.read)
-          (subst (λ x. IfSome x (λ text. new ≡ Some (rows_of text))) is_new c.in_ok-new.ensures.read);
+          (subst (λ x. IfSome x (λ text. old ≡ Some (rows_of text))) is_old
+          c.in_ok-old.ensures.read)
+          (subst (λ x. IfSome x (λ text. new ≡ Some (rows_of text))) is_new
+          c.in_ok-new.ensures.read);
     }

@@ -1,5 +1,6 @@
 -- Each round reads one line more of the piece.
-use Rattle.std.proofs.Common.{◌≡◌, ◌++◌, [], ℕ, List, refl, sym, ap, subst, ◌∙◌, append_assoc, append-nil}
+use Rattle.std.proofs.Common.{◌≡◌, ◌++◌, [], ℕ, List, refl, sym, ap, subst, ◌∙◌, append_assoc}
+use Rattle.std.proofs.Common.{append-nil}
 use Rattle.std.proofs.Common.{arith, rules, tests}
 use Rattle.std.proofs.lemmas.Bool.Decides.{nat_tests}
 use Rattle.ledger_check.specs.Subtracted.{HasSubtracted, IfUndecided}
@@ -15,7 +16,8 @@ loop-rest-init c = record {
   fed = λ text fed. subst (λ (t : List ℕ). HasFed c.args.table.now c.args.self.now t)
       (sym (append-nil text)) fed;
   subtracted = λ text valid subtracted.
-      subst (λ (t : List ℕ). HasSubtracted c.args.table.now c.args.self.now c.args.balance.now t valid)
+      subst (λ (t : List ℕ). HasSubtracted c.args.table.now c.args.self.now c.args.balance.now t
+      valid)
       (sym (append-nil text)) subtracted;
 }
 

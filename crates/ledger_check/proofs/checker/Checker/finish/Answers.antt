@@ -5,7 +5,8 @@ use Rattle.std.specs.Prelude.{IsTrue}
 use Rattle.ledger_check.specs.Verdicts.{IsVerdict, is_legal}
 use Rattle.ledger_check.specs.declared.checker.Verdict.{Verdict}
 use Rattle.ledger_check.proofs.SubtractedLemmas.{all_subtracted}
-use Rattle.ledger_check.proofs.CheckerLemmas.{empty_list, ended_in_line, ended_unheaded, ended_complete}
+use Rattle.ledger_check.proofs.CheckerLemmas.{empty_list, ended_in_line, ended_unheaded}
+use Rattle.ledger_check.proofs.CheckerLemmas.{ended_complete}
 use Rattle.ledger_check.proofs.checker.Checker.finish.Goals as goal
 use Rattle.ledger_check.proofs.checker.Checker.finish.Goals.{then-not-self-via-then-not-self}
 use Rattle.ledger_check.proofs.checker.Checker.finish.Goals.{then-not-self-via-else-not-self+then-not-is_empty}
@@ -44,5 +45,6 @@ pub returns-clause-subtracted : goal.returns-clause-subtracted
 returns-clause-subtracted c = λ fares text balance valid subtracted legal entries is.
     let checker = c.args.self.now in
     let none : length checker.started.items ≤ 0 = grind (arith, nat_tests, checker.started.ok.0) in
-    all_subtracted fares checker balance text valid subtracted (empty_list checker.started.items none) entries
+    all_subtracted fares checker balance text valid subtracted
+    (empty_list checker.started.items none) entries
     is

@@ -25,11 +25,13 @@ returns-then-is_empty-clause-subtracted c = λ text valid subtracted.
     let checker = c.args.self.now in
     let none : length checker.started.items ≤ 0 = grind (arith, nat_tests, checker.started.ok.0) in
     let empty = empty_list checker.started.items none in
-    took_subtracted c.args.table.now checker _ c.args.balance.now _ text c.args.line.now c.args.line.now
+    took_subtracted c.args.table.now checker _ c.args.balance.now _ text c.args.line.now
+    c.args.line.now
     valid _ subtracted c.requires.line
     (ap (λ (p : List ℕ). p ++ c.args.line.now) (sym empty)) empty
     (c.in_ok-reported.ensures.taken subtracted.fed.lines subtracted.fed.taken)
-    (c.in_ok-reported.ensures.subtracted subtracted.fed.lines valid subtracted.fed.taken subtracted.subtracted)
+    (c.in_ok-reported.ensures.subtracted subtracted.fed.lines valid subtracted.fed.taken
+    subtracted.subtracted)
 
 pub returns-clause-subtracted : goal.returns-clause-subtracted
 returns-clause-subtracted c = λ text valid subtracted.
@@ -37,4 +39,5 @@ returns-clause-subtracted c = λ text valid subtracted.
     c.as_slice.result.now valid _ subtracted c.requires.line
     (c.as_slice.ensures.value ∙ c.in_ok-extend_from_slice.ensures.items) c.clear.ensures.items
     (c.in_ok-reported-2.ensures.taken subtracted.fed.lines subtracted.fed.taken)
-    (c.in_ok-reported-2.ensures.subtracted subtracted.fed.lines valid subtracted.fed.taken subtracted.subtracted)
+    (c.in_ok-reported-2.ensures.subtracted subtracted.fed.lines valid subtracted.fed.taken
+    subtracted.subtracted)

@@ -16,12 +16,14 @@ take-requires-clause-line c = (c.args.line.now, c.requires.line, inl refl)
 pub returns-then-is_empty : goal.returns-then-is_empty
 returns-then-is_empty c = λ text written valid is.
     let full_check = c.args.self.now in
-    let none : length full_check.started.items ≤ 0 = grind (arith, nat_tests, full_check.started.ok.0) in
+    let none : length full_check.started.items ≤ 0 =
+    grind (arith, nat_tests, full_check.started.ok.0) in
     let empty = empty_list full_check.started.items none in
     let started : is.started ≡ [] = kept_none full_check.started.items is.started is.kept empty in
     let same : c.args.line.now ≡ is.started ++ c.args.line.now =
     ap (λ (b : List ℕ). b ++ c.args.line.now) (sym started) in
-    took_line_of c.args.table.now full_check _ c.args.subtracts c.args.full.now _ text c.args.line.now
+    took_line_of c.args.table.now full_check _ c.args.subtracts c.args.full.now _ text
+    c.args.line.now
     written valid (string_bytes c.args.reported.now) _ is c.requires.line empty
     (c.in_ok-take.ensures is.taken (is.started ++ c.args.line.now) is.lines
     (line_ends is.started c.args.line.now is.lacks c.requires.line) (inl same))
@@ -34,7 +36,8 @@ take-requires-2-clause-line c =
     let is = c.requires.fed.3 in (
       is.started ++ c.args.line.now,
       line_ends is.started c.args.line.now is.lacks c.requires.line,
-      subst (λ (k : List ℕ). IsKept k (is.started ++ c.args.line.now)) (sym c.as_slice.ensures.value)
+      subst (λ (k : List ℕ). IsKept k (is.started ++ c.args.line.now))
+          (sym c.as_slice.ensures.value)
           (c.in_ok-keep.ensures is.started is.kept),
     )
 

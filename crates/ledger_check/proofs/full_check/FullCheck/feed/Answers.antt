@@ -46,7 +46,8 @@ returns-in_default c = λ text written valid is.
     let now = before.fed text written valid is in
     let after = record c.loop-rest.self { started = c.keep.new.kept } in
     let joined : before.consumed ++ c.loop-rest.rest.now ≡ c.args.piece.now = sym before.whole in
-    subst (λ (p : List ℕ). Fed fares after c.args.subtracts c.loop-rest.full (text ++ p) written valid
+    subst (λ (p : List ℕ). Fed fares after c.args.subtracts c.loop-rest.full (text ++ p) written
+    valid
     (string_bytes c.args.reported.now) (string_bytes c.loop-rest.reported)) joined
     (fed_on fares c.loop-rest.self after c.args.subtracts c.loop-rest.full c.loop-rest.full text
     before.consumed c.loop-rest.rest.now written valid
@@ -71,5 +72,6 @@ returns c = λ text written valid is.
     sym (append-nil before.consumed)
     ∙ sym (before.whole ∙ ap (λ (r : List ℕ). before.consumed ++ r) none) in
     subst (λ (p : List ℕ). Fed c.args.table.now c.loop-rest.self c.args.subtracts c.loop-rest.full
-    (text ++ p) written valid (string_bytes c.args.reported.now) (string_bytes c.loop-rest.reported))
+    (text ++ p) written valid (string_bytes c.args.reported.now)
+    (string_bytes c.loop-rest.reported))
     all now

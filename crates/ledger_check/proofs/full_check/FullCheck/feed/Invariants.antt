@@ -11,7 +11,8 @@ invariant-loop-rest l = record {
   fed : (text written : List ℕ) (valid : List TapFields)
       → HasFullyChecked l.table l.fn.self l.subtracts l.fn.full text written valid
       → (more : List ℕ) × (string_bytes l.reported ≡ string_bytes l.fn.reported ++ more)
-      × HasFullyChecked l.table l.self l.subtracts l.full (text ++ consumed) (written ++ more) valid;
+      × HasFullyChecked l.table l.self l.subtracts l.full (text ++ consumed) (written ++ more)
+      valid;
 }
 
 abbrev pub decreases-loop-rest : goal.decreases-loop-rest

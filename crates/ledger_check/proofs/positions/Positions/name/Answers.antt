@@ -17,7 +17,8 @@ returns-clause-named c = λ right upload' position'.
     let all = c.args.self.now.uploads.items in
     let at = c.args.upload in
     let within : at < length all = search rules in
-    read_written (λ o. named_of (option_and_then (λ placed. at_position placed.items position') o)) all at
+    read_written (λ o. named_of (option_and_then (λ placed. at_position placed.items position') o))
+    all at
     upload' c.name_in.new.placed c.index_mut.result.now (nat_eq position' c.args.position) within
     (slice_get_read all (length all) at c.index_mut.result.now refl within
     c.index_mut.ensures.value)

@@ -61,7 +61,8 @@ returns c = λ run holds.
         is_remark = c.remark_for.ensures
             ∙ ap (λ (b : Bool). remark_for b c.same_bytes-is_same.result) took.decreasing
             ∙ ap (λ (b : Bool). remark_for (decreases_after run tap.token) b) same
-            ∙ ap (λ (e : Entry). remark_for (decreases_after run e.token) (bytes_eq line wanted)) is;
+            ∙ ap (λ (e : Entry). remark_for (decreases_after run e.token) (bytes_eq line wanted))
+            is;
       };
       explainer = subst
           (λ (e : Entry). HasRunExplainer fares c.take_tap.new.self.explainer

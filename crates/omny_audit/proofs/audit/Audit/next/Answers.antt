@@ -1,4 +1,5 @@
-use Rattle.std.proofs.Common.{◌≡◌, ◌∙◌, ◌++◌, ℕ, [], List, ap, append-nil, length, string_bytes, subst}
+use Rattle.std.proofs.Common.{◌≡◌, ◌∙◌, ◌++◌, ℕ, [], List, ap, append-nil, length, string_bytes}
+use Rattle.std.proofs.Common.{subst}
 use Rattle.std.proofs.Common.{Global, Vec, sym}
 use Rattle.omny_audit.proofs.ReadLemmas.{drained}
 use Rattle.omny_audit.specs.Reports.{Given, IsAudit}
@@ -44,7 +45,8 @@ returns-then-is_empty c = λ valid file written has more end.
       audit.0,
       subst (λ (g : Given). IsAudit g ((file ++ c.args.piece.now) ++ more) audit.0
           (written ++ c.in_ok-ended.ended.0.items) c.in_ok-ended.ended.1) read.2
-          (subst (λ (f : List ℕ). IsAudit (given_in c.read_end.new.self valid) f audit.0 (written ++ c.in_ok-ended.ended.0.items)
+          (subst (λ (f : List ℕ). IsAudit (given_in c.read_end.new.self valid) f audit.0
+          (written ++ c.in_ok-ended.ended.0.items)
           c.in_ok-ended.ended.1) all audit.1),
     )
 

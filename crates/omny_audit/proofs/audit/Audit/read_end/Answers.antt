@@ -34,7 +34,8 @@ returns c = λ valid file written has.
       taken.1,
       taken.2 ∙ given_traced audit c.read_end.new.trace text valid c.read_end.ensures.wanted,
       record {
-        checked = subst (λ (t : List ℕ). HasChecked after.table.now after.subtracts valid after.check t
+        checked = subst
+            (λ (t : List ℕ). HasChecked after.table.now after.subtracts valid after.check t
             (written ++ taken.0)) whole taken.3.checked;
         summed = λ open_still. subst (λ (t : List ℕ). HasSummedFor after.table.now after.report t)
             whole taken.3.summed;

@@ -49,7 +49,8 @@ returns-clause-read c = λ whole read kept has.
           (c.look_at_position.ensures.names ∙ c.look_at_class.ensures.names)
           (c.in_ok-tap.tap, c.in_ok-tap.ensures.tap, refl)
           (c.look_at_position.ensures.positions read whole
-          (placed_same _ _ _ _ read c.look_at_class.ensures.positions c.look_at_class.ensures.position
+          (placed_same _ _ _ _ read c.look_at_class.ensures.positions
+          c.look_at_class.ensures.position
           has.columns.positions)
           (count ∙ ap (λ (n : ℕ). n + 1) has.count)),
     )

@@ -16,7 +16,8 @@ pub returns-clause-read : goal.returns-clause-read
 returns-clause-read c = λ file reported read is.
     let trace = c.args.self.now in
     let some : 0 < length trace.started.items = grind (arith, nat_tests, trace.started.ok.0) in
-    let kept = subst (λ (k : List ℕ). IsKeptOf k is.started) (sym c.as_slice.ensures.value) is.kept in
+    let kept = subst (λ (k : List ℕ). IsKeptOf k is.started) (sym c.as_slice.ensures.value)
+    is.kept in
     ended_cut trace (record trace { so_far = c.take.new.self }) file reported c.args.text.now.items
     _ read is some
     (c.in_ok-take.ensures.read is.started read kept is.lines)

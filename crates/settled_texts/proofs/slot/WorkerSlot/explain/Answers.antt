@@ -30,7 +30,8 @@ returns c = λ whole.
     let its = c.of-self.ensures.token in
     let there = sym c.in-Some.ensures.value in
     record {
-      first = λ token nondecreasing. subst (λ (t : Token). IsUpTo token t) (sym c.token_of-self.ensures)
+      first = λ token nondecreasing. subst (λ (t : Token). IsUpTo token t)
+          (sym c.token_of-self.ensures)
           (nondecreasing_first token list _ there nondecreasing).0;
       explained = λ earlier none up.
           let explained = c.in-Ok.ensures.explained earlier

@@ -11,5 +11,6 @@ pub returns-clause-none : goal.returns-clause-none
 unfolding HasPosted taps_of
 returns-clause-none c = λ fares earlier none.
     let rules = rules_of fares (bytes_of c.args.token) in
-    subst (λ (ts : List TapIn). Represents rules c.fresh.result ts) (sym (ap (map (tap_of fares)) none))
+    subst (λ (ts : List TapIn). Represents rules c.fresh.result ts)
+    (sym (ap (map (tap_of fares)) none))
     (c.fresh.ensures.holds rules)

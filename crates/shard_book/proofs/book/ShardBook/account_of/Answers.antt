@@ -10,6 +10,7 @@ use Rattle.shard_book.proofs.book.ShardBook.account_of.Goals as goal
 pub returns : goal.returns
 unfolding AreKept
 returns c =
-    subst (λ (book : Book). Represents (rules_of book.table (bytes_of c.args.token)) c.account_of.result
+    subst (λ (book : Book). Represents (rules_of book.table (bytes_of c.args.token))
+    c.account_of.result
     (taps_of book.table c.args.token book.entries)) c.self.view_is
     (c.account_of.ensures _ _ (c.self.invariant.sound.kept c.args.token))

@@ -27,7 +27,8 @@ book_of table shard shards entries =
 
 pub invariant_of-self-in_err-position : goal.invariant_of-self-in_err-position
 invariant_of-self-in_err-position c =
-    book-same c.reserve.ensures.items c.in_err-position.ensures.positions c.in_err-position.ensures.err
+    book-same c.reserve.ensures.items c.in_err-position.ensures.positions
+    c.in_err-position.ensures.err
     c.in_err-position.ensures.counting c.self.invariant
 
 pub returns-in_err-position-clause-err : goal.returns-in_err-position-clause-err
@@ -42,7 +43,8 @@ returns-in_err-position-clause-err c =
 
 pub returns-in_err-position-clause-legal : goal.returns-in_err-position-clause-legal
 returns-in_err-position-clause-legal c =
-    (book-same c.reserve.ensures.items c.in_err-position.ensures.positions c.in_err-position.ensures.err
+    (book-same c.reserve.ensures.items c.in_err-position.ensures.positions
+    c.in_err-position.ensures.err
     c.in_err-position.ensures.counting c.self.invariant).sound.legal
 
 -- the entry that was appended
@@ -109,7 +111,8 @@ invariant_of-self-2 c = record {
       (packed_push c) c.self.invariant.placed c.in_ok-position.ensures.positions (
         c.of-token.result,
         subst
-            (λ (position : ℕ). slice_get (tokens_of c.step.new.self) position ≡ Some c.of-token.result)
+            (λ (position : ℕ). slice_get (tokens_of c.step.new.self) position
+            ≡ Some c.of-token.result)
             (sym c.of-packed.ensures.position) c.in_ok-position.ensures.position,
       );
 }

@@ -13,7 +13,8 @@ invariant_of-pass g c = full_pass_is _ _ _ c.pass.invariant c.in_err-number.ensu
 pub returns-in_err-number-clause-fault : goal.returns-in_err-number-clause-fault
 returns-in_err-number-clause-fault g c =
     let p = err_from_is_err_and c.from_residual.result c.from_residual.ensures.1 in
-    let t = full_reported _ _ _ _ _ c.pass.view_is c.take.ensures.same c.in_err-number.ensures.full in
+    let t = full_reported _ _ _ _ _ c.pass.view_is c.take.ensures.same
+    c.in_err-number.ensures.full in
     rw (p.1, p.2) (t.0, t.1)
 
 pub give-requires-clause-brings : goal.give-requires-clause-brings
@@ -38,7 +39,8 @@ returns-in_err-statement-clause-fault g c =
     let given = c.give.ensures.given [] (entries_now _ _ _ _ _ _ taken (nothing_more _)) in
     rw (p.1, p.2) (
       c.in_ok-number.number,
-      visit_reported _ _ _ _ _ _ _ _ [] c.pass.view_is (c.give.ensures.same ∙ c.take.ensures.same) taken
+      visit_reported _ _ _ _ _ _ _ _ [] c.pass.view_is (c.give.ensures.same ∙ c.take.ensures.same)
+          taken
           given (legal_now _ _ _ _ _ _ taken (nothing_more _) (legal_out _ _ _ _ taken)),
     )
 
@@ -55,7 +57,8 @@ returns-clause-read g c =
     let table : c.in_ok-number.book.value.table ≡ c.args.self.now.table =
     table_out _ _ _ _ _ _ c.pass.view_is taken ∙ ap (λ o. o.table) c.requires.belongs in
     let seen = seen_out c.give.new.seat.table_id _ _ _ _ _ taken given in (
-      visit_reported _ _ _ _ _ _ _ _ [] c.pass.view_is (c.give.ensures.same ∙ c.take.ensures.same) taken
+      visit_reported _ _ _ _ _ _ _ _ [] c.pass.view_is (c.give.ensures.same ∙ c.take.ensures.same)
+          taken
           given (legal_now _ _ _ _ _ _ taken (nothing_more _) (legal_out _ _ _ _ taken)),
       subst (λ es. IsStatement c.args.self.now.table es c.args.token.now c.in_ok-statement.field-0)
           seen

@@ -11,7 +11,8 @@ invariant_of-pass g c = full_pass_is _ _ _ c.pass.invariant c.in_err-number.ensu
 pub returns-in_err-number-clause-full : goal.returns-in_err-number-clause-full
 returns-in_err-number-clause-full g c =
     let p = err_from_is_err_and c.from_residual.result c.from_residual.ensures.1 in
-    let t = full_reported _ _ _ _ _ c.pass.view_is c.take.ensures.same c.in_err-number.ensures.full in
+    let t = full_reported _ _ _ _ _ c.pass.view_is c.take.ensures.same
+    c.in_err-number.ensures.full in
     rw p.1 (t.0, t.1, refl)
 
 pub give-requires-clause-brings : goal.give-requires-clause-brings

@@ -5,7 +5,8 @@ use Rattle.tap_rows.proofs.agency.instant.is_early.Goals as goal
 pub returns-in_default : goal.returns-in_default
 returns-in_default c = (
   λ no. absurd (cc no),
-  λ early. absurd (c.in_default.ensures early.0 (early_is_small c.args.unit early.0 early.2) early.1),
+  λ early. absurd
+      (c.in_default.ensures early.0 (early_is_small c.args.unit early.0 early.2) early.1),
 )
 
 pub returns-then-number-earliest_ms : goal.returns-then-number-earliest_ms

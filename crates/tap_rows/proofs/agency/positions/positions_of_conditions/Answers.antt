@@ -6,7 +6,8 @@ use Rattle.tap_rows.proofs.agency.positions.positions_of_conditions.Goals as goa
 
 pub loop-index-preserved : goal.loop-index-preserved
 loop-index-preserved c =
-    positions_more (fields_of c.args.head.now) c.args.choice.now.only.now c.loop-index.positions.items
+    positions_more (fields_of c.args.head.now) c.args.choice.now.only.now
+    c.loop-index.positions.items
     c.push.new.self.items c.loop-index.index _ c.in_ok-position.position c.loop-index.invariant
     (omega arith)
     c.in_ok-push.ensures.items

@@ -6,4 +6,5 @@ use Rattle.tap_rows.proofs.agency.positions.positions_of_conditions.Given as goa
 
 abbrev pub invariant-loop-index : goal.invariant-loop-index
 invariant-loop-index l =
-    AllZip (IsPositionOf (fields_of l.fn.head)) (take l.index l.fn.choice.only.now) l.positions.items
+    AllZip (IsPositionOf (fields_of l.fn.head)) (take l.index l.fn.choice.only.now)
+    l.positions.items

@@ -25,7 +25,8 @@ loop-index-preserved c = λ head all.
     let test = c.loop-index-test.true in
     let end = c.min-index-end.ensures in
     let within : c.loop-index.index < length c.args.only.now = grind (arith, test, end) in
-    met_more head (fields_of c.args.row.now) c.args.only.now c.args.positions.now c.loop-index.index _
+    met_more head (fields_of c.args.row.now) c.args.only.now c.args.positions.now c.loop-index.index
+    _
     0 all within
     (c.has_at.ensures.0 c.if-not-has_at.false
     ∙ ap (λ (v : List ℕ). Some v) c.as_bytes.ensures.value) (c.loop-index.invariant head all)

@@ -39,7 +39,8 @@ returns-in_default-agency_moment_in-clause-wrong c = λ head are long.
     (λ text. IsTokenText text c.in-Some.token) are.token
     (c.field_in.ensures (column_within head row choice.token.now positions.token are.token long))
     c.in-Some.ensures in
-    let validator = has_some head row choice.validator.now c.field_in-2.result.now positions.validator
+    let validator = has_some head row choice.validator.now c.field_in-2.result.now
+    positions.validator
     (λ text. RepresentsValidator choice.devices text c.in-Ok.validator) are.validator
     (c.field_in-2.ensures
     (column_within head row choice.validator.now positions.validator are.validator long))
@@ -59,7 +60,8 @@ returns-clause-tap c = λ head are long.
     record {
       token = has_some head row choice.token.now c.field_in.result.now positions.token
           (λ text. IsTokenText text c.in-Some.token) are.token
-          (c.field_in.ensures (column_within head row choice.token.now positions.token are.token long))
+          (c.field_in.ensures
+          (column_within head row choice.token.now positions.token are.token long))
           c.in-Some.ensures;
       validator = has_some head row choice.validator.now c.field_in-2.result.now positions.validator
           (λ text. RepresentsValidator choice.devices text c.in-Ok.validator) are.validator

@@ -43,7 +43,8 @@ returns-in_err-add-clause-fault c =
     c.next_record-in-loop-count.new.reader (devices_of c.loop-count.table) row
     c.in_err-add.field-0.0
     c.loop-count.invariant
-    (λ rows consumed. c.in-Ok-next_record.ensures.more c.if-not-has_row.false c.args.separator text rows
+    (λ rows consumed. c.in-Ok-next_record.ensures.more c.if-not-has_row.false c.args.separator text
+    rows
     consumed) refl c.in_err-add.ensures.fault)
 
 pub loop-count-preserved : goal.loop-count-preserved
@@ -55,5 +56,6 @@ loop-count-preserved c =
     c.next_record-in-loop-count.new.reader (devices_of c.loop-count.table)
     (devices_of c.add.new.self) row device
     c.loop-count.invariant
-    (λ rows consumed. c.in-Ok-next_record.ensures.more c.if-not-has_row.false c.args.separator text rows
+    (λ rows consumed. c.in-Ok-next_record.ensures.more c.if-not-has_row.false c.args.separator text
+    rows
     consumed) is none more

@@ -20,7 +20,8 @@ returns-in-Some-clause-most c =
     let bytes = c.self.inside.records.now in
     let taps = taps_in layout c.self.inside.count bytes in
     let number : length c.in-Some.positions.now ≡ _
-    = kept_count c.self.inside.positions c.in-Some.positions c.self.inside.shard c.self.inside.shards taps
+    = kept_count c.self.inside.positions c.in-Some.positions c.self.inside.shard
+    c.self.inside.shards taps
     c.in-Some.is c.self.invariant.3 in
     omega (
       arith,
@@ -36,7 +37,8 @@ overflow_cast-result c =
     let bytes = c.self.inside.records.now in
     let taps = taps_in layout c.self.inside.count bytes in
     let number : length c.in-Some.positions.now ≡ _
-    = kept_count c.self.inside.positions c.in-Some.positions c.self.inside.shard c.self.inside.shards taps
+    = kept_count c.self.inside.positions c.in-Some.positions c.self.inside.shard
+    c.self.inside.shards taps
     c.in-Some.is c.self.invariant.3 in
     omega (
       arith,

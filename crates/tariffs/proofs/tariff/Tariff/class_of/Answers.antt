@@ -11,7 +11,8 @@ returns-in-Some-clause-there c =
     let there : All (λ position. position < count) (values_of parts.riders) =
     c.self.invariant.riders in
     let below : c.in-Some.class < count =
-    subst P (sym c.in-Some.ensures) (IfSome-lookup_from_All (λ position. position < count) _ _ there) in
+    subst P (sym c.in-Some.ensures)
+    (IfSome-lookup_from_All (λ position. position < count) _ _ there) in
     let same : count ≡ length c.args.self.now.meaning.classes =
     rw (← c.self.view_is) refl in
     omega (arith, below, same)

@@ -10,7 +10,8 @@ returns-in-Err-clause-given g c = λ start loads a given is.
     let self = c.args.self.now in let request = corrections_of self.words in
     let remaining = g.I.Text.Read.remaining in let under = g.I.Streams.bytes_under in
     stream_halts (λ l x. l ≡ l) (IsCorrected under request)
-    (self.words.old.now ∷ self.words.new.now ∷ []) start (g.I.Inputs.run c.begin.new.files) loads a []
+    (self.words.old.now ∷ self.words.new.now ∷ []) start (g.I.Inputs.run c.begin.new.files) loads a
+    []
     c.in-Err.why c.in-Err.ensures.stopped (c.begin.ensures.unchanged ∙ is)
     (stage_started remaining under request self.stage loads a given.0 given.1)
 
@@ -19,7 +20,8 @@ returns-in-Err-go_on-clause-given g c = λ start loads a given is.
     let self = c.args.self.now in let request = corrections_of self.words in
     let remaining = g.I.Text.Read.remaining in let under = g.I.Streams.bytes_under in
     stream_halts (λ l x. l ≡ l) (IsCorrected under request)
-    (self.words.old.now ∷ self.words.new.now ∷ []) start (g.I.Inputs.run c.args.files.now) loads a []
+    (self.words.old.now ∷ self.words.new.now ∷ []) start (g.I.Inputs.run c.args.files.now) loads a
+    []
     c.in-Err-go_on.why c.in-Err-go_on.ensures.stopped (is)
     (stage_started remaining under request self.stage loads a given.0 given.1)
 

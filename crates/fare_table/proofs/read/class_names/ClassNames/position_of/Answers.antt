@@ -19,7 +19,8 @@ answer_of (Ok short) position o same refused at =
     ap (λ (p : Option ℕ). ok_or p Rider) at ∙ ap (λ (n : ℕ). Ok n) (sym same)
 answer_of (Err e) position o same refused at = λ other. absurd (other refused)
 
-below_of : (result : Result ℕ TableFault) (position count : ℕ) → IfOk result (λ short. short ≡ position)
+below_of : (result : Result ℕ TableFault) (position count : ℕ)
+    → IfOk result (λ short. short ≡ position)
     → position < count → IfOk result (λ short. short < count)
 below_of (Ok short) position count same below = subst (λ (n : ℕ). n < count) (sym same) below
 below_of (Err e) position count same below = tt

@@ -37,7 +37,8 @@ loop-token-preserved c =
           ∙ ap (filter_bit c.in-Some.token.now) long) inside);
       some = λ any. let some = c.loop-token.invariant.some any in
           omega (arith, some, length-set marks position true);
-      few = let few = c.loop-token.invariant.few in omega (arith, few, length-set marks position true);
+      few = let few = c.loop-token.invariant.few in
+          omega (arith, few, length-set marks position true);
     }
 
 pub returns-clause-few : goal.returns-clause-few
