@@ -12,7 +12,7 @@ use Rattle.hex.specs.Hex.{decode_sized}
 use Rattle.jiff.specs.Words.{read_whole}
 use Rattle.toml.specs.Data.{Data, Items, no_items, item, Members, no_members, member, get_member}
 use Rattle.toml.specs.Data.{get_item, as_str, as_integer, as_array, as_table}
-use Rattle.fare_table.specs.Classes.{is_empty}
+use Rattle.fare_table.specs.Classes.{is_any, is_empty}
 use Rattle.fare_table.specs.Members.{are_tables, hold_numbers, hold_strings, hold_tables}
 use Rattle.fare_table.specs.Modes.{are_mode_names}
 use Rattle.tariffs.specs.Names.{same_name}
@@ -151,7 +151,7 @@ is_kind the_key.Fare value = is_some (as_integer value)
 is_kind the_key.Rides value = is_some (as_integer value)
 is_kind the_key.Ceiling value = is_some (as_integer value)
 is_kind the_key.Fares value = holds_of_some hold_numbers (as_table value)
-is_kind the_key.RideTransfers value = is_some (as_integer value)
+is_kind the_key.RideTransfers value = is_any value || is_some (as_integer value)
 is_kind the_key.TransferMinutes value = is_some (as_integer value)
 is_kind the_key.DefaultClass value = is_some (as_str value)
 is_kind the_key.Validators value = holds_of_some are_tables (as_array value)
@@ -174,11 +174,11 @@ is_in_bounds the_key.Modes beside value =
 is_in_bounds the_key.Transfers beside value = true
 is_in_bounds the_key.Classes beside value =
     holds_of_some (λ classes. not (is_empty classes)) (as_table value)
-is_in_bounds the_key.Fare beside value = is_from 1 100_000 value
+is_in_bounds the_key.Fare beside value = is_from 0 100_000 value
 is_in_bounds the_key.Rides beside value = is_from 1 1_000 value
 is_in_bounds the_key.Ceiling beside value = is_from 1 100_000_000 value
 is_in_bounds the_key.Fares beside value = is_from 0 100_000 value
-is_in_bounds the_key.RideTransfers beside value = is_from 0 9 value
+is_in_bounds the_key.RideTransfers beside value = is_any value || is_from 0 9 value
 is_in_bounds the_key.TransferMinutes beside value = is_from 1 1_440 value
 is_in_bounds the_key.DefaultClass beside value = true
 is_in_bounds the_key.Validators beside value = true
@@ -312,7 +312,7 @@ fare_rows index key (member name value more) =
 abbrev pub rows_of_terms : ℕ → List FaultRow
 rows_of_terms index =
     needed_rows (class index) the_key.Fare
-    ++ (needed_rows (class index) the_key.Rides
+    ++ (optional_rows (class index) the_key.Rides
     ++ optional_rows (class index) the_key.Ceiling)
 
 -- of its `fares`: their kind, and then key by key
