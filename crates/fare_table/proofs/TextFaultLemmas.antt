@@ -24,15 +24,15 @@ use Rattle.fare_table.specs.Transfers.{name_pair, pairs_from, positions_of, tran
 use Rattle.fare_table.specs.Transfers.{transfers_of}
 use Rattle.tariffs.specs.Transfers.{with_pair}
 use Rattle.fare_table.specs.Validators.{range_in, range_of, ranges_from, ranges_of, with_range}
-use Rattle.fare_table.specs.Window.{window_in, window_of}
-use Rattle.tariffs.specs.WindowSpan.{span_named}
+use Rattle.fare_table.specs.Window.{day_start_in, length_in, window_of}
+use Rattle.tariffs.specs.WindowSpan.{length_named, minutes_named}
 use Rattle.fare_table.specs.Zone.{zone_in, zone_of}
 use Rattle.fare_table.specs.declared.fault.Key.{Key}
 use Rattle.fare_table.specs.declared.fault.Key.TheVariants as the_key
 use Rattle.fare_table.specs.declared.fault.TableFault.{TableFault}
 use Rattle.fare_table.specs.declared.fault.TableFault.TheVariants as the_fault
 use Rattle.tariffs.specs.declared.validators.RangeRest.{RangeRest}
-use Rattle.tariffs.specs.declared.window_span.WindowSpan.TheVariants.{Days}
+use Rattle.tariffs.specs.declared.window_span.WindowLength.TheVariants.{Days}
 
 -- the outcome is not the text fault
 abbrev pub NotText : {A : Type 0} → OrFault A → Type 0
@@ -315,15 +315,26 @@ zone_of-text : (tree : Members) → NotText (zone_of tree)
 unfolding zone_of
 zone_of-text tree = zone_in-text (get_member (codes "zone") tree)
 
-window_in-text : (value : Option Data) → NotText (window_in value)
-window_in-text None = an_ok (Days 7)
-window_in-text (Some value) =
+length_in-text : (value : Option Data) → NotText (length_in value)
+length_in-text None = an_ok (Days 7)
+length_in-text (Some value) =
     steps (of_kind the_key.Window (as_str value)) _ (of_kind-text the_key.Window (as_str value))
-    (λ text. a_part (span_named text) (the_fault.Range the_key.Window) (λ is. cc))
+    (λ text. a_part (length_named text) (the_fault.Range the_key.Window) (λ is. cc))
+
+day_start_in-text : (value : Option Data) → NotText (day_start_in value)
+day_start_in-text None = an_ok 0
+day_start_in-text (Some value) =
+    steps (of_kind the_key.DayStarts (as_str value)) _
+    (of_kind-text the_key.DayStarts (as_str value))
+    (λ text. a_part (minutes_named text) (the_fault.Range the_key.DayStarts) (λ is. cc))
 
 window_of-text : (tree : Members) → NotText (window_of tree)
 unfolding window_of
-window_of-text tree = window_in-text (get_member (codes "window") tree)
+window_of-text tree =
+    steps (length_in (get_member (codes "window") tree)) _
+    (length_in-text (get_member (codes "window") tree))
+    (λ length. steps (day_start_in (get_member (codes "day_starts") tree)) _
+    (day_start_in-text (get_member (codes "day_starts") tree)) (λ day_starts. an_ok _))
 
 pub rules_of-text : (tree : Members) → NotText (meaning_of_tree tree)
 unfolding meaning_of_tree

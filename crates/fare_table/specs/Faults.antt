@@ -17,7 +17,7 @@ use Rattle.fare_table.specs.Members.{are_tables, hold_numbers, hold_strings, hol
 use Rattle.fare_table.specs.Modes.{are_mode_names}
 use Rattle.tariffs.specs.Names.{same_name}
 use Rattle.fare_table.specs.Transfers.{name_pair}
-use Rattle.tariffs.specs.WindowSpan.{span_named}
+use Rattle.tariffs.specs.WindowSpan.{length_named, minutes_named}
 use Rattle.fare_table.specs.declared.fault.Key.{Key}
 use Rattle.fare_table.specs.declared.fault.Key.TheVariants as the_key
 use Rattle.fare_table.specs.declared.fault.TableFault.{TableFault}
@@ -60,6 +60,7 @@ key_word the_key.ModeName = codes "mode"
 key_word the_key.Riders = codes "riders"
 key_word the_key.Zone = codes "zone"
 key_word the_key.Window = codes "window"
+key_word the_key.DayStarts = codes "day_starts"
 
 -- the items of a value, if it is an array
 abbrev pub items_of : Option Data → Items
@@ -161,6 +162,7 @@ is_kind the_key.ModeName value = is_some (as_str value)
 is_kind the_key.Riders value = holds_of_some hold_strings (as_table value)
 is_kind the_key.Zone value = is_some (as_str value)
 is_kind the_key.Window value = is_some (as_str value)
+is_kind the_key.DayStarts value = is_some (as_str value)
 
 -- the value is a number from the one limit to the other
 abbrev pub is_from : ℕ → ℕ → Data → Bool
@@ -189,7 +191,9 @@ is_in_bounds the_key.ModeName beside value = true
 is_in_bounds the_key.Riders beside value = true
 is_in_bounds the_key.Zone beside value = true
 is_in_bounds the_key.Window beside value =
-    holds_of_some (λ text. is_some (span_named text)) (as_str value)
+    holds_of_some (λ text. is_some (length_named text)) (as_str value)
+is_in_bounds the_key.DayStarts beside value =
+    holds_of_some (λ text. is_some (minutes_named text)) (as_str value)
 
 -- one of the names is this one
 abbrev pub is_mode : List (List ℕ) → List ℕ → Bool
@@ -385,9 +389,9 @@ riders_step tree = a_row top (Kind the_key.Riders) ∷ rider_rows 0 (riders_in t
 abbrev pub zone_step : List FaultRow
 zone_step = a_row top (Kind the_key.Zone) ∷ a_row top Zone ∷ []
 
--- the step `window`
+-- the step `window`, and then `day_starts`
 abbrev pub window_step : List FaultRow
-window_step = optional_rows top the_key.Window
+window_step = optional_rows top the_key.Window ++ optional_rows top the_key.DayStarts
 
 -- all rows, step by step: `modes` first
 abbrev pub rows : Members → List FaultRow

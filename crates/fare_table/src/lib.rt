@@ -16,5 +16,5 @@ pub use fault::{Key, TableFault};
 pub use read_table::ReadFareTable;
 pub use tariffs::{
     Class, Clock, FareTable, FollowFault, MAX_MODES, Mode, RangeRest, Tariff, Terms, TransferTerms,
-    WindowSpan,
+    WindowLength, WindowSpan, minutes_named,
 };
