@@ -1,5 +1,5 @@
 //! Where windows end.
-ghost use Rattle.std.specs.Prelude.{◌≡◌, ◌<◌, ◌+◌, pos, ◌+ℤ◌, ◌*ℤ◌, ◌<ℤ◌, ◌≤ℤ◌, neg_ℤ};
+ghost use Rattle.std.specs.Prelude.{◌≡◌, ◌<◌, ◌+◌, pos, ◌+ℤ◌, ◌-ℤ◌, ◌*ℤ◌, ◌<ℤ◌, ◌≤ℤ◌, neg_ℤ};
 ghost use Rattle.std.specs.Int.{int_max};
 ghost use Rattle.jiff.specs.Words.{epoch_day, time_nanos};
 ghost use Rattle.jiff.specs.ZoneView.{plain_zone};
@@ -154,9 +154,19 @@ fn day_at(zone: &TimeZone<'static>, day_starts: u32, moment: u64) -> Date
     ensures low { neg_ℤ (pos 10) ≤ℤ epoch_day result }
     ensures high { epoch_day result ≤ℤ pos 50_000 }
 {
+    let shown = zone
+        .to_offset(instant(moment))
+        .to_datetime(set_back(moment, day_starts));
+    shown.date()
+}
+
+fn set_back(moment: u64, day_starts: u32) -> Timestamp
+    requires starts { day_starts < 1_440 }
+    requires moment { moment < 4_102_444_800_000 }
+    ensures { result.nanosecond ≡ moment_nanos moment -ℤ pos (day_start_nanos day_starts) }
+{
     let shift = i64::from(day_starts) * MINUTE_MS;
-    let back = Timestamp::from_millisecond(moment as i64 - shift).unwrap();
-    zone.to_offset(instant(moment)).to_datetime(back).date()
+    Timestamp::from_millisecond(moment as i64 - shift).unwrap()
 }
 
 fn day_start(date: Date, day_starts: u32) -> DateTime
