@@ -451,7 +451,7 @@ taps_reports (Some (integer z)) =
 taps_reports (Some (string text)) = any_if (same_name text (codes "any"))
   where
     any_if : (b : Bool)
-        → fault_in (if b then Ok 255 else Err (Kind the_key.RideTransfers))
+        → fault_in {A = ℕ} (if b then Ok 255 else Err (Kind the_key.RideTransfers))
         ≡ cond (not (b || false)) (Some (Kind the_key.RideTransfers))
         (cond (not (b || false)) (Some (Range the_key.RideTransfers)) None)
     any_if true = refl
