@@ -12,6 +12,7 @@
 //! | `files` | whole files and standard input, up to a limit |
 //! | `loaded` | files that any thread loads |
 //! | `staged` | files that are written whole under another name |
+//! | `stream` | a file or standard input that is read in pieces |
 //! | `writing` | pieces that are written to a stream |
 //! | `saying` | texts and fault lines that are given to the standard error |
 //! | `recorded` | a writer whose writes are recorded, for code that writes to any `Write` |
@@ -26,6 +27,7 @@ mod loaded;
 mod recorded;
 mod saying;
 mod staged;
+mod stream;
 mod system;
 mod trace;
 mod world;
@@ -37,6 +39,7 @@ pub use ghost_bytes::GhostBytes;
 pub use loaded::{Loaded, load_apart};
 pub use recorded::Recorded;
 pub use staged::Staged;
+pub use stream::Stream;
 pub use system::System;
 pub use trace::Trace;
 pub use world::{Inputs, World};

@@ -1,0 +1,15 @@
+-- What is read in pieces.
+use Rattle.std.specs.Prelude.{◌≡◌, ℕ, List, [], ◌∷◌, Option, if◌then◌else◌, is_some}
+use Rattle.world.specs.Run.{Calls, nothing_yet, with_load}
+use Rattle.world.specs.declared.stream.Stream.{Stream}
+
+-- Reads under this name, or of standard input, gave these bytes, from the start on. If nothing is
+-- left to be read, they are all. Nothing else was done.
+pub record HasRead (stream : Stream) (name : Option (List ℕ)) (bytes : List ℕ) : Type 0 where
+  pub reading : stream.trace.reading ≡ record { name = name; bytes = bytes }
+  pub run : stream.trace.run
+      ≡ (if is_some stream.from then nothing_yet else with_load nothing_yet name bytes)
+
+-- what was read was read to its end
+abbrev pub IsWhole : Calls → Type 0
+IsWhole calls = calls.run.loads ≡ calls.reading ∷ []
