@@ -7,3 +7,11 @@ use Rattle.omny_audit.proofs.ledger.read_head.Goals as goal
 pub loop-piece-init : goal.loop-piece-init
 loop-piece-init c = subst (λ (t : List ℕ). HasRead c.args.ledger.now
     c.args.ledger.now.trace.reading.name t) (sym c.new-head.ensures.items) c.requires
+
+pub loop-piece-preserved : goal.loop-piece-preserved
+loop-piece-preserved c =
+    let read = c.in_default.ensures.read c.args.ledger.now.trace.reading.name
+    c.loop-piece.head.items c.loop-piece.invariant in
+    subst (λ (t : List ℕ). HasRead c.read.new.self c.args.ledger.now.trace.reading.name t)
+    (ap (λ (t : List ℕ). c.loop-piece.head.items ++ t) (sym c.deref.ensures.value)
+    ∙ sym c.in-Ok.ensures.items) read
