@@ -247,7 +247,7 @@ Steps before after piece text ended = (valid : List TapFields) (file written : L
 module _ (start before after : Audit) (file piece text : List ℕ) (old now new : Run)
     (ended : Option Bool) (so_far : SoFar start before file old now)
     (steps : Steps before after piece text ended) where
-  -- an audit that goes on behind a piece
+  -- an audit that goes on after a piece
   pub went_on : ended ≡ None → new ≡ with_written now text
       → SoFar start after (file ++ piece) old new
   went_on none wrote = λ valid has.

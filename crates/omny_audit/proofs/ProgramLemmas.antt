@@ -123,9 +123,9 @@ read_named s name bytes read =
     subst (λ (n : Option Text). HasRead s n bytes) (sym (ap (λ (x : Load). x.name) read.reading))
     read
 
-pub nothing_behind : (xs ys : List ℕ) → xs ++ ys ≡ [] → ys ≡ []
-nothing_behind [] ys none = none
-nothing_behind (x ∷ xs) ys none = absurd cc
+pub nothing_after : (xs ys : List ℕ) → xs ++ ys ≡ [] → ys ≡ []
+nothing_after [] ys none = none
+nothing_after (x ∷ xs) ys none = absurd cc
 
 -- a read of the ledger that was refused
 pub refused_stream : (before : Run) (ledger : Calls) (name : Option Text)

@@ -301,7 +301,7 @@ fn audit<'a, W: World>(
     audit_over(alloc, head, ledger, &mut audit, world)
 }
 
-/// If memory is refused for the text, that is reported, and the status is 1.
+/// If an allocation for the text fails, that is reported, and the status is 1.
 fn say<W: World, D: Display + Drop>(alloc: Global, text: D, status: u8, world: &mut W) -> u8
     ensures said { (result ≡ 1) × (W.run world.new ≡ reported Fault.NoMemory (W.run world.old))
         ⊎ (result ≡ status) × IfSome (D.output text)
@@ -322,7 +322,7 @@ fn line_of(alloc: Global, fault: &Fault<'_>) -> Result<String, AllocError>
     format!(in alloc; "{}\n", *fault)
 }
 
-/// Nothing is reported if the reader is gone. If memory is refused for the line, that is reported.
+/// Nothing is reported if the reader is gone. If an allocation for the line fails, that is reported.
 fn report_fault<W: World>(alloc: Global, fault: &Fault<'_>, world: &mut W) -> u8
     ensures status { result ≡ 1 }
     ensures reported { IsReported fault.now (W.run world.old) (W.run world.new) }

@@ -1,7 +1,7 @@
 use Rattle.std.proofs.Common.{◌≡◌, ◌∙◌, ◌++◌, [], List, ap, inl, subst, sym, ℕ}
 use Rattle.world.specs.Run.{Load}
 use Rattle.world.specs.Streams.{HasRead}
-use Rattle.omny_audit.proofs.ProgramLemmas.{nothing_behind, refused_stream}
+use Rattle.omny_audit.proofs.ProgramLemmas.{nothing_after, refused_stream}
 use Rattle.omny_audit.proofs.ledger.read_head.Goals as goal
 
 pub loop-piece-init : goal.loop-piece-init
