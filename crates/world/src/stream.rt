@@ -1,11 +1,11 @@
 //! A file or standard input that is read in pieces, each read recorded.
-ghost use Rattle.std.specs.Prelude.{◌≡◌, ◌≤◌, IfOk, vec_len};
+ghost use Rattle.std.specs.Prelude.{◌≡◌, ◌≤◌, IfSome, vec_len};
 
 use crate::faults::LoadFault;
 use crate::trace::Trace;
+use std::fs;
 use std::fs::File;
 use std::io::{ErrorKind, Input, Read, StdinLock};
-use std::{fs, io};
 
 /// How many bytes one read requests.
 const PIECE_BYTES: usize = 65_536;
@@ -17,14 +17,23 @@ enum Opened {
 }
 
 impl Opened {
-    fn read(&mut self, piece: &mut Vec<u8>) -> io::Result<usize>
+    /// Reads once, and again after a signal. None if the read failed.
+    fn read(&mut self, piece: &mut Vec<u8>) -> Option<usize>
         ensures len { vec_len piece.new ≡ vec_len piece.old }
-        ensures bound { IfOk result (λ count. count ≤ vec_len piece.new) }
+        ensures bound { IfSome result (λ count. count ≤ vec_len piece.new) }
     {
-        match self {
-            Opened::File(file) => file.read(piece.as_mut_slice()),
-            Opened::Input(input) => input.read(piece.as_mut_slice()),
+        for _ in 0..u64::MAX {
+            let read = match self {
+                Opened::File(file) => file.read(piece.as_mut_slice()),
+                Opened::Input(input) => input.read(piece.as_mut_slice()),
+            };
+            match read {
+                Ok(count) => return Some(count),
+                Err(error) if error.kind() == ErrorKind::Interrupted => {}
+                Err(_) => return None,
+            }
         }
+        None
     }
 }
 
@@ -38,8 +47,8 @@ pub struct Stream {
 }
 
 impl Stream {
-    ghost use Rattle.std.specs.Prelude.{◌≡◌, ◌≢◌, ◌≤◌, ◌++◌, ℕ, IfErr, IfOk, List, None, OnOk, Option};
-    ghost use Rattle.std.specs.Prelude.{[], is_some, option_map, true, vec_len};
+    ghost use Rattle.std.specs.Prelude.{◌≡◌, ◌≢◌, ◌++◌, ℕ, IfErr, List, None, OnOk, Option};
+    ghost use Rattle.std.specs.Prelude.{[], option_map};
     ghost use Rattle.world.specs.Loads.{IsRefused};
     ghost use Rattle.world.specs.Run.{no_calls};
     ghost use Rattle.world.specs.Streams.{HasRead};
@@ -98,24 +107,17 @@ impl Stream {
             return Ok(());
         };
         piece.resize(PIECE_BYTES, 0)?;
-        for _ in 0..u64::MAX {
-            match from.read(piece) {
-                Ok(0) => {
-                    self.trace.read(piece, 0, 0);
-                    self.from = None;
-                    piece.clear();
-                    return Ok(());
-                }
-                Ok(count) => {
-                    self.trace.read(piece, 0, count);
-                    piece.truncate(count);
-                    return Ok(());
-                }
-                Err(error) if error.kind() == ErrorKind::Interrupted => {}
-                Err(_) => break,
-            }
+        let Some(count) = from.read(piece) else {
+            self.trace.unread();
+            return Err(LoadFault::Unread);
+        };
+        self.trace.read(piece, 0, count);
+        if count == 0 {
+            self.from = None;
+            piece.clear();
+            return Ok(());
         }
-        self.trace.unread();
-        Err(LoadFault::Unread)
+        piece.truncate(count);
+        Ok(())
     }
 }
