@@ -1,6 +1,5 @@
 -- Why a run failed, and what it left: all that is promised of failing.
 use Rattle.std.specs.Prelude.{◌≡◌, ◌⊎◌, ⊤, ℕ, List, [], ◌++◌, Option, Contains}
-use Rattle.std.specs.Io.KnownBytes.{Appends}
 use Rattle.world.specs.declared.faults.LoadFault.{LoadFault}
 use Rattle.world.specs.declared.faults.WriteFault.{WriteFault}
 
@@ -36,16 +35,16 @@ IsCause names Wrong run (unwritten why) = run.unwritten why
 IsCause names Wrong run no_memory = ⊤
 
 -- The output grew by a prefix of a right text, or by nothing.
-pub record HasStarted (Right : List ℕ → Type 0) (out out' : Option (List ℕ)) : Type 0 where
+pub record HasStarted (Right : List ℕ → Type 0) (out out' : List ℕ) : Type 0 where
   pub front : List ℕ
-  pub grown : Appends out out' front
+  pub grown : out' ≡ out ++ front
   pub rest : List ℕ
   pub right : (front ≡ []) ⊎ Right (front ++ rest)
 
 -- THE outcome of a run that failed: it has this cause, and a prefix of a right text was written.
 -- `Wrong name at` says that what the file of this name has is wrong there.
 pub record Fails (names : List (List ℕ)) (Wrong : List ℕ → Option ℕ → Type 0)
-    (Right : List ℕ → Type 0) (run : Remembered) (out out' : Option (List ℕ)) (cause : Cause)
+    (Right : List ℕ → Type 0) (run : Remembered) (out out' : List ℕ) (cause : Cause)
     : Type 0 where
   pub is_cause : IsCause names Wrong run cause
   pub started : HasStarted Right out out'

@@ -1,14 +1,17 @@
 -- What an audit has read, and what it may leave.
 use Rattle.std.proofs.Common.{◌≡◌, ◌∙◌, ◌++◌, ℕ, Bool, true, false, List, [], ◌∷◌, Option, None}
-use Rattle.std.proofs.Common.{Global, Some, Vec, ap, append_assoc, inl, inr, length, refl, subst}
-use Rattle.std.proofs.Common.{sym, ⊎_elim}
-use Rattle.std.proofs.lemmas.Bool.{true≢false}
-use Rattle.std.specs.Prelude.{◌⊎◌, ◌||◌, Err, unwrap_or}
-use Rattle.std.specs.Io.KnownBytes.{Appends, Consumes, IsAtEnd}
-use Rattle.fare_texts.specs.WrittenOut.{Begins}
-use Rattle.fare_texts.proofs.Beginnings.{begins_whole}
-use Rattle.program_manners.specs.declared.output.WriteEnd.{WriteEnd}
-use Rattle.world.specs.declared.faults.LoadFault.{LoadFault}
+use Rattle.std.proofs.Common.{Global, Some, Vec, ap, append-nil, append_assoc, inl, inr, refl}
+use Rattle.std.proofs.Common.{subst}
+use Rattle.std.proofs.Common.{◌==◌, length, sym, ⊎_elim}
+use Rattle.std.proofs.lemmas.Bool.{eqb-true, true≢false}
+use Rattle.std.proofs.lemmas.List.{nil_from_length}
+use Rattle.std.specs.Prelude.{◌⊎◌, ◌||◌, Err, Ok}
+use Rattle.world.specs.Run.{Calls, Load, Run, with_written}
+use Rattle.world.specs.Streams.{HasRead, IsWhole}
+use Rattle.world.specs.Writes.{IsCut}
+use Rattle.world.specs.declared.stream.Stream.{Stream}
+use Rattle.world.proofs.Streams.{whole_at_end}
+use Rattle.world.specs.declared.faults.WriteFault.{WriteFault}
 use Rattle.frame.specs.Failing.{HasStarted}
 use Rattle.tariffs.specs.Fares.{Fares}
 use Rattle.ledger_check.specs.Lines.{lines_of}
@@ -18,7 +21,8 @@ use Rattle.ledger_check.specs.declared.balance.Balance.{Balance}
 use Rattle.ledger_check.specs.declared.checker.Checker.{Checker}
 use Rattle.ledger_check.specs.declared.checker.Verdict.{Verdict}
 use Rattle.tap_views.specs.declared.encoder.TapFields.{TapFields}
-use Rattle.omny_audit.specs.Reports.{Given, IsAuditText}
+use Rattle.omny_audit.specs.Program.{HoldsOfRead}
+use Rattle.omny_audit.specs.Reports.{Given, IsAudit, IsAuditText}
 use Rattle.omny_audit.specs.declared.audit.Audit.{Audit}
 use Rattle.omny_audit.specs.declared.check.Check.{Check}
 use Rattle.omny_audit.specs.declared.check.Check.TheVariants.{First, All}
@@ -26,10 +30,8 @@ use Rattle.omny_audit.specs.declared.fault.Fault.{Fault}
 use Rattle.omny_audit.specs.declared.fault.Fault.TheVariants.{Closed, Write}
 use Rattle.omny_audit.specs.inside.Audits.{EndsAs, HasAudited, HasEnded, IsNext, given_in}
 use Rattle.omny_audit.specs.inside.Fault.{IsStreamFault, IsWriteFault}
-use Rattle.omny_audit.specs.inside.Source.{IsAllOf}
-use Rattle.omny_audit.proofs.ReadLemmas.{whatever_follows}
 use Rattle.omny_audit.specs.inside.Checks.{HasChecked, is_all, is_decided}
-use Rattle.omny_audit.specs.Traced.{Wanted}
+use Rattle.omny_audit.specs.Traced.{ReadLine, Wanted}
 use Rattle.omny_audit.specs.declared.report.ReportWithSums.{ReportWithSums}
 use Rattle.omny_audit.specs.declared.traced.TracedPieces.{TracedPieces}
 use Rattle.omny_audit.specs.inside.Reports.{text_of}
@@ -130,14 +132,14 @@ remarked audit valid file written more has = by_check audit.check refl has.taken
 
 -- the same behind the next piece, or it is all that is found
 pub next_text : (before after : Audit) (valid : List TapFields) (file piece written : List ℕ)
-    (ended : Option Bool) (more : List ℕ) → (length piece ≡ 0 → more ≡ [])
+    (ended : Option Bool) (more : List ℕ) → (piece ≡ [] → more ≡ [])
     → IsNext before after valid file piece written ended
     → (written ≡ []) ⊎ IsAuditText (given_in before valid) ((file ++ piece) ++ more) written
 next_text before after valid file piece written None more end (same, has) =
     subst (λ (g : Given). (written ≡ []) ⊎ IsAuditText g ((file ++ piece) ++ more) written) same
     (remarked after valid (file ++ piece) written more has)
 next_text before after valid file piece written (Some success) more end is =
-    let found = is more end in inr (inl (found.0, success, found.1))
+    let found = is.0 more end in inr (inl (found.0, success, found.1))
 
 pub audited_text : (audit : Audit) (given : Given) (valid : List TapFields)
     (file written more : List ℕ) → given_in audit valid ≡ given
@@ -147,22 +149,28 @@ audited_text audit given valid file written more same has =
     subst (λ (g : Given). (written ≡ []) ⊎ IsAuditText g (file ++ more) written) same
     (remarked audit valid file written more has)
 
+-- whether bytes are left
+pub drained : (head : List ℕ) (empty : Bool) → empty ≡ (length head == 0) → empty ≡ true
+    → head ≡ []
+drained head empty is none = nil_from_length head (eqb-true (length head) 0 (sym is ∙ none))
+
 -- a prefix of a right text was written, or of none
-pub started_of : (Right : List ℕ → Type 0) (out out' : Option (List ℕ)) (text : List ℕ)
-    → (text ≡ []) ⊎ Right text → Begins out out' text → HasStarted Right out out'
-started_of Right out out' text right started = record {
-  front = started.front;
-  grown = started.written;
-  rest = started.rest;
-  right = ⊎_elim (λ none. inl (no_front started.front started.rest (sym started.whole ∙ none)))
-      (λ is. inr (subst Right started.whole is)) right;
+pub started_of : (Right : List ℕ → Type 0) (out out' text front rest : List ℕ)
+    → (text ≡ []) ⊎ Right text → text ≡ front ++ rest → out' ≡ out ++ front
+    → HasStarted Right out out'
+started_of Right out out' text front rest right whole grown = record {
+  front = front;
+  grown = grown;
+  rest = rest;
+  right = ⊎_elim (λ none. inl (no_front front rest (sym whole ∙ none)))
+      (λ is. inr (subst Right whole is)) right;
 }
   where
     no_front : (front rest : List ℕ) → front ++ rest ≡ [] → front ≡ []
     no_front [] rest is = refl
     no_front (byte ∷ front) rest is = absurd cc
 
-pub started_weaker : (Right Other : List ℕ → Type 0) (out out' : Option (List ℕ))
+pub started_weaker : (Right Other : List ℕ → Type 0) (out out' : List ℕ)
     → ((text : List ℕ) → Right text → Other text) → HasStarted Right out out'
     → HasStarted Other out out'
 started_weaker Right Other out out' weaker started = record {
@@ -173,40 +181,140 @@ started_weaker Right Other out out' weaker started = record {
       started.right;
 }
 
--- nothing is left at the end
-pub none_left : (left : Option (List ℕ)) → IsAtEnd left → unwrap_or left [] ≡ []
-none_left None end = refl
-none_left (Some xs) end = end
-
 -- a write that failed
-pub stream_of_write : (refused : Option (Option (List ℕ) × LoadFault)) (name : Option (List ℕ))
-    (ended : Option WriteEnd) (fault : Fault) → IsWriteFault ended fault
-    → IsStreamFault refused name ended fault
-stream_of_write refused name ended Write is = is
-stream_of_write refused name ended Closed is = is
-stream_of_write refused name ended _ is = absurd is
+pub stream_of_write : (ledger : Calls) (cut : Option WriteFault) (fault : Fault)
+    → IsWriteFault cut fault → IsStreamFault ledger cut fault
+stream_of_write ledger cut Write is = is
+stream_of_write ledger cut Closed is = is
+stream_of_write ledger cut _ is = absurd is
 
--- what was audited of what the ledger has lost, and written
-abbrev pub SoFar : Audit → Audit → List ℕ → Option (List ℕ) → Option (List ℕ) → Type 0
-SoFar start audit file out out' = (valid : List TapFields) → HasAudited start valid [] []
+pub written_none : (r : Run) → r ≡ with_written r []
+written_none r = sym (ap (λ xs. record r { written = xs }) (append-nil r.written))
+
+pub written_more : (r : Run) (xs ys : List ℕ)
+    → with_written (with_written r xs) ys ≡ with_written r (xs ++ ys)
+written_more r xs ys = ap (λ all. record r { written = all }) (append_assoc r.written xs ys)
+
+-- what holds of each file that goes on so, of a text that there is
+pub for_each_file : (text : List ℕ) (Goes Holds : List ℕ → Type 0)
+    → ((more : List ℕ) → Goes more → (text ≡ []) ⊎ Holds more)
+    → (text ≡ []) ⊎ ((more : List ℕ) → Goes more → Holds more)
+for_each_file [] Goes Holds each = inl refl
+for_each_file (byte ∷ text) Goes Holds each =
+    inr (λ more goes. ⊎_elim (λ none. absurd cc) (λ is. is) (each more goes))
+
+-- a text that may be left of a file may be left of what is read of the ledger
+pub of_read : (P : List ℕ → Type 0) (ledger : Calls) (file more : List ℕ)
+    → ledger.reading.bytes ≡ file → P (file ++ more) → P (ledger.reading.bytes ++ more)
+of_read P ledger file more same is = subst (λ (t : List ℕ). P (t ++ more)) (sym same) is
+
+-- what was audited so far, and written
+abbrev pub SoFar : Audit → Audit → List ℕ → Run → Run → Type 0
+SoFar start audit file old new = (valid : List TapFields) → HasAudited start valid [] []
     → (written : List ℕ) × (given_in audit valid ≡ given_in start valid)
-    × HasAudited audit valid file written × Appends out out' written
+    × HasAudited audit valid file written × (new ≡ with_written old written)
 
--- an audit that fails behind a piece
-pub interrupted : (start audit : Audit) (file : List ℕ) (before left out out' : Option (List ℕ))
-    (refused : Option (Option (List ℕ) × LoadFault)) (name : Option (List ℕ))
-    (ended : Option WriteEnd) (fault : Fault) → Consumes before left file
-    → SoFar start audit file out out' → IsStreamFault refused name ended fault
-    → (whole : List ℕ) × IsAllOf before whole × ((valid : List TapFields)
-    → HasAudited start valid [] []
-    → EndsAs (given_in start valid) whole refused name ended out out' (Err fault))
-interrupted start audit file before left out out' refused name ended fault read so_far is =
-    whatever_follows (λ (whole : List ℕ). (valid : List TapFields) → HasAudited start valid [] []
-    → EndsAs (given_in start valid) whole refused name ended out out' (Err fault)) before left file
-    read (λ more valid has.
-    let now = so_far valid has in (
+-- an audit that fails before a piece
+pub interrupted : (start audit : Audit) (file piece : List ℕ) (ledger : Calls) (old new : Run)
+    (fault : Fault) → ledger.reading.bytes ≡ file ++ piece → SoFar start audit file old new
+    → IsStreamFault ledger new.cut fault → (valid : List TapFields) → HasAudited start valid [] []
+    → EndsAs (given_in start valid) ledger old new (Err fault)
+interrupted start audit file piece ledger old new fault read so_far is valid has =
+    let now = so_far valid has in
+    let given = given_in start valid in (
       is,
-      started_of (IsAuditText (given_in start valid) (file ++ more)) out out' now.0
-          (audited_text audit (given_in start valid) valid file now.0 more now.1 now.2)
-          (begins_whole out out' now.0 now.3),
-    ))
+      started_of (λ text. HoldsOfRead ledger (λ f. IsAuditText given f text)) old.written
+          new.written
+          now.0 now.0 []
+          (for_each_file now.0 (λ more. IsWhole ledger → more ≡ [])
+          (λ more. IsAuditText given (ledger.reading.bytes ++ more) now.0)
+          (λ more end. of_read (λ f. (now.0 ≡ []) ⊎ IsAuditText given f now.0) ledger
+          (file ++ piece)
+          more read
+          (subst (λ (f : List ℕ). (now.0 ≡ []) ⊎ IsAuditText given f now.0)
+          (sym (append_assoc file piece more))
+          (audited_text audit given valid file now.0 (piece ++ more) now.1 now.2))))
+          (sym (append-nil now.0)) (ap (λ r. r.written) now.3),
+      ap (λ r. r.said) now.3,
+    )
+
+-- the audit of a piece
+abbrev pub Steps : Audit → Audit → List ℕ → List ℕ → Option Bool → Type 0
+Steps before after piece text ended = (valid : List TapFields) (file written : List ℕ)
+    → HasAudited before valid file written
+    → IsNext before after valid file piece (written ++ text) ended
+
+module _ (start before after : Audit) (file piece text : List ℕ) (old now new : Run)
+    (ended : Option Bool) (so_far : SoFar start before file old now)
+    (steps : Steps before after piece text ended) where
+  -- an audit that goes on after a piece
+  pub went_on : ended ≡ None → new ≡ with_written now text
+      → SoFar start after (file ++ piece) old new
+  went_on none wrote = λ valid has.
+      let was = so_far valid has in
+      let is = subst (λ (e : Option Bool). IsNext before after valid file piece (was.0 ++ text) e)
+      none (steps valid file was.0 was.2) in (
+        was.0 ++ text,
+        is.0 ∙ was.1,
+        is.1,
+        wrote ∙ ap (λ (r : Run). with_written r text) was.3 ∙ written_more old was.0 text,
+      )
+
+  module _ (ledger : Stream) (name : Option (List ℕ)) (read : HasRead ledger name (file ++ piece))
+      (whole : piece ≡ [] → ledger.from ≡ None) where
+    bytes : ledger.trace.reading.bytes ≡ file ++ piece
+    bytes = ap (λ (x : Load). x.bytes) read.reading
+
+    at_end : piece ≡ [] → IsWhole ledger.trace
+    at_end none = whole_at_end ledger name (file ++ piece) read (whole none)
+
+    -- all that is found was written
+    pub all_found : (success : Bool) → ended ≡ Some success → new ≡ with_written now text
+        → (valid : List TapFields) → HasAudited start valid [] []
+        → EndsAs (given_in start valid) ledger.trace old new (Ok success)
+    all_found success is wrote valid has =
+        let was = so_far valid has in
+        let given = given_in start valid in
+        let all = was.0 ++ text in
+        let found = subst (λ (e : Option Bool). IsNext before after valid file piece all e) is
+        (steps valid file was.0 was.2) in (
+          all,
+          wrote ∙ ap (λ (r : Run). with_written r text) was.3 ∙ written_more old was.0 text,
+          λ more end.
+              let one = found.0 more (λ none. end (at_end none)) in
+              of_read (λ f. (read : List ReadLine) × IsAudit given f read all success) ledger.trace
+              (file ++ piece) more bytes (
+                one.0,
+                subst (λ (x : Given). IsAudit x ((file ++ piece) ++ more) one.0 all success) was.1
+                    one.1,
+              ),
+          λ right. at_end (found.1 right),
+        )
+
+    -- a write failed
+    pub cut_off : (why : WriteFault) (fault : Fault) → IsCut now new text why
+        → IsWriteFault (Some why) fault → (valid : List TapFields) → HasAudited start valid [] []
+        → EndsAs (given_in start valid) ledger.trace old new (Err fault)
+    cut_off why fault cut is valid has =
+        let was = so_far valid has in
+        let given = given_in start valid in
+        let all = was.0 ++ text in (
+          stream_of_write ledger.trace new.cut fault
+              (subst (λ (e : Option WriteFault). IsWriteFault e fault)
+              (sym (ap (λ (r : Run). r.cut) cut.prefix)) is),
+          started_of (λ text. HoldsOfRead ledger.trace (λ f. IsAuditText given f text)) old.written
+              new.written all (was.0 ++ cut.front) cut.rest
+              (for_each_file all (λ more. IsWhole ledger.trace → more ≡ [])
+              (λ more. IsAuditText given (ledger.trace.reading.bytes ++ more) all)
+              (λ more end. of_read (λ f. (all ≡ []) ⊎ IsAuditText given f all) ledger.trace
+              (file ++ piece) more bytes
+              (subst (λ (x : Given). (all ≡ []) ⊎ IsAuditText x ((file ++ piece) ++ more) all) was.1
+              (next_text before after valid file piece all ended more (λ none. end (at_end none))
+              (steps valid file was.0 was.2)))))
+              (ap (λ (t : List ℕ). was.0 ++ t) cut.whole
+              ∙ sym (append_assoc was.0 cut.front cut.rest))
+              (ap (λ (r : Run). r.written) cut.prefix
+              ∙ ap (λ (r : Run). r.written ++ cut.front) was.3
+              ∙ append_assoc old.written was.0 cut.front),
+          ap (λ (r : Run). r.said) cut.prefix ∙ ap (λ (r : Run). r.said) was.3,
+        )

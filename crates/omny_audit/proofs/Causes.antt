@@ -1,9 +1,7 @@
 -- The causes of faults.
 use Rattle.std.proofs.Common.{◌≡◌, ◌++◌, ◌∷◌, [], ℕ, Bool, List, Option, Some, Result, Ok}
-use Rattle.std.proofs.Common.{Err, append-nil, inl, inr, refl, subst, sym}
-use Rattle.std.specs.Io.KnownBytes.{Keeps}
-use Rattle.std.specs.Prelude.{Contains}
-use Rattle.std.proofs.KnownBytes.{Appends-kept, Appends-nil}
+use Rattle.std.proofs.Common.{◌∙◌, Err, ap, append-nil, codes, inl, inr, refl, subst, sym, ⊎_elim}
+use Rattle.std.specs.Prelude.{Contains, ◌⊎◌}
 use Rattle.std.proofs.lemmas.List.Elements.{Contains-append_left, Contains-append_right}
 use Rattle.std.proofs.lemmas.List.Elements.{Contains-push}
 use Rattle.std.proofs.lemmas.Option.{get_or_from_slice_get, slice_get_within}
@@ -14,30 +12,31 @@ use Rattle.class_names.specs.declared.names.WrongNames.{WrongNames}
 use Rattle.frame.specs.Failing.{HasStarted, IsCause}
 use Rattle.program_manners.proofs.Refusals.{has_refused}
 use Rattle.program_manners.proofs.TablesRefused.{among, named_among}
-use Rattle.program_manners.specs.Loads.{Loaded}
 use Rattle.program_manners.specs.Refusals.{HasRefused, IsOneOf}
 use Rattle.program_manners.specs.declared.loading.FileFault.{FileFault}
 use Rattle.program_manners.specs.TableLoads.{LoadsTables}
 use Rattle.program_manners.specs.TableWords.{TableNames, file_named, table_files}
 use Rattle.program_manners.specs.TablesFaults.{IsTablesFault}
-use Rattle.program_manners.specs.declared.output.WriteEnd.{WriteEnd}
 use Rattle.program_manners.specs.declared.table_loads.TablesFault.{TablesFault}
 use Rattle.program_manners.specs.declared.table_loads.TablesFault.TheVariants as unloaded
 use Rattle.tariffs.specs.Fares.{Fares}
 use Rattle.world.specs.declared.faults.LoadFault.{LoadFault}
-use Rattle.world.specs.declared.faults.LoadFault.TheVariants.{Unread}
+use Rattle.world.specs.declared.faults.WriteFault.{WriteFault}
+use Rattle.world.specs.Run.{Load, Run, with_cut, with_written}
 use Rattle.omny_audit.specs.inside.Ends.{EndsAudit}
-use Rattle.omny_audit.specs.Ends.{FailsAudit, IsWrongFile, NamesUnplainClass, Run}
-use Rattle.omny_audit.specs.Fault.{cause_of, remembered}
+use Rattle.omny_audit.specs.Ends.{Did, FailsAudit, HasReported, IsWrongFile, NamesUnplainClass}
+use Rattle.omny_audit.specs.Ends.{remembered}
+use Rattle.omny_audit.specs.Fault.{audit_fault_text, cause_of, reported}
 use Rattle.omny_audit.specs.Options.{AuditRequest, files_of, ledger_name, named_file}
-use Rattle.omny_audit.specs.Program.{Audits, HasLoaded, IsTextOf, given_of}
+use Rattle.omny_audit.specs.Program.{HasFound, HasLoaded, HoldsOfRead, IsTextOf, given_of}
 use Rattle.omny_audit.specs.Reports.{AuditsDecide, IsAudit, IsAuditText}
 use Rattle.omny_audit.specs.declared.fault.Fault.{Fault}
 use Rattle.omny_audit.specs.declared.fault.Fault.TheVariants.{ClassName, Closed, File, GivenLedger}
 use Rattle.omny_audit.specs.declared.fault.Fault.TheVariants.{Ledger, NamedClass, NoMemory, Write}
 use Rattle.omny_audit.specs.inside.Audits.{EndsAs}
 use Rattle.omny_audit.specs.inside.Fault.{IsAnswerFault, IsClassFault, IsFileFault, IsLoadFault}
-use Rattle.omny_audit.specs.inside.Fault.{IsNamedClass, IsStreamFault, IsWriteFault, unloaded_as}
+use Rattle.omny_audit.specs.inside.Fault.{IsNamedClass, IsReported, IsStreamFault, IsUnopened}
+use Rattle.omny_audit.specs.inside.Fault.{IsWriteFault, unloaded_as}
 use Rattle.omny_audit.proofs.Audits.{started_weaker}
 
 -- one of some names
@@ -74,53 +73,64 @@ module _ (request : AuditRequest) where
   among_ledgers = Contains-append_right (table_files request.table) _ (ledger_name request)
       (Contains-push (request.uploads ++ named_file request.report) (ledger_name request))
 
-  module _ (loaded loaded' : Option (List Loaded)) (refused : Option (Option (List ℕ) × LoadFault))
-      (ended : Option WriteEnd) where
+  module _ (did : Did) where
     -- the fault has a cause
     abbrev pub Causes : Fault → Type 0
-    Causes fault = IsCause (files_of request) (IsWrongFile request loaded loaded')
-        (remembered refused ended) (cause_of request fault)
+    Causes fault = IsCause (files_of request) (IsWrongFile request did.loaded did.loaded')
+        (remembered request did) (cause_of request fault)
 
     pub load_cause : (names : List (List ℕ)) (fault : Fault)
         → ((name : List ℕ) → Contains names name → Contains (files_of request) name)
-        → IsLoadFault names loaded' refused fault → Causes fault
-    load_cause names (File file) all is = (all file.name.now is.0, is.1)
+        → IsLoadFault names did.loaded' did.refused fault → Causes fault
+    load_cause names (File file) all is = (all file.name.now is.0, inl is.1)
     load_cause names (GivenLedger name) all is = (all name.now is.0, inr (inr is.1))
     load_cause names NoMemory all is = tt
     load_cause names _ all is = absurd is
 
-    pub write_cause : (fault : Fault) → IsWriteFault ended fault → Causes fault
+    pub write_cause : (fault : Fault) → IsWriteFault did.new.cut fault → Causes fault
     write_cause Write is = is
     write_cause Closed is = is
     write_cause _ is = absurd is
 
-    pub answer_cause : (fault : Fault) → IsAnswerFault ended fault → IsCause (files_of request)
-        (λ name at. ⊥) (remembered refused ended) (cause_of request fault)
+    pub answer_cause : (fault : Fault) → IsAnswerFault did.new.cut fault
+        → IsCause (files_of request)
+        (λ name at. ⊥) (remembered request did) (cause_of request fault)
     answer_cause NoMemory is = tt
     answer_cause Write is = is
     answer_cause Closed is = is
     answer_cause _ is = absurd is
 
-    pub stream_cause : (fault : Fault) → IsStreamFault refused request.ledger ended fault
+    pub stream_cause : did.ledger.reading.name ≡ request.ledger → (fault : Fault)
+        → IsStreamFault did.ledger did.new.cut fault → Causes fault
+    stream_cause named Ledger is = (
+      among_ledgers,
+      inr (refl, subst (λ (n : Option (List ℕ)). Contains did.ledger.run.unread n) named is),
+    )
+    stream_cause named NoMemory is = tt
+    stream_cause named Write is = is
+    stream_cause named Closed is = is
+    stream_cause named _ is = absurd is
+
+    pub unopened_cause : (fault : Fault) → IsUnopened request.ledger did.ledger.run fault
         → Causes fault
-    stream_cause Ledger is = (among_ledgers, has_refused refused request.ledger Unread is)
-    stream_cause NoMemory is = tt
-    stream_cause Write is = is
-    stream_cause Closed is = is
-    stream_cause _ is = absurd is
+    unopened_cause (File file) is =
+        (subst (λ (n : List ℕ). Contains (files_of request) n) (sym is.0) among_ledgers, inr is)
+    unopened_cause _ is = absurd is
 
     pub tables_cause : (fault : TablesFault)
-        → IsTablesFault request.table loaded loaded' refused fault → Causes (unloaded_as fault)
+        → IsTablesFault request.table (Some did.loaded) (Some did.loaded') (Some did.refused) fault
+        → Causes (unloaded_as fault)
     tables_cause (unloaded.File file) is = (
       among_tables file.name.now (one_of file.name.now (table_files request.table) is.0),
-      has_refused refused (Some file.name.now) file.fault is.1,
+      inl (has_refused (Some did.refused) (Some file.name.now) file.fault is.1),
     )
     tables_cause (unloaded.Table table.NoMemory) is = tt
     tables_cause (unloaded.Table fault) is =
         (first_table, inl (unloaded.Table fault, refl, is))
     tables_cause (unloaded.NamedTable line) is = (
       among_tables line.name.now (one_of line.name.now (table_files request.table)
-          (named_among request.table loaded loaded' line.name.now line.fault is)),
+          (named_among request.table (Some did.loaded) (Some did.loaded') line.name.now line.fault
+          is)),
       inl (unloaded.NamedTable line, refl, is),
     )
     tables_cause (unloaded.Follow line) is = (
@@ -131,8 +141,8 @@ module _ (request : AuditRequest) where
     )
     tables_cause unloaded.NoMemory is = tt
 
-    pub class_cause : (between : Option (List Loaded)) (texts : List (List ℕ)) (fares : Fares)
-        (fault : Fault) → LoadsTables request.table loaded between texts fares
+    pub class_cause : (between : List Load) (texts : List (List ℕ)) (fares : Fares)
+        (fault : Fault) → LoadsTables request.table (Some did.loaded) (Some between) texts fares
         → IsClassFault request.table texts fault → Causes fault
     class_cause between texts fares ClassName loads is = (
       first_table,
@@ -173,12 +183,12 @@ unplain texts wrong at is =
     }
 
 -- a file that was refused is one of these names
-pub file_fault : (refused : Option (Option (List ℕ) × LoadFault)) (name : List ℕ) (file : FileFault)
-    (names : List (List ℕ)) (loaded : Option (List Loaded)) → IsFileFault refused name file
+pub file_fault : (refused : Option (List ℕ) × LoadFault) (name : List ℕ) (file : FileFault)
+    (names : List (List ℕ)) (loaded : List Load) → IsFileFault refused name file
     → Contains names name → IsLoadFault names loaded refused (File file)
 file_fault refused name file names loaded is one = (
   subst (λ (n : List ℕ). Contains names n) (sym is.0) one,
-  subst (λ (n : List ℕ). HasRefused refused n file.fault) (sym is.0) is.1,
+  subst (λ (n : List ℕ). HasRefused (Some refused) n file.fault) (sym is.0) is.1,
 )
 
 -- a text that names a wrong class is one of the texts
@@ -191,62 +201,100 @@ unplain_class tables texts wrong NoMemory at is = tt
 unplain_class tables texts wrong _ at is = absurd is
 
 -- nothing was written
-pub started_none : (Right : List ℕ → Type 0) (out : Option (List ℕ)) → HasStarted Right out out
-started_none Right out = record { front = []; grown = Appends-nil out; rest = []; right = inl refl }
+pub started_none : (Right : List ℕ → Type 0) (out : List ℕ) → HasStarted Right out out
+started_none Right out =
+    record { front = []; grown = sym (append-nil out); rest = []; right = inl refl }
 
 -- what an audit of these files ends as
-pub ends_audit : (request : AuditRequest) (run : Run) (result : Result Bool Fault) → AuditsDecide
-    → (files : HasLoaded request run.loaded run.loaded')
-    → EndsAs (given_of request files) files.ledger run.refused request.ledger run.ended run.out
-    run.out'
-    result → EndsAudit request run result
-ends_audit request run (Ok success) decide files is = record {
-  text = is.0;
-  found = record {
+pub ends_audit : (request : AuditRequest) (did : Did) (result : Result Bool Fault) → AuditsDecide
+    → (files : HasLoaded request did.loaded did.loaded' did.ledger)
+    → EndsAs (given_of request files) did.ledger did.old did.new result
+    → EndsAudit request did result
+ends_audit request did (Ok success) decide files is = (
+  is.0,
+  record {
     files = files;
-    read = is.1;
-    audit = is.2;
-    right = decide (given_of request files) files.ledger is.1 is.0 success is.2;
-  };
-  written = is.3;
-}
-ends_audit request run (Err fault) decide files is = record {
-  is_cause = stream_cause request run.loaded run.loaded' run.refused run.ended fault is.0;
-  started = started_weaker (IsAuditText (given_of request files) files.ledger)
-      (IsTextOf request run.loaded run.loaded') run.out run.out'
-      (λ text right. record { files = files; right = right }) is.1;
-}
+    found = λ more end.
+        let one = is.2 more end in record {
+          read = one.0;
+          audit = one.1;
+          right = decide (given_of request files) (did.ledger.reading.bytes ++ more) one.0 is.0
+              success
+              one.1;
+        };
+    whole = is.3;
+  },
+  is.1,
+)
+ends_audit request did (Err fault) decide files is = (
+  record {
+    is_cause = stream_cause request did files.reads_ledger fault is.0;
+    started = started_weaker (λ text. HoldsOfRead did.ledger
+        (λ file. IsAuditText (given_of request files) file text))
+        (IsTextOf request did.loaded did.loaded' did.ledger) did.old.written did.new.written
+        (λ text right. record { files = files; right = right }) is.1;
+  },
+  is.2,
+)
 
--- a finding that was written, and kept
-pub audits_kept : (request : AuditRequest) (loaded loaded' : Option (List Loaded))
-    (out out' last : Option (List ℕ)) (success : Bool) → Keeps out' last
-    → Audits request loaded loaded' out out' success
-    → Audits request loaded loaded' out last success
-audits_kept request loaded loaded' out out' last success kept done = record {
-  text = done.text;
-  found = done.found;
-  written = Appends-kept out out' last done.text done.written kept;
-}
+-- what was written was written before the fault was reported
+fails_reported : (request : AuditRequest) (did : Did) (before : Run) (fault : Fault)
+    → FailsAudit request (record did { new = before }) fault
+    → FailsAudit request (record did { new = reported fault before }) fault
+fails_reported request did before Closed fails = fails
+fails_reported request did before _ fails = fails
+
+said_reported : (fault : Fault) (r s : Run) → s.said ≡ r.said
+    → (reported fault s).said ≡ (reported fault r).said
+said_reported Closed r s same = same
+said_reported fault r s same =
+    ap (λ (t : List ℕ). t ++ (audit_fault_text fault ++ codes "\n")) same
+
+-- a run whose fault is reported; that memory was refused for its line is one, too
+pub fails_as : (request : AuditRequest) (did : Did) (before after : Run) (fault : Fault)
+    → FailsAudit request (record did { new = before }) fault → before.said ≡ did.old.said
+    → IsReported fault before after
+    → (said : Fault) × FailsAudit request (record did { new = after }) said
+    × HasReported (record did { new = after }) said
+fails_as request did before after fault fails same is =
+    ⊎_elim (by fault fails) (by NoMemory (record { is_cause = tt; started = fails.started })) is
+  where
+    by : (said : Fault) → FailsAudit request (record did { new = before }) said
+        → after ≡ reported said before → (other : Fault)
+        × FailsAudit request (record did { new = after }) other
+        × HasReported (record did { new = after }) other
+    by said fails e = (
+      said,
+      subst (λ (r : Run). FailsAudit request (record did { new = r }) said) (sym e)
+          (fails_reported request did before said fails),
+      ap (λ (r : Run). r.said) e ∙ said_reported said did.old before same,
+    )
 
 -- the whole text was written, and the flush behind it failed
-pub unflushed : (request : AuditRequest) (run : Run) (success : Bool) (fault : Fault)
-    → IsWriteFault run.ended fault
-    → Audits request run.loaded run.loaded' run.out run.out' success → FailsAudit request run fault
-unflushed request run success fault is done = record {
-  is_cause = write_cause request run.loaded run.loaded' run.refused run.ended fault is;
+pub unflushed : (request : AuditRequest) (did : Did) (before after : Run) (text : List ℕ)
+    (success : Bool)
+    (why : WriteFault) (fault : Fault) → IsWriteFault (Some why) fault
+    → HasFound request did.loaded did.loaded' did.ledger text success
+    → before ≡ with_written did.old text → after ≡ with_cut before why
+    → FailsAudit request (record did { new = after }) fault
+unflushed request did before after text success why fault is found wrote cut = record {
+  is_cause = write_cause request (record did { new = after }) fault
+      (subst (λ (e : Option WriteFault). IsWriteFault e fault)
+      (sym (ap (λ (r : Run). r.cut) cut)) is);
   started = record {
-    front = done.text;
-    grown = done.written;
+    front = text;
+    grown = ap (λ (r : Run). r.written) cut ∙ ap (λ (r : Run). r.written) wrote;
     rest = [];
     right = inr (record {
-      files = done.found.files;
-      right = inl (
-        done.found.read,
-        success,
-        subst (λ (t : List ℕ). IsAudit
-            (given_of request done.found.files) done.found.files.ledger done.found.read t success)
-            (sym (append-nil done.text)) done.found.audit,
-      );
+      files = found.files;
+      right = λ more end.
+          let one = found.found more end in inl (
+            one.read,
+            success,
+            subst (λ (t : List ℕ). IsAudit (given_of request found.files)
+                (did.ledger.reading.bytes ++ more) one.read t success) (sym (append-nil text))
+                one.audit,
+          );
     });
   };
 }

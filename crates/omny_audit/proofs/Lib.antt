@@ -6,6 +6,5 @@ pub mod FindingLemmas
 pub mod FullFindingLemmas
 pub mod LoadedTables
 pub mod ProgramLemmas
-pub mod ReadLemmas
 pub mod TapLines
 pub mod TraceLemmas

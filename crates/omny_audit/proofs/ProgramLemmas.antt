@@ -1,12 +1,11 @@
--- What was loaded, one more each time, and what the program compares.
+-- What was loaded, one more each time, what was read of the ledger, and what the program compares.
 use Rattle.std.proofs.Common.{◌≡◌, ◌∙◌, ℕ, Bool, true, false, not, List, [], ◌∷◌, ◌++◌, length, map}
 use Rattle.std.proofs.Common.{refl, sym, ap, subst, append-nil, append_assoc, nat_eq, Option, Some}
-use Rattle.std.proofs.Common.{None, if◌then◌else◌, Bor, ◌≤◌, ◌⊎◌, ⊎_elim, suc, arith, option_map}
-use Rattle.std.specs.Io.KnownBytes.{Consumes, IsAtEnd, prepend_known}
+use Rattle.std.proofs.Common.{None, if◌then◌else◌, Bor, ◌≤◌, ◌⊎◌, inl, inr, suc, arith, option_map}
+use Rattle.std.proofs.lemmas.List.Elements.{Contains-push}
 use Rattle.std.specs.Str.{bytes_eq}
-use Rattle.std.specs.Prelude.{unwrap_or}
+use Rattle.std.specs.Prelude.{Contains, unwrap_or, ◌≢◌}
 use Rattle.ledger_check.specs.Columns.{has_traced_head, traced_head}
-use Rattle.tariffs.specs.Fares.{Fares}
 use Rattle.std.proofs.lemmas.Bool.Decides.{nat_tests}
 use Rattle.std.proofs.lemmas.List.{map-append, take-append-le}
 use Rattle.clap.specs.Words.{Text}
@@ -14,34 +13,38 @@ use Rattle.ledger_check.specs.Balances.{AreValidFields}
 use Rattle.tap_views.specs.UploadEnds.{ArePlainEnds, IsPlainEnd}
 use Rattle.tap_views.specs.declared.upload_end.UploadEnd.{UploadEnd}
 use Rattle.tap_views.specs.declared.encoder.TapFields.{TapFields}
-use Rattle.omny_audit.specs.Program.{AreValidFieldsOfAll, AreValidFieldsOfEach, AreWanted}
-use Rattle.omny_audit.specs.Program.{IsTracedAs, LoadsNamedFiles, compared}
+use Rattle.omny_audit.specs.Program.{AreValidFieldsOfAll, AreValidFieldsOfEach, HoldsOfRead}
+use Rattle.omny_audit.specs.Program.{LoadsNamedFiles, compared}
 use Rattle.ledger_check.specs.Positions.{HasUploads}
 use Rattle.ledger_check.specs.declared.positions.Positions.{Positions}
 use Rattle.omny_audit.specs.Reports.{Given}
-use Rattle.omny_audit.specs.Traced.{Wanted}
 use Rattle.omny_audit.specs.inside.Traced.{HaveNamed}
-use Rattle.omny_audit.specs.inside.Source.{IsAllOf}
-use Rattle.program_manners.specs.Loads.{Loaded, LoadsAll, LoadsOne, OpensOne}
-use Rattle.program_manners.proofs.LoadsOn.{loads_more}
-
-pub reports_none : (loaded : Option (List Loaded)) → LoadsAll loaded loaded []
-reports_none None = tt
-reports_none (Some before) = sym (append-nil before)
+use Rattle.omny_audit.specs.inside.Audits.{GoesOn}
+use Rattle.omny_audit.specs.inside.Fault.{IsStreamFault, unread_as}
+use Rattle.world.specs.Loads.{IsRefused}
+use Rattle.world.specs.Run.{Calls, Load, Run}
+use Rattle.world.specs.Streams.{HasRead, IsWhole}
+use Rattle.world.specs.declared.faults.LoadFault.{LoadFault}
+use Rattle.world.specs.declared.faults.LoadFault.TheVariants as load
+use Rattle.world.specs.declared.faults.WriteFault.{WriteFault}
+use Rattle.world.specs.declared.stream.Stream.{Stream}
+use Rattle.world.proofs.Streams.{whole_at_end}
 
 -- one more file that was loaded
-pub loads_push : (names : List Text) (name : Text) (loaded loaded' loaded'' : Option (List Loaded))
+pub loads_push : (names : List Text) (name : Text) (loaded loaded' loaded'' : List Load)
     (files : List (List ℕ)) (bytes : List ℕ)
-    → LoadsNamedFiles names loaded loaded' files → LoadsOne loaded' loaded'' (Some name) bytes
+    → LoadsNamedFiles names loaded loaded' files
+    → loaded'' ≡ loaded' ++ record { name = Some name; bytes = bytes } ∷ []
     → LoadsNamedFiles (names ++ name ∷ []) loaded loaded'' (files ++ bytes ∷ [])
 loads_push names name loaded loaded' loaded'' files bytes all one = record {
   loads = all.loads ++ record { name = Some name; bytes = bytes } ∷ [];
-  named = map-append (λ (load : Loaded). load.name) all.loads _
+  named = map-append (λ (load : Load). load.name) all.loads _
       ∙ ap (λ (xs : List (Option Text)). xs ++ Some name ∷ []) all.named
       ∙ sym (map-append Some names (name ∷ []));
-  bytes = map-append (λ (load : Loaded). load.bytes) all.loads _
+  bytes = map-append (λ (load : Load). load.bytes) all.loads _
       ∙ ap (λ (xs : List (List ℕ)). xs ++ bytes ∷ []) all.bytes;
-  is_loaded = loads_more loaded loaded' loaded'' all.loads _ all.is_loaded one;
+  is_loaded = one ∙ ap (λ (xs : List Load). xs ++ record { name = Some name; bytes = bytes } ∷ [])
+      all.is_loaded ∙ append_assoc loaded all.loads _;
 }
 
 -- and the taps of one more
@@ -57,15 +60,6 @@ posted_push (first ∷ uploads) valid upload taps all one = (
   posted_push uploads all.1 upload taps all.3 one,
   ap (λ (xs : List TapFields). xs ++ taps) all.4 ∙ append_assoc all.0 all.1 taps,
 )
-
--- what a reader had is what the source has as loaded
-pub opened : (before after : Option (List Loaded)) (name : Option Text) (left : Option (List ℕ))
-    (text : List ℕ) → OpensOne before after name left
-    → IsAllOf left text → LoadsOne before after name text
-opened None after name left text opens all = tt
-opened (Some before) after name None text opens all = absurd opens
-opened (Some before) after name (Some known) text opens all =
-    subst (λ (t : List ℕ). LoadsOne (Some before) after name t) all opens
 
 -- the taps of each upload, one more
 pub each_push : (uploads : List (List ℕ)) (lists : List (List TapFields)) (upload : List ℕ)
@@ -91,7 +85,7 @@ compared_is (name ∷ names) valid has is =
     ap (λ (b : Bool). if b then Some valid else None) (is ∙ ap not some)
 
 -- the same names, lent twice
-pub loads_same : (names same : List (Bor Text)) (loaded loaded' : Option (List Loaded))
+pub loads_same : (names same : List (Bor Text)) (loaded loaded' : List Load)
     (files : List (List ℕ)) → names ≡ same
     → LoadsNamedFiles (map (λ n. n.now) names) loaded loaded' files
     → LoadsNamedFiles (map (λ n. n.now) same) loaded loaded' files
@@ -99,69 +93,49 @@ loads_same names same loaded loaded' files is loads =
     subst (λ (ns : List (Bor Text)). LoadsNamedFiles (map (λ n. n.now) ns) loaded loaded' files) is
     loads
 
--- bytes that were read before the rest of what a reader had
-pub chained : (left left' : Option (List ℕ)) (head file : List ℕ) → Consumes left left' head
-    → IsAllOf (prepend_known head left') file → IsAllOf left file
-chained None left' head file reads all = tt
-chained (Some xs) None head file reads all = absurd reads
-chained (Some xs) (Some ys) head file reads all = reads ∙ all
-
 -- a file is a traced ledger exactly if its first bytes say so
 still_head : (head rest : List ℕ) → length traced_head ≤ length head
     → has_traced_head head ≡ has_traced_head (head ++ rest)
 still_head head rest long = ap (λ (t : List ℕ). bytes_eq t traced_head)
     (sym (take-append-le (length traced_head) head rest long))
 
-pub headed : (before after : Option (List Loaded)) (name : Option Text)
-    (left left' : Option (List ℕ)) (head file : List ℕ)
-    → OpensOne before after name left → Consumes left left' head
-    → IsAtEnd left' ⊎ (length traced_head ≤ length head)
-    → IsAllOf (prepend_known head left') file → IsTracedAs before file (has_traced_head head)
-headed None after name left left' head file opens reads enough all = tt
-headed (Some before) after name None left' head file opens reads enough all = absurd opens
-headed (Some before) after name (Some xs) None head file opens reads enough all = absurd reads
-headed (Some before) after name (Some xs) (Some ys) head file opens reads enough all = ⊎_elim
-    (λ end. ap has_traced_head (sym (append-nil head) ∙ ap (λ (t : List ℕ). head ++ t) (sym end)
-    ∙ all))
-    (λ long. still_head head ys long ∙ ap has_traced_head all)
-    enough
+pub headed : (before after : Stream) (name : Option Text) (head : List ℕ)
+    → HasRead before name head → (before.from ≡ None) ⊎ (length traced_head ≤ length head)
+    → GoesOn before after head
+    → HoldsOfRead after.trace (λ file. has_traced_head head ≡ has_traced_head file)
+headed before after name head read (inl none) goes = λ more end.
+    let same = goes.ended none in
+    let bytes : after.trace.reading.bytes ≡ head =
+    ap (λ (s : Stream). s.trace.reading.bytes) same ∙ ap (λ (x : Load). x.bytes) read.reading in
+    let whole = subst (λ (s : Stream). IsWhole s.trace) (sym same)
+    (whole_at_end before name head read none) in
+    ap has_traced_head (sym (append-nil head) ∙ ap (λ (t : List ℕ). head ++ t) (sym (end whole))
+    ∙ ap (λ (t : List ℕ). t ++ more) (sym bytes))
+headed before after name head read (inr long) goes = λ more end.
+    still_head head (goes.rest ++ more) long
+    ∙ ap has_traced_head (sym (append_assoc head goes.rest more)
+    ∙ ap (λ (t : List ℕ). t ++ more) (sym goes.begins))
 
--- a ledger that was opened, whose first bytes were read first
-pub record ReadsLedger (before after : Option (List Loaded)) (name : Option Text) (fares : Fares)
-    (texts : List (List ℕ)) (uploads : Option (List (List TapFields))) (wanted : Option Wanted)
-    (file : List ℕ)
-    : Type 0 where
-  pub is_loaded : LoadsOne before after name file
-  pub traced : Bool
-  pub is_traced : IsTracedAs before file traced
-  pub are_wanted : AreWanted fares texts traced uploads wanted
+-- the name is that under which it is read
+pub read_named : (s : Stream) (name : Option Text) (bytes : List ℕ) → HasRead s name bytes
+    → HasRead s s.trace.reading.name bytes
+read_named s name bytes read =
+    subst (λ (n : Option Text). HasRead s n bytes) (sym (ap (λ (x : Load). x.name) read.reading))
+    read
 
-pub reads_ledger : (before opened_to after : Option (List Loaded)) (name : Option Text)
-    (left left' : Option (List ℕ)) (head started : List ℕ) (fares : Fares)
-    (texts : List (List ℕ)) (file : List ℕ)
-    (kept uploads : Option (List (List TapFields))) (wanted : Option Wanted)
-    → OpensOne before opened_to name left → after ≡ opened_to
-    → Consumes left left' head → IsAtEnd left' ⊎ (length traced_head ≤ length head)
-    → started ≡ head → kept ≡ uploads
-    → IsAllOf (prepend_known started left') file
-    → AreWanted fares texts (has_traced_head started) kept wanted
-    → ReadsLedger before after name fares texts uploads wanted file
-reads_ledger before opened_to after name left left' head started fares texts file kept uploads
-    wanted
-    opens same_loads reads enough same_head same_uploads all named =
-    let rest = subst (λ (h : List ℕ). IsAllOf (prepend_known h left') file) same_head all in
-    record {
-      is_loaded = subst (λ (l : Option (List Loaded)). LoadsOne before l name file)
-          (sym same_loads)
-          (opened before opened_to name left file opens
-          (chained left left' head file reads rest));
-      traced = has_traced_head head;
-      is_traced = headed before opened_to name left left' head file opens reads enough rest;
-      are_wanted = subst (λ (u : Option (List (List TapFields))). AreWanted fares texts
-          (has_traced_head head) u wanted) same_uploads
-          (subst (λ (h : List ℕ). AreWanted fares texts (has_traced_head h) kept wanted) same_head
-          named);
-    }
+pub nothing_after : (xs ys : List ℕ) → xs ++ ys ≡ [] → ys ≡ []
+nothing_after [] ys none = none
+nothing_after (x ∷ xs) ys none = absurd cc
+
+-- a read of the ledger that was refused
+pub refused_stream : (before : Run) (ledger : Calls) (name : Option Text)
+    (cut : Option WriteFault) (why : LoadFault) → why ≢ load.TooLong → ledger.reading.name ≡ name
+    → IsRefused before ledger.run name why → IsStreamFault ledger cut (unread_as why)
+refused_stream before ledger name cut load.Unread short named is =
+    subst (λ (n : Option Text). Contains ledger.run.unread n) (sym named)
+    (subst (λ (r : Run). Contains r.unread name) (sym is) (Contains-push before.unread name))
+refused_stream before ledger name cut load.TooLong short named is = absurd (short refl)
+refused_stream before ledger name cut load.NoMemory short named is = tt
 
 pub ends_push : (files : List (List ℕ)) (ends : List UploadEnd) (file : List ℕ) (end : UploadEnd)
     → ArePlainEnds files ends → IsPlainEnd file end

@@ -1,15 +1,11 @@
 -- The fault lines, without their newlines, and the cause of each fault.
-use Rattle.std.specs.Prelude.{◌≡◌, ◌++◌, ℕ, List, Bool, true, false, codes, Option, None, Some}
-use Rattle.frame.specs.Failing.{Cause, Remembered, no_memory, unread, unwritten, wrong}
+use Rattle.std.specs.Prelude.{◌++◌, ℕ, List, codes, None}
+use Rattle.frame.specs.Failing.{Cause, no_memory, unread, unwritten, wrong}
 use Rattle.program_manners.specs.Lines.{follow_text, load_text, named_class_text, named_table_text}
 use Rattle.program_manners.specs.Lines.{table_text}
 use Rattle.program_manners.specs.TableWords.{file_named}
-use Rattle.program_manners.specs.Refusals.{HasRefused}
-use Rattle.program_manners.specs.declared.output.WriteEnd.{WriteEnd}
-use Rattle.program_manners.specs.declared.output.WriteEnd.TheVariants as end
-use Rattle.world.specs.declared.faults.LoadFault.{LoadFault}
 use Rattle.world.specs.declared.faults.LoadFault.TheVariants as load
-use Rattle.world.specs.declared.faults.WriteFault.{WriteFault}
+use Rattle.world.specs.Run.{Run, with_said}
 use Rattle.world.specs.declared.faults.WriteFault.TheVariants as write
 use Rattle.omny_audit.specs.Options.{AuditRequest, ledger_name}
 use Rattle.omny_audit.specs.declared.fault.Fault.{Fault}
@@ -47,20 +43,7 @@ cause_of request Write = unwritten write.Refused
 cause_of request Closed = unwritten write.Closed
 cause_of request NoMemory = no_memory
 
--- whether who reads the text has closed it, so that nothing is reported
-abbrev pub is_quiet : Fault → Bool
-is_quiet Closed = true
-is_quiet _ = false
-
--- the last write that failed did so for this reason
-abbrev pub HasEnded : Option WriteEnd → WriteFault → Type 0
-HasEnded remembered write.Closed = remembered ≡ Some end.Closed
-HasEnded remembered write.Refused = remembered ≡ Some end.Refused
-
--- what a source and an output remember that refused this last, and that ended so
-abbrev pub remembered : Option (Option (List ℕ) × LoadFault) → Option WriteEnd → Remembered
-remembered refused ended = record {
-  refused = HasRefused refused;
-  unmade = λ name. ⊥;
-  unwritten = HasEnded ended;
-}
+-- The run that reports the fault. If who reads the text has closed it, nothing is reported.
+abbrev pub reported : Fault → Run → Run
+reported Closed run = run
+reported fault run = with_said run (audit_fault_text fault ++ codes "\n")

@@ -1,7 +1,6 @@
 -- What a run of the program finds.
-use Rattle.std.specs.Prelude.{◌≡◌, ◌↔◌, ⊤, ℕ, Bool, true, false, List, [], ◌∷◌, ◌++◌, map}
+use Rattle.std.specs.Prelude.{◌≡◌, ◌↔◌, ℕ, Bool, true, false, List, [], ◌∷◌, ◌++◌, map}
 use Rattle.std.specs.Prelude.{Option, None, Some}
-use Rattle.std.specs.Io.KnownBytes.{Appends}
 use Rattle.clap.specs.Words.{Text}
 use Rattle.tariffs.specs.Fares.{Fares}
 use Rattle.ledger_check.specs.Balances.{AreValidFields}
@@ -14,16 +13,17 @@ use Rattle.tap_views.specs.declared.upload_end.UploadEnd.{UploadEnd}
 use Rattle.omny_audit.specs.Reports.{Given, IsAudit, IsAuditText, IsRightAudit}
 use Rattle.omny_audit.specs.Options.{AuditRequest}
 use Rattle.omny_audit.specs.Traced.{ReadLine, Wanted}
-use Rattle.program_manners.specs.Loads.{Loaded, LoadsAll, LoadsOne}
 use Rattle.program_manners.specs.TableLoads.{LoadsTables}
+use Rattle.world.specs.Run.{Calls, Load}
+use Rattle.world.specs.Streams.{IsWhole}
 
 -- A file of each of these names was loaded, in their order.
-pub record LoadsNamedFiles (names : List Text) (loaded loaded' : Option (List Loaded))
+pub record LoadsNamedFiles (names : List Text) (loaded loaded' : List Load)
     (files : List (List ℕ)) : Type 0 where
-  pub loads : List Loaded
+  pub loads : List Load
   pub named : map (λ load. load.name) loads ≡ map Some names
   pub bytes : map (λ load. load.bytes) loads ≡ files
-  pub is_loaded : LoadsAll loaded loaded' loads
+  pub is_loaded : loaded' ≡ loaded ++ loads
 
 -- the fields of the valid taps of the uploads, one upload after another
 abbrev pub AreValidFieldsOfAll : List (List ℕ) → List TapFields → Type 0
@@ -45,16 +45,15 @@ compared [] valid = None
 compared (name ∷ names) valid = Some valid
 
 -- a file was loaded, if it is named
-abbrev pub LoadsReport : Option Text → Option (List Loaded) → Option (List Loaded)
-    → Option (List ℕ) → Type 0
+abbrev pub LoadsReport : Option Text → List Load → List Load → Option (List ℕ) → Type 0
 LoadsReport None loaded loaded' report = (loaded' ≡ loaded) × (report ≡ None)
-LoadsReport (Some name) loaded loaded' report =
-    (text : List ℕ) × LoadsOne loaded loaded' (Some name) text × (report ≡ Some text)
+LoadsReport (Some name) loaded loaded' report = (text : List ℕ)
+    × (loaded' ≡ loaded ++ record { name = Some name; bytes = text } ∷ []) × (report ≡ Some text)
 
--- Whether the ledger is a traced one. If the source keeps no list, it is not known what was read.
-abbrev pub IsTracedAs : Option (List Loaded) → List ℕ → Bool → Type 0
-IsTracedAs None ledger traced = ⊤
-IsTracedAs (Some loads) ledger traced = traced ≡ has_traced_head ledger
+-- This holds of what reads gave, whatever follows; nothing does if they came to the end.
+abbrev pub HoldsOfRead : Calls → (List ℕ → Type 0) → Type 0
+HoldsOfRead ledger P =
+    (more : List ℕ) → (IsWhole ledger → more ≡ []) → P (ledger.reading.bytes ++ more)
 
 -- If the ledger is traced, these are the classes that the texts of the tables name for tokens at
 -- each moment, and these uploads.
@@ -68,15 +67,15 @@ AreWanted fares texts true uploads (Some wanted) =
     → class_of_token (tree_at tree later moment) token ≡ Some (wanted.classes moment token))
     × (wanted.uploads ≡ uploads)
 
--- The tables were loaded, then the uploads, then the report, if it is named, and then all of the
--- ledger.
-pub record HasLoaded (request : AuditRequest) (loaded loaded' : Option (List Loaded)) : Type 0 where
-  pub after_table : Option (List Loaded)
-  pub after_uploads : Option (List Loaded)
-  pub after_report : Option (List Loaded)
+-- The tables were loaded, then the uploads, and then the report, if it is named. These calls read
+-- the ledger.
+pub record HasLoaded (request : AuditRequest) (loaded loaded' : List Load) (ledger : Calls)
+    : Type 0 where
+  pub after_table : List Load
+  pub after_uploads : List Load
   pub fares : Fares
   pub texts : List (List ℕ)
-  pub loads_tables : LoadsTables request.table loaded after_table texts fares
+  pub loads_tables : LoadsTables request.table (Some loaded) (Some after_table) texts fares
   pub uploads : List (List ℕ)
   pub loads_uploads : LoadsNamedFiles request.uploads after_table after_uploads uploads
   pub valid : List TapFields
@@ -84,21 +83,20 @@ pub record HasLoaded (request : AuditRequest) (loaded loaded' : Option (List Loa
   pub lists : List (List TapFields)
   pub are_lists : AreValidFieldsOfEach uploads lists
   pub report : Option (List ℕ)
-  pub loads_report : LoadsReport request.report after_uploads after_report report
+  pub loads_report : LoadsReport request.report after_uploads loaded' report
   pub ends : List UploadEnd
   pub are_ends : ArePlainEnds uploads ends
-  pub ledger : List ℕ
-  pub loads_ledger : LoadsOne after_report loaded' request.ledger ledger
+  pub reads_ledger : ledger.reading.name ≡ request.ledger
   -- a traced ledger's columns are compared with the classes that the tables' texts name, and
   -- with the places of the uploads' taps, if uploads are named
   pub traced : Bool
-  pub is_traced : IsTracedAs after_report ledger traced
+  pub is_traced : HoldsOfRead ledger (λ file. traced ≡ has_traced_head file)
   pub wanted : Option Wanted
   pub are_wanted : AreWanted fares texts traced (compared request.uploads lists) wanted
 
 -- what the ledger is audited by, of these files
-abbrev pub given_of : (request : AuditRequest) {loaded loaded' : Option (List Loaded)}
-    → HasLoaded request loaded loaded' → Given
+abbrev pub given_of : (request : AuditRequest) {loaded loaded' : List Load} {ledger : Calls}
+    → HasLoaded request loaded loaded' ledger → Given
 given_of request files = record {
   all = request.all;
   live = request.live;
@@ -109,27 +107,26 @@ given_of request files = record {
   report = files.report;
 }
 
--- The files were loaded, and the text is what is found of the ledger beside the valid taps of the
--- uploads, if uploads are named, and of the report. It says that all is well, or not.
-pub record HasFound (request : AuditRequest) (loaded loaded' : Option (List Loaded)) (text : List ℕ)
-    (success : Bool) : Type 0 where
-  pub files : HasLoaded request loaded loaded'
+-- The text is what is found of the file, whose lines were read so.
+pub record HasFindings (given : Given) (file text : List ℕ) (success : Bool) : Type 0 where
   pub read : List ReadLine
-  pub audit : IsAudit (given_of request files) files.ledger read text success
+  pub audit : IsAudit given file read text success
   -- well exactly if the text is, whole, a ledger of legal histories, settled unless a live one is
   -- asked for, with the taps of the uploads, of which none has a layout fault, and the columns of a
   -- traced one are right, and the report is its own
-  pub right : (success ≡ true) ↔ IsRightAudit (given_of request files) files.ledger read
+  pub right : (success ≡ true) ↔ IsRightAudit given file read
 
--- what was appended to the writer is the text of what was found
-pub record Audits (request : AuditRequest) (loaded loaded' : Option (List Loaded))
-    (out out' : Option (List ℕ)) (success : Bool) : Type 0 where
-  pub text : List ℕ
-  pub found : HasFound request loaded loaded' text success
-  pub written : Appends out out' text
+-- The files were loaded, and the text is what is found of the ledger beside the valid taps of the
+-- uploads, if uploads are named, and of the report. It says that all is well, or not. A ledger that
+-- is well was read to its end.
+pub record HasFound (request : AuditRequest) (loaded loaded' : List Load) (ledger : Calls)
+    (text : List ℕ) (success : Bool) : Type 0 where
+  pub files : HasLoaded request loaded loaded' ledger
+  pub found : HoldsOfRead ledger (λ file. HasFindings (given_of request files) file text success)
+  pub whole : success ≡ true → IsWhole ledger
 
 -- the files were loaded, and the text is one that an audit of them may leave
-pub record IsTextOf (request : AuditRequest) (loaded loaded' : Option (List Loaded)) (text : List ℕ)
-    : Type 0 where
-  pub files : HasLoaded request loaded loaded'
-  pub right : IsAuditText (given_of request files) files.ledger text
+pub record IsTextOf (request : AuditRequest) (loaded loaded' : List Load) (ledger : Calls)
+    (text : List ℕ) : Type 0 where
+  pub files : HasLoaded request loaded loaded' ledger
+  pub right : HoldsOfRead ledger (λ file. IsAuditText (given_of request files) file text)

@@ -5,6 +5,5 @@ pub mod Ends
 pub mod Fault
 pub mod Options
 pub mod Reports
-pub mod Source
 pub mod Traced
 pub mod Uploads

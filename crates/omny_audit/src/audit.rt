@@ -1,26 +1,22 @@
 //! The audit of a ledger that comes in pieces.
 
-ghost use Rattle.std.specs.Prelude.{◌≡◌, ◌++◌, ℕ, List, [], IfOk, OnOk, option_map};
-ghost use Rattle.std.specs.Prelude.{string_bytes};
-ghost use Rattle.std.specs.Io.KnownBytes.{prepend_known};
+ghost use Rattle.std.specs.Prelude.{◌≡◌, ◌++◌, ℕ, List, [], IfOk, None, OnOk, false, string_bytes, true};
 ghost use Rattle.tap_views.specs.declared.encoder.TapFields.{TapFields};
 ghost use Rattle.omny_audit.specs.Reports.{IsAudit};
 ghost use Rattle.omny_audit.specs.Traced.{ReadLine};
-ghost use Rattle.omny_audit.specs.inside.Audits.{EndsAs, HasAudited, HasEnded, HasTaken, IsNext};
-ghost use Rattle.omny_audit.specs.inside.Audits.{given_in};
-ghost use Rattle.omny_audit.specs.inside.Source.{IsAllOf};
+ghost use Rattle.omny_audit.specs.inside.Audits.{EndsAs, GoesOn, HasAudited, HasEnded, HasTaken};
+ghost use Rattle.omny_audit.specs.inside.Audits.{IsNext, given_in};
+ghost use Rattle.omny_audit.specs.inside.Checks.{is_decided};
+ghost use Rattle.world.specs.Streams.{HasRead};
 
 use crate::check::{Check, are_both, is_either};
 use crate::fault::Fault;
-use crate::ledger::{PIECE_BYTES, WholeLedger, read_on};
 use crate::report::{ReportWithSums, add_piece, write_last_lines};
-use crate::source::Source;
 use crate::traced::{TracedPieces, read_end, read_piece, write_columns};
 use fare_table::{Clock, FareTable};
-use program_manners::Output;
 use std::alloc::Global;
-use std::io::Write;
 use tap_views::{NoMemory, UploadEnd};
+use world::{Stream, World};
 
 /// What a ledger is audited by, and what was read of it so far.
 #[derive(Drop)]
@@ -92,7 +88,9 @@ impl Audit<'_> {
     fn end(&mut self, alloc: Global, mut reported: String) -> Result<(Vec<u8>, bool), NoMemory>
         requires { (valid : List TapFields) × (file written : List ℕ)
             × HasEnded self.old valid file written }
-        ensures { IfOk result (λ ended. (valid : List TapFields) (file before : List ℕ)
+        ensures decided { IfOk result
+            (λ ended. is_decided self.old.check ≡ true → ended.1 ≡ false) }
+        ensures ended { IfOk result (λ ended. (valid : List TapFields) (file before : List ℕ)
             → HasEnded self.old valid file (before ++ string_bytes reported) → (read : List ReadLine)
             × IsAudit (given_in self.old valid) file read (before ++ ended.0.items) ended.1) }
     {
@@ -134,36 +132,35 @@ impl Audit<'_> {
 }
 
 /// Writes the finding as it comes, if all wrong lines are requested. Returns whether all is right.
-/// No more of the ledger than one read is in memory.
-pub(crate) fn audit_over<'a, S: Source, W: Write>(
+/// The head was read of the ledger. No more of the rest than one read is in memory.
+pub(crate) fn audit_over<'a, W: World>(
     alloc: Global,
-    source: &mut S,
-    ledger: &mut WholeLedger<'_, S::Ledger>,
+    head: Vec<u8>,
+    ledger: &mut Stream,
     audit: &mut Audit<'_>,
-    out: &mut Output<W>,
+    world: &mut W,
 ) -> Result<bool, Fault<'a>>
-    requires { (valid : List TapFields) × HasAudited audit.old valid [] [] }
-    ensures loaded { S.loaded source.new ≡ S.loaded source.old }
-    ensures ends { (file : List ℕ)
-        × IsAllOf (prepend_known ledger.old.head.now (S.Ledger.remaining ledger.old.rest)) file
-        × ((valid : List TapFields) → HasAudited audit.old valid [] []
-        → EndsAs (given_in audit.old valid) file (S.refused source.new)
-        (option_map (λ n. n.now) ledger.old.name) out.new.end (W.contents out.old.writer)
-        (W.contents out.new.writer) result) }
+    requires audited { (valid : List TapFields) × HasAudited audit.old valid [] [] }
+    requires read { HasRead ledger.old ledger.old.trace.reading.name head.items }
+    requires whole { head.items ≡ [] → ledger.old.from ≡ None }
+    ensures goes { GoesOn ledger.old ledger.new head.items }
+    ensures ends { (valid : List TapFields) → HasAudited audit.old valid [] []
+        → EndsAs (given_in audit.old valid) ledger.new.trace (W.run world.old) (W.run world.new)
+        result }
 {
-    let mut step = [0u8; PIECE_BYTES];
+    let mut piece = head;
     for _piece in 0..u64::MAX {
-        let Ok(count) = read_on(source, ledger, &mut step) else {
-            return Err(Fault::Ledger);
-        };
-        let Ok(next) = audit.next(alloc, &step[..count]) else {
+        let Ok(next) = audit.next(alloc, &piece) else {
             return Err(Fault::NoMemory);
         };
-        if let Err(end) = out.put(next.0.as_slice()) {
-            return Err(Fault::of_end(end));
+        if let Err(why) = world.write(next.0.as_slice()) {
+            return Err(Fault::of_write(why));
         }
         if let Some(succeeded) = next.1 {
             return Ok(succeeded);
+        }
+        if let Err(why) = ledger.read(&mut piece) {
+            return Err(Fault::of_ledger(why));
         }
     }
     // no run makes so many reads

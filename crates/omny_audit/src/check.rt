@@ -123,6 +123,8 @@ impl Check {
             × ((found.is_legal ≡ true) ↔ IsLedger fares text)) }
         ensures decided { IfOk result
             (λ found. is_decided self.now ≡ true → found.is_legal ≡ false) }
+        ensures unsound { IfOk result
+            (λ found. is_decided self.now ≡ true → found.is_sound ≡ false) }
     {
         match self {
             Check::First(checker, balance, verdict) => {
@@ -184,6 +186,7 @@ fn finding(
         → (more : List ℕ) × (string_bytes reported.new ≡ string_bytes reported.old ++ more)
         × IsFinding live fares text (if subtracts then Some valid else None) more found.is_sound) }
     ensures legal { IfOk result (λ found. found.is_legal ≡ is_legal verdict.now) }
+    ensures unsound { IfOk result (λ found. found.is_legal ≡ false → found.is_sound ≡ false) }
 {
     write_verdict(reported, verdict)?;
     if !is_legal(verdict) {
@@ -229,6 +232,7 @@ fn first_found(
         → ((fares : Fares) × (valid : List ATap) × (text written : List ℕ)
         × HasChecked fares subtracts valid (Check.First checker.now balance.now verdict.now) text
         written) → found.is_legal ≡ false) }
+    ensures unsound { IfOk result (λ found. found.is_legal ≡ false → found.is_sound ≡ false) }
 {
     // proof: the verdict is `legal` exactly if the text is a ledger
     verdicts_decide();

@@ -1,22 +1,22 @@
 //! Why the program fails, with the line that says so.
 ghost use Rattle.std.specs.Prelude.{◌≡◌, Some};
-ghost use Rattle.omny_audit.specs.Fault.{audit_fault_text, is_quiet};
-ghost use Rattle.omny_audit.specs.inside.Fault.{IsWriteFault, unloaded_as};
+ghost use Rattle.omny_audit.specs.Fault.{audit_fault_text};
+ghost use Rattle.omny_audit.specs.inside.Fault.{IsWriteFault, unloaded_as, unread_as};
 
 use fare_table::TableFault;
 use program_manners::{
-    FileFault, FollowLine, NamedClassLine, NamedTableLine, TableLine, TablesFault, WriteEnd,
-    WrongWord,
+    FileFault, FollowLine, NamedClassLine, NamedTableLine, TableLine, TablesFault, WrongWord,
 };
 use std::fmt;
+use world::{LoadFault, WriteFault};
 
-/// The line of a word of a fare table that has a wrong date, or lacks one.
+/// The line, with its line feed, of a word of a fare table that has a wrong date, or lacks one.
 #[derive(Clone, Copy, Debug)]
 pub(crate) struct DateLine<'a>(pub(crate) WrongWord<'a>);
 
 impl fmt::Display for DateLine<'_> {
     fn fmt<W: fmt::Write>(&self, f: &mut fmt::Formatter<W>) -> fmt::Result {
-        write!(f, "fault: {}", self.0)
+        write!(f, "fault: {}\n", self.0)
     }
 }
 
@@ -48,12 +48,22 @@ pub(crate) enum Fault<'a> {
 
 impl<'a> Fault<'a> {
     /// Nothing is reported of it exactly if the reader of the text is gone.
-    pub(crate) fn of_end(end: WriteEnd) -> Fault<'a>
-        ensures { IsWriteFault (Some end) result }
+    pub(crate) fn of_write(why: WriteFault) -> Fault<'a>
+        ensures { IsWriteFault (Some why) result }
     {
-        match end {
-            WriteEnd::Closed => Fault::Closed,
-            WriteEnd::Refused => Fault::Write,
+        match why {
+            WriteFault::Closed => Fault::Closed,
+            WriteFault::Refused => Fault::Write,
+        }
+    }
+
+    /// Why the ledger was not read.
+    pub(crate) fn of_ledger(why: LoadFault) -> Fault<'a>
+        ensures { result ≡ unread_as why }
+    {
+        match why {
+            LoadFault::NoMemory => Fault::NoMemory,
+            LoadFault::Unread | LoadFault::TooLong => Fault::Ledger,
         }
     }
 
@@ -67,13 +77,6 @@ impl<'a> Fault<'a> {
             TablesFault::NamedTable(line) => Fault::NamedTable(line),
             TablesFault::Follow(line) => Fault::Follow(line),
         }
-    }
-
-    /// Whether the reader of the text is gone, so that nothing is reported.
-    pub(crate) fn is_quiet(&self) -> bool
-        ensures { result ≡ is_quiet self.now }
-    {
-        matches!(self, Fault::Closed)
     }
 }
 

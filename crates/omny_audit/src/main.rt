@@ -6,23 +6,21 @@
 mod audit;
 mod check;
 mod fault;
-mod files;
 mod laws;
 mod ledger;
 mod options;
 mod program;
 mod report;
-mod source;
 mod text;
 mod traced;
 
-use files::Host;
+use file_sources::Host;
 use options::{list_words, reads_input};
 use program::main_over;
-use program_manners::{Complaints, Escaping, Output, take_list, unread_words, words_of};
+use program_manners::{Complaints, Escaping, take_list, unread_words, words_of};
 use std::io::{IsTerminal, Write};
 use std::process::ExitCode;
-use world::Recorded;
+use world::{Stream, System};
 
 /// The words, with the names of the list that they name. On an error it was reported, and the error
 /// is the status.
@@ -44,21 +42,22 @@ fn note_input(rt: &HostRuntime, words: &[String]) {
 }
 
 fn main(rt: HostRuntime) -> ExitCode {
-    let mut err = Complaints::new(Escaping::new(rt.stderr()));
-    let status = match words_with_list(&rt, &mut err) {
+    let mut complaints = Complaints::new(Escaping::new(rt.stderr()));
+    let words = words_with_list(&rt, &mut complaints);
+    let mut err = complaints.into_writer();
+    let status = match words {
         Ok(words) => {
             note_input(&rt, &words);
             main_over(
                 &rt,
-                rt.alloc(),
                 &words,
                 &mut Host::new(&rt),
-                &mut Output::new(Recorded::new(rt.stdout())),
-                &mut err,
+                &mut Stream::new(),
+                &mut System::new(&rt, rt.stdout(), &mut err),
             )
         }
         Err(status) => status,
     };
-    err.into_writer().finish();
+    err.finish();
     ExitCode::from(status)
 }

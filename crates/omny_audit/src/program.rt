@@ -1,73 +1,82 @@
-//! The whole program, over any source of bytes and any two writers.
+//! The whole program.
 ghost use Rattle.std.specs.Prelude.{◌≡◌, ◌≢◌, ◌≤◌, ◌⊎◌, ◌++◌, ◌∷◌, [], List, ℕ, IfErr, IfOk};
 ghost use Rattle.std.specs.Prelude.{Contains, None, OnOk, Option, Some, false, if◌then◌else◌, is_some};
-ghost use Rattle.std.specs.Prelude.{length, map, option_map, string_bytes, true};
-ghost use Rattle.std.specs.Io.KnownBytes.{Keeps};
+ghost use Rattle.std.specs.Prelude.{codes, length, map, option_map, string_bytes, true};
 ghost use Rattle.clap.specs.Words.{kind_of};
 ghost use Rattle.tariffs.specs.Fares.{Fares};
 ghost use Rattle.ledger_check.specs.Columns.{has_traced_head};
 ghost use Rattle.tap_views.specs.declared.encoder.TapFields.{TapFields};
-ghost use Rattle.omny_audit.specs.Ends.{EndsAnswer, EndsRun, IsFaultReported};
+ghost use Rattle.omny_audit.specs.Ends.{Did, EndsAnswer, EndsRun, did_by};
+ghost use Rattle.omny_audit.specs.Fault.{audit_fault_text, reported};
 ghost use Rattle.omny_audit.specs.inside.Ends.{EndsAudit};
-ghost use Rattle.omny_audit.specs.Options.{ParsesForAudit, audit_request_by, named_file};
-ghost use Rattle.omny_audit.specs.Options.{AuditRequest};
+ghost use Rattle.omny_audit.specs.Options.{AuditRequest, ParsesForAudit, audit_request_by, ledger_name};
+ghost use Rattle.omny_audit.specs.Options.{named_file};
 ghost use Rattle.omny_audit.specs.inside.Options.{audit_request_of};
 ghost use Rattle.omny_audit.specs.inside.Reports.{HasSummedFor, text_of};
 ghost use Rattle.omny_audit.specs.Program.{AreWanted, LoadsNamedFiles, LoadsReport};
 ghost use Rattle.omny_audit.specs.inside.Fault.{IsAnswerFault, IsClassFault, IsFileFault};
-ghost use Rattle.omny_audit.specs.inside.Fault.{IsLoadFault, IsNamedClass};
+ghost use Rattle.omny_audit.specs.inside.Fault.{IsLoadFault, IsNamedClass, IsReported, IsUnopened};
 ghost use Rattle.omny_audit.specs.inside.Traced.{HasReadAs, HaveNamed, uploads_in, wanted_by};
 ghost use Rattle.omny_audit.specs.inside.Uploads.{AreUploads};
-ghost use Rattle.program_manners.specs.Loads.{Loaded, LoadsOne};
+ghost use Rattle.program_manners.specs.Refusals.{IsShown, refusal_of};
 ghost use Rattle.program_manners.specs.TableLoads.{LoadsTables};
 ghost use Rattle.program_manners.specs.TableViews.{names_of};
 ghost use Rattle.program_manners.specs.TableWords.{wrong_word};
 ghost use Rattle.program_manners.specs.Words.{IsRequest};
-ghost use Rattle.world.specs.declared.faults.LoadFault.{LoadFault};
+ghost use Rattle.world.specs.Run.{Load, Run, no_calls, with_load, with_said};
+ghost use Rattle.world.specs.Streams.{HasRead};
 
 use crate::audit::{Audit, audit_over};
 use crate::check::Check;
 use crate::fault::{DateLine, Fault};
 use crate::laws::audits_decide;
-use crate::ledger::{WholeLedger, open_ledger, read_head};
+use crate::ledger::read_head;
 use crate::options::Options;
 use crate::report::ReportWithSums;
-use crate::source::Source;
 use crate::traced::TracedPieces;
 use clap::Error;
 use clap::error::ErrorKind;
 use class_names::{ClassFault, ClassNames, WrongNames};
+use file_sources::Host;
 use histories::HashSeed;
 use ledger_check::{Balance, Positions, has_ledger_head, has_traced_head};
 use program_manners::{
-    Complaints, FileFault, NamedClassLine, Output, TableWord, TableWords, Tables, load_tables,
-    show_answer,
+    FileFault, FileSource, NamedClassLine, STANDARD_INPUT, TableWord, TableWords, Tables,
+    load_tables,
 };
-use std::alloc::Global;
-use std::io::Write;
+use std::alloc::{AllocError, Global};
+use std::fmt::Display;
 use std::random::RandomSource;
 use tap_views::{NoMemory, UploadEnd, facts_of};
+use world::{Stream, World};
 
-fn load_named<'a, S: Source>(source: &mut S, name: &'a str) -> Result<Vec<u8>, FileFault<'a>>
-    ensures ok { IfOk result (λ bytes. LoadsOne (S.loaded source.old) (S.loaded source.new)
-        (Some name.entry.now) bytes.items) }
-    ensures fault { IfErr result (IsFileFault (S.refused source.new) name.entry.now) }
+/// The files of the system.
+pub type Files<'r> = Host<'r, HostRuntime>;
+
+fn load_named<'a>(files: &mut Files<'_>, name: &'a str) -> Result<Vec<u8>, FileFault<'a>>
+    ensures ok { IfOk result (λ bytes. files.new.loads.trace.run.loads
+        ≡ files.old.loads.trace.run.loads
+        ++ record { name = Some name.entry.now; bytes = bytes.items } ∷ []) }
+    ensures fault { IfErr result
+        (IsFileFault (refusal_of files.new.loads.last.value) name.entry.now) }
 {
-    match source.load(name) {
+    match files.load(name) {
         Ok(bytes) => Ok(bytes),
         Err(fault) => Err(FileFault { name, fault }),
     }
 }
 
 /// A ledger is refused as an upload.
-fn load_upload<'a, S: Source>(source: &mut S, name: &'a str) -> Result<Vec<u8>, Fault<'a>>
-    ensures ok { IfOk result (λ bytes. LoadsOne (S.loaded source.old) (S.loaded source.new)
-        (Some name.entry.now) bytes.items) }
+fn load_upload<'a>(files: &mut Files<'_>, name: &'a str) -> Result<Vec<u8>, Fault<'a>>
+    ensures ok { IfOk result (λ bytes. files.new.loads.trace.run.loads
+        ≡ files.old.loads.trace.run.loads
+        ++ record { name = Some name.entry.now; bytes = bytes.items } ∷ []) }
     ensures fault { IfErr result (λ fault. (names : List (List ℕ))
         → Contains names name.entry.now
-        → IsLoadFault names (S.loaded source.new) (S.refused source.new) fault) }
+        → IsLoadFault names files.new.loads.trace.run.loads
+        (refusal_of files.new.loads.last.value) fault) }
 {
-    let upload = match load_named(source, name) {
+    let upload = match load_named(files, name) {
         Ok(upload) => upload,
         Err(file) => return Err(Fault::File(file)),
     };
@@ -102,16 +111,17 @@ fn add_upload(alloc: Global, uploads: &mut Uploads, upload: &[u8]) -> Result<(),
 }
 
 /// One upload is in memory at a time.
-fn load_uploads<'a, S: Source>(
+fn load_uploads<'a>(
     alloc: Global,
     names: &[&'a str],
-    source: &mut S,
+    files: &mut Files<'_>,
 ) -> Result<Uploads, Fault<'a>>
-    ensures ok { IfOk result (λ uploads. (files : List (List ℕ)) × (valid : List TapFields)
+    ensures ok { IfOk result (λ uploads. (bytes : List (List ℕ)) × (valid : List TapFields)
         × (lists : List (List TapFields)) × LoadsNamedFiles (map (λ n. n.now) names.now)
-        (S.loaded source.old) (S.loaded source.new) files × AreUploads files valid lists uploads) }
+        files.old.loads.trace.run.loads files.new.loads.trace.run.loads bytes
+        × AreUploads bytes valid lists uploads) }
     ensures fault { IfErr result (IsLoadFault (map (λ n. n.now) names.now)
-        (S.loaded source.new) (S.refused source.new)) }
+        files.new.loads.trace.run.loads (refusal_of files.new.loads.last.value)) }
 {
     let mut uploads = Uploads {
         balance: Balance::new(alloc),
@@ -119,7 +129,7 @@ fn load_uploads<'a, S: Source>(
         ends: Vec::new(alloc),
     };
     for name in names {
-        let upload = match load_upload(source, name) {
+        let upload = match load_upload(files, name) {
             Ok(upload) => upload,
             Err(fault) => return Err(fault),
         };
@@ -136,22 +146,22 @@ fn kept_if<T: Drop>(is_kept: bool, value: T) -> Option<T>
     if is_kept { Some(value) } else { None }
 }
 
-fn load_report<'a, R: RandomSource, S: Source>(
+fn load_report<'a, R: RandomSource>(
     rt: &R,
     alloc: Global,
     name: Option<&'a str>,
-    source: &mut S,
+    files: &mut Files<'_>,
 ) -> Result<Option<ReportWithSums>, Fault<'a>>
     ensures ok { IfOk result (λ report. LoadsReport (option_map (λ n. n.now) name.entry)
-        (S.loaded source.old) (S.loaded source.new) (text_of report)) }
+        files.old.loads.trace.run.loads files.new.loads.trace.run.loads (text_of report)) }
     ensures sums { IfOk result (λ report. (fares : Fares) → HasSummedFor fares report []) }
     ensures fault { IfErr result (IsLoadFault (named_file (option_map (λ n. n.now) name.entry))
-        (S.loaded source.new) (S.refused source.new)) }
+        files.new.loads.trace.run.loads (refusal_of files.new.loads.last.value)) }
 {
     let Some(name) = name else {
         return Ok(None);
     };
-    let text = match load_named(source, name) {
+    let text = match load_named(files, name) {
         Ok(text) => text,
         Err(file) => return Err(Fault::File(file)),
     };
@@ -187,8 +197,8 @@ fn trace_of<'a>(
     positions: Option<Positions>,
 ) -> Result<Option<TracedPieces>, Fault<'a>>
     requires positions { HaveNamed positions [] }
-    requires loaded { (loaded_before after : Option (List Loaded))
-        × LoadsTables (names_of words.now) loaded_before after
+    requires loaded { (loaded_before after : List Load)
+        × LoadsTables (names_of words.now) (Some loaded_before) (Some after)
         (map (λ t. t.items) tables.now.texts.items) tables.now.fares }
     ensures wanted { IfOk result (λ trace. AreWanted tables.now.fares
         (map (λ t. t.items) tables.now.texts.items) (has_traced_head head.now)
@@ -206,26 +216,42 @@ fn trace_of<'a>(
     }
 }
 
+/// Opens the ledger, or standard input if none is named.
+fn open_ledger<'a>(
+    rt: &HostRuntime,
+    name: Option<&'a str>,
+    ledger: &mut Stream,
+) -> Result<(), Fault<'a>>
+    requires { ledger.old.trace ≡ no_calls }
+    ensures opened { OnOk result (HasRead ledger.new (option_map (λ n. n.now) name.entry) []) }
+    ensures fault { IfErr result (IsUnopened (option_map (λ n. n.now) name.entry)
+        ledger.new.trace.run) }
+{
+    match ledger.open(rt, name) {
+        Ok(()) => Ok(()),
+        Err(fault) => {
+            let name = name.unwrap_or(STANDARD_INPUT);
+            Err(Fault::File(FileFault { name, fault }))
+        }
+    }
+}
+
 /// Returns whether all is right. The tables are loaded first, then the uploads and the report, and
 /// then the ledger is read.
-fn audit<'a, R: RandomSource, S: Source, W: Write>(
-    rt: &R,
-    alloc: Global,
+fn audit<'a, W: World>(
+    rt: &HostRuntime,
     options: &Options<'a>,
-    source: &mut S,
-    out: &mut Output<W>,
+    files: &mut Files<'_>,
+    ledger: &mut Stream,
+    world: &mut W,
 ) -> Result<bool, Fault<'a>>
-    requires { wrong_word (audit_request_of options.now).table ≡ None }
-    ensures { EndsAudit (audit_request_of options.now) (record {
-      loaded = S.loaded source.old;
-      loaded' = S.loaded source.new;
-      refused = S.refused source.new;
-      ended = out.new.end;
-      out = W.contents out.old.writer;
-      out' = W.contents out.new.writer;
-    }) result }
+    requires words { wrong_word (audit_request_of options.now).table ≡ None }
+    requires unread { ledger.old.trace ≡ no_calls }
+    ensures { EndsAudit (audit_request_of options.now) (did_by files.old.loads files.new.loads
+        ledger.new.trace (W.run world.old) (W.run world.new)) result }
 {
-    let tables = match load_tables(alloc, &options.table, source) {
+    let alloc = rt.alloc();
+    let tables = match load_tables(alloc, &options.table, files) {
         Ok(tables) => tables,
         Err(fault) => return Err(Fault::of_tables(fault)),
     };
@@ -233,23 +259,21 @@ fn audit<'a, R: RandomSource, S: Source, W: Write>(
         return Err(Fault::NoMemory);
     };
     let names = options.uploads.as_slice();
-    let uploads = match load_uploads(alloc, names, source) {
+    let uploads = match load_uploads(alloc, names, files) {
         Ok(uploads) => uploads,
         Err(fault) => return Err(fault),
     };
-    let report = match load_report(rt, alloc, options.report, source) {
+    let report = match load_report(rt, alloc, options.report, files) {
         Ok(report) => report,
         Err(fault) => return Err(fault),
     };
-    let mut ledger = match open_ledger(options.ledger, source) {
-        Ok(ledger) => ledger,
-        Err(file) => return Err(Fault::File(file)),
-    };
-    let head = match read_head(alloc, options.ledger, source, &mut ledger) {
+    if let Err(fault) = open_ledger(rt, options.ledger, ledger) {
+        return Err(fault);
+    }
+    let head = match read_head(alloc, ledger) {
         Ok(head) => head,
         Err(fault) => return Err(fault),
     };
-    let started = head.as_slice();
     let has_uploads = !names.is_empty();
     let Uploads {
         balance,
@@ -257,7 +281,7 @@ fn audit<'a, R: RandomSource, S: Source, W: Write>(
         ends,
     } = uploads;
     let kept = kept_if(has_uploads, positions);
-    let trace = match trace_of(alloc, started, &options.table, &tables, kept) {
+    let trace = match trace_of(alloc, &head, &options.table, &tables, kept) {
         Ok(trace) => trace,
         Err(fault) => return Err(fault),
     };
@@ -272,158 +296,153 @@ fn audit<'a, R: RandomSource, S: Source, W: Write>(
         report,
         text: Vec::new(alloc),
     };
-    let mut whole = WholeLedger {
-        name: options.ledger,
-        head: started,
-        rest: ledger,
-    };
     // proof: all is well exactly if the ledger is right, and the report its own
     audits_decide();
-    audit_over(alloc, source, &mut whole, &mut audit, out)
+    audit_over(alloc, head, ledger, &mut audit, world)
 }
 
-/// Nothing is reported if the reader is gone.
-fn report_fault<E: Write>(err: &mut Complaints<E>, fault: &Fault) -> u8
-    ensures status { result ≡ 1 }
-    ensures reported { IsFaultReported fault.now (E.contents err.old.writer)
-        (E.contents err.new.writer) err.new.failed }
+/// If an allocation for the text fails, that is reported, and the status is 1.
+fn say<W: World, D: Display + Drop>(alloc: Global, text: D, status: u8, world: &mut W) -> u8
+    ensures said { (result ≡ 1) × (W.run world.new ≡ reported Fault.NoMemory (W.run world.old))
+        ⊎ (result ≡ status) × IfSome (D.output text)
+        (λ text. W.run world.new ≡ with_said (W.run world.old) text) }
+    ensures kept { (W.run world.new).written ≡ (W.run world.old).written }
 {
-    if !fault.is_quiet() {
-        err.report_line(*fault);
+    let Ok(text) = format!(in alloc; "{text}") else {
+        world.report(world::Fault::NoMemory);
+        return 1;
+    };
+    world.say(text.as_bytes());
+    status
+}
+
+fn line_of(alloc: Global, fault: &Fault<'_>) -> Result<String, AllocError>
+    ensures { IfOk result (λ line. string_bytes line ≡ audit_fault_text fault.now ++ codes "\n") }
+{
+    format!(in alloc; "{}\n", *fault)
+}
+
+/// Nothing is reported if the reader is gone. If an allocation for the line fails, that is reported.
+fn report_fault<W: World>(alloc: Global, fault: &Fault<'_>, world: &mut W) -> u8
+    ensures status { result ≡ 1 }
+    ensures reported { IsReported fault.now (W.run world.old) (W.run world.new) }
+{
+    if let Fault::Closed = fault {
+        return 1;
+    }
+    match line_of(alloc, fault) {
+        Ok(line) => world.say(line.as_bytes()),
+        Err(_) => world.report(world::Fault::NoMemory),
     }
     1
 }
 
-/// Help and version go to `out`, else the usage error to `err`.
-fn show<W: Write, E: Write>(
-    alloc: Global,
-    error: &Error,
-    out: &mut Output<W>,
-    err: &mut Complaints<E>,
-) -> u8
-    ensures help { result ≡ 0 → IsRequest (kind_of error.now) × (err.new ≡ err.old) }
+/// Help or the version, flushed.
+fn show_text<W: World>(alloc: Global, text: &Error, world: &mut W) -> Result<(), Fault<'static>>
+    ensures said { (W.run world.new).said ≡ (W.run world.old).said }
+    ensures fault { IfErr result (IsAnswerFault (W.run world.new).cut) }
+{
+    let Ok(text) = format!(in alloc; "{text}") else {
+        return Err(Fault::NoMemory);
+    };
+    if let Err(why) = world.write(text.as_bytes()) {
+        return Err(Fault::of_write(why));
+    }
+    if let Err(why) = world.flush() {
+        return Err(Fault::of_write(why));
+    }
+    Ok(())
+}
+
+/// Help and version go to the output, else the usage error to the standard error.
+fn show<W: World>(alloc: Global, error: &Error, world: &mut W) -> u8
+    ensures help { result ≡ 0 → IsRequest (kind_of error.now)
+        × ((W.run world.new).said ≡ (W.run world.old).said) }
     ensures memory { kind_of error.now ≡ ErrorKind.OutOfMemory → (result ≡ 1)
-        × IsFaultReported Fault.NoMemory (E.contents err.old.writer) (E.contents err.new.writer)
-        err.new.failed × Keeps (W.contents out.old.writer) (W.contents out.new.writer) }
+        × (W.run world.new ≡ reported Fault.NoMemory (W.run world.old)) }
     ensures usage_error { result ≡ 2 → (¬ IsRequest (kind_of error.now))
-        × Keeps (W.contents out.old.writer) (W.contents out.new.writer) }
-    ensures fault { result ≡ 1 → (fault : Fault) × IsAnswerFault out.new.end fault
-        × IsFaultReported fault (E.contents err.old.writer) (E.contents err.new.writer)
-        err.new.failed }
+        × ((W.run world.new).written ≡ (W.run world.old).written) }
+    ensures fault { result ≡ 1 → (fault : Fault) × IsAnswerFault (W.run world.new).cut fault
+        × ((W.run world.new).said ≡ (reported fault (W.run world.old)).said) }
     ensures status { result ≤ 2 }
 {
-    match show_answer(alloc, error, out, err) {
-        Ok(status) => status,
-        Err(unwritten) => report_fault(err, &Fault::of_end(unwritten)),
+    match error.kind() {
+        ErrorKind::OutOfMemory => report_fault(alloc, &Fault::NoMemory, world),
+        ErrorKind::DisplayHelp | ErrorKind::DisplayVersion => {
+            match show_text(alloc, error, world) {
+                Ok(()) => 0,
+                Err(fault) => report_fault(alloc, &fault, world),
+            }
+        }
+        _ => say(alloc, error, 2, world),
     }
 }
 
 /// Flushes the output after the finding. A flush that fails is reported as a write is.
-fn end_run<W: Write, E: Write>(
-    ended: Result<bool, Fault<'_>>,
-    out: &mut Output<W>,
-    err: &mut Complaints<E>,
-) -> u8
-    ensures ends { (request : AuditRequest) (loaded loaded' : Option (List Loaded))
-        (refused : Option (Option (List ℕ) × LoadFault)) (before : Option (List ℕ))
-        → EndsAudit request (record {
-          loaded = loaded;
-          loaded' = loaded';
-          refused = refused;
-          ended = out.old.end;
-          out = before;
-          out' = W.contents out.old.writer;
-        }) ended.entry → EndsRun request (record {
-          loaded = loaded;
-          loaded' = loaded';
-          refused = refused;
-          ended = out.new.end;
-          out = before;
-          out' = W.contents out.new.writer;
-        }) (record {
-          said = E.contents err.old.writer;
-          said' = E.contents err.new.writer;
-          failed = err.new.failed;
-          flushed = out.new.is_flushed;
-        }) result }
+fn end_run<W: World>(alloc: Global, ended: Result<bool, Fault<'_>>, world: &mut W) -> u8
+    ensures ends { (request : AuditRequest) (did : Did)
+        → EndsAudit request (record did { new = W.run world.old }) ended.entry
+        → EndsRun request (record did { new = W.run world.new }) result }
     ensures status { result ≤ 1 }
 {
     let succeeded = match ended {
         Ok(succeeded) => succeeded,
-        Err(fault) => return report_fault(err, &fault),
+        Err(fault) => return report_fault(alloc, &fault, world),
     };
-    match out.finish() {
+    match world.flush() {
         Ok(()) if succeeded => 0,
         Ok(()) => 1,
-        Err(unflushed) => report_fault(err, &Fault::of_end(unflushed)),
+        Err(unflushed) => report_fault(alloc, &Fault::of_write(unflushed), world),
     }
 }
 
 /// The whole program: reads the words, the program's name first, checks the ledger that they name,
-/// from the source, and writes the finding to `out`, usage errors and faults to `err`. The status
+/// and writes the finding to the output, usage errors and faults to the standard error. The status
 /// is 0 if all is right, 1 if it is not or something failed, 2 if the words are not a command line.
-pub fn main_over<R: RandomSource, S: Source, W: Write, E: Write>(
-    rt: &R,
-    alloc: Global,
+pub fn main_over<W: World>(
+    rt: &HostRuntime,
     words: &[String],
-    source: &mut S,
-    out: &mut Output<W>,
-    err: &mut Complaints<E>,
+    files: &mut Files<'_>,
+    ledger: &mut Stream,
+    world: &mut W,
 ) -> u8
+    requires { ledger.old.trace ≡ no_calls }
     // A command line ends with a finding that was written and flushed, or fails.
     ensures ends { ParsesForAudit (map string_bytes words.now)
         → wrong_word (audit_request_by (map string_bytes words.now)).table ≡ None
-        → EndsRun (audit_request_by (map string_bytes words.now)) (record {
-          loaded = S.loaded source.old;
-          loaded' = S.loaded source.new;
-          refused = S.refused source.new;
-          ended = out.new.end;
-          out = W.contents out.old.writer;
-          out' = W.contents out.new.writer;
-        }) (record {
-          said = E.contents err.old.writer;
-          said' = E.contents err.new.writer;
-          failed = err.new.failed;
-          flushed = out.new.is_flushed;
-        }) result }
+        → EndsRun (audit_request_by (map string_bytes words.now)) (did_by files.old.loads
+        files.new.loads ledger.new.trace (W.run world.old) (W.run world.new)) result }
 
     // Words that are not a command line succeed only if they request help or the version.
     ensures answers { (¬ ParsesForAudit (map string_bytes words.now))
         → EndsAnswer (map string_bytes words.now) (audit_request_by (map string_bytes words.now))
-        (record {
-          loaded = S.loaded source.old;
-          loaded' = S.loaded source.new;
-          refused = S.refused source.new;
-          ended = out.new.end;
-          out = W.contents out.old.writer;
-          out' = W.contents out.new.writer;
-        }) (record {
-          said = E.contents err.old.writer;
-          said' = E.contents err.new.writer;
-          failed = err.new.failed;
-          flushed = out.new.is_flushed;
-        }) result }
+        (did_by files.old.loads files.new.loads ledger.new.trace (W.run world.old)
+        (W.run world.new)) result }
 
     // Nor does one in which a fare table has a wrong date, or lacks one.
     ensures dated { ParsesForAudit (map string_bytes words.now)
         → is_some (wrong_word (audit_request_by (map string_bytes words.now)).table) ≡ true
         → result ≢ 0 }
 
-    // Only such words have status 2, which loads nothing and writes nothing to `out`.
+    // Only such words have status 2, which reads nothing and writes nothing to the output.
     ensures misused { result ≡ 2 → ((¬ ParsesForAudit (map string_bytes words.now))
         ⊎ (is_some (wrong_word (audit_request_by (map string_bytes words.now)).table) ≡ true))
-        × (S.loaded source.new ≡ S.loaded source.old)
-        × Keeps (W.contents out.old.writer) (W.contents out.new.writer) }
+        × (files.new ≡ files.old) × (ledger.new ≡ ledger.old)
+        × ((W.run world.new).written ≡ (W.run world.old).written) }
+
+    // The last load that was refused is one that a call of this run refused.
+    ensures refused { ∥ IsShown files.new.loads.trace.run
+        (refusal_of files.new.loads.last.value) ∥₁ }
     ensures status { result ≤ 2 }
 {
+    let alloc = rt.alloc();
     let options = match Options::read(alloc, words) {
         Ok(options) => options,
-        Err(error) => return show(alloc, &error, out, err),
+        Err(error) => return show(alloc, &error, world),
     };
     if let Some(wrong) = options.table.wrong_word() {
-        err.report_line(DateLine(wrong));
-        return 2;
+        return say(alloc, DateLine(wrong), 2, world);
     }
-    let ended = audit(rt, alloc, &options, source, out);
-    end_run(ended, out, err)
+    let ended = audit(rt, &options, files, ledger, world);
+    end_run(alloc, ended, world)
 }

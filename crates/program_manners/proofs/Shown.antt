@@ -37,7 +37,7 @@ shown_loaded r new name bytes refusal e shown =
     subst (λ (run : Run). ∥ IsShown run refusal ∥₁) (sym e)
     (∥∥₁_map shown (shown_loaded_one r name bytes refusal))
 
-is_shown : (r new : Run) (name : Option (List ℕ)) (fault : LoadFault)
+pub is_shown : (r new : Run) (name : Option (List ℕ)) (fault : LoadFault)
     → IsRefused r new name fault → IsShown new (name, fault)
 is_shown r new name load.Unread e =
     subst (λ (run : Run). Contains run.unread name) (sym e) (Contains-push r.unread name)

@@ -1,11 +1,12 @@
 -- What an audit has read: what private functions alone cite.
-use Rattle.std.specs.Prelude.{◌≡◌, ◌++◌, ℕ, Bool, false, List, [], Option, None, Some, length}
-use Rattle.std.specs.Prelude.{if◌then◌else◌, option_map, Result, Ok, Err}
-use Rattle.std.specs.Io.KnownBytes.{Appends}
+use Rattle.std.specs.Prelude.{◌≡◌, ◌++◌, ℕ, Bool, false, List, [], Option, None, Some}
+use Rattle.std.specs.Prelude.{if◌then◌else◌, option_map, Result, Ok, Err, true}
 use Rattle.frame.specs.Failing.{HasStarted}
-use Rattle.program_manners.specs.declared.output.WriteEnd.{WriteEnd}
 use Rattle.tap_views.specs.declared.encoder.TapFields.{TapFields}
-use Rattle.world.specs.declared.faults.LoadFault.{LoadFault}
+use Rattle.world.specs.Run.{Calls, Run, with_written}
+use Rattle.world.specs.Streams.{IsWhole}
+use Rattle.world.specs.declared.stream.Stream.{Stream}
+use Rattle.omny_audit.specs.Program.{HoldsOfRead}
 use Rattle.omny_audit.specs.Reports.{Given, IsAudit, IsAuditText, ledger_in}
 use Rattle.omny_audit.specs.Traced.{ReadLine}
 use Rattle.omny_audit.specs.declared.audit.Audit.{Audit}
@@ -52,14 +53,24 @@ pub record HasEnded (audit : Audit) (valid : List TapFields) (file written : Lis
 abbrev pub IsNext : Audit → Audit → List TapFields → List ℕ → List ℕ → List ℕ → Option Bool → Type 0
 IsNext before after valid file piece written None = (given_in after valid ≡ given_in before valid)
     × HasAudited after valid (file ++ piece) written
-IsNext before after valid file piece written (Some success) = (more : List ℕ)
-    → (length piece ≡ 0 → more ≡ []) → (read : List ReadLine)
-    × IsAudit (given_in before valid) ((file ++ piece) ++ more) read written success
+IsNext before after valid file piece written (Some success) = ((more : List ℕ)
+    → (piece ≡ [] → more ≡ []) → (read : List ReadLine)
+    × IsAudit (given_in before valid) ((file ++ piece) ++ more) read written success)
+    × (success ≡ true → piece ≡ [])
 
--- what is found of the file was written; or the run failed, and what was written is a prefix of it
-abbrev pub EndsAs : Given → List ℕ → Option (Option (List ℕ) × LoadFault) → Option (List ℕ)
-    → Option WriteEnd → Option (List ℕ) → Option (List ℕ) → Result Bool Fault → Type 0
-EndsAs given file refused name ended out out' (Ok success) = (text : List ℕ) × (read : List ReadLine)
-    × IsAudit given file read text success × Appends out out' text
-EndsAs given file refused name ended out out' (Err fault) =
-    IsStreamFault refused name ended fault × HasStarted (IsAuditText given file) out out'
+-- What is found of the ledger was written, which was read to its end if it is well; or the run
+-- failed, and what was written is a prefix of it. Nothing was said.
+abbrev pub EndsAs : Given → Calls → Run → Run → Result Bool Fault → Type 0
+EndsAs given ledger old new (Ok success) = (text : List ℕ) × (new ≡ with_written old text)
+    × HoldsOfRead ledger (λ file. (read : List ReadLine) × IsAudit given file read text success)
+    × (success ≡ true → IsWhole ledger)
+EndsAs given ledger old new (Err fault) = IsStreamFault ledger new.cut fault
+    × HasStarted (λ text. HoldsOfRead ledger (λ file. IsAuditText given file text)) old.written
+    new.written × (new.said ≡ old.said)
+
+-- The reads of the ledger, whose head was read before, went on, unless they came to its end.
+pub record GoesOn (before after : Stream) (head : List ℕ) : Type 0 where
+  pub name : after.trace.reading.name ≡ before.trace.reading.name
+  pub rest : List ℕ
+  pub begins : after.trace.reading.bytes ≡ head ++ rest
+  pub ended : before.from ≡ None → after ≡ before

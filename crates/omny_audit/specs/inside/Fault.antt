@@ -1,19 +1,20 @@
 -- Faults: what private functions alone cite.
-use Rattle.std.specs.Prelude.{◌≡◌, ⊤, ℕ, List, Option, Some, Contains}
+use Rattle.std.specs.Prelude.{◌≡◌, ◌⊎◌, ⊤, ℕ, List, Option, Some, Contains, codes, unwrap_or}
 use Rattle.fare_table.specs.declared.fault.TableFault.TheVariants as table
 use Rattle.class_names.specs.declared.names.ClassFault.{ClassFault}
 use Rattle.class_names.specs.declared.names.ClassFault.TheVariants as class
-use Rattle.program_manners.specs.Loads.{Loaded}
 use Rattle.program_manners.specs.TableWords.{TableNames, table_files}
-use Rattle.program_manners.specs.Refusals.{HasRefused, Refuses}
+use Rattle.program_manners.specs.Refusals.{HasRefused, IsShown}
+use Rattle.world.specs.Run.{Calls, Load, Run}
 use Rattle.world.specs.declared.faults.LoadFault.{LoadFault}
-use Rattle.world.specs.declared.faults.LoadFault.TheVariants.{Unread}
+use Rattle.world.specs.declared.faults.LoadFault.TheVariants as load
+use Rattle.world.specs.declared.faults.WriteFault.{WriteFault}
+use Rattle.world.specs.declared.faults.WriteFault.TheVariants as write
 use Rattle.program_manners.specs.declared.loading.FileFault.{FileFault}
-use Rattle.program_manners.specs.declared.output.WriteEnd.{WriteEnd}
-use Rattle.program_manners.specs.declared.output.WriteEnd.TheVariants as end
 use Rattle.program_manners.specs.declared.table_loads.TablesFault.{TablesFault}
 use Rattle.program_manners.specs.declared.table_loads.TablesFault.TheVariants as unloaded
 use Rattle.omny_audit.specs.Ends.{LoadsGivenLedger, NamesUnplainClass}
+use Rattle.omny_audit.specs.Fault.{reported}
 use Rattle.omny_audit.specs.declared.fault.Fault.{Fault}
 use Rattle.omny_audit.specs.declared.fault.Fault.TheVariants.{ClassName, Closed, File, Follow}
 use Rattle.omny_audit.specs.declared.fault.Fault.TheVariants.{GivenLedger, NamedClass}
@@ -29,33 +30,46 @@ unloaded_as (unloaded.NamedTable line) = NamedTable line
 unloaded_as (unloaded.Follow line) = Follow line
 unloaded_as unloaded.NoMemory = NoMemory
 
--- the source refused this file, which has this name
-abbrev pub IsFileFault : Option (Option (List ℕ) × LoadFault) → List ℕ → FileFault → Type 0
-IsFileFault refused name file = (file.name.now ≡ name) × HasRefused refused name file.fault
+-- this file, which has this name, was refused last
+abbrev pub IsFileFault : Option (List ℕ) × LoadFault → List ℕ → FileFault → Type 0
+IsFileFault refused name file = (file.name.now ≡ name) × HasRefused (Some refused) name file.fault
 
--- the source refused one of the files of these names, or one of them was loaded last and is a
--- ledger, or an allocation failed
-abbrev pub IsLoadFault : List (List ℕ) → Option (List Loaded)
-    → Option (Option (List ℕ) × LoadFault) → Fault → Type 0
+-- one of the files of these names was refused last, or one of them was loaded last and is a ledger,
+-- or an allocation failed
+abbrev pub IsLoadFault : List (List ℕ) → List Load → Option (List ℕ) × LoadFault → Fault → Type 0
 IsLoadFault names loaded refused (File file) =
-    Contains names file.name.now × HasRefused refused file.name.now file.fault
+    Contains names file.name.now × HasRefused (Some refused) file.name.now file.fault
 IsLoadFault names loaded refused (GivenLedger name) =
     Contains names name.now × LoadsGivenLedger loaded name.now
 IsLoadFault names loaded refused NoMemory = ⊤
 IsLoadFault names loaded refused _ = ⊥
 
--- the fault is that a write ended so
-abbrev pub IsWriteFault : Option WriteEnd → Fault → Type 0
-IsWriteFault ended Write = ended ≡ Some end.Refused
-IsWriteFault ended Closed = ended ≡ Some end.Closed
-IsWriteFault ended _ = ⊥
+-- the fault is that a write or a flush failed so
+abbrev pub IsWriteFault : Option WriteFault → Fault → Type 0
+IsWriteFault cut Write = cut ≡ Some write.Refused
+IsWriteFault cut Closed = cut ≡ Some write.Closed
+IsWriteFault cut _ = ⊥
 
--- a read of the ledger of this name was refused, or a write ended so, or an allocation failed
-abbrev pub IsStreamFault : Option (Option (List ℕ) × LoadFault) → Option (List ℕ) → Option WriteEnd
-    → Fault → Type 0
-IsStreamFault refused name ended Ledger = Refuses refused name Unread
-IsStreamFault refused name ended NoMemory = ⊤
-IsStreamFault refused name ended fault = IsWriteFault ended fault
+-- a read of the ledger failed, or a write did so, or an allocation
+abbrev pub IsStreamFault : Calls → Option WriteFault → Fault → Type 0
+IsStreamFault ledger cut Ledger = Contains ledger.run.unread ledger.reading.name
+IsStreamFault ledger cut NoMemory = ⊤
+IsStreamFault ledger cut fault = IsWriteFault cut fault
+
+-- the ledger of this name was not opened
+abbrev pub IsUnopened : Option (List ℕ) → Run → Fault → Type 0
+IsUnopened name run (File file) =
+    (file.name.now ≡ unwrap_or name (codes "standard input")) × IsShown run (name, file.fault)
+IsUnopened name run _ = ⊥
+
+-- why the ledger was not read
+abbrev pub unread_as : LoadFault → Fault
+unread_as load.NoMemory = NoMemory
+unread_as why = Ledger
+
+-- the fault was reported, or an allocation failed and that was; nothing else was done
+abbrev pub IsReported : Fault → Run → Run → Type 0
+IsReported fault old new = (new ≡ reported fault old) ⊎ (new ≡ reported NoMemory old)
 
 -- a name of a class is wrong, of the tables or of the one of this file; or an allocation failed
 abbrev pub IsNamedClass : TableNames → ClassFault → Fault → Type 0
@@ -74,6 +88,6 @@ IsClassFault tables texts NoMemory = ⊤
 IsClassFault tables texts _ = ⊥
 
 -- help or the version was not written, or an allocation failed
-abbrev pub IsAnswerFault : Option WriteEnd → Fault → Type 0
-IsAnswerFault ended NoMemory = ⊤
-IsAnswerFault ended fault = IsWriteFault ended fault
+abbrev pub IsAnswerFault : Option WriteFault → Fault → Type 0
+IsAnswerFault cut NoMemory = ⊤
+IsAnswerFault cut fault = IsWriteFault cut fault

@@ -1,15 +1,16 @@
 use Rattle.std.proofs.Common.{◌∙◌, ap, sym}
 use Rattle.ledger_check.specs.Columns.{has_ledger_head}
+use Rattle.program_manners.specs.Refusals.{refusal_of}
 use Rattle.omny_audit.proofs.Causes.{file_fault}
 use Rattle.omny_audit.proofs.program.load_upload.Goals as goal
 
 pub returns-in-Err-clause-fault : goal.returns-in-Err-clause-fault
-returns-in-Err-clause-fault g c = λ names one.
-    file_fault (g.S.FileSource.refused c.load_named.new.source) c.args.name.now c.in-Err.file names
-    (g.S.FileSource.loaded c.load_named.new.source) c.in-Err.ensures.fault one
+returns-in-Err-clause-fault c = λ names one.
+    file_fault (refusal_of c.load_named.new.files.loads.last.value) c.args.name.now c.in-Err.file
+    names c.load_named.new.files.loads.trace.run.loads c.in-Err.ensures.fault one
 
 pub returns-then-has_ledger_head-clause-fault : goal.returns-then-has_ledger_head-clause-fault
-returns-then-has_ledger_head-clause-fault g c = λ names one. (
+returns-then-has_ledger_head-clause-fault c = λ names one. (
   one,
   record {
     loaded = _;

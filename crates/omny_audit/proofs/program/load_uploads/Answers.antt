@@ -1,18 +1,18 @@
-use Rattle.std.proofs.Common.{◌≡◌, ◌∙◌, ◌++◌, ◌∷◌, ◌+◌, [], Bor, List, ℕ, ap, get_or}
+use Rattle.std.proofs.Common.{◌≡◌, ◌∙◌, ◌++◌, ◌∷◌, ◌+◌, [], Bor, List, ℕ, ap, append-nil, get_or}
 use Rattle.std.proofs.Common.{map, refl, subst, sym, take}
 use Rattle.std.proofs.lemmas.List.{map-append, take_all, take_more}
 use Rattle.tap_views.specs.UploadEnds.{ArePlainEnds}
 use Rattle.omny_audit.specs.inside.Uploads.{AreUploads}
 use Rattle.program_manners.proofs.Refusals.{is_one_at}
 use Rattle.omny_audit.proofs.Causes.{one_of}
-use Rattle.omny_audit.proofs.ProgramLemmas.{loads_push, reports_none}
+use Rattle.omny_audit.proofs.ProgramLemmas.{loads_push}
 use Rattle.omny_audit.proofs.program.load_uploads.Goals as goal
 
 abbrev no_name : Bor (List ℕ)
 no_name = record { ref_ptr = (0, 0); now = [] }
 
 pub loop-name-init : goal.loop-name-init
-loop-name-init g c = (
+loop-name-init c = (
   [],
   [],
   [],
@@ -20,7 +20,7 @@ loop-name-init g c = (
     loads = [];
     named = refl;
     bytes = refl;
-    is_loaded = reports_none (g.S.FileSource.loaded c.args.source.now);
+    is_loaded = sym (append-nil c.args.files.now.loads.trace.run.loads);
   },
   record {
     are_valid = refl;
@@ -32,7 +32,7 @@ loop-name-init g c = (
 )
 
 pub loop-name-preserved : goal.loop-name-preserved
-loop-name-preserved g c =
+loop-name-preserved c =
     let names = c.args.names.now in
     let k = c.loop-name.name-index in
     let before = c.loop-name.invariant in
@@ -50,13 +50,13 @@ loop-name-preserved g c =
     )
 
 pub returns-clause-ok : goal.returns-clause-ok
-returns-clause-ok g c =
+returns-clause-ok c =
     let all : take c.loop-name.name-index c.args.names.now ≡ c.args.names.now =
     take_all _ c.args.names.now c.loop-name-test.false in
     rw all at c.loop-name.invariant
 
 pub returns-in-Err-clause-fault : goal.returns-in-Err-clause-fault
-returns-in-Err-clause-fault g c =
+returns-in-Err-clause-fault c =
     let names = c.args.names.now in
     let k = c.loop-name.name-index in
     c.in-Err.ensures.fault (map (λ n. n.now) names)

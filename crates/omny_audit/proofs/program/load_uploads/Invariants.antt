@@ -6,8 +6,8 @@ use Rattle.omny_audit.proofs.program.load_uploads.Given as goal
 
 -- so far these were loaded
 abbrev pub invariant-loop-name : goal.invariant-loop-name
-invariant-loop-name g l = (files : List (List ℕ)) × (valid : List TapFields)
+invariant-loop-name l = (bytes : List (List ℕ)) × (valid : List TapFields)
     × (lists : List (List TapFields))
     × LoadsNamedFiles (map (λ n. n.now) (take l.name-index l.names))
-    (g.S.FileSource.loaded l.fn.source) (g.S.FileSource.loaded l.source) files
-    × AreUploads files valid lists l.uploads
+    l.fn.files.loads.trace.run.loads l.files.loads.trace.run.loads bytes
+    × AreUploads bytes valid lists l.uploads

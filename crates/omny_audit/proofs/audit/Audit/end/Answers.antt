@@ -37,8 +37,13 @@ write_last_lines-requires c = λ yes.
       found.3.0 legal,
     )
 
-pub returns : goal.returns
-returns c = λ valid file before has.
+pub returns-clause-decided : goal.returns-clause-decided
+returns-clause-decided c = λ is.
+    c.are_both.ensures
+    ∙ ap (λ (b : Bool). b && c.are_both-is_after.result) (c.in_ok-found.ensures.unsound is)
+
+pub returns-clause-ended : goal.returns-clause-ended
+returns-clause-ended c = λ valid file before has.
     let audit = c.args.self.now in
     let written = before ++ string_bytes c.args.reported in
     let given = given_in audit valid in

@@ -1,10 +1,9 @@
-use Rattle.std.proofs.Common.{◌≡◌, ◌∙◌, ◌++◌, ℕ, [], List, ap, append-nil, length, string_bytes}
-use Rattle.std.proofs.Common.{subst}
+use Rattle.std.proofs.Common.{◌≡◌, ◌∙◌, ◌++◌, ℕ, [], List, ap, append-nil, string_bytes, subst}
 use Rattle.std.proofs.Common.{Global, Vec, sym}
-use Rattle.omny_audit.proofs.ReadLemmas.{drained}
+use Rattle.std.proofs.lemmas.Bool.{true≢false}
 use Rattle.omny_audit.specs.Reports.{Given, IsAudit}
 use Rattle.omny_audit.specs.inside.Audits.{HasAudited, HasEnded, given_in}
-use Rattle.omny_audit.proofs.Audits.{decided_ends}
+use Rattle.omny_audit.proofs.Audits.{decided_ends, drained}
 use Rattle.omny_audit.proofs.audit.Audit.next.Goals as goal
 
 pub read_end-requires : goal.read_end-requires
@@ -29,39 +28,45 @@ end-requires-then-is_decided c =
     )
 
 pub returns-then-is_empty : goal.returns-then-is_empty
-returns-then-is_empty c = λ valid file written has more end.
+returns-then-is_empty c = λ valid file written has.
     let read = c.in_ok-read_end.ensures valid file written has in
     let same : read.0 ≡ string_bytes c.read_end.new.reported =
     sym (read.1 ∙ ap (λ (t : List ℕ). t ++ read.0) c.new-reported.ensures.bytes) in
     let none : c.args.piece.now ≡ [] = drained c.args.piece.now c.is_empty.result c.is_empty.ensures
     c.if-is_empty.true in
-    let all : file ≡ (file ++ c.args.piece.now) ++ more =
-    sym (ap (λ (t : List ℕ). (file ++ c.args.piece.now) ++ t)
-    (end (ap (λ (t : List ℕ). length t) none))
-    ∙ append-nil (file ++ c.args.piece.now) ∙ ap (λ (t : List ℕ). file ++ t) none
-    ∙ append-nil file) in
-    let audit = c.in_ok-ended.ensures valid file written
+    let audit = c.in_ok-ended.ensures.ended valid file written
     (subst (λ (t : List ℕ). HasEnded c.read_end.new.self valid file (written ++ t)) same read.3) in (
-      audit.0,
-      subst (λ (g : Given). IsAudit g ((file ++ c.args.piece.now) ++ more) audit.0
-          (written ++ c.in_ok-ended.ended.0.items) c.in_ok-ended.ended.1) read.2
-          (subst (λ (f : List ℕ). IsAudit (given_in c.read_end.new.self valid) f audit.0
-          (written ++ c.in_ok-ended.ended.0.items)
-          c.in_ok-ended.ended.1) all audit.1),
+      λ more end.
+          let all : file ≡ (file ++ c.args.piece.now) ++ more =
+          sym (ap (λ (t : List ℕ). (file ++ c.args.piece.now) ++ t) (end none)
+          ∙ append-nil (file ++ c.args.piece.now) ∙ ap (λ (t : List ℕ). file ++ t) none
+          ∙ append-nil file) in (
+            audit.0,
+            subst (λ (g : Given). IsAudit g ((file ++ c.args.piece.now) ++ more) audit.0
+                (written ++ c.in_ok-ended.ended.0.items) c.in_ok-ended.ended.1) read.2
+                (subst (λ (f : List ℕ). IsAudit (given_in c.read_end.new.self valid) f audit.0
+                (written ++ c.in_ok-ended.ended.0.items) c.in_ok-ended.ended.1) all audit.1),
+          ),
+      λ success. none,
     )
 
 pub returns-then-is_decided : goal.returns-then-is_decided
-returns-then-is_decided c = λ valid file written has more end.
+returns-then-is_decided c = λ valid file written has.
     let read = c.in_ok-read.ensures valid file written has in
+    let is = sym c.is_decided.ensures ∙ c.if-is_decided.true in
     let same : read.0 ≡ string_bytes c.read.new.reported =
-    sym (read.1 ∙ ap (λ (t : List ℕ). t ++ read.0) c.new-reported.ensures.bytes) in
-    let audit = c.in_ok-ended-2.ensures valid ((file ++ c.args.piece.now) ++ more) written
-    (decided_ends c.read.new.self valid (file ++ c.args.piece.now) _ more
-    (subst (λ (t : List ℕ). HasAudited c.read.new.self valid (file ++ c.args.piece.now)
-    (written ++ t)) same read.3) (sym c.is_decided.ensures ∙ c.if-is_decided.true)) in (
-      audit.0,
-      subst (λ (g : Given). IsAudit g ((file ++ c.args.piece.now) ++ more) audit.0
-          (written ++ c.in_ok-ended-2.ended.0.items) c.in_ok-ended-2.ended.1) read.2 audit.1,
+    sym (read.1 ∙ ap (λ (t : List ℕ). t ++ read.0) c.new-reported.ensures.bytes) in (
+      λ more end.
+          let audit = c.in_ok-ended-2.ensures.ended valid ((file ++ c.args.piece.now) ++ more)
+          written
+          (decided_ends c.read.new.self valid (file ++ c.args.piece.now) _ more
+          (subst (λ (t : List ℕ). HasAudited c.read.new.self valid (file ++ c.args.piece.now)
+          (written ++ t)) same read.3) is) in (
+            audit.0,
+            subst (λ (g : Given). IsAudit g ((file ++ c.args.piece.now) ++ more) audit.0
+                (written ++ c.in_ok-ended-2.ended.0.items) c.in_ok-ended-2.ended.1) read.2 audit.1,
+          ),
+      λ success. absurd (true≢false (sym success ∙ c.in_ok-ended-2.ensures.decided is)),
     )
 
 pub returns : goal.returns

@@ -18,3 +18,8 @@ returns-in_ok-found-in-First-clause-decided c = λ is.
 pub returns-in_ok-found-in-All-clause-found : goal.returns-in_ok-found-in-All-clause-found
 returns-in_ok-found-in-All-clause-found c = λ fares valid text written has.
     rw c.in-All.is (c.in_ok-found-in-All.ensures fares valid text written (rw c.in-All.is at has))
+
+pub returns-in_ok-found-in-First-clause-unsound : goal.returns-in_ok-found-in-First-clause-unsound
+returns-in_ok-found-in-First-clause-unsound c = λ is.
+    c.in_ok-found-in-First.ensures.unsound
+    (returns-in_ok-found-in-First-clause-decided c is)

@@ -1,0 +1,12 @@
+use Rattle.std.proofs.Common.{◌∙◌, Bor, List, ap, codes, option_map, ℕ}
+use Rattle.program_manners.proofs.Shown.{is_shown}
+use Rattle.omny_audit.proofs.ProgramLemmas.{provided_name}
+use Rattle.omny_audit.proofs.program.open_ledger.Goals as goal
+
+pub returns-in-Err-clause-fault : goal.returns-in-Err-clause-fault
+returns-in-Err-clause-fault c = (
+  ap (λ (n : Bor (List ℕ)). n.now) c.unwrap_or-name.ensures ∙ provided_name c.args.name _,
+  is_shown c.args.ledger.now.trace.run c.open.new.self.trace.run
+      (option_map (λ (n : Bor (List ℕ)). n.now) c.args.name) c.in-Err.fault
+      c.in-Err.ensures.refused,
+)
