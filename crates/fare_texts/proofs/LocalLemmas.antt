@@ -155,14 +155,3 @@ local_is (Some zone) offset moment clock below ahead shown =
     seconds
     ∙ ap (λ (o : List ℕ). shown_words (moment_nanos moment +ℤ nanos_of_seconds at.seconds) ++ o)
     (offset_same offset at seconds)))
-
--- no clock shows a moment without a zone
-pub local_is_none : (zone : Option PosixRule) (moment : ℕ)
-    → None ≡ option_map (λ z. seconds_ahead z moment) zone → None ≡ local_at zone moment
-local_is_none None moment none = elim (cases_lt moment 253_402_207_200_000) [
-  | inl less ↦
-      let early : nat_lt moment 253_402_207_200_000 ≡ true = grind (arith, nat_tests) in rw early refl
-  | inr not_less ↦
-      let late : nat_lt moment 253_402_207_200_000 ≡ false = grind (arith, nat_tests) in rw late refl
-]
-local_is_none (Some zone) moment none = cc
