@@ -1,6 +1,6 @@
 -- What a clock shows, from the nanoseconds on it.
-use Rattle.std.specs.Prelude.{ℕ, zero, suc, ◌≡◌, ◌+◌, ◌-◌, ◌*◌, ◌/◌, ◌%◌, ◌<◌, ◌≤◌, ℤ, pos, ◌-ℤ◌}
-use Rattle.std.specs.Prelude.{unsigned_abs, nat_lt, if◌then◌else◌, List, [], ◌∷◌, ◌++◌, None, Some}
+use Rattle.std.specs.Prelude.{ℕ, zero, suc, ◌≡◌, ◌+◌, ◌-◌, ◌/◌, ◌%◌, ◌<◌, ◌≤◌, ℤ, pos, ◌-ℤ◌}
+use Rattle.std.specs.Prelude.{unsigned_abs, nat_lt, if◌then◌else◌, List, ◌∷◌, ◌++◌, None, Some}
 use Rattle.std.specs.Prelude.{Option, option_map, ◌+ℤ◌, true, false}
 use Rattle.std.proofs.Common.{refl, sym, ap, ◌∙◌, arith, inl, inr}
 use Rattle.std.proofs.lemmas.Bool.{cases_lt}
@@ -25,9 +25,7 @@ use Rattle.jiff.proofs.SpanFacts.{signed_arith}
 use Rattle.jiff.specs.Names.{iso_datetime_text}
 use Rattle.jiff.specs.Words.{offset_at}
 use Rattle.jiff_fmt.specs.Text.{date_text, fraction_part, offset_text, pad2, sign_byte, time_text}
-use Rattle.jiff_fmt.specs.Text.{year_text}
 use Rattle.jiff_tz.specs.PosixRule as rule
-use Rattle.jiff_tz.specs.Year.{year_of_day}
 use Rattle.jiff_tz.specs.declared.posix.TimeZone.{TimeZone as PosixRule}
 use Rattle.jiff_tz.proofs.YearLemmas.{year_of_day-date}
 use Rattle.fare_texts.specs.Local.{date_by, date_words, month_day, month_day_of, shown_words}

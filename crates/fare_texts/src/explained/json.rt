@@ -1,13 +1,8 @@
 //! The explained statement of a token as JSON.
 
-ghost use Rattle.std.specs.Prelude.{◌≡◌, ◌<◌, ◌++◌, [], IfOk, OnOk, codes, flat_map, length, map};
+ghost use Rattle.std.specs.Prelude.{◌≡◌, ◌<◌, ◌++◌, [], IfOk, OnOk, codes, flat_map, length};
 ghost use Rattle.std.specs.Prelude.{string_bytes};
-ghost use Rattle.account_rule.specs.TokenRules.{rules_of};
-ghost use Rattle.account_rule.specs.Windows.{last_window};
-ghost use Rattle.histories.specs.Entry.{tap_of};
-ghost use Rattle.histories.specs.Sums.{sums, sums_of};
-ghost use Rattle.tap_views.specs.Token.{bytes_of};
-ghost use Rattle.fare_texts.specs.Explained.{earlier_windows};
+ghost use Rattle.histories.specs.Sums.{sums_of};
 ghost use Rattle.fare_texts.specs.ExplainedJson.{break_json, dated_json, entries_json, fields_json};
 ghost use Rattle.fare_texts.specs.ExplainedJson.{first_json, first_sums_json, head_json, json_of};
 ghost use Rattle.fare_texts.specs.ExplainedJson.{last_sums_json, later_json, rest_json, start_json};

@@ -1,6 +1,6 @@
 //! The parts of an explained statement as JSON.
 
-ghost use Rattle.std.specs.Prelude.{◌≡◌, [], Some, map, slice_index_or, string_bytes};
+ghost use Rattle.std.specs.Prelude.{◌≡◌, [], Some, slice_index_or};
 
 use crate::local::local_at;
 use account_rule::{Charge, NoTransfer, Reason};

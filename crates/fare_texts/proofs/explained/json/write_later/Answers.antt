@@ -1,4 +1,4 @@
-use Rattle.std.proofs.Common.{◌≡◌, ◌++◌, List, ℕ, ap, append-nil, string_bytes, sym, take, ◌∙◌, ◌∷◌, []}
+use Rattle.std.proofs.Common.{◌++◌, List, ℕ, ap, append-nil, string_bytes, sym, take, ◌∙◌, ◌∷◌, []}
 use Rattle.std.specs.List.{flat_map}
 use Rattle.std.proofs.lemmas.List.{flat_map_more, take_more}
 use Rattle.std.proofs.lemmas.Option.{slice_get_within, get_or_from_slice_get}
