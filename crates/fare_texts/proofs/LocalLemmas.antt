@@ -1,6 +1,6 @@
 -- What a clock shows, from the nanoseconds on it.
-use Rattle.std.specs.Prelude.{ℕ, zero, suc, ◌≡◌, ◌+◌, ◌-◌, ◌*◌, ◌/◌, ◌%◌, ◌<◌, ◌≤◌, ℤ, pos, ◌-ℤ◌}
-use Rattle.std.specs.Prelude.{unsigned_abs, nat_lt, if◌then◌else◌, List, [], ◌∷◌, ◌++◌, None, Some}
+use Rattle.std.specs.Prelude.{ℕ, zero, suc, ◌≡◌, ◌+◌, ◌-◌, ◌/◌, ◌%◌, ◌<◌, ◌≤◌, ℤ, pos, ◌-ℤ◌}
+use Rattle.std.specs.Prelude.{unsigned_abs, nat_lt, if◌then◌else◌, List, ◌∷◌, ◌++◌, None, Some}
 use Rattle.std.specs.Prelude.{Option, option_map, ◌+ℤ◌, true, false}
 use Rattle.std.proofs.Common.{refl, sym, ap, ◌∙◌, arith, inl, inr}
 use Rattle.std.proofs.lemmas.Bool.{cases_lt}
@@ -25,9 +25,7 @@ use Rattle.jiff.proofs.SpanFacts.{signed_arith}
 use Rattle.jiff.specs.Names.{iso_datetime_text}
 use Rattle.jiff.specs.Words.{offset_at}
 use Rattle.jiff_fmt.specs.Text.{date_text, fraction_part, offset_text, pad2, sign_byte, time_text}
-use Rattle.jiff_fmt.specs.Text.{year_text}
 use Rattle.jiff_tz.specs.PosixRule as rule
-use Rattle.jiff_tz.specs.Year.{year_of_day}
 use Rattle.jiff_tz.specs.declared.posix.TimeZone.{TimeZone as PosixRule}
 use Rattle.jiff_tz.proofs.YearLemmas.{year_of_day-date}
 use Rattle.fare_texts.specs.Local.{date_by, date_words, month_day, month_day_of, shown_words}
@@ -155,14 +153,3 @@ local_is (Some zone) offset moment clock below ahead shown =
     seconds
     ∙ ap (λ (o : List ℕ). shown_words (moment_nanos moment +ℤ nanos_of_seconds at.seconds) ++ o)
     (offset_same offset at seconds)))
-
--- no clock shows a moment without a zone
-pub local_is_none : (zone : Option PosixRule) (moment : ℕ)
-    → None ≡ option_map (λ z. seconds_ahead z moment) zone → None ≡ local_at zone moment
-local_is_none None moment none = elim (cases_lt moment 253_402_207_200_000) [
-  | inl less ↦
-      let early : nat_lt moment 253_402_207_200_000 ≡ true = grind (arith, nat_tests) in rw early refl
-  | inr not_less ↦
-      let late : nat_lt moment 253_402_207_200_000 ≡ false = grind (arith, nat_tests) in rw late refl
-]
-local_is_none (Some zone) moment none = cc

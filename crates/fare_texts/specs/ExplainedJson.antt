@@ -41,21 +41,29 @@ shown_json moment (Some local) =
 unfoldable pub at_json : ClockView → ℕ → List ℕ
 at_json clocks moment = shown_json moment (local_at clocks.rule moment)
 
--- `"fare":300,"rides":12,"free_from":13,"ceiling":3500`, with the first free ride of a window
+-- `"free_from":13,"ceiling":3500`: the first free ride of a window, and the ceiling
+unfoldable pub limits_json : Terms → List ℕ
+limits_json terms =
+    codes "\"free_from\":" ++ (decimal (terms.rides + 1) ++ (codes ",\"ceiling\":"
+    ++ decimal terms.ceiling))
+
+-- `"fare":300,"rides":12,"free_from":13,"ceiling":3500`
 unfoldable pub terms_json : Terms → List ℕ
 terms_json terms =
     codes "\"fare\":" ++ (decimal terms.fare ++ (codes ",\"rides\":" ++ (decimal terms.rides
-    ++ (codes ",\"free_from\":" ++ (decimal (terms.rides + 1) ++ (codes ",\"ceiling\":"
-    ++ decimal terms.ceiling))))))
+    ++ (codes "," ++ limits_json terms))))
 
--- the terms by a table that follows, which is valid from a moment on
+-- the terms that are valid from a moment on
+unfoldable pub dated_json : ClockView → ℕ → Terms → List ℕ
+dated_json clocks from terms =
+    codes ",\n{\"from\":" ++ (at_json clocks from ++ (codes "," ++ (terms_json terms ++ codes "}")))
+
+-- the terms of the token by a table that follows
 abbrev pub later_json : ClockView → List ℕ → ℕ × TableMeaning → List ℕ
-later_json clocks token next =
-    codes ",\n{\"from\":" ++ (at_json clocks next.0 ++ (codes ","
-    ++ (terms_json (terms_at next.1 token) ++ codes "}")))
+later_json clocks token next = dated_json clocks next.0 (terms_at next.1 token)
 
 -- what decided the cents of a ride, and its number in its window
-abbrev pub charge_json : Charge → List ℕ
+unfoldable pub charge_json : Charge → List ℕ
 charge_json (Full position cents) =
     codes "\"kind\":\"full\",\"ride\":" ++ decimal (position + 1)
 charge_json (CeilingCut position cents) =
@@ -63,6 +71,12 @@ charge_json (CeilingCut position cents) =
 charge_json (CeilingReached position) =
     codes "\"kind\":\"ceiling\",\"ride\":" ++ decimal (position + 1)
 charge_json RideLimitReached = codes "\"kind\":\"ride-limit\",\"ride\":null"
+
+-- the start and the end of a window
+unfoldable pub within_json : ClockView → ℕ → ℕ → List ℕ
+within_json clocks start until =
+    codes "\"window_start\":" ++ (at_json clocks start ++ (codes ",\"window_end\":"
+    ++ at_json clocks until))
 
 -- why a tap is answered as it is, by the names of modes
 abbrev pub reason_json : ClockView → List (List ℕ) → Reason → List ℕ
@@ -73,8 +87,7 @@ reason_json clocks modes (Transfer moment mode) =
     codes "{\"kind\":\"transfer\",\"points_at\":" ++ (at_json clocks moment
     ++ (codes ",\"mode\":\"" ++ (slice_index_or modes mode.position [] ++ codes "\"}")))
 reason_json clocks modes (Ride start until charge) =
-    codes "{" ++ (charge_json charge ++ (codes ",\"window_start\":" ++ (at_json clocks start
-    ++ (codes ",\"window_end\":" ++ (at_json clocks until ++ codes "}")))))
+    codes "{" ++ (charge_json charge ++ (codes "," ++ (within_json clocks start until ++ codes "}")))
 
 -- `"hours":2,"minutes":3,"seconds":10`, in whole seconds of these milliseconds
 unfoldable pub gap_json : ℕ → List ℕ
@@ -107,26 +120,40 @@ lack_json clocks modes moment (Ride start until charge) None = codes "null"
 lack_json clocks modes moment (Ride start until charge) (Some lack) =
     no_transfer_json clocks modes moment lack
 
--- an entry with its reason and, if it is a ride, why it is no transfer
-unfoldable pub line_json : ClockView → Fares → Entry → Reason → Option NoTransfer → List ℕ
-line_json clocks fares entry why lack =
-    codes "{\"moment\":" ++ (at_json clocks entry.moment ++ (codes ",\"mode\":\""
-    ++ (mode_text fares entry.moment entry.validator ++ (codes "\",\"validator\":"
-    ++ (decimal entry.validator ++ (codes ",\"answer\":\"" ++ (answer_text entry.answer
-    ++ (codes "\",\"cents\":" ++ (decimal entry.cents ++ (codes ",\"reason\":"
-    ++ (reason_json clocks fares.meaning.modes why ++ (codes ",\"no_transfer\":"
-    ++ (lack_json clocks fares.meaning.modes entry.moment why lack ++ codes "}")))))))))))))
-
 -- what ends the line before one that has this number of lines before it
 abbrev pub break_json : ℕ → List ℕ
 break_json zero = codes "\n"
 break_json (suc number) = codes ",\n"
 
+-- where an entry's line starts, after this number of lines
+unfoldable pub start_json : ClockView → ℕ → ℕ → List ℕ
+start_json clocks number moment =
+    break_json number ++ (codes "{\"moment\":" ++ at_json clocks moment)
+
+-- `,"mode":"subway","validator":1000,"answer":"paid","cents":300`
+unfoldable pub fields_json : Fares → Entry → List ℕ
+fields_json fares entry =
+    codes ",\"mode\":\"" ++ (mode_text fares entry.moment entry.validator
+    ++ (codes "\",\"validator\":" ++ (decimal entry.validator ++ (codes ",\"answer\":\""
+    ++ (answer_text entry.answer ++ (codes "\",\"cents\":" ++ decimal entry.cents))))))
+
+-- what an entry's line has of the entry
+abbrev pub what_json : Fares → ℕ → Entry → List ℕ
+what_json fares number entry =
+    start_json fares.zone number entry.moment ++ fields_json fares entry
+
+-- and of its reason, and if it is a ride, of why it is no transfer
+unfoldable pub why_json : ClockView → List (List ℕ) → ℕ → Reason → Option NoTransfer → List ℕ
+why_json clocks modes moment why lack =
+    codes ",\"reason\":" ++ (reason_json clocks modes why ++ (codes ",\"no_transfer\":"
+    ++ (lack_json clocks modes moment why lack ++ codes "}")))
+
 -- the line of an entry of the token that follows the earlier ones
 abbrev pub entry_json : Fares → Token → List Entry → Entry → List ℕ
 entry_json fares token earlier entry =
-    break_json (length earlier) ++ line_json fares.zone fares entry
-    (reason_after fares token earlier entry) (no_transfer_after fares token earlier entry)
+    what_json fares (length earlier) entry
+    ++ why_json fares.zone fares.meaning.modes entry.moment (reason_after fares token earlier entry)
+    (no_transfer_after fares token earlier entry)
 
 -- the lines of all entries of the token that follow the earlier ones
 abbrev pub entries_json : Fares → Token → List Entry → List Entry → List ℕ
@@ -138,37 +165,50 @@ entries_json fares token earlier (entry ∷ entries) =
 -- a window's line, up to this end
 unfoldable pub window_json : ClockView → List ℕ → WindowView → List ℕ
 window_json clocks end window =
-    codes "\n{\"start\":" ++ (at_json clocks window.start ++ (codes ",\"end\":"
-    ++ (at_json clocks window.until ++ (codes ",\"paid\":" ++ (decimal window.paid
-    ++ (codes ",\"cents\":" ++ (decimal window.cents ++ (codes "}" ++ end))))))))
+    codes "\n{" ++ (within_json clocks window.start window.until ++ (codes ",\"paid\":"
+    ++ (decimal window.paid ++ (codes ",\"cents\":" ++ (decimal window.cents
+    ++ (codes "}" ++ end))))))
 
--- the lines of these windows, of which the last follows the others
+-- the lines of these windows, of which the last follows the others, up to the end
 abbrev pub windows_json : ClockView → List WindowView → Option WindowView → List ℕ
-windows_json clocks earlier None = flat_map (window_json clocks (codes ",")) earlier
+windows_json clocks earlier None =
+    flat_map (window_json clocks (codes ",")) earlier ++ codes "]}\n"
 windows_json clocks earlier (Some last) =
-    flat_map (window_json clocks (codes ",")) earlier ++ window_json clocks [] last
+    flat_map (window_json clocks (codes ",")) earlier ++ window_json clocks (codes "]}\n") last
 
--- the token and its terms by each table
+-- the token and its terms by the first table
+unfoldable pub first_json : Token → Terms → List ℕ
+first_json token terms =
+    codes "{\"token\":\"" ++ (encode_lower (bytes_of token) ++ (codes "\",\n\"terms\":[\n{"
+    ++ (terms_json terms ++ codes "}")))
+
+-- its terms by the tables that follow, up to its entries
+unfoldable pub rest_json : ClockView → List ℕ → List (ℕ × TableMeaning) → List ℕ
+rest_json clocks token later = flat_map (later_json clocks token) later ++ codes "],\n\"entries\":["
+
+-- both
 abbrev pub head_json : Fares → Token → List ℕ
 head_json fares token =
-    codes "{\"token\":\"" ++ (encode_lower (bytes_of token) ++ (codes "\",\n\"terms\":[\n{"
-    ++ (terms_json (terms_at fares.meaning (bytes_of token)) ++ (codes "}"
-    ++ flat_map (later_json fares.zone (bytes_of token)) fares.later))))
+    first_json token (terms_at fares.meaning (bytes_of token))
+    ++ rest_json fares.zone (bytes_of token) fares.later
 
--- the totals
-unfoldable pub totals_json : Sums → List ℕ
-totals_json t =
-    codes "{\"taps\":" ++ (decimal t.taps ++ (codes ",\"paid\":" ++ (decimal t.paid
+-- `"totals":{"taps":2,"paid":1,"transfers":1,"capped":0`, after the entries
+unfoldable pub first_sums_json : Sums → List ℕ
+first_sums_json t =
+    codes "],\n\"totals\":{\"taps\":" ++ (decimal t.taps ++ (codes ",\"paid\":" ++ (decimal t.paid
     ++ (codes ",\"transfers\":" ++ (decimal t.transfers ++ (codes ",\"capped\":"
-    ++ (decimal t.capped ++ (codes ",\"stale\":" ++ (decimal t.stale ++ (codes ",\"unknown\":"
-    ++ (decimal t.unknown ++ (codes ",\"cents\":" ++ (decimal t.cents ++ codes "}")))))))))))))
+    ++ decimal t.capped))))))
+
+-- `,"stale":0,"unknown":0,"cents":300}`, before the windows
+unfoldable pub last_sums_json : Sums → List ℕ
+last_sums_json t =
+    codes ",\"stale\":" ++ (decimal t.stale ++ (codes ",\"unknown\":" ++ (decimal t.unknown
+    ++ (codes ",\"cents\":" ++ (decimal t.cents ++ codes "},\n\"windows\":[")))))
 
 -- the explained statement of a token with these entries, as JSON
 abbrev pub json_of : Fares → Token → List Entry → List ℕ
 json_of fares token entries =
-    let rules = rules_of fares (bytes_of token) in
-    let taps = map (tap_of fares) entries in
-    head_json fares token ++ (codes "],\n\"entries\":[" ++ (entries_json fares token [] entries
-    ++ (codes "],\n\"totals\":" ++ (totals_json (sums entries) ++ (codes ",\n\"windows\":["
-    ++ (windows_json fares.zone (earlier_windows rules taps) (last_window rules taps)
-    ++ codes "]}\n"))))))
+    head_json fares token ++ (entries_json fares token [] entries
+    ++ (first_sums_json (sums entries) ++ (last_sums_json (sums entries) ++ windows_json fares.zone
+    (earlier_windows (rules_of fares (bytes_of token)) (map (tap_of fares) entries))
+    (last_window (rules_of fares (bytes_of token)) (map (tap_of fares) entries)))))

@@ -1,6 +1,6 @@
 //! The parts of an explained statement as JSON.
 
-ghost use Rattle.std.specs.Prelude.{◌≡◌, [], Some, map, slice_index_or, string_bytes};
+ghost use Rattle.std.specs.Prelude.{◌≡◌, [], Some, slice_index_or};
 
 use crate::local::local_at;
 use account_rule::{Charge, NoTransfer, Reason};
@@ -29,6 +29,23 @@ impl fmt::Display for At<'_> {
     }
 }
 
+/// Up to what a rider pays in a window by a table.
+#[derive(Clone, Copy)]
+struct Limits(Terms);
+
+impl fmt::Display for Limits {
+    ghost use Rattle.fare_texts.specs.ExplainedJson.{limits_json};
+
+    ghost output = { λ limits. Some (limits_json limits.0) };
+
+    #[tactic(auto, unfolding(crate::specs::ExplainedJson::limits_json))]
+    fn fmt<W: fmt::Write>(&self, f: &mut fmt::Formatter<W>) -> fmt::Result {
+        let free_from = u64::from(self.0.rides) + 1;
+        let ceiling = self.0.ceiling;
+        write!(f, "\"free_from\":{free_from},\"ceiling\":{ceiling}")
+    }
+}
+
 /// What a rider pays by a table.
 #[derive(Clone, Copy)]
 pub(crate) struct Paying(pub(crate) Terms);
@@ -40,16 +57,10 @@ impl fmt::Display for Paying {
 
     #[tactic(auto, unfolding(crate::specs::ExplainedJson::terms_json))]
     fn fmt<W: fmt::Write>(&self, f: &mut fmt::Formatter<W>) -> fmt::Result {
-        let Terms {
-            fare,
-            rides,
-            ceiling,
-        } = self.0;
-        let free_from = u64::from(rides) + 1;
-        write!(
-            f,
-            "\"fare\":{fare},\"rides\":{rides},\"free_from\":{free_from},\"ceiling\":{ceiling}"
-        )
+        let fare = self.0.fare;
+        let rides = self.0.rides;
+        let limits = Limits(self.0);
+        write!(f, "\"fare\":{fare},\"rides\":{rides},{limits}")
     }
 }
 
@@ -62,6 +73,7 @@ impl fmt::Display for Decided {
 
     ghost output = { λ decided. Some (charge_json decided.0) };
 
+    #[tactic(auto, unfolding(crate::specs::ExplainedJson::charge_json))]
     fn fmt<W: fmt::Write>(&self, f: &mut fmt::Formatter<W>) -> fmt::Result {
         match self.0 {
             Charge::Full { position, cents: _ } => {
@@ -78,6 +90,33 @@ impl fmt::Display for Decided {
             }
             Charge::RideLimitReached => f.write_str("\"kind\":\"ride-limit\",\"ride\":null"),
         }
+    }
+}
+
+/// The start and the end of a window.
+#[derive(Clone, Copy)]
+pub(crate) struct Within<'a> {
+    pub(crate) clock: &'a Clock,
+    pub(crate) start: u64,
+    pub(crate) until: u64,
+}
+
+impl fmt::Display for Within<'_> {
+    ghost use Rattle.fare_texts.specs.ExplainedJson.{within_json};
+
+    ghost output = { λ within. Some (within_json within.clock.now within.start within.until) };
+
+    #[tactic(auto, unfolding(crate::specs::ExplainedJson::within_json))]
+    fn fmt<W: fmt::Write>(&self, f: &mut fmt::Formatter<W>) -> fmt::Result {
+        let start = At {
+            clock: self.clock,
+            moment: self.start,
+        };
+        let end = At {
+            clock: self.clock,
+            moment: self.until,
+        };
+        write!(f, "\"window_start\":{start},\"window_end\":{end}")
     }
 }
 
@@ -129,18 +168,12 @@ impl fmt::Display for Because<'_> {
                 charge,
             } => {
                 let decided = Decided(charge);
-                let start = At {
+                let within = Within {
                     clock,
-                    moment: start,
+                    start,
+                    until,
                 };
-                let end = At {
-                    clock,
-                    moment: until,
-                };
-                write!(
-                    f,
-                    "{{{decided},\"window_start\":{start},\"window_end\":{end}}}"
-                )
+                write!(f, "{{{decided},{within}}}")
             }
         }
     }

@@ -8,7 +8,7 @@ use Rattle.account_rule.specs.declared.reason.Reason.{Reason}
 use Rattle.tariffs.specs.Fares.{Fares}
 use Rattle.histories.specs.declared.entry.Entry.{Entry}
 use Rattle.tap_views.specs.declared.token.Token.{Token}
-use Rattle.fare_texts.specs.ExplainedJson.{break_json, entries_json, entry_json, line_json}
+use Rattle.fare_texts.specs.ExplainedJson.{entries_json, entry_json, what_json, why_json}
 use Rattle.fare_texts.specs.Explainers.{HasExplained}
 use Rattle.fare_texts.specs.LedgerLines.{reason_after}
 use Rattle.fare_texts.specs.NoTransferWords.{no_transfer_after}
@@ -32,7 +32,9 @@ entries-push fares token earlier (first ∷ entries) entry =
 
 -- an entry's line by its number, its reason and why it is no transfer
 abbrev line_by : Fares → Entry → ℕ → Reason → Option NoTransfer → List ℕ
-line_by fares entry number why lack = break_json number ++ line_json fares.zone fares entry why lack
+line_by fares entry number why lack =
+    what_json fares number entry
+    ++ why_json fares.zone fares.meaning.modes entry.moment why lack
 
 -- the lines of the first entries, and the next one's
 next_json : (fares : Fares) (token : Token) (entries : List Entry) (position : ℕ) (other : Entry)
@@ -98,9 +100,9 @@ loop-entry-preserved c =
           (c.in_ok-reason.ensures.explained done so_far.explained);
       of = c.in_ok-reason.ensures.token ∙ so_far.of;
       whole = next_json fares c.args.token entries position _ within (string_bytes c.args.text.now)
-          (string_bytes c.loop-entry.text) (string_bytes c.write_line.new.text) _ _ _
+          (string_bytes c.loop-entry.text) (string_bytes c.write_why.new.text) _ _ _
           so_far.explained.counted why lack so_far.whole
-          (in_parts (string_bytes c.loop-entry.text) (string_bytes c.write_break.new.text)
-          (string_bytes c.write_line.new.text) _ _ c.in_ok-write_break.ensures
-          (rw c.requires at c.in_ok-write_line.ensures));
+          (in_parts (string_bytes c.loop-entry.text) (string_bytes c.write_what.new.text)
+          (string_bytes c.write_why.new.text) _ _ c.in_ok-write_what.ensures
+          (rw c.requires at c.in_ok-write_why.ensures));
     }

@@ -1,12 +1,11 @@
-use Rattle.std.proofs.Common.{◌≡◌, ◌++◌, List, ℕ, ap, append-nil, string_bytes, sym, take, ◌∙◌, ◌∷◌, []}
+use Rattle.std.proofs.Common.{◌++◌, List, ℕ, ap, append-nil, string_bytes, sym, take, ◌∙◌, ◌∷◌, []}
 use Rattle.std.specs.List.{flat_map}
 use Rattle.std.proofs.lemmas.List.{flat_map_more, take_more}
 use Rattle.std.proofs.lemmas.Option.{slice_get_within, get_or_from_slice_get}
 use Rattle.tariffs.specs.TableMeaning.{TableMeaning}
 use Rattle.tariffs.specs.declared.terms.Terms.{Terms}
-use Rattle.fare_texts.specs.ExplainedJson.{at_json, later_json, terms_json}
+use Rattle.fare_texts.specs.ExplainedJson.{dated_json, later_json}
 use Rattle.fare_texts.proofs.explained.json.write_later.Goals as goal
-use Rattle.std.proofs.Common.{codes}
 
 pub loop-position-init : goal.loop-position-init
 loop-position-init c = sym (append-nil (string_bytes c.args.text.now))
@@ -21,7 +20,7 @@ loop-position-preserved c =
     let at = c.later-from.ensures in
     c.in_ok-write_dated.ensures
     ∙ ap (λ (t : Terms). string_bytes c.loop-position.text
-    ++ (at_json (codes ",\n{\"from\":") c.args.clock.now next.0 ++ (codes "," ++ terms_json t)))
+    ++ dated_json c.args.clock.now next.0 t)
     c.terms_of.ensures.terms
     ∙ ap (λ (t : List ℕ). t ++ line next) c.loop-position.invariant
     ∙ flat_map_more line start (take position later) next
