@@ -51,6 +51,9 @@ impl<'a> Options<'a> {
         if !self.explain {
             return None;
         }
-        Some(if self.json { Form::Json } else { Form::Text })
+        if self.json {
+            return Some(Form::Json);
+        }
+        Some(Form::Text)
     }
 }
