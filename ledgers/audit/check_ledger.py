@@ -28,7 +28,7 @@ It keeps one account and one line at a time, with `--report` the sums, with `--u
 It needs Python 3.11 and nothing else."""
 import io, os, re, struct, sys, tomllib
 from bisect import bisect_right
-from datetime import date, datetime, timedelta, timezone
+from datetime import date, datetime, time, timedelta, timezone
 from functools import lru_cache
 from zoneinfo import ZoneInfo
 
@@ -94,18 +94,22 @@ def zone_of(rule):
     file = (head(b"2") + bytes(7)) * 2 + b"\n" + rule.encode() + b"\n"
     return ZoneInfo.from_file(io.BytesIO(file))
 
-def midnight_ms(day, zone):
-    """Where a date begins in a zone."""
-    return int(datetime(day.year, day.month, day.day, tzinfo=zone).timestamp()) * 1000
+def midnight_ms(day, zone, starts=time()):
+    """Where a date begins in a zone, or where a day starts that is of this date."""
+    return int(datetime.combine(day, starts, zone).timestamp()) * 1000
+
+def terms_of_class(keys):
+    """What the keys of a class say."""
+    fare, rides, given = keys["fare"], keys.get("rides"), keys.get("transfers", 1)
+    ceiling = keys.get("ceiling", rides * fare if rides and fare else 100_000_000)
+    return (fare, keys.get("fares", {}), rides or 60_000, ceiling, 255 if given == "any" else given,
+            keys.get("transfer_minutes", 120) * MINUTE_MS)
 
 class Fares:
     """A fare table, as the rules ask it."""
     def __init__(self, table):
         self.pairs = {tuple(pair) for pair in table["transfers"]}
-        self.terms = {name: (c["fare"], c.get("fares", {}), c["rides"],
-                             c.get("ceiling", c["fare"] * c["rides"]), c.get("transfers", 1),
-                             c.get("transfer_minutes", 120) * MINUTE_MS)
-                      for name, c in table["classes"].items()}
+        self.terms = {name: terms_of_class(keys) for name, keys in table["classes"].items()}
         self.usual_class = table["default_class"]
         self.usual = self.terms[self.usual_class]
         self.classes = {k.lower(): c for k, c in table.get("riders", {}).items()}
@@ -116,6 +120,7 @@ class Fares:
         self.window = WINDOW.fullmatch(table.get("window", "7 days"))
         if self.window is None:
             raise ValueError(f"no rule has the window {table['window']!r}")
+        self.day_starts = time.fromisoformat(table.get("day_starts", "00:00"))
 
     def mode_of(self, validator):
         """The mode of a validator, or None if the table does not know it."""
@@ -139,12 +144,13 @@ class Fares:
         if count and self.zone is None:
             return start + int(count) * DAY_MS
         zone = self.zone or timezone.utc
-        day = datetime.fromtimestamp(start // 1000, zone).date()
+        shown = datetime.fromtimestamp(start // 1000, zone)
+        day = shown.date() - timedelta(days=shown.time() < self.day_starts)
         if period == "month":
             day = (day.replace(day=1) + timedelta(days=31)).replace(day=1)
         else:
             day += timedelta(days=7 - day.weekday() if period == "week" else int(count or 1))
-        return max(start + 1, midnight_ms(day, zone))
+        return max(start + 1, midnight_ms(day, zone, self.day_starts))
 
 class Refused(Exception):
     """Why tables are refused, and the status of that."""

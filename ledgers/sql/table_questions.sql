@@ -63,20 +63,21 @@ SELECT t.token, t.line, t.answer FROM live_taps AS t
   WHERE t.answer <> 'transfer' AND t.given < c.transfers AND t.ride_ms <= c.transfer_ms
   ORDER BY t.token, t.line LIMIT 10;
 
--- A window of some days has them whole. Under a zone it ends at midnight: up to a day earlier, an hour
--- more or less if the clocks change. A calendar window ends within its most days.
+-- A window of some days has them whole. Under a zone it ends as a day starts: up to a day earlier, an
+-- hour more or less if the clocks change. A calendar window ends within its most days.
 SELECT 'must be empty: a window of another length than the table gives' AS question;
 SELECT r.token, r.line FROM rides AS r JOIN window_span AS w
   ON r.ms > w.most_days * 86400000
             + CASE WHEN EXISTS (SELECT 1 FROM zone) THEN 3600000 ELSE 0 END
-  OR r.ms < CASE WHEN w.unit <> 'days' THEN 1
+  OR r.ms < CASE WHEN w.unit LIKE 'calendar %' THEN 1
                  WHEN EXISTS (SELECT 1 FROM zone) THEN (w.most_days - 1) * 86400000 - 3600000
                  ELSE w.most_days * 86400000 END
   ORDER BY r.token, r.line LIMIT 10;
 
--- Under a zone, or in UTC if windows are those of the calendar.
+-- Under a zone, or in UTC if windows are those of the calendar, unless days start at another time.
 SELECT 'must be empty: a day whose windows do not end at one midnight' AS question;
 SELECT day, count(DISTINCT window_end) AS ends FROM rides
   WHERE moment = window_start
     AND (EXISTS (SELECT 1 FROM zone) OR EXISTS (SELECT 1 FROM window_span WHERE unit <> 'days'))
+    AND NOT EXISTS (SELECT 1 FROM window_span WHERE unit LIKE '% from %')
   GROUP BY day HAVING count(DISTINCT window_end) > 1 ORDER BY day LIMIT 10;

@@ -4,7 +4,7 @@ _omny_cli() {
     local word=${COMP_WORDS[COMP_CWORD]} before=${COMP_WORDS[COMP_CWORD - 1]} given
     local options=(
         --table --settle --live --sorted --list --ledger --workers --shards --token --explain
-        --traced --tokens --files-from -0 --null -h --help -V --version
+        --json --traced --tokens --files-from -0 --null -h --help -V --version
     )
     # bash splits a word at `=`, so that `--table=F` is the words `--table`, `=` and `F`
     if [[ $word == = ]]; then

@@ -17,6 +17,7 @@ complete -c omny_cli -l shards -x -d 'Over how many shards the accounts are spre
     -a '1 2 4 8 16 32 64'
 complete -c omny_cli -l token -x -d 'Print the statement of this token'
 complete -c omny_cli -l explain -d 'Print the statement of --token with the reason of each line'
+complete -c omny_cli -l json -d 'Print the explained statement as JSON'
 complete -c omny_cli -l ledger -d 'Print the ledger: every entry, as CSV'
 complete -c omny_cli -l traced -d 'Put class, upload and place behind each line of the settled ledger'
 complete -c omny_cli -l tokens -x -d 'Charge the tokens of a range alone, with --sorted'

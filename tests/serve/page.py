@@ -37,6 +37,8 @@ def main():
     total = re.search(r'id="sum">([0-9.]+)<', dom)
     if not wanted or cents != wanted or not total or total[1] != f"{sum(wanted) / 100:.2f}":
         sys.exit(f"page: wanted {wanted}, seen {cents} in {dom!r}")
+    if dom.count("<i>provisional</i>") != len(wanted) or "your 1st ride since" not in dom:
+        sys.exit(f"page: its lines are not in a rider's words: {dom!r}")
     if "<script" in dom or "http" in dom.replace(url, ""):
         sys.exit("page: it has a script or an address")
     print(f"serve: the page in Chromium: {len(wanted)} lines and their sum as in the statement")

@@ -61,6 +61,10 @@ class Tests(unittest.IsolatedAsyncioTestCase):
         self.assertEqual(ran.returncode, status, ran.stderr + ran.stdout)
         return ran.stdout + ran.stderr
 
+    async def billed(self, token):
+        self.assertEqual(await self.get(f"/statement/{token}?as=json"), 200)
+        return {it["billed"] for it in json.loads(self.said)["entries"]}
+
     # uploads
 
     async def test_accepts_and_answers(self):
@@ -72,7 +76,8 @@ class Tests(unittest.IsolatedAsyncioTestCase):
                          [("paid", 300), ("transfer", 0)])     # settled: the later upload is earlier
         self.assertEqual(found["totals"]["cents"], 300)
         self.assertEqual(found["windows"][0]["paid"], 1)
-        self.assertEqual(found["terms"], [{"fare": 300, "rides": 12, "ceiling": 3500}])
+        self.assertEqual(found["terms"], [{"fare": 300, "rides": 12, "free_from": 13, "ceiling": 3500}])
+        self.assertEqual([it["billed"] for it in found["entries"]], [False, False])
         for token in (A, B, "f" * 32):
             self.assertEqual(await self.get(f"/statement/{token.upper()}"), 200)
             self.assertEqual(self.said.encode(), statement(token, sorted(self.archive.glob("*.tap"))))
@@ -313,8 +318,11 @@ class Tests(unittest.IsolatedAsyncioTestCase):
         self.front.archive.load()
         self.assertEqual(self.front.archive.index, {})
         self.assertEqual(await texts(), before)
+        self.assertEqual(await self.billed(tokens[0]), {True})
+        self.assertEqual(await self.billed("f" * 32), set())
         self.assertEqual(await self.put("east-0.tap", upload((A, 1000, 5))), 409)
         self.assertEqual(await self.put("west-9.tap", upload((tokens[0], 1000, 90_000_000)), "w"), 201)
+        self.assertEqual(await self.billed(tokens[0]), {True, False})
         after = await texts()
         self.assertNotEqual(after[0], before[0])
         self.assertEqual(after[1:], before[1:])
@@ -381,7 +389,8 @@ class Tests(unittest.IsolatedAsyncioTestCase):
         self.assertEqual(await self.get(link, None), 200)
         self.assertEqual(self.said.count("<li>"), 1)
         self.assertIn('<b id="sum">3.00</b>', self.said)
-        self.assertIn("All times are UTC.", self.said)
+        self.assertIn("Times are UTC.", self.said)
+        self.assertIn("your 1st ride since Mon 2 Mar 2026, free from the 13th on", self.said)
         self.assertNotIn("unsafe", self.headers["Content-Security-Policy"])
         self.assertEqual(await self.get(link.replace(A, B), None), 401)
         self.assertEqual(await self.get(link.replace("/r/", "/link/"), None), 401)
@@ -397,8 +406,9 @@ class Tests(unittest.IsolatedAsyncioTestCase):
         await self.stop()
         await self.start(tables=[str(old), f"{new}@2026-03-05"])
         self.assertEqual(await self.get(f"/r/{A}?k={self.front.rider_word(A)}", None), 200)
-        self.assertRegex(self.said, r"(?s)3\.10</span>2026-03-09 20:00 .*3\.00</span>2026-03-01 20:00 subway, ride")
-        self.assertIn("Times inside a reason are UTC.", self.said)
+        self.assertRegex(self.said, r"(?s)3\.10</span>20:00 on Mon 9 Mar 2026, .*"
+                                    r"3\.00</span>20:00 on Sun 1 Mar 2026, subway, ride <i>provisional</i>")
+        self.assertIn("Times are local.", self.said)
         self.assertEqual(await self.get(f"/statement/{A}?as=json"), 200)
         found = json.loads(self.said)
         self.assertEqual((len(found["terms"]), len(found["windows"])), (2, 2))
@@ -439,16 +449,36 @@ class Tests(unittest.IsolatedAsyncioTestCase):
         totals = "totals taps 1 paid 1 transfers 0 capped 0 stale 0 unknown 0 cents 300\n"
         window = "window 2024-03-08T17:00:00.000Z 2024-03-15T17:00:00.000Z paid 1 cents 300\n"
         right = head + line + totals + window
-        self.assertEqual(front.data_of(right, A)["totals"]["cents"], 300)
+        self.assertEqual(front.check_text(right, A), None)
         wrong = [right.replace(*it) for it in (
             ("paid 300", "paid 290"), ("taps 1", "taps 2"), ("paid 1 t", "paid 0 t"), ("stale 0", "stale 1"),
             ("unknown 0 cents 300", "unknown 0 cents 301"), ("paid 1 cents 300", "paid 1 cents 299"),
-            ("paid 1 cents 300", "paid 2 cents 300"), (" because", " for"), ("subway", "<b>"), ("a1", "a2"),
-            (line, ""), (line, line * 2), (totals, ""), (totals, totals * 2), (window, ""), (window, window * 2),
-            (window, "earlier " + window), (line + totals, totals + line), ("\n", "\r\n"))]
+            ("paid 1 cents 300", "paid 2 cents 300"), ("a1", "a2"), (line, ""), (line, line * 2), (totals, ""),
+            (totals, totals * 2), (window, ""), (window, window * 2), (window, "earlier " + window),
+            ("\n", "\r\n"))]
         for text in [*wrong, right + "x\n", right[:-1], "", "\n", right + "\n", "x" + right]:
-            with self.assertRaises(ValueError, msg=text):
-                front.data_of(text, A)
+            with self.assertRaises(front.WRONG, msg=text):
+                front.check_text(text, A)
+
+    def test_json_that_does_not_add_up(self):
+        right = statement(A, [f"{serving.ROOT}/examples/first.tap"], "--json").decode()
+        self.assertEqual(front.check_json(right, A)["totals"]["cents"], 300)
+        for words in (('"cents":300', '"cents":301'), ('"taps":2', '"taps":1'), ('"answer":"paid"', '"answer":"free"'),
+                      ("a1", "a2"), ("}]}", "}]"), ('"entries"', '"rides"')):
+            with self.assertRaises(front.WRONG, msg=words):
+                front.check_json(right.replace(*words, 1), A)
+
+    def test_lines_of_a_ledger(self):
+        head = "token,line,moment,validator,mode,answer,cents,window_start,window_end,ride,reason,points_at\n"
+        path = Path(self.folder.name, "bill.csv")
+        for count in range(9):
+            tokens = [f"{2 * it:032x}" for it in range(count) for _ in range(1 + it % 3)]
+            path.write_text(head + "".join(f"{it},1,1970-01-01T00:00:01.{at:03}Z,7,subway,paid,300,,,,,\n"
+                                           for at, it in enumerate(tokens)))
+            for number in range(2 * count + 2):
+                token = f"{number:032x}"
+                self.assertEqual(front.charged_by(path, token), {
+                    (1000 + at, 7, "paid", 300) for at, it in enumerate(tokens) if it == token})
 
     # the start
 

@@ -1,7 +1,7 @@
 -- No reply has more cents than the greatest fare of a table.
 use Rattle.std.proofs.Common.{◌≡◌, ◌≤◌, Bool, true, false, List, [], ◌∷◌, ◌++◌, Option, Some, None}
 use Rattle.std.proofs.Common.{refl, ◌∙◌}
-use Rattle.tariffs.specs.Terms.{AreRideTerms}
+use Rattle.tariffs.specs.Terms.{AreBoundedTerms}
 use Rattle.tariffs.specs.declared.mode.Mode.{Mode}
 use Rattle.account_rule.specs.Blocks.{last_block}
 use Rattle.account_rule.specs.Replies.{reply}
@@ -23,7 +23,7 @@ use Rattle.account_rule.proofs.WindowLemmas.{charge-after}
 ride_most : (rules : TokenRules) (taps : List TapIn) (tap : TapIn) (mode : Mode)
     → tap.mode ≡ Some mode → is_later taps tap.moment ≡ true
     → ends_in_transfer rules (taps ++ tap ∷ []) ≡ false
-    → AreRideTerms (rules.terms (live_at tap.moment mode))
+    → AreBoundedTerms (rules.terms (live_at tap.moment mode))
     → (reply rules taps tap).cents ≤ 100_000
 unfolding live_at
 ride_most rules taps tap mode known later ends bounds =
@@ -44,7 +44,7 @@ ride_most rules taps tap mode known later ends bounds =
 
 live_most : (rules : TokenRules) (taps : List TapIn) (tap : TapIn) (mode : Mode)
     → tap.mode ≡ Some mode → is_later taps tap.moment ≡ true
-    → AreRideTerms (rules.terms (live_at tap.moment mode))
+    → AreBoundedTerms (rules.terms (live_at tap.moment mode))
     → (reply rules taps tap).cents ≤ 100_000
 live_most rules taps tap mode known later bounds =
     by (ends_in_transfer rules (taps ++ tap ∷ [])) refl
@@ -56,7 +56,7 @@ live_most rules taps tap mode known later bounds =
     by false ends = ride_most rules taps tap mode known later ends bounds
 
 known_most : (rules : TokenRules) (taps : List TapIn) (tap : TapIn) (mode : Mode)
-    → tap.mode ≡ Some mode → AreRideTerms (rules.terms (live_at tap.moment mode))
+    → tap.mode ≡ Some mode → AreBoundedTerms (rules.terms (live_at tap.moment mode))
     → (reply rules taps tap).cents ≤ 100_000
 known_most rules taps tap mode known bounds = by (is_later taps tap.moment) refl
   where
@@ -67,7 +67,7 @@ known_most rules taps tap mode known bounds = by (is_later taps tap.moment) refl
 
 -- no reply has more cents than the greatest fare
 pub reply_most : (rules : TokenRules) (taps : List TapIn) (tap : TapIn)
-    → ((mode : Mode) → tap.mode ≡ Some mode → AreRideTerms (rules.terms (live_at tap.moment mode)))
+    → ((mode : Mode) → tap.mode ≡ Some mode → AreBoundedTerms (rules.terms (live_at tap.moment mode)))
     → (reply rules taps tap).cents ≤ 100_000
 reply_most rules taps tap bounds = by tap.mode refl
   where

@@ -1,6 +1,6 @@
 -- No reply costs more than the greatest fare of a table.
 use Rattle.std.proofs.Common.{◌≡◌, ℕ, ◌≤◌, Option, Some, None, sym, ap, subst, inl, inr, arith}
-use Rattle.tariffs.specs.Terms.{AreRideTerms}
+use Rattle.tariffs.specs.Terms.{AreBoundedTerms}
 use Rattle.tariffs.specs.declared.terms.Terms.{Terms}
 use Rattle.account_rule.specs.declared.reason.Charge.{Charge}
 use Rattle.account_rule.specs.declared.reason.Charge.TheVariants.{CeilingCut, CeilingReached, Full}
@@ -31,7 +31,7 @@ reply_cents-few (CeilingCut position cents) bound few = few
 reply_cents-few (CeilingReached position) bound few = few
 reply_cents-few RideLimitReached bound few = few
 
-charge-few : (terms : Terms) (rides cents : ℕ) → AreRideTerms terms
+charge-few : (terms : Terms) (rides cents : ℕ) → AreBoundedTerms terms
     → charged_by (charge terms rides cents) ≤ 100_000
 charge-few terms rides cents bounds = elim (charged terms rides cents) [
   | inl free ↦ omega (arith, free.cost)
@@ -39,14 +39,14 @@ charge-few terms rides cents bounds = elim (charged terms rides cents) [
 ]
 
 -- what a ride costs is at most the fare
-pub ride-few : (terms : Terms) (rides cents : ℕ) (reply : Reply) → AreRideTerms terms
+pub ride-few : (terms : Terms) (rides cents : ℕ) (reply : Reply) → AreBoundedTerms terms
     → reply ≡ ride_reply (paid_by (charge terms rides cents)) → reply.cents ≤ 100_000
 ride-few terms rides cents reply bounds is =
     subst (λ (r : Reply). r.cents ≤ 100_000) (sym is)
     (reply_cents-few (charge terms rides cents) 100_000 (charge-few terms rides cents bounds))
 
 -- what a ride costs for its reason is at most the fare
-pub ride_reason-few : (terms : Terms) (window : Window) (why : Reason) → AreRideTerms terms
+pub ride_reason-few : (terms : Terms) (window : Window) (why : Reason) → AreBoundedTerms terms
     → why ≡ next_reason terms window → (replied_by why).cents ≤ 100_000
 unfolding next_reason
 ride_reason-few terms window why bounds is =

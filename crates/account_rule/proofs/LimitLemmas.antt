@@ -73,12 +73,12 @@ limit_from terms rides cents past =
     let reached : leb terms.rides rides ≡ true = le-leb terms.rides rides past in rw reached refl
 
 -- rides need to be counted up to a number that no ride limit is above
-pub charge-min : (terms : Terms) (rides cents : ℕ) → terms.rides ≤ 1_000
-    → charge terms (min rides 1_000) cents ≡ charge terms rides cents
-charge-min terms rides cents high = elim (cases_lt rides 1_000) [
-  | inl below ↦ let same : min rides 1_000 ≡ rides = omega arith in
+pub charge-min : (terms : Terms) (rides cents : ℕ) → terms.rides ≤ 60_000
+    → charge terms (min rides 60_000) cents ≡ charge terms rides cents
+charge-min terms rides cents high = elim (cases_lt rides 60_000) [
+  | inl below ↦ let same : min rides 60_000 ≡ rides = omega arith in
       ap (λ n. charge terms n cents) same
-  | inr past ↦ limit_from terms (min rides 1_000) cents (omega arith)
+  | inr past ↦ limit_from terms (min rides 60_000) cents (omega arith)
       ∙ sym (limit_from terms rides cents (omega arith))
 ]
 

@@ -5,7 +5,7 @@ use Rattle.std.proofs.Common.{append_assoc, append-nil, is_some, option_map, fil
 use Rattle.std.specs.List.{last_or, list_all}
 use Rattle.std.specs.Option.{option_and_then}
 use Rattle.std.proofs.lemmas.Bool.{cases_Bool, cases_lt, ltb-false, ltb-true, lt-ltb, le-ltb}
-use Rattle.tariffs.specs.Terms.{AreRideTerms}
+use Rattle.tariffs.specs.Terms.{AreBoundedTerms}
 use Rattle.tariffs.specs.declared.mode.Mode.{Mode}
 use Rattle.tariffs.specs.declared.terms.Terms.{Terms}
 use Rattle.account_rule.specs.declared.reason.Charge.{Charge}
@@ -185,7 +185,7 @@ ride_by-some : (start until : ℕ) (found : Option Charge) (one : Charge) → fo
 ride_by-some start until found one is = ap (ride_by start until) is
 
 ride_of-after : (rules : TokenRules) (window : List LiveTap) (ride : LiveTap) (terms : Terms)
-    → rules.terms ride ≡ terms → AreRideTerms terms
+    → rules.terms ride ≡ terms → AreBoundedTerms terms
     → ride_of rules (after_ride rules window ride)
     ≡ next_reason terms
     (window_at (window_of rules window) ride.moment (rules.until ride.moment))
@@ -245,7 +245,7 @@ pub why_ride : (rules : TokenRules) (account : Option Kept) (taps : List TapIn) 
     (mode : Mode) (until : ℕ) (terms : Terms) (window : Window)
     → KeepsOf rules account taps → tap.mode ≡ Some mode → until ≡ rules.until tap.moment
     → GivesNone rules.transfers account tap mode
-    → rules.terms (live_at tap.moment mode) ≡ terms → AreRideTerms terms
+    → rules.terms (live_at tap.moment mode) ≡ terms → AreBoundedTerms terms
     → window ≡ window_at (kept_window account) tap.moment until
     → next_reason terms window ≡ reason rules taps tap
 unfolding live_at

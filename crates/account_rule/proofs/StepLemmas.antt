@@ -13,7 +13,7 @@ use Rattle.tariffs.specs.Fares.{Fares, class_of, meaning_at, ride_terms}
 use Rattle.tariffs.specs.TableMeaning.{TableMeaning}
 use Rattle.tariffs.specs.Until.{window_end_in}
 use Rattle.tariffs.specs.declared.mode.Mode.{Mode}
-use Rattle.tariffs.specs.Terms.{AreRideTerms}
+use Rattle.tariffs.specs.Terms.{AreBoundedTerms}
 use Rattle.tariffs.specs.declared.terms.Terms.{Terms}
 use Rattle.account_rule.specs.declared.account.Account.{Account}
 use Rattle.account_rule.specs.declared.reply.Answer.TheVariants.{Transfer, Stale, Unknown}
@@ -325,7 +325,7 @@ ride_at : (rules : TokenRules) (state : Option Kept) (taps : List TapIn) (tap : 
     → gives rules.transfers (kept_trip state) (live_at tap.moment mode) ≡ false
     → window ≡ window_at (kept_window state) tap.moment (rules.until tap.moment)
     → IsRoomy window → IsClass rules tap.moment class
-    → rules.terms (live_at tap.moment mode) ≡ terms → AreRideTerms terms
+    → rules.terms (live_at tap.moment mode) ≡ terms → AreBoundedTerms terms
     → IsStep rules taps tap (ride_reply (paid_by (charge terms window.rides window.cents)))
     (Some (after_trip (live_at tap.moment mode) class (with_ride terms window)))
 unfolding is_after kept_trip kept_window live_at
@@ -520,7 +520,7 @@ pub next_ride : (rules : TokenRules) (account : Option Kept) (state next : Kept)
     → tap.mode ≡ Some mode → mode.position < rules.modes → until ≡ rules.until tap.moment
     → GivesNone rules.transfers account tap mode
     → IsClass rules tap.moment class
-    → rules.terms (live_at tap.moment mode) ≡ terms → AreRideTerms terms
+    → rules.terms (live_at tap.moment mode) ≡ terms → AreBoundedTerms terms
     → next ≡ after_trip (live_at tap.moment mode) class
     (with_ride terms (window_at (Some state.window) tap.moment until))
     → IsStep rules taps tap (ride_reply (paid_by (charge terms
@@ -588,7 +588,7 @@ pub live_tap_is : (fares : Fares) (token : List ℕ) (clock : ClockView) (accoun
     → class ≡ class_of (meaning_at fares tap.moment) token
     → class < length (meaning_at fares tap.moment).classes
     → (gives (transfers_in meaning class) (kept_trip (Some state)) (live_at tap.moment mode) ≡ false
-    → AreRideTerms (ride_terms meaning class mode.position))
+    → AreBoundedTerms (ride_terms meaning class mode.position))
     → answered ≡ reply_under meaning clock (record state { class = class })
     (live_at tap.moment mode)
     → next ≡ kept_under meaning clock (record state { class = class }) (live_at tap.moment mode)
@@ -649,7 +649,7 @@ pub first_ride : (rules : TokenRules) (account next : Option Kept) (taps : List 
     → account ≡ None → KeepsOf rules account taps
     → tap.mode ≡ Some mode → mode.position < rules.modes → until ≡ rules.until tap.moment
     → IsClass rules tap.moment class → rules.terms (live_at tap.moment mode) ≡ terms
-    → AreRideTerms terms
+    → AreBoundedTerms terms
     → answered ≡ ride_reply (paid_by (charge terms (open_window tap.moment until).rides
     (open_window tap.moment until).cents))
     → next ≡ Some (after_trip (live_at tap.moment mode) class
@@ -675,7 +675,7 @@ pub first_ride_is : (fares : Fares) (token : List ℕ) (clock : ClockView)
     → tap.mode ≡ Some mode → mode.position < length fares.meaning.modes
     → clock ≡ fares.zone → meaning ≡ meaning_at fares tap.moment
     → class ≡ class_of meaning token → class < length meaning.classes
-    → AreRideTerms (ride_terms meaning class mode.position)
+    → AreBoundedTerms (ride_terms meaning class mode.position)
     → answered ≡ ride_reply (paid_by (charge (ride_terms meaning class mode.position)
     (open_window tap.moment (window_end_in clock meaning.window tap.moment)).rides
     (open_window tap.moment (window_end_in clock meaning.window tap.moment)).cents))

@@ -3,7 +3,7 @@ use Rattle.std.proofs.Common.{◌≡◌, ℕ, suc, ◌+◌, ◌≤◌, true, fal
 use Rattle.std.proofs.Common.{min, ltb, Some, None, option_map, IfSome, refl, ap, arith}
 use Rattle.std.proofs.Common.{inl, inr, All}
 use Rattle.std.specs.List.{last_or}
-use Rattle.tariffs.specs.Terms.{AreRideTerms}
+use Rattle.tariffs.specs.Terms.{AreBoundedTerms}
 use Rattle.tariffs.specs.declared.terms.Terms.{Terms}
 use Rattle.account_rule.specs.declared.window.Window.{Window}
 use Rattle.account_rule.specs.Kept.{IsRoomy}
@@ -19,7 +19,7 @@ use Rattle.account_rule.proofs.LimitLemmas.{cents-push, charge-min, charged, las
 use Rattle.account_rule.proofs.LimitLemmas.{limit_from}
 use Rattle.account_rule.proofs.LimitLemmas.{paid-push, paid_rides-le, window_cents-le}
 
-counted : (rides : ℕ) → min (min rides 1_000 + 1) 1_000 ≡ min (suc rides) 1_000
+counted : (rides : ℕ) → min (min rides 60_000 + 1) 60_000 ≡ min (suc rides) 60_000
 counted rides = omega arith
 
 -- a window with one more ride, or a window of that ride alone
@@ -32,7 +32,7 @@ abbrev pub numbers : TokenRules → ℕ → List LiveTap → Window
 numbers rules start window = record {
   start = start;
   until = rules.until start;
-  rides = min (length window) 1_000;
+  rides = min (length window) 60_000;
   paid = paid_rides rules.terms window;
   cents = window_cents rules.terms window;
 }
@@ -44,7 +44,7 @@ none_yet rules start = refl
 
 -- one more ride is counted as the account counts it
 numbers-push : (rules : TokenRules) (start : ℕ) (window : List LiveTap) (ride : LiveTap)
-    (terms : Terms) → rules.terms ride ≡ terms → AreRideTerms terms
+    (terms : Terms) → rules.terms ride ≡ terms → AreBoundedTerms terms
     → numbers rules start (window ++ ride ∷ []) ≡ with_ride terms (numbers rules start window)
 unfolding with_ride
 numbers-push rules start window ride terms same bounds =
@@ -59,7 +59,7 @@ numbers-push rules start window ride terms same bounds =
 
 -- the numbers of the window after a ride are those before it with the ride counted
 pub window_of-after : (rules : TokenRules) (window : List LiveTap) (ride : LiveTap) (terms : Terms)
-    → rules.terms ride ≡ terms → AreRideTerms terms
+    → rules.terms ride ≡ terms → AreBoundedTerms terms
     → window_of rules (after_ride rules window ride)
     ≡ Some (with_ride terms
     (window_at (window_of rules window) ride.moment (rules.until ride.moment)))
@@ -80,7 +80,7 @@ window_of-after rules (first ∷ window) ride terms same bounds =
 
 -- the charge of a ride behind others
 charge-trailing : (rules : TokenRules) (start : ℕ) (window : List LiveTap) (ride : LiveTap)
-    (terms : Terms) → rules.terms ride ≡ terms → AreRideTerms terms
+    (terms : Terms) → rules.terms ride ≡ terms → AreBoundedTerms terms
     → last_or None (charges rules.terms (window ++ ride ∷ []))
     ≡ Some (charge terms (numbers rules start window).rides (numbers rules start window).cents)
 charge-trailing rules start window ride terms same bounds =
@@ -92,7 +92,7 @@ charge-trailing rules start window ride terms same bounds =
 
 -- the ride costs what the counted rides say
 pub charge-after : (rules : TokenRules) (window : List LiveTap) (ride : LiveTap) (terms : Terms)
-    → rules.terms ride ≡ terms → AreRideTerms terms
+    → rules.terms ride ≡ terms → AreBoundedTerms terms
     → last_or None (charges rules.terms (after_ride rules window ride))
     ≡ Some (charge terms
     (window_at (window_of rules window) ride.moment (rules.until ride.moment)).rides
@@ -119,11 +119,11 @@ same_window window rides cents paid one two = cc
 
 -- past the ride limit a ride is counted, and no more
 pub with_free : (terms : Terms) (window : Window) → terms.rides ≤ window.rides
-    → record window { rides = min (window.rides + 1) 1_000 } ≡ with_ride terms window
+    → record window { rides = min (window.rides + 1) 60_000 } ≡ with_ride terms window
 unfolding with_ride is_paid
 with_free terms window limit =
     rw (limit_from terms window.rides window.cents limit)
-    (same_window window (min (window.rides + 1) 1_000) (window.cents + 0) (window.paid + 0)
+    (same_window window (min (window.rides + 1) 60_000) (window.cents + 0) (window.paid + 0)
     (omega arith) (omega arith))
 
 -- a window without rides leaves room for one, and one more ride leaves room for the next
@@ -141,7 +141,7 @@ room-at window moment until room =
       | false ↦ room-open moment until
     ]
 
-pub room-ride : (terms : Terms) (window : Window) → AreRideTerms terms → IsRoomy window
+pub room-ride : (terms : Terms) (window : Window) → AreBoundedTerms terms → IsRoomy window
     → IsRoomy (with_ride terms window)
 unfolding with_ride
 room-ride terms window bounds room = elim (charged terms window.rides window.cents) [

@@ -57,6 +57,6 @@ pub record IsClass (rules : TokenRules) (moment class : ℕ) : Type 0 where
 
 -- the numbers of the window leave room for one more ride
 pub record IsRoomy (window : Window) : Type 0 where
-  pub rides : window.rides ≤ 1_000
+  pub rides : window.rides ≤ 60_000
   pub paid : window.paid ≤ window.rides
   pub cents : window.cents ≤ 100_000_000

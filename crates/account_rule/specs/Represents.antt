@@ -18,7 +18,7 @@ window_of rules [] = None
 window_of rules (first ∷ window) = Some (record {
   start = first.moment;
   until = rules.until first.moment;
-  rides = min (length (first ∷ window)) 1_000;
+  rides = min (length (first ∷ window)) 60_000;
   paid = paid_rides rules.terms (first ∷ window);
   cents = window_cents rules.terms (first ∷ window);
 })

@@ -3,7 +3,7 @@
 ghost use Rattle.std.specs.Prelude.{◌≡◌, ℕ, ◌+◌, ◌<◌, ◌≤◌, List, [], ◌∷◌, ◌++◌, length, All};
 ghost use Rattle.std.specs.Prelude.{IfSome, IsTrue, Some, false};
 ghost use Rattle.std.specs.Option.{ForSome};
-ghost use Rattle.tariffs.specs.Terms.{AreRideTerms};
+ghost use Rattle.tariffs.specs.Terms.{AreBoundedTerms};
 ghost use Rattle.tariffs.specs.Fares.{class_of, meaning_at, ride_terms};
 ghost use Rattle.tariffs.specs.Until.{window_end_in};
 ghost use Rattle.account_rule.specs.declared.tap.TapIn.{TapIn};
@@ -133,7 +133,7 @@ impl Account {
         requires early { moment < 4_102_444_800_000 }
         ensures class { self.new.class ≡ class_of tariff.now.meaning token.now }
         ensures there { self.new.class < length tariff.now.meaning.classes }
-        ensures bounds { AreRideTerms (ride_terms tariff.now.meaning self.new.class mode.position) }
+        ensures bounds { AreBoundedTerms (ride_terms tariff.now.meaning self.new.class mode.position) }
         ensures reply { let window = open_window moment (window_end_in clock.now
             tariff.now.meaning.window moment) in
             result ≡ ride_reply
@@ -208,7 +208,7 @@ impl Account {
         requires room { IsRoomy self.old.window }
         ensures bounds { gives (transfers_in tariff.now.meaning self.old.class)
             (kept_trip (Some (kept_numbers self.old))) (live_at moment mode) ≡ false
-            → AreRideTerms (ride_terms tariff.now.meaning self.old.class mode.position) }
+            → AreBoundedTerms (ride_terms tariff.now.meaning self.old.class mode.position) }
         ensures few { result.cents ≤ 100_000 }
         ensures has_window { self.new.has_window ≡ self.old.has_window }
         ensures reply { result ≡ reply_under tariff.now.meaning clock.now
@@ -248,7 +248,7 @@ impl Account {
         requires order { self.now.ride ≤ moment }
         ensures gives { result ≡ gives (transfers_in tariff.now.meaning self.now.class)
             (kept_trip (Some (kept_numbers self.now))) (live_at moment mode) }
-        ensures few { IsTrue result → self.now.given < 9 }
+        ensures few { IsTrue result → self.now.given < 255 }
     {
         let gives = tariff.transfer_terms(self.class);
         moment - self.ride <= u64::from(gives.time)
@@ -257,7 +257,7 @@ impl Account {
     }
 
     fn take_transfer(&mut self, mode: Mode, moment: u64)
-        requires few { self.old.given < 9 }
+        requires few { self.old.given < 255 }
         ensures has_window { self.new.has_window ≡ self.old.has_window }
         ensures state { kept_numbers self.new ≡ record {
           last = live_at moment mode;
@@ -278,7 +278,7 @@ impl Account {
         requires mode { mode.position < length tariff.now.meaning.modes }
         requires early { moment < 4_102_444_800_000 }
         requires room { IsRoomy self.old.window }
-        ensures bounds { AreRideTerms (ride_terms tariff.now.meaning self.old.class mode.position) }
+        ensures bounds { AreBoundedTerms (ride_terms tariff.now.meaning self.old.class mode.position) }
         ensures cost { let window = window_at (Some self.old.window) moment (window_end_in clock.now
             tariff.now.meaning.window moment) in
             result ≡ paid_by (charge (ride_terms tariff.now.meaning self.old.class mode.position)

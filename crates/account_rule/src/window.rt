@@ -1,7 +1,7 @@
 //! A window of rides, and what its next ride costs.
 
 ghost use Rattle.std.specs.Prelude.{◌≡◌, ℕ, ◌+◌, ◌<◌, ◌≤◌, IfSome, is_some, min, unwrap_or};
-ghost use Rattle.tariffs.specs.Terms.{AreRideTerms};
+ghost use Rattle.tariffs.specs.Terms.{AreBoundedTerms};
 ghost use Rattle.tariffs.specs.Until.{window_end_in};
 ghost use Rattle.account_rule.specs.Kept.{IsRoomy};
 ghost use Rattle.account_rule.specs.inside.Kept.{next_reason, open_window, shown_of, with_ride};
@@ -12,7 +12,7 @@ use crate::reason::{Charge, Reason};
 use tariffs::{Clock, Tariff, Terms};
 
 /// The highest ride limit of a table's classes. A window counts its rides up to it.
-const MAX_RIDES: u16 = 1_000;
+const MAX_RIDES: u16 = 60_000;
 
 /// A window: its rides, and what they cost together.
 #[derive(Clone, Copy, Debug, PartialEq, Eq)]
@@ -77,7 +77,7 @@ impl Window {
 
     #[tactic(auto, unfolding(crate::specs::inside::Kept::with_ride, crate::specs::Windows::is_paid))]
     pub(crate) fn add_ride(&mut self, terms: Terms) -> Option<u32>
-        requires bounds { AreRideTerms terms }
+        requires bounds { AreBoundedTerms terms }
         requires room { IsRoomy self.old }
         ensures cost { result ≡ paid_by (charge terms self.old.rides self.old.cents) }
         ensures counts { self.new ≡ with_ride terms self.old }
@@ -94,8 +94,8 @@ impl Window {
     }
 
     fn count_free_ride(&mut self)
-        requires room { self.old.rides ≤ 1_000 }
-        ensures { self.new ≡ record self.old { rides = min (self.old.rides + 1) 1_000 } }
+        requires room { self.old.rides ≤ 60_000 }
+        ensures { self.new ≡ record self.old { rides = min (self.old.rides + 1) 60_000 } }
     {
         if self.rides < MAX_RIDES {
             self.rides += 1;
@@ -104,7 +104,7 @@ impl Window {
 
     #[tactic(auto, unfolding(crate::specs::inside::Kept::next_reason))]
     pub(crate) fn next_reason(self, terms: Terms) -> Reason
-        requires bounds { AreRideTerms terms }
+        requires bounds { AreBoundedTerms terms }
         requires room { IsRoomy self }
         ensures { result ≡ next_reason terms self }
     {
@@ -119,16 +119,20 @@ impl Window {
 /// The cents of a ride after `position` rides of its window, all of which have these terms.
 #[tactic(auto, unfolding(crate::specs::Windows::charge, crate::specs::Laws::position_cents))]
 pub fn cents_at(terms: Terms, position: u32) -> u32
-    requires bounds { AreRideTerms terms }
-    requires position { position ≤ 1_000 }
+    requires bounds { AreBoundedTerms terms }
+    requires position { position ≤ 60_000 }
     ensures { result ≡ position_cents terms position }
 {
-    charge(terms, position, position * terms.fare).cents()
+    let before = u64::from(position) * u64::from(terms.fare);
+    if before >= u64::from(terms.ceiling) {
+        return 0;
+    }
+    charge(terms, position, before as u32).cents()
 }
 
 #[tactic(auto, unfolding(crate::specs::Windows::charge))]
 fn charge(terms: Terms, rides: u32, cents: u32) -> Charge
-    requires bounds { AreRideTerms terms }
+    requires bounds { AreBoundedTerms terms }
     requires low { cents ≤ 100_000_000 }
     ensures { result ≡ charge terms rides cents }
 {
@@ -152,7 +156,7 @@ fn charge(terms: Terms, rides: u32, cents: u32) -> Charge
 /// The numbers alone, since it runs at each ride.
 #[tactic(auto, unfolding(crate::specs::Windows::charge, crate::specs::Windows::is_paid))]
 fn paid_below(terms: Terms, cents: u32) -> Option<u32>
-    requires bounds { AreRideTerms terms }
+    requires bounds { AreBoundedTerms terms }
     requires low { cents ≤ 100_000_000 }
     ensures cost { (rides : ℕ) → rides < terms.rides
         → result ≡ paid_by (charge terms rides cents) }

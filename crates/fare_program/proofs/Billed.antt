@@ -3,7 +3,7 @@ use Rattle.std.proofs.Common.{◌≡◌, ℕ, List, Bool, false, Option, None, s
 use Rattle.std.specs.Prelude.{MatchBool}
 use Rattle.tariffs.specs.Fares.{Fares}
 use Rattle.tap_views.specs.declared.token.Token.{Token}
-use Rattle.fare_program.specs.Options.{Request}
+use Rattle.fare_program.specs.Options.{Request, form_of}
 use Rattle.fare_program.specs.Settling.{IsTextOver, ShowsSettled}
 use Rattle.fare_program.specs.inside.Settling.{ShowsBill}
 use Rattle.fare_texts.specs.Ledger.{IsLedgerOver}
@@ -16,8 +16,8 @@ shows_bill request fares files token text success ledger none is =
       history = is.history;
       is_settled = is.is_settled;
       shows = subst (λ (b : Bool). MatchBool b (IsLedgerOver fares is.history token text)
-          (IsTextOver request.explain token fares files is.history text)) (sym ledger)
-          (subst (λ (t : Option Token). IsTextOver request.explain t fares files is.history text)
+          (IsTextOver (form_of request) token fares files is.history text)) (sym ledger)
+          (subst (λ (t : Option Token). IsTextOver (form_of request) t fares files is.history text)
           (sym none)
           is.shows);
       ends = is.ends;

@@ -18,6 +18,7 @@ use Rattle.fare_program.specs.declared.fault.Fault.TheVariants.{SettleList, Live
 use Rattle.fare_program.specs.declared.fault.Fault.TheVariants.{LedgerNoTable}
 use Rattle.fare_program.specs.declared.fault.Fault.TheVariants.{LedgerList, ExplainNoToken}
 use Rattle.fare_program.specs.declared.fault.Fault.TheVariants.{ExplainList, ExplainLedger}
+use Rattle.fare_program.specs.declared.fault.Fault.TheVariants.{JsonNoExplain}
 use Rattle.fare_program.specs.declared.fault.Fault.TheVariants.{SortedNoSettle, SortedNoFile}
 use Rattle.fare_program.specs.declared.fault.Fault.TheVariants.{TracedNoLedger, TracedNoSettle}
 use Rattle.fare_program.specs.declared.fault.Fault.TheVariants.{TracedToken, TracedSorted}
@@ -46,6 +47,7 @@ fault_text LedgerList = codes "fault: --ledger cannot be used with --list"
 fault_text ExplainNoToken = codes "fault: --explain needs --token"
 fault_text ExplainList = codes "fault: --explain cannot be used with --list"
 fault_text ExplainLedger = codes "fault: --explain cannot be used with --ledger"
+fault_text JsonNoExplain = codes "fault: --json needs --explain"
 fault_text SortedNoSettle = codes "fault: --sorted needs --settle"
 fault_text SortedNoFile = codes "fault: --sorted needs a FILE"
 fault_text TracedNoLedger = codes "fault: --traced needs --ledger"
@@ -81,6 +83,7 @@ status_of LedgerList = 2
 status_of ExplainNoToken = 2
 status_of ExplainList = 2
 status_of ExplainLedger = 2
+status_of JsonNoExplain = 2
 status_of SortedNoSettle = 2
 status_of SortedNoFile = 2
 status_of TracedNoLedger = 2
@@ -137,17 +140,19 @@ ledger_usage_error request =
     charge_usage_error_of LedgerNoTable LedgerList request.ledger request.list request.table
 
 -- What is wrong with an explained statement if it is asked for: first that there is no token, then
--- that the taps are to be listed, and then that the ledger is asked for.
-abbrev pub explain_usage_error_of : Bool → Bool → Bool → Option (List ℕ) → Option Fault
-explain_usage_error_of false list ledger token = None
-explain_usage_error_of true list ledger None = Some ExplainNoToken
-explain_usage_error_of true true ledger (Some digits) = Some ExplainList
-explain_usage_error_of true false true (Some digits) = Some ExplainLedger
-explain_usage_error_of true false false (Some digits) = None
+-- that the taps are to be listed, and then that the ledger is asked for. JSON is explained.
+abbrev pub explain_usage_error_of : Bool → Bool → Bool → Bool → Option (List ℕ) → Option Fault
+explain_usage_error_of false false list ledger token = None
+explain_usage_error_of false true list ledger token = Some JsonNoExplain
+explain_usage_error_of true json list ledger None = Some ExplainNoToken
+explain_usage_error_of true json true ledger (Some digits) = Some ExplainList
+explain_usage_error_of true json false true (Some digits) = Some ExplainLedger
+explain_usage_error_of true json false false (Some digits) = None
 
--- what is wrong with `--explain` among them
+-- what is wrong with `--explain` and `--json` among them
 abbrev pub explain_usage_error : Request → Option Fault
-explain_usage_error request = explain_usage_error_of request.explain request.list request.ledger request.token
+explain_usage_error request =
+    explain_usage_error_of request.explain request.json request.list request.ledger request.token
 
 -- What is wrong with sorted files if they are asked for: first that the taps are not to be settled,
 -- and then that no file is named, for standard input is none.

@@ -1,11 +1,13 @@
 -- The command line, and what its words ask for.
 use Rattle.std.specs.Prelude.{◌≡◌, ◌⊎◌, ℕ, Bool, false, ◌||◌, not, List, [], ◌∷◌, ◌++◌, Option}
-use Rattle.std.specs.Prelude.{codes, is_some, pos, unwrap_or}
+use Rattle.std.specs.Prelude.{None, Some, codes, is_some, pos, true, unwrap_or}
 use Rattle.std.specs.Option.{option_map_or}
 use Rattle.std.specs.Str.{bytes_eq}
 use Rattle.std.specs.Str.Parse.{digits_value, without_leading_plus}
 use Rattle.clap.specs.Words.{App, IsAmong, Row, Rule, Text, all_of, fault_of, first_of, matches_of}
 use Rattle.clap.specs.Words.{one_of, with_rule}
+use Rattle.fare_texts.specs.declared.form.Form.{Form}
+use Rattle.fare_texts.specs.declared.form.Form.TheVariants.{Text as Words, Json}
 use Rattle.clap.specs.declared.builder.action.ArgAction.TheVariants.{Append}
 use Rattle.clap.specs.declared.error.kind.ErrorKind.TheVariants.{DisplayHelp, DisplayVersion}
 use Rattle.program_manners.specs.Words.{flag_rule, list_option, named_app, null_flag, number_rule}
@@ -52,6 +54,10 @@ ledger_flag = flag_rule (codes "ledger")
 abbrev pub explain_flag : Rule
 explain_flag = flag_rule (codes "explain")
 
+-- `--json`
+abbrev pub json_flag : Rule
+json_flag = flag_rule (codes "json")
+
 -- `--traced`
 abbrev pub traced_flag : Rule
 traced_flag = flag_rule (codes "traced")
@@ -68,10 +74,10 @@ file_argument = positional_rule (codes "FILE") Append
 abbrev pub app_of_options : App
 app_of_options =
     with_rule (with_rule (with_rule (with_rule (with_rule (with_rule (with_rule (with_rule
-    (with_rule (with_rule (with_rule (with_rule (with_rule (with_rule
+    (with_rule (with_rule (with_rule (with_rule (with_rule (with_rule (with_rule
     (named_app (codes "omny_cli")) table_option) settle_flag) live_flag) sorted_flag) list_flag)
-    workers_option) shards_option) token_option) ledger_flag) explain_flag) traced_flag)
-    tokens_option) list_option) null_flag
+    workers_option) shards_option) token_option) ledger_flag) explain_flag) json_flag)
+    traced_flag) tokens_option) list_option) null_flag
 
 -- all words that the program takes
 unfoldable pub program : App
@@ -126,6 +132,7 @@ pub record Request : Type 0 where
   pub sorted : Bool
   pub ledger : Bool
   pub explain : Bool
+  pub json : Bool
   pub traced : Bool
   pub tokens : Option Text
   pub files : List Text
@@ -143,10 +150,21 @@ request_by words = record {
   sorted = is_given (codes "sorted") (matches_of program words);
   ledger = is_given (codes "ledger") (matches_of program words);
   explain = is_given (codes "explain") (matches_of program words);
+  json = is_given (codes "json") (matches_of program words);
   traced = is_given (codes "traced") (matches_of program words);
   tokens = range_named words;
   files = files_named words;
 }
+
+-- the form of an explained statement, if the statement is explained
+abbrev pub form_by : Bool → Bool → Option Form
+form_by false json = None
+form_by true false = Some Words
+form_by true true = Some Json
+
+-- the form in which the statement is explained, if it is
+abbrev pub form_of : Request → Option Form
+form_of request = form_by request.explain request.json
 
 -- The taps are listed by the flag, or if there is no table. Else the service runs.
 abbrev pub lists : Request → Bool

@@ -14,7 +14,8 @@ use Rattle.fare_service.specs.Plain.{AreApart}
 use Rattle.histories.specs.Plain.{IsPlain}
 use Rattle.fare_service.specs.Printed.{IsStatementOf, report_with}
 use Rattle.fare_program.specs.Fault.{fault_text}
-use Rattle.fare_program.specs.Options.{Request, lists}
+use Rattle.fare_program.specs.Options.{Request, form_of, lists}
+use Rattle.fare_texts.specs.declared.form.Form.{Form}
 use Rattle.tap_views.specs.UploadEnds.{are_posted}
 use Rattle.fare_program.specs.Parts.{ShowsSorted}
 use Rattle.fare_program.specs.Settling.{ShowsOver, ShowsSettled}
@@ -54,23 +55,23 @@ pub record RunsListing (table : Option TableNames) (names : List (List ℕ))
   pub listing : IsListing fares files text clean
   pub written : Appends out out' text
 
--- the text is the statement of this token, explained if that is asked for
-abbrev pub ShowsStatement : Bool → Token → OutcomeView → List ℕ → Type 0
-ShowsStatement explain token outcome text =
-    MatchBool explain (IsExplainedOf outcome.books token text) (IsStatementOf outcome token text)
+-- the text is the statement of this token, explained in this form if there is one
+abbrev pub ShowsStatement : Option Form → Token → OutcomeView → List ℕ → Type 0
+ShowsStatement None token outcome text = IsStatementOf outcome token text
+ShowsStatement (Some form) token outcome text = IsExplainedOf form outcome.books token text
 
--- the text is the report with these ends of uploads, or the statement of this token, explained if
--- that is asked for
-abbrev pub ShowsWith : Bool → Option Token → List UploadEnd → OutcomeView → List ℕ → Type 0
-ShowsWith explain None ends outcome text = text ≡ report_with ends outcome
-ShowsWith explain (Some token) ends outcome text = ShowsStatement explain token outcome text
+-- the text is the report with these ends of uploads, or the statement of this token, explained in
+-- this form if there is one
+abbrev pub ShowsWith : Option Form → Option Token → List UploadEnd → OutcomeView → List ℕ → Type 0
+ShowsWith form None ends outcome text = text ≡ report_with ends outcome
+ShowsWith form (Some token) ends outcome text = ShowsStatement form token outcome text
 
 -- The text is what is asked for of an outcome, with these ends of uploads: the ledger of its books,
 -- or that of this token; else the report, or the statement of this token, explained if that is
 -- asked for.
 abbrev pub ShowsOf : Request → Option Token → List UploadEnd → OutcomeView → List ℕ → Type 0
 ShowsOf request token ends outcome text = MatchBool request.ledger
-    (IsLedgerOfBooks outcome.books token text) (ShowsWith request.explain token ends outcome text)
+    (IsLedgerOfBooks outcome.books token text) (ShowsWith (form_of request) token ends outcome text)
 
 -- If no token has taps in two of the files, the text is what is asked for of the plain history of
 -- the files: the report, the statement of this token, explained if that is asked for, or the

@@ -6,27 +6,31 @@ use Rattle.tap_views.specs.declared.token.Token.{Token}
 use Rattle.tap_views.specs.UploadEnds.{ArePlainEnds}
 use Rattle.report_texts.specs.OverHistory.{IsReportOver, IsStatementOver}
 use Rattle.tap_views.specs.declared.upload_end.UploadEnd.{UploadEnd}
-use Rattle.fare_texts.specs.Explained.{IsExplainedOver}
+use Rattle.fare_texts.specs.ExplainedForms.{IsExplainedOver}
+use Rattle.fare_texts.specs.declared.form.Form.{Form}
 use Rattle.fare_texts.specs.Ledger.{IsLedgerOver}
 use Rattle.settlement.specs.Settled.{IsSettledHistory}
-use Rattle.fare_program.specs.Options.{Request}
+use Rattle.fare_program.specs.Options.{Request, form_of}
 use Rattle.tap_views.specs.UploadEnds.{are_posted}
 
+-- the text is the statement of the token over this history, explained in this form if there is one
+abbrev pub IsStatementIn : Option Form → Fares → List Entry → Token → List ℕ → Type 0
+IsStatementIn None fares history token text = IsStatementOver fares history token text
+IsStatementIn (Some form) fares history token text = IsExplainedOver form fares history token text
+
 -- the text is the report over this history of the files, or the statement of this token, explained
--- if that is asked for
-abbrev pub IsTextOver : Bool → Option Token → Fares → List (List ℕ) → List Entry → List ℕ
+-- in this form if there is one
+abbrev pub IsTextOver : Option Form → Option Token → Fares → List (List ℕ) → List Entry → List ℕ
     → Type 0
-IsTextOver explain None fares files history text = IsReportOver files history text
-IsTextOver explain (Some token) fares files history text =
-    MatchBool explain (IsExplainedOver fares history token text)
-    (IsStatementOver fares history token text)
+IsTextOver form None fares files history text = IsReportOver files history text
+IsTextOver form (Some token) fares files history text = IsStatementIn form fares history token text
 
 -- The text is what is asked for of this history of the files: the ledger, or that of this token;
 -- else the report, or the statement of this token, explained if that is asked for.
 abbrev pub ShowsOver : Request → Option Token → Fares → List (List ℕ) → List Entry → List ℕ → Type 0
 ShowsOver request token fares files history text =
     MatchBool request.ledger (IsLedgerOver fares history token text)
-    (IsTextOver request.explain token fares files history text)
+    (IsTextOver (form_of request) token fares files history text)
 
 -- The text shows what is asked for of the settled history of the files. It is well if each file
 -- ends posted whole.

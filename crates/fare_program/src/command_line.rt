@@ -2,7 +2,8 @@
 ghost use Rattle.std.specs.Prelude.{◌≡◌, ◌≤◌, ◌^◌, ◌<◌, ℕ, IfOk, codes, map, string_bytes};
 ghost use Rattle.clap.specs.Words.{FailsBy, app_of, fault_of, found_of, matches_of, rows_of};
 ghost use Rattle.clap.specs.Words.{with_rule};
-ghost use Rattle.fare_program.specs.Options.{explain_flag, file_argument, ledger_flag, traced_flag};
+ghost use Rattle.fare_program.specs.Options.{explain_flag, file_argument, json_flag, ledger_flag};
+ghost use Rattle.fare_program.specs.Options.{traced_flag};
 ghost use Rattle.fare_program.specs.Options.{request_by, is_given, number_of, program, tokens_option};
 ghost use Rattle.fare_program.specs.inside.Options.{request_of};
 ghost use Rattle.fare_program.specs.inside.Options.{HasNumber};
@@ -27,7 +28,8 @@ with --token the statement of one token, or with --ledger the ledger. Without --
 const NOTES: &str = "What is printed:
   report     how each upload ended, then the sums of all taps, of each validator, of each token
   statement  each tap of the token, what it was and cost, the token's sums, its last window
-             with --explain also why each tap costs this, the token's terms and all its windows
+             with --explain also why each tap costs this, the token's terms and all its windows,
+             with --json as JSON, with local times
   ledger     CSV, a head line and a line for each tap of each token, with its window and the reason
              of what it cost; with --token those of one token; with --traced also the class of
              the token, the number of the tap's file, from 0, and its number there, from 1
@@ -93,6 +95,9 @@ const LEDGER_HELP: &str = "Print the ledger, of all tokens or that of --token; n
 /// The help of `--explain`.
 const EXPLAIN_HELP: &str = "Print the statement of --token with reasons, the terms and all windows";
 
+/// The help of `--json`.
+const JSON_HELP: &str = "Print the explained statement as JSON, with local times";
+
 /// The help of `--traced`.
 const TRACED_HELP: &str = "Put class, upload and place behind each line of the settled --ledger";
 
@@ -131,15 +136,22 @@ fn command<'a>(alloc: Global) -> Result<Command<'a>, AllocError>
 /// list of files and the files.
 fn with_texts<'a>(alloc: Global, command: Command<'a>) -> Result<Command<'a>, AllocError>
     ensures { IfOk result (λ more. app_of more ≡ with_rule (with_rule (with_rule (with_rule
-        (with_rule (with_rule (with_rule (app_of command.entry) ledger_flag) explain_flag)
-        traced_flag) tokens_option) list_option) null_flag) file_argument) }
+        (with_rule (with_rule (with_rule (with_rule (app_of command.entry) ledger_flag)
+        explain_flag) json_flag) traced_flag) tokens_option) list_option) null_flag)
+        file_argument) }
 {
     let ledger = flag_arg(alloc, "ledger", LEDGER_HELP);
     let explain = flag_arg(alloc, "explain", EXPLAIN_HELP);
+    let json = flag_arg(alloc, "json", JSON_HELP);
     let traced = flag_arg(alloc, "traced", TRACED_HELP);
     let tokens = option_arg(alloc, "tokens", "RANGE", TOKENS_HELP);
     let file = positional_arg(alloc, "FILE", ArgAction::Append, FILE_HELP);
-    let command = command.arg(ledger)?.arg(explain)?.arg(traced)?.arg(tokens)?;
+    let command = command
+        .arg(ledger)?
+        .arg(explain)?
+        .arg(json)?
+        .arg(traced)?
+        .arg(tokens)?;
     add_list_args(alloc, command)?.arg(file)
 }
 
@@ -197,6 +209,7 @@ impl<'a> Options<'a> {
             sorted: flag_in(&matches, "sorted"),
             ledger: flag_in(&matches, "ledger"),
             explain: flag_in(&matches, "explain"),
+            json: flag_in(&matches, "json"),
             traced: flag_in(&matches, "traced"),
             tokens: matches.get_str("tokens"),
             files: names_in(alloc, &matches, "FILE")?,

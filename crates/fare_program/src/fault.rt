@@ -47,6 +47,8 @@ pub(crate) enum Fault<'a> {
     ExplainList,
     /// An explained statement is asked for, and the ledger.
     ExplainLedger,
+    /// JSON is asked for, and the statement is not explained.
+    JsonNoExplain,
     /// The files are sorted ones, and the taps are not to be settled.
     SortedNoSettle,
     /// Sorted files are asked for, and none is named.
@@ -211,6 +213,7 @@ impl<'a> Fault<'a> {
             Fault::SettleNoTable | Fault::SettleList | Fault::LiveSettle => 2,
             Fault::LedgerNoTable | Fault::LedgerList => 2,
             Fault::ExplainNoToken | Fault::ExplainList | Fault::ExplainLedger => 2,
+            Fault::JsonNoExplain => 2,
             Fault::SortedNoSettle | Fault::SortedNoFile => 2,
             Fault::TracedNoLedger | Fault::TracedNoSettle => 2,
             Fault::TracedToken | Fault::TracedSorted | Fault::Range(_) | Fault::Date(_) => 2,
@@ -302,6 +305,7 @@ impl fmt::Display for Fault<'_> {
             Fault::ExplainNoToken => f.write_str("fault: --explain needs --token"),
             Fault::ExplainList => f.write_str("fault: --explain cannot be used with --list"),
             Fault::ExplainLedger => f.write_str("fault: --explain cannot be used with --ledger"),
+            Fault::JsonNoExplain => f.write_str("fault: --json needs --explain"),
             Fault::SortedNoSettle => f.write_str("fault: --sorted needs --settle"),
             Fault::SortedNoFile => f.write_str("fault: --sorted needs a FILE"),
             Fault::TracedNoLedger => f.write_str("fault: --traced needs --ledger"),

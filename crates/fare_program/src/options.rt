@@ -1,6 +1,9 @@
 //! What a command line asks for.
-ghost use Rattle.std.specs.Prelude.{◌≤◌};
+ghost use Rattle.std.specs.Prelude.{◌≤◌, ◌≡◌};
+ghost use Rattle.fare_program.specs.Options.{form_of};
+ghost use Rattle.fare_program.specs.inside.Options.{request_of};
 
+use fare_texts::Form;
 use program_manners::TableWords;
 
 /// What the words ask for.
@@ -26,6 +29,8 @@ pub(crate) struct Options<'a> {
     pub(crate) ledger: bool,
     /// Whether the statement is explained.
     pub(crate) explain: bool,
+    /// Whether the explained statement is JSON.
+    pub(crate) json: bool,
     /// Whether the ledger's lines have their class, upload and place after them.
     pub(crate) traced: bool,
     /// The range of tokens whose taps alone are charged, as it is written.
@@ -36,4 +41,16 @@ pub(crate) struct Options<'a> {
     ghost few_workers: { workers ≤ 16 },
     ghost some_shard: { 1 ≤ shards },
     ghost few_shards: { shards ≤ 64 },
+}
+
+impl<'a> Options<'a> {
+    /// The form in which the statement is explained, if it is.
+    pub(crate) fn form(&self) -> Option<Form>
+        ensures { result ≡ form_of (request_of self.now) }
+    {
+        if !self.explain {
+            return None;
+        }
+        Some(if self.json { Form::Json } else { Form::Text })
+    }
 }

@@ -1,5 +1,5 @@
 //! The text that is asked for of files, which are posted as they are or settled.
-ghost use Rattle.std.specs.Prelude.{Bool, ◌≡◌, ◌≢◌, ℕ, List, IfErr, IfOk, OnOk, false, length, map};
+ghost use Rattle.std.specs.Prelude.{◌≡◌, ◌≢◌, ℕ, List, IfErr, IfOk, OnOk, false, length, map};
 ghost use Rattle.std.specs.Io.KnownBytes.{Appends, Keeps};
 ghost use Rattle.fare_texts.specs.WrittenOut.{Begins};
 ghost use Rattle.fare_program.specs.Fault.{status_of};
@@ -16,6 +16,7 @@ use crate::run::{are_posted, post_live};
 use crate::settle::charge_settled;
 use fare_service::{Gatekeeper, Outcome, UploadSource, write_explained, write_ledger};
 use fare_table::FareTable;
+use fare_texts::Form;
 use file_sources::Disk;
 use std::alloc::Global;
 use std::io::Write;
@@ -30,25 +31,24 @@ use world::Trace;
 #[tactic(auto, using(crate::proofs::WritesFailed::of_write))]
 fn print_statement<'a, W: Write>(
     alloc: Global,
-    explain: bool,
+    form: Option<Form>,
     outcome: &Outcome,
     token: Token,
     out: &mut W,
 ) -> Result<(), Fault<'a>>
-    ensures ok { OnOk result ((text : List ℕ) × ShowsStatement explain token outcome.now text
+    ensures ok { OnOk result ((text : List ℕ) × ShowsStatement form token outcome.now text
         × Appends (W.contents out.old) (W.contents out.new) text) }
     ensures started { IfErr result (λ fault. fault ≡ Fault.Write
-        → (text : List ℕ) × ShowsStatement explain token outcome.now text
+        → (text : List ℕ) × ShowsStatement form token outcome.now text
         × Begins (W.contents out.old) (W.contents out.new) text) }
     ensures output { IfErr result IsOfOutput }
     ensures status { IfErr result (λ fault. status_of fault ≡ 1) }
     ensures fault { IfErr result (λ fault. fault ≢ Fault.Write
         → Keeps (W.contents out.old) (W.contents out.new)) }
 {
-    if explain {
-        write_explained(alloc, outcome.books(), token, out)?;
-    } else {
-        outcome.write_statement(alloc, &token, out)?;
+    match form {
+        Some(form) => write_explained(alloc, form, outcome.books(), token, out)?,
+        None => outcome.write_statement(alloc, &token, out)?,
     }
     Ok(())
 }
@@ -59,16 +59,16 @@ fn print_statement<'a, W: Write>(
 fn print<'a, R: Threads + Sync, W: Write>(
     rt: &R,
     alloc: Global,
-    explain: bool,
+    form: Option<Form>,
     outcome: &Outcome,
     token: Option<Token>,
     out: &mut W,
 ) -> Result<(), Fault<'a>>
     ensures ok { OnOk result ((text : List ℕ)
-        × ShowsWith explain token outcome.now.ends outcome.now text
+        × ShowsWith form token outcome.now.ends outcome.now text
         × Appends (W.contents out.old) (W.contents out.new) text) }
     ensures started { IfErr result (λ fault. fault ≡ Fault.Write
-        → (text : List ℕ) × ShowsWith explain token outcome.now.ends outcome.now text
+        → (text : List ℕ) × ShowsWith form token outcome.now.ends outcome.now text
         × Begins (W.contents out.old) (W.contents out.new) text) }
     ensures output { IfErr result IsOfOutput }
     ensures status { IfErr result (λ fault. status_of fault ≡ 1) }
@@ -77,7 +77,7 @@ fn print<'a, R: Threads + Sync, W: Write>(
 {
     match token {
         None => outcome.write_report(rt, alloc, out)?,
-        Some(token) => print_statement(alloc, explain, outcome, token, out)?,
+        Some(token) => print_statement(alloc, form, outcome, token, out)?,
     }
     Ok(())
 }
@@ -108,7 +108,7 @@ fn print_requested<'a, R: Threads + Sync, W: Write>(
     if options.ledger {
         write_ledger(alloc, outcome.books(), token, out)?;
     } else {
-        print(rt, alloc, options.explain, outcome, token, out)?;
+        print(rt, alloc, options.form(), outcome, token, out)?;
     }
     Ok(())
 }

@@ -226,13 +226,16 @@ fn check_live<'a>(options: &Options<'a>) -> Result<(), Fault<'a>>
 }
 
 /// Looks whether the statement may be explained, if that is asked for: there is a token, and
-/// neither a listing nor the ledger is asked for.
+/// neither a listing nor the ledger is asked for. JSON is explained.
 fn check_explain<'a>(options: &Options<'a>) -> Result<(), Fault<'a>>
     ensures right { OnOk result (explain_usage_error (request_of options.now) ≡ None) }
     ensures fault { IfErr result (λ fault. explain_usage_error (request_of options.now) ≡ Some fault) }
     ensures status { IfErr result (λ fault. status_of fault ≡ 2) }
 {
     if !options.explain {
+        if options.json {
+            return Err(Fault::JsonNoExplain);
+        }
         return Ok(());
     }
     if options.token.is_none() {

@@ -1,18 +1,16 @@
 //! What is printed of one token of settled files, from its taps alone.
-ghost use Rattle.std.specs.Prelude.{Bool, ◌≡◌, ◌≢◌, ℕ, List, All, Some, IfErr, IfOk, MatchBool};
+ghost use Rattle.std.specs.Prelude.{◌≡◌, ◌≢◌, ℕ, List, All, Some, IfErr, IfOk};
 ghost use Rattle.std.specs.Prelude.{OnOk};
 ghost use Rattle.std.specs.Io.KnownBytes.{Appends, Keeps};
 ghost use Rattle.fare_texts.specs.WrittenOut.{Begins};
 ghost use Rattle.tap_views.specs.Encoding.{AreEarly};
 ghost use Rattle.histories.specs.Entry.{own};
 ghost use Rattle.histories.specs.declared.entry.Entry.{Entry};
-ghost use Rattle.report_texts.specs.OverHistory.{IsStatementOver};
-ghost use Rattle.fare_texts.specs.Explained.{IsExplainedOver};
 ghost use Rattle.settlement.specs.Posted.{posted, token_of_tap};
 ghost use Rattle.settlement.specs.Reading.{AreRead};
 ghost use Rattle.fare_program.specs.Fault.{status_of};
 ghost use Rattle.fare_program.specs.inside.Causes.{IsOfOutput};
-ghost use Rattle.fare_program.specs.Settling.{ShowsOver, ShowsSettled};
+ghost use Rattle.fare_program.specs.Settling.{IsStatementIn, ShowsOver, ShowsSettled};
 ghost use Rattle.fare_program.specs.inside.Options.{request_of};
 
 use crate::fault::Fault;
@@ -20,6 +18,7 @@ use crate::options::Options;
 use crate::remarks::note_taps;
 use crate::run::are_posted;
 use fare_table::FareTable;
+use fare_texts::Form;
 use file_sources::Disk;
 use settled_texts::{write_token_explained, write_token_ledger, write_token_statement};
 use settlement::{TokenTaps, Uploads, laws, settled_taps_of};
@@ -34,7 +33,7 @@ use world::Trace;
 #[tactic(auto, using(crate::proofs::WritesFailed::of_write))]
 fn write_statement<'a, W: Write>(
     alloc: Global,
-    explain: bool,
+    form: Option<Form>,
     table: &FareTable,
     token: Token,
     taps: &[TapFields],
@@ -44,24 +43,21 @@ fn write_statement<'a, W: Write>(
     requires its { All (λ tap. token_of_tap tap ≡ token) taps.now }
     ensures ok { OnOk result ((text : List ℕ)
         × ((history : List Entry) → own token history ≡ posted table.now taps.now
-        → MatchBool explain (IsExplainedOver table.now history token text)
-        (IsStatementOver table.now history token text))
+        → IsStatementIn form table.now history token text)
         × Appends (W.contents out.old) (W.contents out.new) text) }
     ensures started { IfErr result (λ fault. fault ≡ Fault.Write
         → (text : List ℕ)
         × ((history : List Entry) → own token history ≡ posted table.now taps.now
-        → MatchBool explain (IsExplainedOver table.now history token text)
-        (IsStatementOver table.now history token text))
+        → IsStatementIn form table.now history token text)
         × Begins (W.contents out.old) (W.contents out.new) text) }
     ensures output { IfErr result IsOfOutput }
     ensures status { IfErr result (λ fault. status_of fault ≡ 1) }
     ensures fault { IfErr result (λ fault. fault ≢ Fault.Write
         → Keeps (W.contents out.old) (W.contents out.new)) }
 {
-    if explain {
-        write_token_explained(alloc, table, token, taps, out)?;
-    } else {
-        write_token_statement(alloc, table, token, taps, out)?;
+    match form {
+        Some(form) => write_token_explained(alloc, form, table, token, taps, out)?,
+        None => write_token_statement(alloc, table, token, taps, out)?,
     }
     Ok(())
 }
@@ -98,7 +94,7 @@ pub(crate) fn write_text<'a, W: Write>(
     if options.ledger {
         write_token_ledger(alloc, table, token, taps, out)?;
     } else {
-        write_statement(alloc, options.explain, table, token, taps, out)?;
+        write_statement(alloc, options.form(), table, token, taps, out)?;
     }
     Ok(())
 }

@@ -2,11 +2,12 @@
 use Rattle.std.specs.Prelude.{◌≡◌, ℕ, List, Some, slice_get}
 use Rattle.shard_book.specs.Book.{Book, all_entries}
 use Rattle.tap_views.specs.declared.token.Token.{Token}
-use Rattle.fare_texts.specs.Explained.{IsExplainedOver}
+use Rattle.fare_texts.specs.ExplainedForms.{IsExplainedOver}
+use Rattle.fare_texts.specs.declared.form.Form.{Form}
 
--- the explained statement of a token over books: that over the entries of all of them, under the
--- table of the first
-pub record IsExplainedOf (books : List Book) (token : Token) (text : List ℕ) : Type 0 where
+-- the explained statement of a token over books, in this form: that over the entries of all of
+-- them, under the table of the first
+pub record IsExplainedOf (form : Form) (books : List Book) (token : Token) (text : List ℕ) : Type 0 where
   pub first : Book
   pub holds_first : slice_get books 0 ≡ Some first
-  pub over : IsExplainedOver first.table (all_entries books) token text
+  pub over : IsExplainedOver form first.table (all_entries books) token text

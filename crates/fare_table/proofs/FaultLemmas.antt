@@ -19,9 +19,9 @@ use Rattle.toml.specs.Data.{as_table}
 use Rattle.fare_table.proofs.PartLemmas.{bind_ok}
 use Rattle.fare_table.proofs.PayLemmas.{by_table, by_tables, if_else, same_ok, terms_by}
 use Rattle.fare_table.proofs.ElementLemmas.{if_ok}
-use Rattle.fare_table.specs.Classes.{ceiling_of, class_named, class_of, classes_from, classes_of}
+use Rattle.fare_table.specs.Classes.{class_named, class_of, classes_from, classes_of, is_any}
 use Rattle.fare_table.specs.Classes.{default_of, fares_from, fares_of, is_empty, position_of}
-use Rattle.fare_table.specs.Classes.{ride_transfers_of, terms_of}
+use Rattle.fare_table.specs.Classes.{own_ceiling, ride_transfers_of, taps_of, terms_of}
 use Rattle.tariffs.specs.declared.class.Class.{Class}
 use Rattle.fare_table.specs.Faults.{FaultRow, Where, top, class, mode_fare, a_row, are_pairs}
 use Rattle.fare_table.specs.Faults.{are_texts, class_rows, fare_at, fare_rows, fares_in}
@@ -122,6 +122,15 @@ number_reports None key low high = refl
 number_reports (Some (integer z)) key low high =
     within_reports (int_le (pos low) z && int_le z (pos high)) (unsigned_abs z) key
 number_reports (Some _) key low high = refl
+
+number_or_reports : (o : Option Data) (key : Key) (default low high : ℕ)
+    → fault_in (number_or default key low high o)
+    ≡ cond (fails (λ value. is_some (as_integer value)) o) (Some (Kind key))
+    (cond (fails (is_from low high) o) (Some (Range key)) None)
+number_or_reports None key default low high = refl
+number_or_reports (Some (integer z)) key default low high =
+    within_reports (int_le (pos low) z && int_le z (pos high)) (unsigned_abs z) key
+number_or_reports (Some _) key default low high = refl
 
 -- ---- modes
 strings-read : (found : List (List ℕ)) (ds : Items)
@@ -319,17 +328,6 @@ aligned_next whole n key value more aligned k j is = aligned (suc k) j (omega (a
 pub aligned_all : (whole : Members) → AlignedAt whole 0 whole
 aligned_all whole k j is = let same : j ≡ k = omega (arith, is) in ap (λ n. member_at n whole) same
 
-ceiling_reports : (price fare rides : ℕ) (o : Option Data)
-    → fault_in (ceiling_of price o >>= (λ ceiling. Ok (terms_by fare rides ceiling)))
-    ≡ cond (fails (is_kind the_key.Ceiling) o) (Some (Kind the_key.Ceiling))
-    (cond (fails (is_from 1 100_000_000) o) (Some (Range the_key.Ceiling)) None)
-ceiling_reports price fare rides None = refl
-ceiling_reports price fare rides (Some (integer z)) =
-    done (within the_key.Ceiling 1 100_000_000 z) (terms_by fare rides)
-    ∙ within_reports (int_le (pos 1) z && int_le z (pos 100_000_000)) (unsigned_abs z)
-    the_key.Ceiling
-ceiling_reports price fare rides (Some _) = refl
-
 pub reported_two : (tree : Members) (at : Where) (one two : TableFault)
     → first_row tree (a_row at one ∷ a_row at two ∷ [])
     ≡ cond (is_wrong tree at one) (Some one) (cond (is_wrong tree at two) (Some two) None)
@@ -344,16 +342,21 @@ unfolding terms_of
 terms-reported tree n =
     let at = class n in
     let inner = members_at at tree in
-    steps tree (number_at (codes "fare") the_key.Fare 1 100_000 inner) _
-    (needed_rows at the_key.Fare) (needed_rows at the_key.Rides
+    let named = value_at at the_key.Rides tree in
+    let cap = value_at at the_key.Ceiling tree in
+    steps tree (number_at (codes "fare") the_key.Fare 0 100_000 inner) _
+    (needed_rows at the_key.Fare) (optional_rows at the_key.Rides
     ++ optional_rows at the_key.Ceiling)
-    (number_reports (value_at at the_key.Fare tree) the_key.Fare 1 100_000
+    (number_reports (value_at at the_key.Fare tree) the_key.Fare 0 100_000
     ∙ sym (reported_needed tree at the_key.Fare))
-    (λ fare is. steps tree (number_at (codes "rides") the_key.Rides 1 1_000 inner) _
-    (needed_rows at the_key.Rides) (optional_rows at the_key.Ceiling)
-    (number_reports (value_at at the_key.Rides tree) the_key.Rides 1 1_000
-    ∙ sym (reported_needed tree at the_key.Rides))
-    (λ rides is'. ceiling_reports (rides * fare) fare rides (value_at at the_key.Ceiling tree)
+    (λ fare is. steps tree (number_or 60_000 the_key.Rides 1 1_000 named) _
+    (optional_rows at the_key.Rides) (optional_rows at the_key.Ceiling)
+    (number_or_reports named the_key.Rides 60_000 1 1_000
+    ∙ sym (reported_two tree at (Kind the_key.Rides) (Range the_key.Rides)))
+    (λ rides is'.
+    done (number_or (own_ceiling rides fare) the_key.Ceiling 1 100_000_000 cap)
+    (terms_by fare rides)
+    ∙ number_or_reports cap the_key.Ceiling (own_ceiling rides fare) 1 100_000_000
     ∙ sym (reported_two tree at (Kind the_key.Ceiling) (Range the_key.Ceiling))))
 
 -- ---- the fares of a class by mode
@@ -436,14 +439,24 @@ fares-reported tree modes n fare known =
     ∙ sym (reported tree (class n) (Kind the_key.Fares) (fare_rows n 0 (fares_in tree n)))
 
 -- ---- what the rides of a class give
-number_or_reports : (o : Option Data) (key : Key) (default low high : ℕ)
-    → fault_in (number_or default key low high o)
-    ≡ cond (fails (λ value. is_some (as_integer value)) o) (Some (Kind key))
-    (cond (fails (is_from low high) o) (Some (Range key)) None)
-number_or_reports None key default low high = refl
-number_or_reports (Some (integer z)) key default low high =
-    within_reports (int_le (pos low) z && int_le z (pos high)) (unsigned_abs z) key
-number_or_reports (Some _) key default low high = refl
+taps_reports : (o : Option Data)
+    → fault_in (taps_of o)
+    ≡ cond (fails (λ value. is_any value || is_some (as_integer value)) o)
+    (Some (Kind the_key.RideTransfers))
+    (cond (fails (λ value. is_any value || is_from 0 9 value) o)
+    (Some (Range the_key.RideTransfers)) None)
+taps_reports None = refl
+taps_reports (Some (integer z)) =
+    within_reports (int_le (pos 0) z && int_le z (pos 9)) (unsigned_abs z) the_key.RideTransfers
+taps_reports (Some (string text)) = any_if (same_name text (codes "any"))
+  where
+    any_if : (b : Bool)
+        → fault_in {A = ℕ} (if b then Ok 255 else Err (Kind the_key.RideTransfers))
+        ≡ cond (not (b || false)) (Some (Kind the_key.RideTransfers))
+        (cond (not (b || false)) (Some (Range the_key.RideTransfers)) None)
+    any_if true = refl
+    any_if false = refl
+taps_reports (Some _) = refl
 
 ride_transfers-reported : (tree : Members) (n : ℕ)
     → fault_in (ride_transfers_of (members_at (class n) tree))
@@ -453,9 +466,9 @@ ride_transfers-reported tree n =
     let at = class n in
     let taps = value_at at the_key.RideTransfers tree in
     let minutes = value_at at the_key.TransferMinutes tree in
-    steps tree (number_or 1 the_key.RideTransfers 0 9 taps) _
+    steps tree (taps_of taps) _
     (optional_rows at the_key.RideTransfers) (optional_rows at the_key.TransferMinutes)
-    (number_or_reports taps the_key.RideTransfers 1 0 9
+    (taps_reports taps
     ∙ sym (reported_two tree at (Kind the_key.RideTransfers) (Range the_key.RideTransfers)))
     (λ count is. done (number_or 120 the_key.TransferMinutes 1 1_440 minutes) _
     ∙ number_or_reports minutes the_key.TransferMinutes 120 1 1_440

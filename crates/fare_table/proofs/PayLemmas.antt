@@ -11,20 +11,20 @@ use Rattle.toml.specs.Data.{Data, Members, no_members, member, string, integer, 
 use Rattle.toml.specs.Data.{as_table, get_member}
 use Rattle.fare_table.proofs.ElementLemmas.{if_ok}
 use Rattle.fare_table.proofs.PartLemmas.{bind_ok, parts}
-use Rattle.fare_table.proofs.ReadLemmas.{is_number, is_table, number-read, table-read, text-read}
-use Rattle.fare_table.specs.Classes.{ceiling_of, class_in, class_named, class_of, classes_from}
-use Rattle.fare_table.specs.Classes.{classes_of, default_of, fares_of, is_empty, position_of}
-use Rattle.fare_table.specs.Classes.{terms_of}
+use Rattle.fare_table.proofs.ReadLemmas.{is_number_or, is_table, number-read, table-read}
+use Rattle.fare_table.proofs.ReadLemmas.{text-read}
+use Rattle.fare_table.specs.Classes.{class_in, class_named, class_of, classes_from, own_ceiling}
+use Rattle.fare_table.specs.Classes.{classes_of, default_of, fares_of, is_empty, position_of, terms_of}
 use Rattle.fare_table.specs.Classes.{ride_transfers_of}
 use Rattle.tariffs.specs.Names.{same_name}
 use Rattle.tariffs.specs.declared.class.Class.{Class}
 use Rattle.std.proofs.lemmas.Map.Text.{is_eq-slice_cmp}
 use Rattle.tariffs.specs.Fares.{class_of as class_of_token, no_class, terms_at}
 use Rattle.std.proofs.lemmas.Option.{get_or_from_slice_get}
-use Rattle.fare_table.specs.Members.{hold_strings, hold_tables, number_at, of_kind, table_at}
-use Rattle.fare_table.specs.Members.{text_at}
+use Rattle.fare_table.specs.Members.{hold_strings, hold_tables, number_at, number_or, of_kind}
+use Rattle.fare_table.specs.Members.{table_at, text_at}
 use Rattle.fare_table.specs.OrFault.{OrFault, ◌>>=◌}
-use Rattle.fare_table.specs.Paying.{HasTerms, IsCeiling, IsClassOf, NamesRider, Pays}
+use Rattle.fare_table.specs.Paying.{HasTerms, IsClassOf, IsNumberOr, NamesRider, Pays}
 use Rattle.fare_table.specs.Riders.{riders_from, riders_at, riders_of}
 use Rattle.tariffs.specs.TableMeaning.{TableMeaning}
 use Rattle.fare_table.specs.TableMeaning.{meaning_of_tree}
@@ -45,26 +45,23 @@ by_ceiling fare rides ceiling = Ok (terms_by fare rides ceiling)
 
 abbrev by_rides : Members → ℕ → ℕ → OrFault Terms
 by_rides element fare rides =
-    ceiling_of (rides * fare) (get_member (codes "ceiling") element) >>= by_ceiling fare rides
+    number_or (own_ceiling rides fare) the_key.Ceiling 1 100_000_000
+    (get_member (codes "ceiling") element)
+    >>= by_ceiling fare rides
 
 abbrev by_fare : Members → ℕ → OrFault Terms
 by_fare element fare =
-    number_at (codes "rides") the_key.Rides 1 1_000 element >>= by_rides element fare
-
-is_ceiling : (price : ℕ) (value : Option Data) (ceiling : ℕ) → ceiling_of price value ≡ Ok ceiling
-    → IsCeiling price value ceiling
-is_ceiling price None ceiling is = let same : price ≡ ceiling = cc in sym same
-is_ceiling price (Some value) ceiling is =
-    (is_number value the_key.Ceiling 1 100_000_000 ceiling is).is
+    number_or 60_000 the_key.Rides 1 1_000 (get_member (codes "rides") element)
+    >>= by_rides element fare
 
 -- the class of this name is in the table, and its element has these terms
 pub record IsNamed (classes : Members) (class : List ℕ) (terms : Terms) : Type 0 where
   pub element : Members
   pub holds : get_member class classes ≡ Some (table element)
   pub fare : get_member (codes "fare") element ≡ Some (integer (pos terms.fare))
-  pub rides : get_member (codes "rides") element ≡ Some (integer (pos terms.rides))
-  pub ceiling : IsCeiling (terms.rides * terms.fare) (get_member (codes "ceiling") element)
-      terms.ceiling
+  pub rides : IsNumberOr 60_000 (get_member (codes "rides") element) terms.rides
+  pub ceiling : IsNumberOr (own_ceiling terms.rides terms.fare)
+      (get_member (codes "ceiling") element) terms.ceiling
 
 moved : (classes : Members) (class : List ℕ) (fare rides ceiling : ℕ) (terms : Terms)
     → by_ceiling fare rides ceiling ≡ Ok terms → IsNamed classes class (terms_by fare rides ceiling)
@@ -78,21 +75,23 @@ entry_terms : (classes element : Members) (class : List ℕ) (terms : Terms)
     → IsNamed classes class terms
 unfolding terms_of
 entry_terms classes element class terms holds is =
-    let fare = bind_ok (number_at (codes "fare") the_key.Fare 1 100_000 element) (by_fare element)
+    let named = get_member (codes "rides") element in
+    let cap = get_member (codes "ceiling") element in
+    let fare = bind_ok (number_at (codes "fare") the_key.Fare 0 100_000 element) (by_fare element)
     terms
     is in
-    let rides = bind_ok (number_at (codes "rides") the_key.Rides 1 1_000 element)
-    (by_rides element fare.0) terms fare.2 in
-    let ceiling = bind_ok (ceiling_of (rides.0 * fare.0) (get_member (codes "ceiling") element))
+    let rides = bind_ok (number_or 60_000 the_key.Rides 1 1_000 named) (by_rides element fare.0)
+    terms fare.2 in
+    let own = own_ceiling rides.0 fare.0 in
+    let ceiling = bind_ok (number_or own the_key.Ceiling 1 100_000_000 cap)
     (by_ceiling fare.0 rides.0) terms rides.2 in
     moved classes class fare.0 rides.0 ceiling.0 terms ceiling.2
     (record {
       element = element;
       holds = holds;
-      fare = (number-read (codes "fare") the_key.Fare 1 100_000 element fare.0 fare.1).is;
-      rides = (number-read (codes "rides") the_key.Rides 1 1_000 element rides.0 rides.1).is;
-      ceiling = is_ceiling (rides.0 * fare.0) (get_member (codes "ceiling") element) ceiling.0
-          ceiling.1;
+      fare = (number-read (codes "fare") the_key.Fare 0 100_000 element fare.0 fare.1).is;
+      rides = is_number_or named the_key.Rides 60_000 1 1_000 rides.0 rides.1;
+      ceiling = is_number_or cap the_key.Ceiling own 1 100_000_000 ceiling.0 ceiling.1;
     })
 
 -- the member of this name reads as the class
@@ -301,10 +300,10 @@ number_of o n m one two = let both : Some (integer (pos n)) ≡ Some (integer (p
 table_of : (o : Option Data) (n m : Members) → o ≡ Some (table n) → o ≡ Some (table m) → n ≡ m
 table_of o n m one two = let both : Some (table n) ≡ Some (table m) = sym one ∙ two in cc
 
-one_ceiling : (price : ℕ) (o : Option Data) (n m : ℕ) → IsCeiling price o n → IsCeiling price o m
-    → n ≡ m
-one_ceiling price None n m one two = one ∙ sym two
-one_ceiling price (Some value) n m one two = let both : integer (pos n) ≡ integer (pos m) =
+number_or_of : (default : ℕ) (o : Option Data) (n m : ℕ) → IsNumberOr default o n
+    → IsNumberOr default o m → n ≡ m
+number_or_of default None n m one two = one ∙ sym two
+number_or_of default (Some value) n m one two = let both : integer (pos n) ≡ integer (pos m) =
     sym one ∙ two in cc
 
 all_same : (fare fare' rides rides' ceiling ceiling' : ℕ) → fare ≡ fare' → rides ≡ rides'
@@ -320,20 +319,20 @@ one_terms tree class terms terms' one two =
     (ap (get_member class) (sym classes) ∙ one.holds) two.holds in
     let fare = number_of (get_member (codes "fare") two.element) terms.fare terms'.fare
     (ap (get_member (codes "fare")) (sym element) ∙ one.fare) two.fare in
-    let rides = number_of (get_member (codes "rides") two.element) terms.rides terms'.rides
-    (ap (get_member (codes "rides")) (sym element) ∙ one.rides) two.rides in
-    let price : terms.rides * terms.fare ≡ terms'.rides * terms'.fare =
-    ap (λ n. n * terms.fare) rides ∙ ap (λ n. terms'.rides * n) fare in
-    let same_price : IsCeiling (terms'.rides * terms'.fare)
-    (get_member (codes "ceiling") one.element)
-    terms.ceiling = subst (λ p.
-    IsCeiling p (get_member (codes "ceiling") one.element) terms.ceiling) price one.ceiling in
-    let same_entry : IsCeiling (terms'.rides * terms'.fare)
-    (get_member (codes "ceiling") two.element)
-    terms.ceiling = subst (λ (e : Members).
-    IsCeiling (terms'.rides * terms'.fare) (get_member (codes "ceiling") e) terms.ceiling) element
-    same_price in
-    let ceiling = one_ceiling (terms'.rides * terms'.fare)
+    let rides = number_or_of 60_000 (get_member (codes "rides") two.element) terms.rides terms'.rides
+    (subst (λ (e : Members). IsNumberOr 60_000 (get_member (codes "rides") e) terms.rides) element
+    one.rides) two.rides in
+    let own : own_ceiling terms.rides terms.fare ≡ own_ceiling terms'.rides terms'.fare =
+    ap (λ n. own_ceiling n terms.fare) rides ∙ ap (λ n. own_ceiling terms'.rides n) fare in
+    let same_own : IsNumberOr (own_ceiling terms'.rides terms'.fare)
+    (get_member (codes "ceiling") one.element) terms.ceiling =
+    subst (λ p. IsNumberOr p (get_member (codes "ceiling") one.element) terms.ceiling) own
+    one.ceiling in
+    let same_entry : IsNumberOr (own_ceiling terms'.rides terms'.fare)
+    (get_member (codes "ceiling") two.element) terms.ceiling = subst (λ (e : Members).
+    IsNumberOr (own_ceiling terms'.rides terms'.fare) (get_member (codes "ceiling") e)
+    terms.ceiling) element same_own in
+    let ceiling = number_or_of (own_ceiling terms'.rides terms'.fare)
     (get_member (codes "ceiling") two.element)
     terms.ceiling terms'.ceiling same_entry two.ceiling in
     all_same terms.fare terms'.fare terms.rides terms'.rides terms.ceiling terms'.ceiling fare rides

@@ -1,14 +1,15 @@
 -- What stands in the text if a step that reads a key came to an end.
 use Rattle.std.proofs.Common.{◌≡◌, ℕ, ◌≤◌, ◌&&◌, Bool, true, false, List, Option, Some, None, Ok}
-use Rattle.std.proofs.Common.{Err, refl, ap, arith}
+use Rattle.std.proofs.Common.{Err, refl, sym, ap, arith}
 use Rattle.std.proofs.lemmas.Bool.{and_parts, leb-true}
 use Rattle.std.specs.Option.{ok_or}
 use Rattle.std.specs.Prelude.{ℤ, pos, negsuc, nat_le, if◌then◌else◌}
 use Rattle.toml.specs.Data.{Data, Items, Members, string, integer, array, table, as_str, as_array}
 use Rattle.toml.specs.Data.{as_table, get_member}
 use Rattle.fare_table.specs.Members.{array_at, number_at, number_in, of_kind, table_at, text_at}
-use Rattle.fare_table.specs.Members.{within}
+use Rattle.fare_table.specs.Members.{number_or, within}
 use Rattle.fare_table.specs.OrFault.{◌>>=◌}
+use Rattle.fare_table.specs.Paying.{IsNumberOr}
 use Rattle.fare_table.specs.declared.fault.Key.{Key}
 use Rattle.fare_table.specs.declared.fault.TableFault.TheVariants.{Missing, Range}
 
@@ -54,6 +55,11 @@ is_number (integer z) key low high n is =
     let read = is_within z key low high n is in
     record { is = ap integer read.0; above = read.1; below = read.2 }
 is_number _ key low high n is = absurd (cc)
+
+pub is_number_or : (o : Option Data) (key : Key) (default low high n : ℕ)
+    → number_or default key low high o ≡ Ok n → IsNumberOr default o n
+is_number_or None key default low high n is = let same : default ≡ n = cc in sym same
+is_number_or (Some value) key default low high n is = (is_number value key low high n is).is
 
 needed_text : (o : Option Data) (key : Key) (text : List ℕ)
     → (ok_or o (Missing key) >>= (λ value. of_kind key (as_str value))) ≡ Ok text

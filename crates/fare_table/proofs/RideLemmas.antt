@@ -16,25 +16,25 @@ use Rattle.std.specs.Option.{ok_or}
 use Rattle.std.specs.Ordering.{is_eq, nat_cmp}
 use Rattle.std.specs.Prelude.{nat_le, nat_lt, pos, position, if◌then◌else◌}
 use Rattle.toml.specs.Data.{Data, Items, Members, no_members, member, integer, table, as_table}
-use Rattle.toml.specs.Data.{get_member, is_before}
+use Rattle.toml.specs.Data.{get_member, is_before, string}
 use Rattle.toml.specs.Parse.{parse_document}
 use Rattle.fare_table.proofs.ElementLemmas.{if_ok}
 use Rattle.fare_table.proofs.OrderLemmas.{nested-ordered}
 use Rattle.fare_table.proofs.PartLemmas.{bind_ok, parts}
 use Rattle.fare_table.proofs.PayLemmas.{AreClassParts, class_if, class_parts, classes_read}
 use Rattle.fare_table.proofs.PayLemmas.{has_terms, position_found, placed, riders_read, same_ok}
-use Rattle.fare_table.proofs.ReadLemmas.{is_number, is_table}
+use Rattle.fare_table.proofs.ReadLemmas.{is_number, is_number_or, is_table}
 use Rattle.fare_table.specs.ByteOrder.{in_byte_order}
 use Rattle.fare_table.specs.Classes.{class_of as class_by, fares_from, fares_of, position_of}
-use Rattle.fare_table.specs.Classes.{ride_transfers_of}
+use Rattle.fare_table.specs.Classes.{ride_transfers_of, taps_of}
 use Rattle.tariffs.specs.Fares.{class_at, class_of, no_class, ride_terms, transfer_terms}
 use Rattle.fare_table.specs.Members.{array_at, hold_numbers, number_in, number_or, of_kind}
 use Rattle.fare_table.specs.Modes.{are_distinct, are_mode_names, is_mode_name, mode_named, modes_of}
 use Rattle.tariffs.specs.Names.{same_name}
 use Rattle.fare_table.specs.Modes.{strings_from}
 use Rattle.fare_table.specs.OrFault.{OrFault, ◌>>=◌}
-use Rattle.fare_table.specs.Paying.{Gives, HasTerms, IsClassOf, IsElementOf, IsFareOn, IsNumberOr}
-use Rattle.fare_table.specs.Paying.{PaysOn}
+use Rattle.fare_table.specs.Paying.{AreTaps, Gives, HasTerms, IsClassOf, IsElementOf, IsFareOn}
+use Rattle.fare_table.specs.Paying.{IsNumberOr, PaysOn}
 use Rattle.tariffs.specs.TableMeaning.{TableMeaning}
 use Rattle.fare_table.specs.TableMeaning.{meaning_of_tree}
 use Rattle.tariffs.specs.declared.class.Class.{Class}
@@ -215,10 +215,22 @@ modes_few tree modes is =
     subst (λ (n : List (List ℕ)). length n ≤ 32) valid.1 few
 
 -- ---- what rides give
-is_number_or : (o : Option Data) (key : Key) (default low high n : ℕ)
-    → number_or default key low high o ≡ Ok n → IsNumberOr default o n
-is_number_or None key default low high n is = let same : default ≡ n = cc in sym same
-is_number_or (Some value) key default low high n is = (is_number value key low high n is).is
+are_taps : (o : Option Data) (n : ℕ) → taps_of o ≡ Ok n → AreTaps o n
+are_taps None n is = let same : 1 ≡ n = cc in sym same
+are_taps (Some (integer z)) n is =
+    inl (is_number (integer z) the_key.RideTransfers 0 9 n is).is
+are_taps (Some (string text)) n is = by (same_name text (codes "any")) refl is
+  where
+    by : (b : Bool) → same_name text (codes "any") ≡ b
+        → (if b then Ok 255 else Err (Kind the_key.RideTransfers)) ≡ Ok n
+        → AreTaps (Some (string text)) n
+    by true named is =
+        inr (
+          ap string (same_bytes text (codes "any") (is_eq-slice_cmp text (codes "any") ∙ named)),
+          let same : 255 ≡ n = cc in sym same,
+        )
+    by false named is = absurd (cc)
+are_taps (Some _) n is = absurd (cc)
 
 abbrev given_by : ℕ → ℕ → TransferTerms
 given_by taps minutes = record { taps = taps; time = minutes * 60_000 }
@@ -233,7 +245,7 @@ by_taps element taps =
 
 -- the number of taps and of minutes that the keys of a class say
 record AreGiven (element : Members) (given : TransferTerms) : Type 0 where
-  taps : IsNumberOr 1 (get_member (codes "transfers") element) given.taps
+  taps : AreTaps (get_member (codes "transfers") element) given.taps
   minutes : ℕ
   counted : IsNumberOr 120 (get_member (codes "transfer_minutes") element) minutes
   time : given.time ≡ minutes * 60_000
@@ -251,12 +263,12 @@ unfolding ride_transfers_of
 are_given element given is =
     let o = get_member (codes "transfers") element in
     let o' = get_member (codes "transfer_minutes") element in
-    let taps = bind_ok (number_or 1 the_key.RideTransfers 0 9 o) (by_taps element) given is in
+    let taps = bind_ok (taps_of o) (by_taps element) given is in
     let minutes = bind_ok (number_or 120 the_key.TransferMinutes 1 1_440 o') (by_minutes taps.0)
     given taps.2 in
     same_given element taps.0 minutes.0 given minutes.2
     (record {
-      taps = is_number_or o the_key.RideTransfers 1 0 9 taps.0 taps.1;
+      taps = are_taps o taps.0 taps.1;
       minutes = minutes.0;
       counted = is_number_or o' the_key.TransferMinutes 120 1 1_440 minutes.0 minutes.1;
       time = refl;

@@ -36,7 +36,8 @@ use Rattle.fare_table.specs.Faults.{classes_in, elements_in, first_at, first_fau
 use Rattle.fare_table.specs.Faults.{is_again, is_earlier, is_from, is_in_bounds, is_kind, is_mode}
 use Rattle.fare_table.specs.Faults.{is_no_zone}
 use Rattle.fare_table.specs.Faults.{is_wrong, items_of, last_at, member_at, members_at, members_of}
-use Rattle.fare_table.specs.Faults.{mode_names, needed_rows, holds_of_some, range_rows, rider_rows}
+use Rattle.fare_table.specs.Faults.{mode_names, needed_rows, optional_rows, holds_of_some}
+use Rattle.fare_table.specs.Faults.{range_rows, rider_rows}
 use Rattle.fare_table.specs.Faults.{riders_in, rows, rows_of_range, is_token, shares_validator}
 use Rattle.fare_table.specs.Faults.{token_at, value_at, string_of}
 use Rattle.fare_table.specs.Members.{are_tables, hold_strings, number_at, of_kind}
@@ -51,8 +52,8 @@ use Rattle.fare_table.specs.Transfers.{transfers_of}
 use Rattle.tariffs.specs.Validators.{are_disjoint}
 use Rattle.fare_table.specs.Validators.{range_of, ranges_from, ranges_of, share_number}
 use Rattle.fare_table.specs.Validators.{with_range}
-use Rattle.fare_table.specs.Window.{window_in, window_of}
-use Rattle.tariffs.specs.WindowSpan.{span_named}
+use Rattle.fare_table.specs.Window.{day_start_in, length_in, window_of}
+use Rattle.tariffs.specs.WindowSpan.{length_named, minutes_named}
 use Rattle.fare_table.specs.Zone.{zone_in, zone_of}
 use Rattle.fare_table.specs.declared.fault.Key.TheVariants as the_key
 use Rattle.fare_table.specs.declared.fault.TableFault.{TableFault}
@@ -63,7 +64,7 @@ use Rattle.tariffs.specs.declared.validators.RangeRest.{RangeRest}
 use Rattle.tariffs.proofs.ApartLemmas.{begins_first}
 use Rattle.fare_table.proofs.RiderLemmas.{Named, by_class, named_with}
 use Rattle.tap_views.proofs.Choices.{or_swap}
-use Rattle.tariffs.specs.declared.window_span.WindowSpan.{WindowSpan}
+use Rattle.fare_table.specs.declared.fault.Key.{Key}
 
 -- ---- one element of `validators`
 reported_three : (tree : Members) (at : Where) (one two three : TableFault)
@@ -449,24 +450,38 @@ zone-reported tree = zone_steps (get_member (codes "zone") tree)
     ∙ sym (reported_two tree top (Kind the_key.Zone) the_fault.Zone)
 
 -- ---- the window
-span_reports : (o : Option WindowSpan)
-    → fault_in (ok_or o (Range the_key.Window))
-    ≡ cond (not (is_some o)) (Some (Range the_key.Window)) None
-span_reports None = refl
-span_reports (Some span) = refl
+named_reports : {A : Type 0} (o : Option A) (key : Key)
+    → fault_in (ok_or o (Range key)) ≡ cond (not (is_some o)) (Some (Range key)) None
+named_reports None key = refl
+named_reports (Some x) key = refl
 
-window_steps : (o : Option Data) (beside : Members)
-    → fault_in (window_in o)
+length_steps : (o : Option Data) (beside : Members)
+    → fault_in (length_in o)
     ≡ cond (fails (is_kind the_key.Window) o) (Some (Kind the_key.Window))
     (cond (fails (is_in_bounds the_key.Window beside) o) (Some (Range the_key.Window)) None)
-window_steps None beside = refl
-window_steps (Some (string s)) beside = span_reports (span_named s)
-window_steps (Some _) beside = refl
+length_steps None beside = refl
+length_steps (Some (string s)) beside = named_reports (length_named s) the_key.Window
+length_steps (Some _) beside = refl
+
+day_start_steps : (o : Option Data) (beside : Members)
+    → fault_in (day_start_in o)
+    ≡ cond (fails (is_kind the_key.DayStarts) o) (Some (Kind the_key.DayStarts))
+    (cond (fails (is_in_bounds the_key.DayStarts beside) o) (Some (Range the_key.DayStarts)) None)
+day_start_steps None beside = refl
+day_start_steps (Some (string s)) beside = named_reports (minutes_named s) the_key.DayStarts
+day_start_steps (Some _) beside = refl
 
 window-reported : (tree : Members) → fault_in (window_of tree) ≡ first_row tree window_step
 unfolding window_of
-window-reported tree = window_steps (get_member (codes "window") tree) tree
-    ∙ sym (reported_two tree top (Kind the_key.Window) (Range the_key.Window))
+window-reported tree =
+    let length = get_member (codes "window") tree in
+    let starts = get_member (codes "day_starts") tree in
+    steps tree (length_in length) _ (optional_rows top the_key.Window)
+    (optional_rows top the_key.DayStarts)
+    (length_steps length tree
+    ∙ sym (reported_two tree top (Kind the_key.Window) (Range the_key.Window)))
+    (λ span is. done (day_start_in starts) _ ∙ day_start_steps starts tree
+    ∙ sym (reported_two tree top (Kind the_key.DayStarts) (Range the_key.DayStarts)))
 
 -- ---- the whole
 -- the rows of the classes stand behind those of their table

@@ -8,9 +8,9 @@ use Rattle.hex.specs.Hex.{decode_sized}
 use Rattle.jiff.specs.Words.{read_whole}
 use Rattle.toml.specs.Data.{Data, Items, no_items, item, Members, no_members, member, get_member}
 use Rattle.toml.specs.Data.{as_str, as_integer, as_array, as_table}
-use Rattle.fare_table.specs.Classes.{ceiling_of, class_in, class_named, class_of, classes_from}
-use Rattle.fare_table.specs.Classes.{classes_of, default_of, fares_from, fares_of, is_empty}
-use Rattle.fare_table.specs.Classes.{position_of, ride_transfers_of, terms_of}
+use Rattle.fare_table.specs.Classes.{class_in, class_named, class_of, classes_from, classes_of}
+use Rattle.fare_table.specs.Classes.{default_of, fares_from, fares_of, is_any, is_empty}
+use Rattle.fare_table.specs.Classes.{own_ceiling, position_of, ride_transfers_of, taps_of, terms_of}
 use Rattle.tariffs.specs.declared.class.Class.{Class}
 use Rattle.fare_table.specs.Members.{are_tables, array_at, hold_numbers, hold_strings, hold_tables}
 use Rattle.fare_table.specs.Members.{needed, number_at, number_in, number_or, of_kind, table_at}
@@ -24,15 +24,15 @@ use Rattle.fare_table.specs.Transfers.{name_pair, pairs_from, positions_of, tran
 use Rattle.fare_table.specs.Transfers.{transfers_of}
 use Rattle.tariffs.specs.Transfers.{with_pair}
 use Rattle.fare_table.specs.Validators.{range_in, range_of, ranges_from, ranges_of, with_range}
-use Rattle.fare_table.specs.Window.{window_in, window_of}
-use Rattle.tariffs.specs.WindowSpan.{span_named}
+use Rattle.fare_table.specs.Window.{day_start_in, length_in, window_of}
+use Rattle.tariffs.specs.WindowSpan.{length_named, minutes_named}
 use Rattle.fare_table.specs.Zone.{zone_in, zone_of}
 use Rattle.fare_table.specs.declared.fault.Key.{Key}
 use Rattle.fare_table.specs.declared.fault.Key.TheVariants as the_key
 use Rattle.fare_table.specs.declared.fault.TableFault.{TableFault}
 use Rattle.fare_table.specs.declared.fault.TableFault.TheVariants as the_fault
 use Rattle.tariffs.specs.declared.validators.RangeRest.{RangeRest}
-use Rattle.tariffs.specs.declared.window_span.WindowSpan.TheVariants.{Days}
+use Rattle.tariffs.specs.declared.window_span.WindowLength.TheVariants.{Days}
 
 -- the outcome is not the text fault
 abbrev pub NotText : {A : Type 0} → OrFault A → Type 0
@@ -145,18 +145,23 @@ transfers_of-text modes tree =
     (λ items. steps (pairs_from [] items) _ (pairs_from-text [] items) (λ pairs.
     transfers_from-text modes [] pairs))
 
-ceiling_of-text : (price : ℕ) (value : Option Data) → NotText (ceiling_of price value)
-ceiling_of-text price None = an_ok price
-ceiling_of-text price (Some value) = number_in-text the_key.Ceiling 1 100_000_000 value
+number_or-text : (default : ℕ) (key : Key) (low high : ℕ) (value : Option Data)
+    → NotText (number_or default key low high value)
+number_or-text default key low high None = an_ok default
+number_or-text default key low high (Some value) = number_in-text key low high value
 
 terms_of-text : (element : Members) → NotText (terms_of element)
 unfolding terms_of
-terms_of-text element = steps (number_at (codes "fare") the_key.Fare 1 100_000 element) _
-    (number_at-text (codes "fare") the_key.Fare 1 100_000 element)
-    (λ fare. steps (number_at (codes "rides") the_key.Rides 1 1_000 element) _
-    (number_at-text (codes "rides") the_key.Rides 1 1_000 element)
-    (λ rides. steps (ceiling_of (rides * fare) (get_member (codes "ceiling") element)) _
-    (ceiling_of-text (rides * fare) (get_member (codes "ceiling") element)) (λ ceiling. an_ok _)))
+terms_of-text element =
+    let named = get_member (codes "rides") element in
+    let cap = get_member (codes "ceiling") element in
+    steps (number_at (codes "fare") the_key.Fare 0 100_000 element) _
+    (number_at-text (codes "fare") the_key.Fare 0 100_000 element)
+    (λ fare. steps (number_or 60_000 the_key.Rides 1 1_000 named) _
+    (number_or-text 60_000 the_key.Rides 1 1_000 named)
+    (λ rides. steps (number_or (own_ceiling rides fare) the_key.Ceiling 1 100_000_000 cap) _
+    (number_or-text (own_ceiling rides fare) the_key.Ceiling 1 100_000_000 cap)
+    (λ ceiling. an_ok _)))
 
 fares_from-text : (modes : List (List ℕ)) (fares : List ℕ) (members : Members)
     → NotText (fares_from modes fares members)
@@ -177,16 +182,17 @@ fares_of-text modes fare (Some value) =
     (another (the_fault.Kind the_key.Fares) (λ is. cc)))
     (λ numbers. fares_from-text modes (replicate 32 fare) numbers))
 
-number_or-text : (default : ℕ) (key : Key) (low high : ℕ) (value : Option Data)
-    → NotText (number_or default key low high value)
-number_or-text default key low high None = an_ok default
-number_or-text default key low high (Some value) = number_in-text key low high value
+taps_of-text : (value : Option Data) → NotText (taps_of value)
+taps_of-text None = an_ok 1
+taps_of-text (Some value) =
+    a_choice (is_any value) (Ok 255) (number_in the_key.RideTransfers 0 9 value) (an_ok 255)
+    (number_in-text the_key.RideTransfers 0 9 value)
 
 ride_transfers_of-text : (element : Members) → NotText (ride_transfers_of element)
 unfolding ride_transfers_of
 ride_transfers_of-text element =
-    steps (number_or 1 the_key.RideTransfers 0 9 (get_member (codes "transfers") element)) _
-    (number_or-text 1 the_key.RideTransfers 0 9 (get_member (codes "transfers") element))
+    steps (taps_of (get_member (codes "transfers") element)) _
+    (taps_of-text (get_member (codes "transfers") element))
     (λ taps. steps (number_or 120 the_key.TransferMinutes 1 1_440
     (get_member (codes "transfer_minutes") element)) _
     (number_or-text 120 the_key.TransferMinutes 1 1_440
@@ -311,15 +317,26 @@ zone_of-text : (tree : Members) → NotText (zone_of tree)
 unfolding zone_of
 zone_of-text tree = zone_in-text (get_member (codes "zone") tree)
 
-window_in-text : (value : Option Data) → NotText (window_in value)
-window_in-text None = an_ok (Days 7)
-window_in-text (Some value) =
+length_in-text : (value : Option Data) → NotText (length_in value)
+length_in-text None = an_ok (Days 7)
+length_in-text (Some value) =
     steps (of_kind the_key.Window (as_str value)) _ (of_kind-text the_key.Window (as_str value))
-    (λ text. a_part (span_named text) (the_fault.Range the_key.Window) (λ is. cc))
+    (λ text. a_part (length_named text) (the_fault.Range the_key.Window) (λ is. cc))
+
+day_start_in-text : (value : Option Data) → NotText (day_start_in value)
+day_start_in-text None = an_ok 0
+day_start_in-text (Some value) =
+    steps (of_kind the_key.DayStarts (as_str value)) _
+    (of_kind-text the_key.DayStarts (as_str value))
+    (λ text. a_part (minutes_named text) (the_fault.Range the_key.DayStarts) (λ is. cc))
 
 window_of-text : (tree : Members) → NotText (window_of tree)
 unfolding window_of
-window_of-text tree = window_in-text (get_member (codes "window") tree)
+window_of-text tree =
+    steps (length_in (get_member (codes "window") tree)) _
+    (length_in-text (get_member (codes "window") tree))
+    (λ length. steps (day_start_in (get_member (codes "day_starts") tree)) _
+    (day_start_in-text (get_member (codes "day_starts") tree)) (λ day_starts. an_ok _))
 
 pub rules_of-text : (tree : Members) → NotText (meaning_of_tree tree)
 unfolding meaning_of_tree

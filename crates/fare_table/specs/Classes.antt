@@ -1,8 +1,9 @@
 -- The keys `classes` and `default_class`: what rider classes pay, and what their rides give.
 use Rattle.std.specs.Prelude.{ℕ, suc, ◌*◌, Bool, true, false, List, [], ◌∷◌, ◌++◌, Option, Some}
-use Rattle.std.specs.Prelude.{None, Ok, Err, codes, if◌then◌else◌, option_map, replicate, slice_set}
+use Rattle.std.specs.Prelude.{◌&&◌, None, Ok, Err, codes, if◌then◌else◌, nat_le, option_map}
+use Rattle.std.specs.Prelude.{replicate, slice_set}
 use Rattle.std.specs.Option.{ok_or}
-use Rattle.toml.specs.Data.{Data, Members, no_members, member, get_member, as_table}
+use Rattle.toml.specs.Data.{Data, Members, no_members, member, get_member, as_str, as_table}
 use Rattle.fare_table.specs.Members.{hold_numbers, hold_tables, number_at, number_in, number_or}
 use Rattle.fare_table.specs.Members.{of_kind, table_at, text_at}
 use Rattle.fare_table.specs.Modes.{mode_named}
@@ -14,17 +15,20 @@ use Rattle.tariffs.specs.declared.class.Class.{Class}
 use Rattle.tariffs.specs.declared.terms.Terms.{Terms}
 use Rattle.tariffs.specs.declared.transfer_terms.TransferTerms.{TransferTerms}
 
--- the ceiling that is named, else the price of all rides
-abbrev pub ceiling_of : ℕ → Option Data → OrFault ℕ
-ceiling_of price None = Ok price
-ceiling_of price (Some value) = number_in the_key.Ceiling 1 100_000_000 value
+-- the ceiling of a class that names none: the price of all rides, and the highest one if no limit
+-- of rides is named, or they cost nothing
+abbrev pub own_ceiling : ℕ → ℕ → ℕ
+own_ceiling rides fare =
+    if nat_le rides 1_000 && nat_le 1 fare then rides * fare else 100_000_000
 
--- the terms of a class: its fare, its rides and its ceiling, within their bounds
+-- the terms of a class: its fare, its rides, as many as a window counts if it names no limit, and
+-- its ceiling, within their bounds
 unfoldable pub terms_of : Members → OrFault Terms
 terms_of element = do
-  fare ← number_at (codes "fare") the_key.Fare 1 100_000 element
-  rides ← number_at (codes "rides") the_key.Rides 1 1_000 element
-  ceiling ← ceiling_of (rides * fare) (get_member (codes "ceiling") element)
+  fare ← number_at (codes "fare") the_key.Fare 0 100_000 element
+  rides ← number_or 60_000 the_key.Rides 1 1_000 (get_member (codes "rides") element)
+  ceiling ← number_or (own_ceiling rides fare) the_key.Ceiling 1 100_000_000
+      (get_member (codes "ceiling") element)
   Ok (record {
     fare = fare;
     rides = rides;
@@ -47,10 +51,25 @@ fares_of modes fare (Some value) = do
   numbers ← if hold_numbers named then Ok named else Err (Kind the_key.Fares)
   fares_from modes (replicate 32 fare) numbers
 
+-- the text is the word `any`
+abbrev pub is_any_text : Option (List ℕ) → Bool
+is_any_text None = false
+is_any_text (Some text) = same_name text (codes "any")
+
+-- the value is the word `any`
+abbrev pub is_any : Data → Bool
+is_any value = is_any_text (as_str value)
+
+-- how many transfers a ride gives: the number that is named, 255 at the word `any`, else one
+abbrev pub taps_of : Option Data → OrFault ℕ
+taps_of None = Ok 1
+taps_of (Some value) =
+    if is_any value then Ok 255 else number_in the_key.RideTransfers 0 9 value
+
 -- what the rides of a class give: one transfer within two hours, if it does not say otherwise
 unfoldable pub ride_transfers_of : Members → OrFault TransferTerms
 ride_transfers_of element = do
-  taps ← number_or 1 the_key.RideTransfers 0 9 (get_member (codes "transfers") element)
+  taps ← taps_of (get_member (codes "transfers") element)
   minutes ← number_or 120 the_key.TransferMinutes 1 1_440
       (get_member (codes "transfer_minutes") element)
   Ok (record { taps = taps; time = minutes * 60_000 })

@@ -12,12 +12,12 @@ use Rattle.hex.specs.Hex.{decode_sized}
 use Rattle.jiff.specs.Words.{read_whole}
 use Rattle.toml.specs.Data.{Data, Items, no_items, item, Members, no_members, member, get_member}
 use Rattle.toml.specs.Data.{get_item, as_str, as_integer, as_array, as_table}
-use Rattle.fare_table.specs.Classes.{is_empty}
+use Rattle.fare_table.specs.Classes.{is_any, is_empty}
 use Rattle.fare_table.specs.Members.{are_tables, hold_numbers, hold_strings, hold_tables}
 use Rattle.fare_table.specs.Modes.{are_mode_names}
 use Rattle.tariffs.specs.Names.{same_name}
 use Rattle.fare_table.specs.Transfers.{name_pair}
-use Rattle.tariffs.specs.WindowSpan.{span_named}
+use Rattle.tariffs.specs.WindowSpan.{length_named, minutes_named}
 use Rattle.fare_table.specs.declared.fault.Key.{Key}
 use Rattle.fare_table.specs.declared.fault.Key.TheVariants as the_key
 use Rattle.fare_table.specs.declared.fault.TableFault.{TableFault}
@@ -60,6 +60,7 @@ key_word the_key.ModeName = codes "mode"
 key_word the_key.Riders = codes "riders"
 key_word the_key.Zone = codes "zone"
 key_word the_key.Window = codes "window"
+key_word the_key.DayStarts = codes "day_starts"
 
 -- the items of a value, if it is an array
 abbrev pub items_of : Option Data → Items
@@ -151,7 +152,7 @@ is_kind the_key.Fare value = is_some (as_integer value)
 is_kind the_key.Rides value = is_some (as_integer value)
 is_kind the_key.Ceiling value = is_some (as_integer value)
 is_kind the_key.Fares value = holds_of_some hold_numbers (as_table value)
-is_kind the_key.RideTransfers value = is_some (as_integer value)
+is_kind the_key.RideTransfers value = is_any value || is_some (as_integer value)
 is_kind the_key.TransferMinutes value = is_some (as_integer value)
 is_kind the_key.DefaultClass value = is_some (as_str value)
 is_kind the_key.Validators value = holds_of_some are_tables (as_array value)
@@ -161,6 +162,7 @@ is_kind the_key.ModeName value = is_some (as_str value)
 is_kind the_key.Riders value = holds_of_some hold_strings (as_table value)
 is_kind the_key.Zone value = is_some (as_str value)
 is_kind the_key.Window value = is_some (as_str value)
+is_kind the_key.DayStarts value = is_some (as_str value)
 
 -- the value is a number from the one limit to the other
 abbrev pub is_from : ℕ → ℕ → Data → Bool
@@ -174,11 +176,11 @@ is_in_bounds the_key.Modes beside value =
 is_in_bounds the_key.Transfers beside value = true
 is_in_bounds the_key.Classes beside value =
     holds_of_some (λ classes. not (is_empty classes)) (as_table value)
-is_in_bounds the_key.Fare beside value = is_from 1 100_000 value
+is_in_bounds the_key.Fare beside value = is_from 0 100_000 value
 is_in_bounds the_key.Rides beside value = is_from 1 1_000 value
 is_in_bounds the_key.Ceiling beside value = is_from 1 100_000_000 value
 is_in_bounds the_key.Fares beside value = is_from 0 100_000 value
-is_in_bounds the_key.RideTransfers beside value = is_from 0 9 value
+is_in_bounds the_key.RideTransfers beside value = is_any value || is_from 0 9 value
 is_in_bounds the_key.TransferMinutes beside value = is_from 1 1_440 value
 is_in_bounds the_key.DefaultClass beside value = true
 is_in_bounds the_key.Validators beside value = true
@@ -189,7 +191,9 @@ is_in_bounds the_key.ModeName beside value = true
 is_in_bounds the_key.Riders beside value = true
 is_in_bounds the_key.Zone beside value = true
 is_in_bounds the_key.Window beside value =
-    holds_of_some (λ text. is_some (span_named text)) (as_str value)
+    holds_of_some (λ text. is_some (length_named text)) (as_str value)
+is_in_bounds the_key.DayStarts beside value =
+    holds_of_some (λ text. is_some (minutes_named text)) (as_str value)
 
 -- one of the names is this one
 abbrev pub is_mode : List (List ℕ) → List ℕ → Bool
@@ -312,7 +316,7 @@ fare_rows index key (member name value more) =
 abbrev pub rows_of_terms : ℕ → List FaultRow
 rows_of_terms index =
     needed_rows (class index) the_key.Fare
-    ++ (needed_rows (class index) the_key.Rides
+    ++ (optional_rows (class index) the_key.Rides
     ++ optional_rows (class index) the_key.Ceiling)
 
 -- of its `fares`: their kind, and then key by key
@@ -385,9 +389,9 @@ riders_step tree = a_row top (Kind the_key.Riders) ∷ rider_rows 0 (riders_in t
 abbrev pub zone_step : List FaultRow
 zone_step = a_row top (Kind the_key.Zone) ∷ a_row top Zone ∷ []
 
--- the step `window`
+-- the step `window`, and then `day_starts`
 abbrev pub window_step : List FaultRow
-window_step = optional_rows top the_key.Window
+window_step = optional_rows top the_key.Window ++ optional_rows top the_key.DayStarts
 
 -- all rows, step by step: `modes` first
 abbrev pub rows : Members → List FaultRow

@@ -6,7 +6,7 @@ use Rattle.fare_table.specs.declared.fault.Key.TheVariants.{Ceiling, Fares, Ride
 use Rattle.fare_table.specs.declared.fault.Key.TheVariants.{TransferMinutes, DefaultClass}
 use Rattle.fare_table.specs.declared.fault.Key.TheVariants.{Validators}
 use Rattle.fare_table.specs.declared.fault.Key.TheVariants.{First, Last, ModeName, Riders, Window}
-use Rattle.fare_table.specs.declared.fault.Key.TheVariants.{Zone}
+use Rattle.fare_table.specs.declared.fault.Key.TheVariants.{DayStarts, Zone}
 
 -- the bytes of the variant's name
 abbrev pub key_name : Key → List ℕ
@@ -27,3 +27,4 @@ key_name ModeName = codes "ModeName"
 key_name Riders = codes "Riders"
 key_name Zone = codes "Zone"
 key_name Window = codes "Window"
+key_name DayStarts = codes "DayStarts"

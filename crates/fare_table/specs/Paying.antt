@@ -1,6 +1,7 @@
 -- What a token pays by the text: its class, the terms of the class, and what its rides give.
 use Rattle.std.specs.Prelude.{◌≡◌, ◌⊎◌, ℕ, ◌*◌, pos, List, Option, None, Some, Ok, codes}
 use Rattle.toml.specs.Data.{Data, Members, string, integer, table, get_member}
+use Rattle.fare_table.specs.Classes.{own_ceiling}
 use Rattle.fare_table.specs.Riders.{token_of_digits}
 use Rattle.tariffs.specs.declared.terms.Terms.{Terms}
 use Rattle.tariffs.specs.declared.transfer_terms.TransferTerms.{TransferTerms}
@@ -19,10 +20,10 @@ IsClassOf tree token class =
     ⊎ ((get_member (codes "default_class") tree ≡ Some (string class))
     × ((key other : List ℕ) → ¬ NamesRider tree token key other))
 
--- the ceiling that the class has, else the price of all its rides
-abbrev pub IsCeiling : ℕ → Option Data → ℕ → Type 0
-IsCeiling price None ceiling = ceiling ≡ price
-IsCeiling price (Some value) ceiling = value ≡ integer (pos ceiling)
+-- the number that is there, else the one that holds if none is
+abbrev pub IsNumberOr : ℕ → Option Data → ℕ → Type 0
+IsNumberOr default None number = number ≡ default
+IsNumberOr default (Some value) number = value ≡ integer (pos number)
 
 -- the text's class of this name has these terms
 pub record HasTerms (tree : Members) (class : List ℕ) (terms : Terms) : Type 0 where
@@ -31,8 +32,8 @@ pub record HasTerms (tree : Members) (class : List ℕ) (terms : Terms) : Type 0
   pub element : Members
   pub holds : get_member class classes ≡ Some (table element)
   pub fare : get_member (codes "fare") element ≡ Some (integer (pos terms.fare))
-  pub rides : get_member (codes "rides") element ≡ Some (integer (pos terms.rides))
-  pub ceiling : IsCeiling (terms.rides * terms.fare)
+  pub rides : IsNumberOr 60_000 (get_member (codes "rides") element) terms.rides
+  pub ceiling : IsNumberOr (own_ceiling terms.rides terms.fare)
       (get_member (codes "ceiling") element) terms.ceiling
 
 -- the terms of the class that the token pays by
@@ -47,10 +48,11 @@ pub record IsElementOf (tree : Members) (class : List ℕ) (element : Members) :
   pub listed : get_member (codes "classes") tree ≡ Some (table classes)
   pub holds : get_member class classes ≡ Some (table element)
 
--- the number that is there, else the one that holds if none is
-abbrev pub IsNumberOr : ℕ → Option Data → ℕ → Type 0
-IsNumberOr default None number = number ≡ default
-IsNumberOr default (Some value) number = value ≡ integer (pos number)
+-- the number of transfers that is there, 255 if it is the word `any`, and one if there is none
+abbrev pub AreTaps : Option Data → ℕ → Type 0
+AreTaps None taps = taps ≡ 1
+AreTaps (Some value) taps =
+    (value ≡ integer (pos taps)) ⊎ ((value ≡ string (codes "any")) × (taps ≡ 255))
 
 -- the fare of the mode of this name: the one that the key `fares` of a class has for it, else the
 -- class's own
@@ -79,7 +81,7 @@ pub record Gives (tree : Members) (token : List ℕ) (given : TransferTerms) : T
   pub is : IsClassOf tree token class
   pub element : Members
   pub keys : IsElementOf tree class element
-  pub taps : IsNumberOr 1 (get_member (codes "transfers") element) given.taps
+  pub taps : AreTaps (get_member (codes "transfers") element) given.taps
   pub minutes : ℕ
   pub counted : IsNumberOr 120 (get_member (codes "transfer_minutes") element) minutes
   pub time : given.time ≡ minutes * 60_000

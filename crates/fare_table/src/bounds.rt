@@ -1,6 +1,6 @@
 //! The bounds of the numbers of a table's text.
 ghost use Rattle.std.specs.Prelude.{◌≡◌, ◌≢◌, ℤ, false, IfSome, None, Some};
-ghost use Rattle.toml.specs.Data.{Data, Members, integer};
+ghost use Rattle.toml.specs.Data.{Members, integer};
 ghost use Rattle.fare_table.specs.Faults.{is_from, is_in_bounds, is_kind};
 ghost use Rattle.fare_table.specs.declared.fault.Key.{Key};
 
@@ -9,14 +9,20 @@ use crate::fault::Key;
 /// The highest fare of a class, in cents, also on one mode.
 pub const MAX_FARE_CENTS: u32 = 100_000;
 
-/// The most rides that are paid for in a window.
+/// The highest limit of rides that a class can name.
 pub const MAX_RIDES: u32 = 1_000;
+
+/// The limit of rides of a class that names none: as many as a window counts.
+pub const UNNAMED_RIDES: u32 = 60_000;
 
 /// The highest ceiling of a window, in cents.
 pub const MAX_CEILING_CENTS: u32 = 100_000_000;
 
-/// The most transfers that a ride gives.
+/// The highest number of transfers that a class can name.
 pub const MAX_RIDE_TRANSFERS: u32 = 9;
+
+/// How many transfers a ride gives if its class names `any`: as many as an account counts.
+pub const ANY_RIDE_TRANSFERS: u32 = 255;
 
 /// The longest time for which a ride gives transfers, in minutes.
 pub const MAX_TRANSFER_MINUTES: u32 = 1_440;
@@ -26,20 +32,21 @@ pub const MAX_MODE_NAME_BYTES: usize = 16;
 
 impl Key {
     ghost use Rattle.std.specs.Prelude.{◌≡◌, ◌≢◌, ℤ, false, IfSome, None, Some};
-    ghost use Rattle.toml.specs.Data.{Data, Members, integer};
+    ghost use Rattle.toml.specs.Data.{Members, integer};
     ghost use Rattle.fare_table.specs.Faults.{is_from, is_in_bounds, is_kind};
 
     /// The least and the greatest number that the key may have, or `None` if it takes no number.
-    /// Those of `Fares` are of each fare in it; `Last` may also not be below the `first` beside it.
+    /// Those of `Fares` are of each fare in it; `Last` may also not be below the `first` beside it,
+    /// and `RideTransfers` may also be a text.
     pub fn bounds(self) -> Option<(u32, u32)>
-        ensures bounds { IfSome result (λ b. self ≢ Key.Last → (beside : Members) (value : Data)
-            → is_in_bounds self beside value ≡ is_from b.0 b.1 value) }
+        ensures bounds { IfSome result (λ b. self ≢ Key.Last → (beside : Members) (number : ℤ)
+            → is_in_bounds self beside (integer number) ≡ is_from b.0 b.1 (integer number)) }
         ensures last { self ≡ Key.Last → result ≡ Some (0, 4_294_967_295) }
         ensures none { result ≡ None → (self ≢ Key.Fares)
             × ((number : ℤ) → is_kind self (integer number) ≡ false) }
     {
         match self {
-            Key::Fare => Some((1, MAX_FARE_CENTS)),
+            Key::Fare => Some((0, MAX_FARE_CENTS)),
             Key::Rides => Some((1, MAX_RIDES)),
             Key::Ceiling => Some((1, MAX_CEILING_CENTS)),
             Key::Fares => Some((0, MAX_FARE_CENTS)),

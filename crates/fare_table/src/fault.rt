@@ -45,6 +45,8 @@ pub enum Key {
     Zone,
     /// `window`
     Window,
+    /// `day_starts`
+    DayStarts,
 }
 
 impl Key {
@@ -70,6 +72,7 @@ impl Key {
             Key::Riders => "Riders",
             Key::Zone => "Zone",
             Key::Window => "Window",
+            Key::DayStarts => "DayStarts",
         }
     }
 
@@ -94,6 +97,7 @@ impl Key {
             Key::Riders => "riders",
             Key::Zone => "zone",
             Key::Window => "window",
+            Key::DayStarts => "day_starts",
         }
     }
 }
@@ -109,7 +113,7 @@ impl fmt::Display for Key {
 /// The first fault of a table's text, in the order in which its keys are read: `modes`,
 /// `transfers`, `classes` (by name: `fare`, `rides`, `ceiling`, `fares` with the mode and the
 /// number of each, `transfers`, `transfer_minutes`), `default_class`, `validators` (each: `first`,
-/// `last`, `mode`, the range), `riders` (by token), `zone`, `window`. The kind of all elements of
+/// `last`, `mode`, the range), `riders` (by token), `zone`, `window`, `day_starts`. The kind of all elements of
 /// an array or table comes first.
 #[derive(Clone, Copy, Debug, PartialEq, Eq, Error)]
 pub enum TableFault {

@@ -9,12 +9,12 @@ mod read;
 mod read_table;
 
 pub use bounds::{
-    MAX_CEILING_CENTS, MAX_FARE_CENTS, MAX_MODE_NAME_BYTES, MAX_RIDE_TRANSFERS, MAX_RIDES,
-    MAX_TRANSFER_MINUTES,
+    ANY_RIDE_TRANSFERS, MAX_CEILING_CENTS, MAX_FARE_CENTS, MAX_MODE_NAME_BYTES, MAX_RIDE_TRANSFERS,
+    MAX_RIDES, MAX_TRANSFER_MINUTES, UNNAMED_RIDES,
 };
 pub use fault::{Key, TableFault};
 pub use read_table::ReadFareTable;
 pub use tariffs::{
     Class, Clock, FareTable, FollowFault, MAX_MODES, Mode, RangeRest, Tariff, Terms, TransferTerms,
-    WindowSpan,
+    WindowLength, WindowSpan, minutes_named,
 };

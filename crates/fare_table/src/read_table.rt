@@ -22,7 +22,7 @@ pub trait ReadFareTable {
     ghost use Rattle.fare_table.specs.declared.fault.TableFault.{TableFault};
 
     /// Reads a table from its TOML text, or returns `NoMemory` or the first fault in the order of
-    /// the keys: modes, transfers, classes, the default class, validators, riders, zone, window.
+    /// the keys: modes, transfers, classes, the default class, validators, riders, zone, window, the start of days.
     fn read(alloc: Global, text: &[u8]) -> Result<FareTable, TableFault>
         ensures ok { IfOk result (λ t. IsUtf8 text.now × (meaning_in text.now ≡ Ok t.meaning)) }
         ensures zone { IfOk result (λ t. IsClockOf t.meaning t.zone) }

@@ -1,11 +1,11 @@
 pub mod Along
 pub mod Beginnings
 pub mod ByToken
+pub mod LocalLemmas
 pub mod Closing
 pub mod ExplainedLines
 pub mod LineLists
 pub mod LinePuts
-pub mod LocalLemmas
 mod Modes
 pub mod MomentLemmas
 pub mod Parts

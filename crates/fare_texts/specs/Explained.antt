@@ -13,13 +13,13 @@ use Rattle.account_rule.specs.declared.no_transfer.NoTransfer.{NoTransfer}
 use Rattle.account_rule.specs.declared.reason.Reason.{Reason}
 use Rattle.account_rule.specs.declared.tap.TapIn.{TapIn}
 use Rattle.account_rule.specs.declared.window.WindowView.{WindowView}
-use Rattle.histories.specs.Entry.{own, tap_of}
+use Rattle.histories.specs.Entry.{tap_of}
 use Rattle.histories.specs.Sums.{sums}
 use Rattle.tap_views.specs.Token.{bytes_of}
 use Rattle.histories.specs.declared.entry.Entry.{Entry}
 use Rattle.tap_views.specs.declared.token.Token.{Token}
 use Rattle.fare_texts.specs.Counts.{totals_line}
-use Rattle.fare_texts.specs.Local.{IsLocal}
+use Rattle.fare_texts.specs.Local.{local_words}
 use Rattle.fare_texts.specs.Moments.{IsMomentText}
 use Rattle.fare_texts.specs.StatementText.{entry_words, statement_head, window_words}
 use Rattle.fare_texts.specs.LedgerLines.{reason_after}
@@ -79,10 +79,8 @@ pub record IsExplainedLine (fares : Fares) (entry : Entry) (why : Reason)
   pub explained : IsReasonWords fares why reason_words
   pub lack : List ℕ
   pub lacks : IsNoTransferEnd fares entry.moment why none lack
-  pub local : List ℕ
-  pub at : IsLocal fares.zone (codes ", local ") entry.moment local
-  pub shown : line ≡ moment ++ (entry_words fares entry ++ (reason_words ++ (lack ++ (local
-      ++ codes "\n"))))
+  pub shown : line ≡ moment ++ (entry_words fares entry ++ (reason_words ++ (lack
+      ++ (local_words fares.zone (codes ", local ") entry.moment ++ codes "\n"))))
 
 -- a line for each of the token's entries that follow the earlier ones, each with the reason that it
 -- has after those before it, and if it is a ride, why it is no transfer after them
@@ -103,12 +101,9 @@ pub record IsExplainedWindow (clocks : ClockView) (word : List ℕ) (window : Wi
   pub starts : IsMomentText window.start start
   pub until : List ℕ
   pub ends : IsMomentText window.until until
-  pub from : List ℕ
-  pub from_is : IsLocal clocks (codes " because it lasts from local ") window.start from
-  pub to : List ℕ
-  pub to_is : IsLocal clocks (codes " until local ") window.until to
   pub shown : line ≡ word ++ (start ++ (codes " " ++ (until ++ (window_words window
-      ++ (from ++ (to ++ codes "\n"))))))
+      ++ (local_words clocks (codes " because it lasts from local ") window.start
+      ++ (local_words clocks (codes " until local ") window.until ++ codes "\n"))))))
 
 -- a line for each window that is not the last
 abbrev pub AreEarlierLines : ClockView → List WindowView → List ℕ → Type 0
@@ -144,7 +139,3 @@ pub record IsExplained (fares : Fares) (token : Token) (entries : List Entry) (t
       (map (tap_of fares) entries) windows
   pub whole : text ≡ statement_head token ++ (terms ++ (lines ++ (totals_line (sums entries)
       ++ windows)))
-
--- the explained statement of a token over a history
-abbrev pub IsExplainedOver : Fares → List Entry → Token → List ℕ → Type 0
-IsExplainedOver fares history token text = IsExplained fares token (own token history) text

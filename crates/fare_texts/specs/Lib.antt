@@ -1,6 +1,8 @@
 pub mod ByToken
 pub mod Counts
 pub mod Explained
+pub mod ExplainedForms
+pub mod ExplainedJson
 pub mod Ledger
 pub mod LedgerLines
 pub mod Lines

@@ -5,18 +5,22 @@ ghost use Rattle.std.specs.Prelude.{string_bytes};
 ghost use Rattle.std.specs.Io.KnownBytes.{Appends};
 ghost use Rattle.histories.specs.Sums.{sums, sums_of};
 ghost use Rattle.fare_texts.specs.Explained.{IsExplained};
+ghost use Rattle.fare_texts.specs.ExplainedForms.{IsExplainedIn};
 ghost use Rattle.fare_texts.specs.PrintFaults.{UnchangedUnlessWrite};
 ghost use Rattle.fare_texts.specs.WrittenOut.{Begins};
 ghost use Rattle.fare_texts.specs.declared.print_fault.PrintFault.TheVariants.{Write as ForWrite};
 
+mod json;
+mod json_parts;
 mod lines;
 mod terms;
 mod window_lines;
 mod windows;
 
 use crate::lines::pass_on;
-use crate::{PrintFault, write_statement_head, write_totals};
+use crate::{Form, PrintFault, write_statement_head, write_totals};
 use histories::{Entry, totals_of_entries};
+use json::json_of;
 use lines::write_lines;
 use std::alloc::Global;
 use std::io::Write;
@@ -25,8 +29,8 @@ use tariffs::FareTable;
 use terms::write_terms;
 use window_lines::write_windows;
 
-/// The explained statement of a token that has these entries.
-pub fn explained_text_of(
+/// The lines of the explained statement of a token that has these entries.
+fn words_of(
     alloc: Global,
     table: &FareTable,
     token: Token,
@@ -45,22 +49,40 @@ pub fn explained_text_of(
     Ok(text)
 }
 
-/// Writes the explained statement of a token that has these entries under the table.
+/// The explained statement of a token that has these entries, in this form.
+pub fn explained_text_of(
+    alloc: Global,
+    form: Form,
+    table: &FareTable,
+    token: Token,
+    entries: &[Entry],
+) -> Result<String, NoMemory>
+    ensures { IfOk result
+        (λ text. IsExplainedIn form table.now token entries.now (string_bytes text)) }
+{
+    match form {
+        Form::Text => words_of(alloc, table, token, entries),
+        Form::Json => json_of(alloc, table, token, entries),
+    }
+}
+
+/// Writes the explained statement of a token that has these entries under the table, in this form.
 pub fn write_explained_of<W: Write>(
     alloc: Global,
+    form: Form,
     table: &FareTable,
     token: Token,
     entries: &[Entry],
     out: &mut W,
 ) -> Result<(), PrintFault>
-    ensures ok { OnOk result ((text : List ℕ) × IsExplained table.now token entries.now text
+    ensures ok { OnOk result ((text : List ℕ) × IsExplainedIn form table.now token entries.now text
         × Appends (W.contents out.old) (W.contents out.new) text) }
     ensures started { IfErr result (λ fault. fault ≡ ForWrite
-        → (text : List ℕ) × IsExplained table.now token entries.now text
+        → (text : List ℕ) × IsExplainedIn form table.now token entries.now text
         × Begins (W.contents out.old) (W.contents out.new) text) }
     ensures fault { IfErr result (λ fault. UnchangedUnlessWrite fault (out.new ≡ out.old)) }
 {
-    let mut text = explained_text_of(alloc, table, token, entries)?;
+    let mut text = explained_text_of(alloc, form, table, token, entries)?;
     pass_on(&mut text, out)?;
     Ok(())
 }

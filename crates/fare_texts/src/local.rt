@@ -1,13 +1,10 @@
-//! The text of a moment on the clocks of a table's zone.
+//! What clocks of a table's zone show at a moment.
 
-ghost use Rattle.std.specs.Prelude.{◌≡◌, ◌<◌, ◌+ℤ◌, ◌++◌, OnOk, List, ℕ, string_bytes};
-ghost use Rattle.jiff_core.specs.DateTime.{civil_nanos};
+ghost use Rattle.std.specs.Prelude.{◌≡◌, ◌<◌, ◌+ℤ◌, ◌++◌, OnOk, option_map, string_bytes};
 ghost use Rattle.jiff_core.specs.Timestamp.{nanos_of_seconds};
-ghost use Rattle.jiff_core.specs.declared.civil.datetime.DateTime.{DateTime};
-ghost use Rattle.jiff.specs.Names.{iso_datetime_text};
 ghost use Rattle.jiff_fmt.specs.Text.{offset_text};
 ghost use Rattle.tariffs.specs.Until.{moment_nanos};
-ghost use Rattle.fare_texts.specs.Local.{IsLocal};
+ghost use Rattle.fare_texts.specs.Local.{local_at, local_words, shown_words};
 
 use crate::moment::CALENDAR_END_MS;
 use arrayvec::ArrayString;
@@ -24,28 +21,37 @@ pub fn write_local(
     words: &str,
     moment: u64,
 ) -> Result<(), AllocError>
-    ensures { OnOk result ((written : List ℕ) × IsLocal clock.now words.now moment written
-        × (string_bytes text.new ≡ string_bytes text.old ++ written)) }
+    ensures { OnOk result (string_bytes text.new
+        ≡ string_bytes text.old ++ local_words clock.now words.now moment) }
 {
-    if moment >= CALENDAR_END_MS {
-        return Ok(());
-    }
-    match clock.offset_at(moment) {
-        Some(offset) => {
+    match local_at(clock, moment) {
+        Some(local) => {
             text.push_str(words)?;
-            text.push_str(clock_text(offset, moment).as_str())?;
-            Ok(())
+            text.push_str(local.as_str())
         }
         None => Ok(()),
+    }
+}
+
+/// What clocks of the table's zone show at the moment. `None` without a zone, and past the
+/// calendar's end.
+pub(crate) fn local_at(clock: &Clock, moment: u64) -> Option<ArrayString<38>>
+    ensures { option_map (λ local. local.bytes) result ≡ local_at clock.now.rule moment }
+{
+    if moment >= CALENDAR_END_MS {
+        return None;
+    }
+    match clock.offset_at(moment) {
+        Some(offset) => Some(clock_text(offset, moment)),
+        None => None,
     }
 }
 
 /// What a clock shows that is ahead of UTC so far, and how far that is.
 fn clock_text(offset: Offset, moment: u64) -> ArrayString<38>
     requires { moment < 253_402_207_200_000 }
-    ensures { (date_time : DateTime)
-        × (civil_nanos date_time ≡ moment_nanos moment +ℤ nanos_of_seconds offset.seconds)
-        × (result.bytes ≡ iso_datetime_text date_time ++ offset_text offset) }
+    ensures { result.bytes ≡ shown_words (moment_nanos moment +ℤ nanos_of_seconds offset.seconds)
+        ++ offset_text offset }
 {
     let instant = Timestamp::from_millisecond(moment as i64).unwrap();
     instant.display_with_offset(offset)

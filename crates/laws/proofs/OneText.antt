@@ -1,22 +1,10 @@
 -- A history has one ledger, one statement and one explained statement of a token.
-use Rattle.std.proofs.Common.{◌≡◌, ℕ, ◌+◌, ◌<◌, ◌≤◌, ℤ, List, [], ◌∷◌, ◌++◌, length, map}
-use Rattle.std.proofs.Common.{sym, ap, subst, ◌∙◌, Option, Some, None, ⊎_elim, codes}
-use Rattle.std.proofs.lemmas.Bool.{cases_lt}
-use Rattle.std.specs.Prelude.{unsigned_abs, ◌/◌, ◌%◌, ◌+ℤ◌, if◌then◌else◌, nat_lt}
-use Rattle.jiff_core.specs.declared.civil.datetime.DateTime.{DateTime}
-use Rattle.jiff_core.specs.declared.offset.Offset.{Offset}
-use Rattle.jiff_core.specs.DateTime.{civil_nanos}
-use Rattle.jiff_core.specs.Timestamp.{nanos_of_seconds}
-use Rattle.jiff_core.proofs.DateLemmas.{epoch_day_injective}
-use Rattle.jiff_core.proofs.DateTimeLemmas.{civil_nanos_injective, time_nanos_injective}
-use Rattle.jiff.specs.Names.{iso_datetime_text}
-use Rattle.jiff_fmt.specs.Text.{fraction_part, offset_text, pad2, sign_byte, year_text}
-use Rattle.jiff_tz.specs.declared.posix.TimeZone.{TimeZone as PosixRule}
+use Rattle.std.proofs.Common.{◌≡◌, ℕ, ◌+◌, List, [], ◌∷◌, ◌++◌, length, map}
+use Rattle.std.proofs.Common.{sym, ap, subst, ◌∙◌, Option, Some, None, codes}
 use Rattle.tariffs.specs.ClockView.{ClockView}
 use Rattle.tariffs.specs.Fares.{Fares, terms_at}
 use Rattle.tariffs.specs.TableMeaning.{TableMeaning}
 use Rattle.tap_views.specs.Token.{bytes_of}
-use Rattle.tariffs.specs.Until.{moment_nanos}
 use Rattle.tap_views.specs.declared.token.Token.{Token}
 use Rattle.account_rule.specs.TokenRules.{TokenRules, rules_of}
 use Rattle.account_rule.specs.Windows.{last_window}
@@ -30,7 +18,7 @@ use Rattle.histories.specs.Sums.{Sums, sums, sums_of}
 use Rattle.histories.specs.declared.entry.Entry.{Entry}
 use Rattle.histories.specs.declared.statement.Statement.{Statement}
 use Rattle.fare_texts.specs.Counts.{totals_line}
-use Rattle.fare_texts.specs.Local.{IsClockText, IsLocal, IsLocalBy}
+use Rattle.fare_texts.specs.Local.{local_words}
 use Rattle.fare_texts.specs.StatementText.{AreEntryLines, IsEntryLine, IsLineOf, IsStatementText}
 use Rattle.fare_texts.specs.StatementText.{IsWindowLine, entry_words, statement_head, window_words}
 use Rattle.fare_texts.specs.LedgerLines.{AreLedgerLinesAfter, head_text, reason_after}
@@ -148,81 +136,6 @@ one_statement fares history token a b is also =
     statement_text_same fares is.statement also.statement a b (s.token ∙ sym t.token)
     (s.lines ∙ sym t.lines) (s.totals ∙ sym t.totals) (s.window ∙ sym t.window) is.shown also.shown
 
--- ---- what clocks show
--- what a clock shows, by its numbers
-abbrev shown_by : ℤ → ℕ → ℕ → ℕ → ℕ → ℕ → ℕ → List ℕ
-shown_by year month day hour minute second rest =
-    (year_text year ++ 45 ∷ [] ++ pad2 month ++ 45 ∷ [] ++ pad2 day)
-    ++ 84 ∷ (pad2 hour ++ 58 ∷ pad2 minute ++ 58 ∷ pad2 second ++ fraction_part None rest)
-
-shown_same : (a b : DateTime) → civil_nanos a ≡ civil_nanos b
-    → iso_datetime_text a ≡ iso_datetime_text b
-shown_same a b same =
-    let (days, times) = civil_nanos_injective a b same in
-    let (year, month, day) = epoch_day_injective a.date b.date days in
-    let (hour, minute, second, rest) = time_nanos_injective a.time b.time times in
-    let d = b.date in
-    let t = b.time in
-    ap (λ (y : ℤ). shown_by y a.date.month a.date.day a.time.hour a.time.minute a.time.second
-    a.time.subsec_nanosecond) year
-    ∙ ap (λ (m : ℕ). shown_by d.year m a.date.day a.time.hour a.time.minute a.time.second
-    a.time.subsec_nanosecond) month
-    ∙ ap (λ (n : ℕ). shown_by d.year d.month n a.time.hour a.time.minute a.time.second
-    a.time.subsec_nanosecond) day
-    ∙ ap (λ (h : ℕ). shown_by d.year d.month d.day h a.time.minute a.time.second
-    a.time.subsec_nanosecond) hour
-    ∙ ap (λ (m : ℕ). shown_by d.year d.month d.day t.hour m a.time.second
-    a.time.subsec_nanosecond) minute
-    ∙ ap (λ (s : ℕ). shown_by d.year d.month d.day t.hour t.minute s a.time.subsec_nanosecond)
-    second
-    ∙ ap (λ (r : ℕ). shown_by d.year d.month d.day t.hour t.minute t.second r) rest
-
--- the hours and minutes of an offset in seconds
-abbrev minutes_by : ℤ → ℕ × ℕ
-minutes_by seconds =
-    let total = unsigned_abs seconds in
-    let hours = total / 3600 in
-    let minutes = total / 60 % 60 in
-    if nat_lt (total % 60) 30 then (hours, minutes)
-    else (if nat_lt minutes 59 then (hours, minutes + 1)
-    else (if nat_lt hours 25 then (hours + 1, 0) else (25, 59)))
-
-abbrev offset_by : ℤ → List ℕ
-offset_by seconds =
-    sign_byte seconds ∷ pad2 (minutes_by seconds).0 ++ 58 ∷ pad2 (minutes_by seconds).1
-
-offset_same : (a b : Offset) → a.seconds ≡ b.seconds → offset_text a ≡ offset_text b
-offset_same a b same = ap (λ (s : ℤ). offset_by s) same
-
-clock_same : (zone : PosixRule) (moment : ℕ) (a b : List ℕ) → IsClockText zone moment a
-    → IsClockText zone moment b → a ≡ b
-clock_same zone moment a b is also =
-    let ahead = is.ahead ∙ sym also.ahead in
-    let nanos = is.shows ∙ ap (λ (s : ℤ). moment_nanos moment +ℤ nanos_of_seconds s) ahead
-    ∙ sym also.shows in
-    is.shown
-    ∙ both (iso_datetime_text is.date_time) (iso_datetime_text also.date_time)
-    (offset_text is.offset) (offset_text also.offset)
-    (shown_same is.date_time also.date_time nanos)
-    (offset_same is.offset also.offset ahead)
-    ∙ sym also.shown
-
-local_same_by : (zone : Option PosixRule) (words : List ℕ) (moment : ℕ) (a b : List ℕ)
-    → IsLocalBy zone words moment a → IsLocalBy zone words moment b → a ≡ b
-local_same_by None words moment a b is also = is ∙ sym also
-local_same_by (Some zone) words moment a b is also =
-    ⊎_elim
-    (λ (below : moment < 253_402_207_200_000).
-    let (clock, one, whole) = is.civil below in
-    let (clock', one', whole') = also.civil below in
-    whole ∙ ap (λ c. words ++ c) (clock_same zone moment clock clock' one one') ∙ sym whole')
-    (λ (above : 253_402_207_200_000 ≤ moment). is.past above ∙ sym (also.past above))
-    (cases_lt moment 253_402_207_200_000)
-
-local_same : (clock : ClockView) (words : List ℕ) (moment : ℕ) (a b : List ℕ)
-    → IsLocal clock words moment a → IsLocal clock words moment b → a ≡ b
-local_same clock words moment a b is also = local_same_by clock.rule words moment a b is also
-
 -- ---- explained statements
 window_text_same : (start until : ℕ) (a b : List ℕ) → IsWindowText start until a
     → IsWindowText start until b → a ≡ b
@@ -300,15 +213,14 @@ explained_line_same : (fares : Fares) (entry : Entry) (why : Reason) (none : Opt
     → IsExplainedLine fares entry why none a → IsExplainedLine fares entry why none b → a ≡ b
 explained_line_same fares entry why none a b is also =
     let words = entry_words fares entry in
+    let end = local_words fares.zone (codes ", local ") entry.moment ++ codes "\n" in
     is.shown
-    ∙ ap (λ m. m ++ (words ++ (is.reason_words ++ (is.lack ++ (is.local ++ codes "\n")))))
+    ∙ ap (λ m. m ++ (words ++ (is.reason_words ++ (is.lack ++ end))))
     (moment_same entry.moment is.moment also.moment is.is also.is)
-    ∙ ap (λ r. also.moment ++ (words ++ (r ++ (is.lack ++ (is.local ++ codes "\n")))))
+    ∙ ap (λ r. also.moment ++ (words ++ (r ++ (is.lack ++ end))))
     (words_same fares why is.reason_words also.reason_words is.explained also.explained)
-    ∙ ap (λ l. also.moment ++ (words ++ (also.reason_words ++ (l ++ (is.local ++ codes "\n")))))
+    ∙ ap (λ l. also.moment ++ (words ++ (also.reason_words ++ (l ++ end))))
     (lack_end_same fares entry.moment why none is.lack also.lack is.lacks also.lacks)
-    ∙ ap (λ l. also.moment ++ (words ++ (also.reason_words ++ (also.lack ++ (l ++ codes "\n")))))
-    (local_same fares.zone (codes ", local ") entry.moment is.local also.local is.at also.at)
     ∙ sym also.shown
 
 explained_after_same : (fares : Fares) (token : Token) (earlier entries : List Entry)
@@ -328,17 +240,14 @@ explained_window_same : (clocks : ClockView) (word : List ℕ) (window : WindowV
     (a b : List ℕ) → IsExplainedWindow clocks word window a
     → IsExplainedWindow clocks word window b → a ≡ b
 explained_window_same clocks word window a b is also =
-    let shown = window_words window in
+    let end = window_words window
+    ++ (local_words clocks (codes " because it lasts from local ") window.start
+    ++ (local_words clocks (codes " until local ") window.until ++ codes "\n")) in
     is.shown
-    ∙ ap (λ s. word ++ (s ++ (codes " " ++ (is.until ++ (shown ++ (is.from ++ (is.to
-    ++ codes "\n"))))))) (moment_same window.start is.start also.start is.starts also.starts)
-    ∙ ap (λ u. word ++ (also.start ++ (codes " " ++ (u ++ (shown ++ (is.from ++ (is.to
-    ++ codes "\n"))))))) (moment_same window.until is.until also.until is.ends also.ends)
-    ∙ ap (λ f. word ++ (also.start ++ (codes " " ++ (also.until ++ (shown ++ (f ++ (is.to
-    ++ codes "\n"))))))) (local_same clocks _ window.start is.from also.from is.from_is
-    also.from_is)
-    ∙ ap (λ t. word ++ (also.start ++ (codes " " ++ (also.until ++ (shown ++ (also.from ++ (t
-    ++ codes "\n"))))))) (local_same clocks _ window.until is.to also.to is.to_is also.to_is)
+    ∙ ap (λ s. word ++ (s ++ (codes " " ++ (is.until ++ end))))
+    (moment_same window.start is.start also.start is.starts also.starts)
+    ∙ ap (λ u. word ++ (also.start ++ (codes " " ++ (u ++ end))))
+    (moment_same window.until is.until also.until is.ends also.ends)
     ∙ sym also.shown
 
 earlier_same : (clocks : ClockView) (windows : List WindowView) (a b : List ℕ)

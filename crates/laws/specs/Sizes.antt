@@ -2,7 +2,7 @@
 use Rattle.std.specs.Prelude.{ℕ, ◌<◌, ◌^◌, List, All, flat_map, length, map}
 use Rattle.std.specs.List.{AllByRecursion}
 use Rattle.tariffs.specs.Fares.{Fares, class_of, meaning_at, ride_terms}
-use Rattle.tariffs.specs.Terms.{AreRideTerms}
+use Rattle.tariffs.specs.Terms.{AreBoundedTerms}
 use Rattle.histories.specs.declared.entry.Entry.{Entry}
 use Rattle.sorted_bills.specs.Parts.{PartView}
 use Rattle.part_texts.specs.Shown.{SpanFits}
@@ -12,7 +12,7 @@ use Rattle.part_texts.specs.Shown.{SpanFits}
 abbrev pub HaveBoundedTerms : Fares → Type 0
 HaveBoundedTerms fares =
     (token : List ℕ) (moment mode : ℕ)
-    → AreRideTerms
+    → AreBoundedTerms
     (ride_terms (meaning_at fares moment) (class_of (meaning_at fares moment) token) mode)
 
 -- each entry's validator has 32 bits

@@ -4,7 +4,7 @@ ghost use Rattle.std.specs.Prelude.{◌≡◌, ℕ, Bool, List, Option, map};
 ghost use Rattle.tariffs.specs.Fares.{Fares};
 ghost use Rattle.histories.specs.declared.entry.Entry.{Entry};
 ghost use Rattle.tap_views.specs.declared.token.Token.{Token};
-ghost use Rattle.fare_program.specs.Options.{Request};
+ghost use Rattle.fare_program.specs.Options.{Request, form_of};
 ghost use Rattle.fare_program.specs.Settling.{ShowsSettled};
 ghost use Rattle.report_texts.specs.OverHistory.{IsReportOver};
 ghost use Rattle.settlement.specs.Alike.{HaveSameTaps};
@@ -28,12 +28,13 @@ pub fn same_reports(uploads: &[Vec<u8>], others: &[Vec<u8>])
 }
 
 /// Two settled runs over the same valid taps, in any order and split, by any workers and shards,
-/// print the same ledger and statements, and the same report after the lines of the uploads.
+/// print the same ledger and statements, in the same form, and the same report after the lines of
+/// the uploads.
 pub fn settled_texts_agree(files: &[Vec<u8>], others: &[Vec<u8>])
     ensures { (request again : Request) (fares : Fares) (token : Option Token) (text other : List ℕ)
         (success ill : Bool)
         → HaveSameTaps (map (λ f. f.items) files.now) (map (λ f. f.items) others.now)
-        → request.ledger ≡ again.ledger → request.explain ≡ again.explain
+        → request.ledger ≡ again.ledger → form_of request ≡ form_of again
         → ShowsSettled request fares (map (λ f. f.items) files.now) token text success
         → ShowsSettled again fares (map (λ f. f.items) others.now) token other ill
         → TextsAgree request.ledger token (map (λ f. f.items) files.now)

@@ -4,7 +4,7 @@ use Rattle.std.proofs.Common.{refl, sym, ap, subst, ◌∙◌, append_assoc, opt
 use Rattle.std.specs.Fmt.{decimal}
 use Rattle.hex.specs.Hex.{encode_lower}
 use Rattle.tariffs.specs.Fares.{Fares, class_of, meaning_at, mode_at, ride_terms}
-use Rattle.tariffs.specs.Terms.{AreRideTerms}
+use Rattle.tariffs.specs.Terms.{AreBoundedTerms}
 use Rattle.tariffs.specs.declared.mode.Mode.{Mode}
 use Rattle.fare_texts.specs.Moments.{IsMomentText}
 use Rattle.fare_texts.specs.StatementText.{answer_text}
@@ -72,18 +72,18 @@ cents_fields fares token number entry why line is = record {
 terms_at_entry : (fares : Fares) (entry : Entry)
     → HasRideTerms fares entry.token entry.moment entry.validator
     → (mode : Mode) → (tap_of fares entry).mode ≡ Some mode
-    → AreRideTerms ((rules_of fares (bytes_of entry.token)).terms (live_at entry.moment mode))
+    → AreBoundedTerms ((rules_of fares (bytes_of entry.token)).terms (live_at entry.moment mode))
 unfolding tap_of rules_of token_class live_at
 terms_at_entry fares entry bounds mode is = by (mode_at fares entry.moment entry.validator) refl is
   where
     by : (o : Option ℕ) → mode_at fares entry.moment entry.validator ≡ o
         → option_map mode_of_position o ≡ Some mode
-        → AreRideTerms (ride_terms (meaning_at fares entry.moment)
+        → AreBoundedTerms (ride_terms (meaning_at fares entry.moment)
         (class_of (meaning_at fares entry.moment) (bytes_of entry.token)) mode.position)
     by None at none = absurd (cc)
     by (Some position) at one =
         let same : mode_of_position position ≡ mode = cc in
-        subst (λ (m : Mode). AreRideTerms
+        subst (λ (m : Mode). AreBoundedTerms
         (ride_terms (meaning_at fares entry.moment)
         (class_of (meaning_at fares entry.moment) (bytes_of entry.token)) m.position))
         same (bounds position at)

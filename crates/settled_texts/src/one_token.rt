@@ -10,12 +10,14 @@ ghost use Rattle.fare_texts.specs.PrintFaults.{UnchangedUnlessWrite};
 ghost use Rattle.fare_texts.specs.WrittenOut.{Begins};
 ghost use Rattle.fare_texts.specs.declared.print_fault.PrintFault.TheVariants.{Write as ForWrite};
 ghost use Rattle.report_texts.specs.OverHistory.{IsStatementOver};
-ghost use Rattle.fare_texts.specs.Explained.{IsExplainedOver};
+ghost use Rattle.fare_texts.specs.ExplainedForms.{IsExplainedOver};
 ghost use Rattle.fare_texts.specs.Ledger.{IsLedgerOver};
 ghost use Rattle.settlement.specs.Posted.{posted, token_of_tap};
 ghost use Rattle.settlement.specs.Replays.{HasPosted};
 
-use fare_texts::{PrintFault, statement_text, write_explained_of, write_ledger_of, write_out};
+use fare_texts::{
+    Form, PrintFault, statement_text, write_explained_of, write_ledger_of, write_out,
+};
 use histories::{Entry, Lines, Statement, totals_of_entries};
 use settlement::Replay;
 use std::alloc::Global;
@@ -77,10 +79,11 @@ pub fn write_token_ledger<W: Write>(
     write_ledger_of(alloc, table, token, &entries, out)
 }
 
-/// Writes the explained statement of a token that has these taps, in canonical order. All memory is
-/// taken before the first byte is written: on a fault of memory nothing was.
+/// Writes the explained statement of a token that has these taps, in canonical order, in this form.
+/// All memory is taken before the first byte is written: on a fault of memory nothing was.
 pub fn write_token_explained<W: Write>(
     alloc: Global,
+    form: Form,
     table: &FareTable,
     token: Token,
     taps: &[TapFields],
@@ -90,17 +93,17 @@ pub fn write_token_explained<W: Write>(
     requires its { All (λ tap. token_of_tap tap ≡ token) taps.now }
     ensures ok { OnOk result ((text : List ℕ)
         × ((history : List Entry) → own token history ≡ posted table.now taps.now
-        → IsExplainedOver table.now history token text)
+        → IsExplainedOver form table.now history token text)
         × Appends (W.contents out.old) (W.contents out.new) text) }
     ensures started { IfErr result (λ fault. fault ≡ ForWrite
         → (text : List ℕ)
         × ((history : List Entry) → own token history ≡ posted table.now taps.now
-        → IsExplainedOver table.now history token text)
+        → IsExplainedOver form table.now history token text)
         × Begins (W.contents out.old) (W.contents out.new) text) }
     ensures fault { IfErr result (λ fault. UnchangedUnlessWrite fault (out.new ≡ out.old)) }
 {
     let PostedTaps { entries, .. } = post(alloc, table, token, taps)?;
-    write_explained_of(alloc, table, token, &entries, out)
+    write_explained_of(alloc, form, table, token, &entries, out)
 }
 
 fn statement_of(

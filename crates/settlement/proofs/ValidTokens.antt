@@ -2,7 +2,7 @@
 use Rattle.std.proofs.Common.{ℕ, List, All, None, map, ap, subst, ◌∙◌, []}
 use Rattle.std.proofs.lemmas.List.Elements.{All-weaker}
 use Rattle.tariffs.specs.Fares.{Fares}
-use Rattle.tariffs.specs.declared.window_span.WindowSpan.TheVariants.{CalendarDay}
+use Rattle.tariffs.specs.declared.window_span.WindowLength.TheVariants.{CalendarDay}
 use Rattle.histories.specs.Entry.{AreEntriesOf}
 use Rattle.histories.specs.declared.entry.Entry.{Entry}
 use Rattle.tap_views.specs.Encoding.{fields_of}
@@ -29,7 +29,7 @@ some_fares = record {
     ranges = [];
     riders = [];
     zone = None;
-    window = CalendarDay;
+    window = record { length = CalendarDay; day_starts = 0 };
   };
   later = [];
   zone = record { rule = None };

@@ -12,7 +12,7 @@ pub enum KeyHolder {
     Range(usize),
 }
 
-const TOP: [Key; 8] = [
+const TOP: [Key; 9] = [
     Key::Modes,
     Key::Transfers,
     Key::Classes,
@@ -21,6 +21,7 @@ const TOP: [Key; 8] = [
     Key::Riders,
     Key::Zone,
     Key::Window,
+    Key::DayStarts,
 ];
 
 const CLASS: [Key; 6] = [

@@ -188,12 +188,13 @@ fn push_riders(
     Ok(())
 }
 
-fn push_window(text: &mut String, tree: &Table) -> Result<(), AllocError> {
-    let Some(value) = tree.get("window") else {
+/// Appends a line of the text at a key, if the key is there.
+fn push_text_at(text: &mut String, tree: &Table, key: &str) -> Result<(), AllocError> {
+    let Some(value) = tree.get(key) else {
         return Ok(());
     };
     match value.as_str() {
-        Some(window) => write!(text, "window {window}\n"),
+        Some(value) => write!(text, "{key} {value}\n"),
         None => Ok(()),
     }
 }
@@ -222,7 +223,8 @@ pub(crate) fn lines_of(
     let mut text = String::new(alloc);
     push_name(&mut text, wanted.name, wanted.valid_from)?;
     push_zone(&mut text, fares, wanted.from)?;
-    push_window(&mut text, tree)?;
+    push_text_at(&mut text, tree, "window")?;
+    push_text_at(&mut text, tree, "day_starts")?;
     push_modes(&mut text, fares)?;
     push_transfers(&mut text, fares)?;
     push_classes(alloc, &mut text, tree, fares)?;

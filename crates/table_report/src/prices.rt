@@ -4,7 +4,7 @@ ghost use Rattle.tariffs.specs.Terms.{AreBoundedTerms};
 
 use crate::names::mode_name;
 use account_rule::cents_at;
-use fare_table::{Class, FareTable, Terms};
+use fare_table::{ANY_RIDE_TRANSFERS, Class, FareTable, Terms};
 use std::alloc::AllocError;
 use toml::Table;
 
@@ -48,6 +48,9 @@ pub(crate) fn push_ride_transfers(
     }
     let taps = class.transfers.taps;
     let minutes = class.transfers.time / MINUTE_MS;
+    if taps == ANY_RIDE_TRANSFERS {
+        return write!(text, "gives {name} transfers any minutes {minutes}\n");
+    }
     write!(text, "gives {name} transfers {taps} minutes {minutes}\n")
 }
 

@@ -1,7 +1,7 @@
 //! A fare table as SQL tables, in words that SQLite and PostgreSQL share.
 
 use crate::names::{class_name, mode_name};
-use fare_table::{FareTable, Terms, TransferTerms, WindowSpan};
+use fare_table::{FareTable, Terms, TransferTerms, WindowLength, WindowSpan};
 use std::alloc::{AllocError, Global};
 use std::fmt;
 use std::io::Write;
@@ -184,13 +184,20 @@ fn put_riders(text: &mut String, fares: &FareTable) -> Result<(), AllocError> {
     Ok(())
 }
 
-/// Appends the statement of the unit of windows, and of how many days they have at most.
+/// Appends the statement of the unit of windows, which names the start of days that do not start at
+/// 00:00, and of how many days they have at most.
 fn put_window(text: &mut String, span: WindowSpan) -> Result<(), AllocError> {
-    let (unit, days) = match span {
-        WindowSpan::Days(count) => ("days", count),
-        WindowSpan::CalendarDay => ("calendar day", 1),
-        WindowSpan::CalendarWeek => ("calendar week", 7),
-        WindowSpan::CalendarMonth => ("calendar month", 31),
+    let (unit, days) = match span.length {
+        WindowLength::Days(count) => ("days", count),
+        WindowLength::CalendarDay => ("calendar day", 1),
+        WindowLength::CalendarWeek => ("calendar week", 7),
+        WindowLength::CalendarMonth => ("calendar month", 31),
     };
-    write!(text, "INSERT INTO window_span VALUES ('{unit}', {days});\n")
+    write!(text, "INSERT INTO window_span VALUES ('{unit}")?;
+    if span.day_starts > 0 {
+        let hour = span.day_starts / 60;
+        let minute = span.day_starts % 60;
+        write!(text, " from {hour:02}:{minute:02}")?;
+    }
+    write!(text, "', {days});\n")
 }

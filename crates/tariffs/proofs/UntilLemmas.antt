@@ -30,21 +30,24 @@ use Rattle.jiff_tz.specs.Year.{year_of_day}
 use Rattle.jiff_tz.specs.declared.posix.Dst.{Dst}
 use Rattle.jiff_tz.specs.declared.posix.TimeZone.{TimeZone as PosixRule}
 use Rattle.tariffs.specs.ClockView.{ClockView}
-use Rattle.tariffs.specs.Until.{IsCivilWindowEnd, IsEndDate, IsPlainWindowEnd}
+use Rattle.tariffs.specs.Until.{IsCivilWindowEnd, IsDayAt, IsEndDate, IsPlainEndOf}
+use Rattle.tariffs.specs.Until.{IsPlainWindowEnd}
 use Rattle.tariffs.specs.inside.Midnight.{IsMidnight}
 use Rattle.tariffs.specs.Until.{IsWindowEnd}
 use Rattle.tariffs.specs.PosixRule.{posix_rule}
 use Rattle.tariffs.specs.Until.{IsWindowEndBy}
-use Rattle.tariffs.specs.Until.{civil_window_end, day_at, end_day, end_millis, next_month}
-use Rattle.tariffs.specs.Until.{midnight_by, midnight_instant, midnight_nanos, midnight_offset}
-use Rattle.tariffs.specs.Until.{moment_nanos}
-use Rattle.tariffs.specs.Until.{offsets_by, plain_window_end, until, utc_window_end}
+use Rattle.tariffs.specs.Until.{civil_instant, civil_offset, civil_window_end, day_at}
+use Rattle.tariffs.specs.Until.{day_start_nanos, end_day, end_millis, next_month}
+use Rattle.tariffs.specs.Until.{midnight_by, midnight_nanos, moment_nanos}
+use Rattle.tariffs.specs.Until.{offsets_by, plain_end_of, plain_window_end, start_instant}
+use Rattle.tariffs.specs.Until.{start_nanos, until, utc_window_end}
 use Rattle.tariffs.specs.Until.{window_end_by, window_end_in}
 use Rattle.tariffs.specs.Fares.{Fares, meaning_at}
 use Rattle.tariffs.specs.declared.window_span.WindowSpan.{WindowSpan}
-use Rattle.tariffs.specs.declared.window_span.WindowSpan.TheVariants.{Days, CalendarDay}
-use Rattle.tariffs.specs.declared.window_span.WindowSpan.TheVariants.{CalendarMonth}
-use Rattle.tariffs.specs.declared.window_span.WindowSpan.TheVariants.{CalendarWeek}
+use Rattle.tariffs.specs.declared.window_span.WindowLength.{WindowLength}
+use Rattle.tariffs.specs.declared.window_span.WindowLength.TheVariants.{Days, CalendarDay}
+use Rattle.tariffs.specs.declared.window_span.WindowLength.TheVariants.{CalendarMonth}
+use Rattle.tariffs.specs.declared.window_span.WindowLength.TheVariants.{CalendarWeek}
 
 -- ---- the midnight that a zone picks, and the date that its clocks show
 offsets-date : (std : Offset) (dst : Option Dst) (dt : DateTime)
@@ -54,45 +57,53 @@ offsets-date std None dt = refl
 offsets-date std (Some dst) dt =
     ap (λ year. offsets_by std (Some dst) year (civil_nanos dt)) (sym (year_of_day-date dt.date))
 
--- the instant that the zone picks for a midnight
-picked-midnight : (zone : PosixRule) (dt : DateTime) → time_nanos dt.time ≡ 0
-    → picked_instant (Posix zone) dt ≡ midnight_instant zone (epoch_day dt.date)
+-- the instant that the zone picks for what a civil clock shows
+picked-at : (zone : PosixRule) (dt : DateTime) (at : ℤ) → civil_nanos dt ≡ at
+    → picked_instant (Posix zone) dt ≡ civil_instant zone (epoch_day dt.date) at
 unfolding ambiguous_at
-picked-midnight zone dt time =
-    let civil : civil_nanos dt ≡ midnight_nanos (epoch_day dt.date) =
-    omega (arith, signed_arith, civil_nanos-parts dt) in
+picked-at zone dt at civil =
     ap (λ offsets. civil_nanos dt -ℤ nanos_of_seconds (compatible_offset offsets).seconds)
     (offsets-date zone.std_offset zone.dst dt)
     ∙ ap (λ at. at -ℤ nanos_of_seconds
     (compatible_offset (offsets_by zone.std_offset zone.dst (year_of_day (epoch_day dt.date))
     at)).seconds) civil
 
--- the date that clocks of the zone show
-shown-day : (zone : PosixRule) (start : ℕ) (dt : DateTime)
-    → civil_nanos dt ≡ moment_nanos start +ℤ nanos_of_seconds
-    (offset_at (Posix zone) (moment_nanos start))
-    → epoch_day dt.date ≡ day_at zone (moment_nanos start)
+picked-utc : (dt : DateTime) → picked_instant UTC dt ≡ civil_nanos dt
+unfolding ambiguous_at
+picked-utc dt = omega (arith, signed_arith)
+
+-- what a civil clock shows at a midnight, and at the start of a day
+civil-midnight : (dt : DateTime) → time_nanos dt.time ≡ 0
+    → civil_nanos dt ≡ midnight_nanos (epoch_day dt.date)
+civil-midnight dt time = omega (arith, signed_arith, civil_nanos-parts dt)
+
+civil-start : (dt : DateTime) (day_starts : ℕ) → time_nanos dt.time ≡ day_start_nanos day_starts
+    → civil_nanos dt ≡ start_nanos day_starts (epoch_day dt.date)
+civil-start dt day_starts time = omega (arith, signed_arith, civil_nanos-parts dt)
+
+-- the day that clocks of the zone show
+shown-day : (zone : PosixRule) (day_starts start : ℕ) (day : Date)
+    → IsDayAt (Posix zone) day_starts start day
+    → epoch_day day ≡ day_at zone day_starts (moment_nanos start)
 unfolding offset_at
-shown-day zone start dt shows =
-    epoch_day-civil_nanos dt ∙ ap (λ n. int_div_euclid n (pos 86_400_000_000_000)) shows
+shown-day zone day_starts start day is =
+    ap epoch_day is.date ∙ epoch_day-civil_nanos is.shown
+    ∙ ap (λ n. int_div_euclid n (pos 86_400_000_000_000)) is.shows
+
+shown-day-utc : (day_starts start : ℕ) (day : Date) → IsDayAt UTC day_starts start day
+    → epoch_day day ≡ int_div_euclid (moment_nanos start -ℤ pos (day_start_nanos day_starts))
+    (pos 86_400_000_000_000)
+unfolding offset_at
+shown-day-utc day_starts start day is =
+    let shows = is.shows in
+    let at : civil_nanos is.shown ≡ moment_nanos start -ℤ pos (day_start_nanos day_starts) =
+    omega (arith, signed_arith, shows) in
+    ap epoch_day is.date ∙ epoch_day-civil_nanos is.shown
+    ∙ ap (λ n. int_div_euclid n (pos 86_400_000_000_000)) at
 
 whole_millis : (window_end : ℕ) (instant : ℤ) → pos (window_end * 1_000_000) ≡ instant
     → window_end ≡ unsigned_abs (int_div instant (pos 1_000_000))
 whole_millis window_end instant same = omega (arith, signed_arith)
-
--- the same of UTC
-picked-midnight-utc : (dt : DateTime) → time_nanos dt.time ≡ 0
-    → picked_instant UTC dt ≡ midnight_nanos (epoch_day dt.date)
-unfolding ambiguous_at
-picked-midnight-utc dt time = omega (arith, signed_arith, civil_nanos-parts dt)
-
-shown-day-utc : (start : ℕ) (dt : DateTime)
-    → civil_nanos dt ≡ moment_nanos start +ℤ nanos_of_seconds (offset_at UTC (moment_nanos start))
-    → epoch_day dt.date ≡ int_div_euclid (moment_nanos start) (pos 86_400_000_000_000)
-unfolding offset_at
-shown-day-utc start dt shows =
-    let at : civil_nanos dt ≡ moment_nanos start = omega (arith, signed_arith) in
-    epoch_day-civil_nanos dt ∙ ap (λ n. int_div_euclid n (pos 86_400_000_000_000)) at
 
 -- ---- the end date as a day number
 as_number : (z : ℤ) → pos 0 ≤ℤ z → (n : ℕ) × (z ≡ pos n)
@@ -216,8 +227,8 @@ month-is date later is =
     ]
 
 -- the end date's day number
-end_day-is : (span : WindowSpan) (date later : Date) → IsEndDate span date later
-    → epoch_day later ≡ end_day span (epoch_day date)
+end_day-is : (length : WindowLength) (date later : Date) → IsEndDate length date later
+    → epoch_day later ≡ end_day length (epoch_day date)
 end_day-is (Days count) date later is = is
 end_day-is CalendarDay date later is = is
 end_day-is CalendarWeek date later is =
@@ -239,35 +250,41 @@ pub civil_window_end-is : (zone : PosixRule) (span : WindowSpan) (start window_e
     → window_end ≡ civil_window_end zone span start
 unfolding civil_window_end
 civil_window_end-is zone span start window_end is =
-    let day : epoch_day is.midnight.date ≡ end_day span (day_at zone (moment_nanos start)) =
-    end_day-is span is.shown.date is.midnight.date is.date
-    ∙ ap (λ d. end_day span d) (shown-day zone start is.shown is.shows) in
-    end_millis-is start window_end (picked_instant (Posix zone) is.midnight)
-    (midnight_instant zone (end_day span (day_at zone (moment_nanos start))))
-    (picked-midnight zone is.midnight is.time ∙ ap (λ d. midnight_instant zone d) day) is.at
+    let starts = span.day_starts in
+    let day : epoch_day is.end.date ≡ end_day span.length (day_at zone starts (moment_nanos start)) =
+    end_day-is span.length is.day is.end.date is.date
+    ∙ ap (λ d. end_day span.length d) (shown-day zone starts start is.day is.is_day) in
+    end_millis-is start window_end (picked_instant (Posix zone) is.end)
+    (start_instant zone starts (end_day span.length (day_at zone starts (moment_nanos start))))
+    (picked-at zone is.end (start_nanos starts (epoch_day is.end.date))
+    (civil-start is.end starts is.time)
+    ∙ ap (λ d. start_instant zone starts d) day) is.at
 
 utc_window_end-is : (span : WindowSpan) (start window_end : ℕ)
     → IsCivilWindowEnd UTC span start window_end → window_end ≡ utc_window_end span start
 unfolding utc_window_end
 utc_window_end-is span start window_end is =
-    let day : epoch_day is.midnight.date
-    ≡ end_day span (int_div_euclid (moment_nanos start) (pos 86_400_000_000_000)) =
-    end_day-is span is.shown.date is.midnight.date is.date
-    ∙ ap (λ d. end_day span d) (shown-day-utc start is.shown is.shows) in
-    end_millis-is start window_end (picked_instant UTC is.midnight)
-    (midnight_nanos (end_day span (int_div_euclid (moment_nanos start)
-    (pos 86_400_000_000_000))))
-    (picked-midnight-utc is.midnight is.time ∙ ap (λ d. midnight_nanos d) day) is.at
+    let starts = span.day_starts in
+    let shown = int_div_euclid (moment_nanos start -ℤ pos (day_start_nanos starts))
+    (pos 86_400_000_000_000) in
+    let day : epoch_day is.end.date ≡ end_day span.length shown =
+    end_day-is span.length is.day is.end.date is.date
+    ∙ ap (λ d. end_day span.length d) (shown-day-utc starts start is.day is.is_day) in
+    end_millis-is start window_end (picked_instant UTC is.end)
+    (start_nanos starts (end_day span.length shown))
+    (picked-utc is.end ∙ civil-start is.end starts is.time ∙ ap (λ d. start_nanos starts d) day)
+    is.at
+
+plain_end-is : (length : WindowLength) (span : WindowSpan) (start window_end : ℕ)
+    → IsPlainEndOf length span start window_end → window_end ≡ plain_end_of length span start
+plain_end-is (Days count) span start window_end is = is
+plain_end-is CalendarDay span start window_end is = utc_window_end-is span start window_end is
+plain_end-is CalendarWeek span start window_end is = utc_window_end-is span start window_end is
+plain_end-is CalendarMonth span start window_end is = utc_window_end-is span start window_end is
 
 pub plain_window_end-is : (span : WindowSpan) (start window_end : ℕ)
     → IsPlainWindowEnd span start window_end → window_end ≡ plain_window_end span start
-plain_window_end-is (Days count) start window_end is = is
-plain_window_end-is CalendarDay start window_end is =
-    utc_window_end-is CalendarDay start window_end is
-plain_window_end-is CalendarWeek start window_end is =
-    utc_window_end-is CalendarWeek start window_end is
-plain_window_end-is CalendarMonth start window_end is =
-    utc_window_end-is CalendarMonth start window_end is
+plain_window_end-is span start window_end is = plain_end-is span.length span start window_end is
 
 window_end_by-is : (zone : Option PosixRule) (span : WindowSpan) (start window_end : ℕ)
     → IsWindowEndBy zone span start window_end → window_end ≡ window_end_by zone span start
@@ -293,53 +310,57 @@ utc-later : (span : WindowSpan) (start : ℕ) → start < utc_window_end span st
 unfolding utc_window_end
 utc-later span start = end_millis-later start _
 
-plain-later : (span : WindowSpan) (start : ℕ) → start < plain_window_end span start
-plain-later (Days count) start = omega arith
-plain-later CalendarDay start = utc-later CalendarDay start
-plain-later CalendarWeek start = utc-later CalendarWeek start
-plain-later CalendarMonth start = utc-later CalendarMonth start
+plain-later : (length : WindowLength) (span : WindowSpan) (start : ℕ)
+    → start < plain_end_of length span start
+plain-later (Days count) span start = omega arith
+plain-later CalendarDay span start = utc-later span start
+plain-later CalendarWeek span start = utc-later span start
+plain-later CalendarMonth span start = utc-later span start
 
 window_end_by-later : (zone : Option PosixRule) (span : WindowSpan) (start : ℕ)
     → start < window_end_by zone span start
-window_end_by-later None span start = plain-later span start
+window_end_by-later None span start = plain-later span.length span start
 window_end_by-later (Some zone) span start = civil-later zone span start
 
 pub until-later : (fares : Fares) (start : ℕ) → start < until fares start
 until-later fares start =
     window_end_by-later fares.zone.rule (meaning_at fares start).window start
 
--- ---- the date that clocks show is near the start's
-pub shown_low : (start : ℕ) (offset : Offset) (instant : ℤ) (dt : DateTime)
-    → instant ≡ moment_nanos start → civil_nanos dt ≡ instant +ℤ nanos_of_seconds offset.seconds
+-- ---- the day of a moment is near it
+pub shown_low : (day_starts start : ℕ) (offset : Offset) (instant : ℤ) (dt : DateTime)
+    → day_starts < 1_440 → instant ≡ moment_nanos start -ℤ pos (day_start_nanos day_starts)
+    → civil_nanos dt ≡ instant +ℤ nanos_of_seconds offset.seconds
     → neg_ℤ (pos 10) ≤ℤ epoch_day dt.date
-shown_low start offset instant dt at shows =
+shown_low day_starts start offset instant dt small at shows =
     omega (arith, signed_arith, civil_nanos-parts dt, time_nanos_bound dt.time, offset.in_range)
 
-pub shown_high : (start : ℕ) (offset : Offset) (instant : ℤ) (dt : DateTime)
-    → start < 4_102_444_800_000 → instant ≡ moment_nanos start
+pub shown_high : (day_starts start : ℕ) (offset : Offset) (instant : ℤ) (dt : DateTime)
+    → start < 4_102_444_800_000
+    → instant ≡ moment_nanos start -ℤ pos (day_start_nanos day_starts)
     → civil_nanos dt ≡ instant +ℤ nanos_of_seconds offset.seconds → epoch_day dt.date ≤ℤ pos 50_000
-shown_high start offset instant dt below at shows =
+shown_high day_starts start offset instant dt below at shows =
     omega (arith, signed_arith, civil_nanos-parts dt, time_nanos_bound dt.time, offset.in_range)
 
--- ---- the midnight is a whole number of milliseconds, near enough to be an instant
+-- ---- the start of a day is a whole number of milliseconds, near enough to be an instant
 pub record IsWholeInstant (instant millis : ℤ) : Type 0 where
   pub whole : instant ≡ millis *ℤ pos 1_000_000
   pub low : neg_ℤ (pos 5_000_000_000_000) ≤ℤ millis
   pub high : millis ≤ℤ pos 5_000_000_000_000
 
-abbrev pub midnight_millis : TimeZone → DateTime → ℤ
-midnight_millis zone midnight =
-    epoch_day midnight.date *ℤ pos 86_400_000
-    -ℤ (compatible_offset (ambiguous_at zone midnight)).seconds *ℤ pos 1_000
+abbrev pub start_millis : TimeZone → ℕ → DateTime → ℤ
+start_millis zone day_starts dt =
+    epoch_day dt.date *ℤ pos 86_400_000 +ℤ pos (day_starts * 60_000)
+    -ℤ (compatible_offset (ambiguous_at zone dt)).seconds *ℤ pos 1_000
 
-whole_midnight : (zone : TimeZone) (midnight : DateTime)
-    → neg_ℤ (pos 10) ≤ℤ epoch_day midnight.date → epoch_day midnight.date ≤ℤ pos 50_100
-    → time_nanos midnight.time ≡ 0
-    → IsWholeInstant (picked_instant zone midnight) (midnight_millis zone midnight)
-whole_midnight zone midnight low high time =
-    let offset = compatible_offset (ambiguous_at zone midnight) in
+whole_start : (zone : TimeZone) (day_starts : ℕ) (dt : DateTime)
+    → neg_ℤ (pos 10) ≤ℤ epoch_day dt.date → epoch_day dt.date ≤ℤ pos 50_100
+    → time_nanos dt.time ≡ day_start_nanos day_starts
+    → IsWholeInstant (picked_instant zone dt) (start_millis zone day_starts dt)
+whole_start zone day_starts dt low high time =
+    let offset = compatible_offset (ambiguous_at zone dt) in
+    let short = time_nanos_bound dt.time in
     record {
-      whole = omega (arith, signed_arith, civil_nanos-parts midnight);
+      whole = omega (arith, signed_arith, civil_nanos-parts dt);
       low = omega (arith, signed_arith, offset.in_range);
       high = omega (arith, signed_arith, offset.in_range);
     }
@@ -366,11 +387,11 @@ year_near date low high =
 pub whole_of_year : (zone : TimeZone) (date : Date) (midnight : DateTime)
     → pos 1970 ≤ℤ date.year → date.year ≤ℤ pos 2099
     → (midnight.date ≡ date) × (time_nanos midnight.time ≡ 0)
-    → IsWholeInstant (picked_instant zone midnight) (midnight_millis zone midnight)
+    → IsWholeInstant (picked_instant zone midnight) (start_millis zone 0 midnight)
 whole_of_year zone date midnight low high is_midnight =
     let near = year_near date low high in
     let day : epoch_day midnight.date ≡ epoch_day date = ap epoch_day is_midnight.0 in
-    whole_midnight zone midnight (rw day near.0) (rw day near.1) is_midnight.1
+    whole_start zone 0 midnight (rw day near.0) (rw day near.1) is_midnight.1
 
 -- the midnight of a date is that of its day
 pub midnight-is : (zone : TimeZone) (date : Date) (instant : ℤ) → IsSome (posix_rule zone)
@@ -379,31 +400,28 @@ midnight-is UTC date instant rule is = absurd (false≢true rule)
 midnight-is Unknown date instant rule is = absurd (false≢true rule)
 midnight-is (Fixed offset) date instant rule is = absurd (false≢true rule)
 midnight-is (Posix zone) date instant rule is =
-    is.at ∙ picked-midnight zone is.midnight is.time
-    ∙ ap (λ (d : Date). midnight_instant zone (epoch_day d)) is.is_date
+    is.at
+    ∙ picked-at zone is.midnight (midnight_nanos (epoch_day is.midnight.date))
+    (civil-midnight is.midnight is.time)
+    ∙ ap (λ (d : Date). midnight_by (Some zone) (epoch_day d)) is.is_date
 midnight-is (Tzif zone) date instant rule is = absurd (false≢true rule)
 
 pub midnight-utc : (date : Date) (instant : ℤ) → IsMidnight UTC date instant
     → instant ≡ midnight_nanos (epoch_day date)
 midnight-utc date instant is =
-    is.at ∙ picked-midnight-utc is.midnight is.time
+    is.at ∙ picked-utc is.midnight ∙ civil-midnight is.midnight is.time
     ∙ ap (λ (d : Date). midnight_nanos (epoch_day d)) is.is_date
 
--- the same of the midnight of an end date
-pub whole_end : (zone : TimeZone) (start : ℕ) (shown : Offset) (instant : ℤ)
-    (dt midnight : DateTime) (date later : Date) → start < 4_102_444_800_000
-    → instant ≡ moment_nanos start
-    → civil_nanos dt ≡ instant +ℤ nanos_of_seconds shown.seconds → date ≡ dt.date
-    → epoch_day date <ℤ epoch_day later → epoch_day later ≤ℤ (epoch_day date +ℤ pos 31)
-    → (midnight.date ≡ later) × (time_nanos midnight.time ≡ 0)
-    → IsWholeInstant (picked_instant zone midnight) (midnight_millis zone midnight)
-whole_end zone start shown instant dt midnight date later below at shows is after near is_midnight =
-    let low = shown_low start shown instant dt at shows in
-    let high = shown_high start shown instant dt below at shows in
-    let same : epoch_day date ≡ epoch_day dt.date = ap epoch_day is in
-    let day : epoch_day midnight.date ≡ epoch_day later = ap epoch_day is_midnight.0 in
-    whole_midnight zone midnight (omega (arith, signed_arith)) (omega (arith, signed_arith))
-    is_midnight.1
+-- the same of the start of an end date
+pub whole_end : (zone : TimeZone) (day_starts : ℕ) (end : DateTime) (day later : Date)
+    → neg_ℤ (pos 10) ≤ℤ epoch_day day → epoch_day day ≤ℤ pos 50_000
+    → epoch_day day <ℤ epoch_day later → epoch_day later ≤ℤ (epoch_day day +ℤ pos 31)
+    → end.date ≡ later → time_nanos end.time ≡ day_start_nanos day_starts
+    → IsWholeInstant (picked_instant zone end) (start_millis zone day_starts end)
+whole_end zone day_starts end day later low high after near date time =
+    let same : epoch_day end.date ≡ epoch_day later = ap epoch_day date in
+    whole_start zone day_starts end (omega (arith, signed_arith)) (omega (arith, signed_arith))
+    time
 
 -- so it is an instant, and its milliseconds are that number
 pub is_instant : (instant millis : ℤ) → IsWholeInstant instant millis → IsTimestampNanos instant
@@ -465,18 +483,20 @@ week_end day later offset weekday same shown sum =
     omega arith
 
 -- ---- long windows
--- offsets of less than 26 hours move a midnight by less than three days
-long_end : (start count : ℕ) (shown later : Offset) (day instant : ℤ) → 4 ≤ count
-    → day ≡ int_div_euclid (moment_nanos start +ℤ nanos_of_seconds shown.seconds)
-    (pos 86_400_000_000_000)
-    → instant ≡ (day +ℤ pos count) *ℤ pos 86_400_000_000_000 -ℤ nanos_of_seconds later.seconds
+-- offsets of less than 26 hours move the start of a day by less than three days
+long_end : (day_starts start count : ℕ) (shown later : Offset) (day instant : ℤ) → 4 ≤ count
+    → day ≡ int_div_euclid ((moment_nanos start -ℤ pos (day_start_nanos day_starts))
+    +ℤ nanos_of_seconds shown.seconds) (pos 86_400_000_000_000)
+    → instant ≡ ((day +ℤ pos count) *ℤ pos 86_400_000_000_000
+    +ℤ pos (day_start_nanos day_starts)) -ℤ nanos_of_seconds later.seconds
     → moment_nanos (end_millis start instant) ≡ instant
-long_end start count shown later day instant long is at =
+long_end day_starts start count shown later day instant long is at =
     let below : moment_nanos (start + 1) ≤ℤ instant =
     omega (arith, signed_arith, shown.in_range, later.in_range, is, at) in
     let most = int_max_is (moment_nanos (start + 1)) instant in
     let same : int_max (moment_nanos (start + 1)) instant ≡ instant = omega (arith, ints) in
-    let millis = as_number ((day +ℤ pos count) *ℤ pos 86_400_000 -ℤ later.seconds *ℤ pos 1_000)
+    let millis = as_number ((day +ℤ pos count) *ℤ pos 86_400_000 +ℤ pos (day_starts * 60_000)
+    -ℤ later.seconds *ℤ pos 1_000)
     (omega (arith, signed_arith, below, at)) in
     let whole : instant ≡ pos (millis.0 * 1_000_000) =
     omega (arith, signed_arith, at, millis.1) in
@@ -485,12 +505,18 @@ long_end start count shown later day instant long is at =
     ∙ sym (whole_millis millis.0 (pos (millis.0 * 1_000_000)) refl) in
     ap moment_nanos end ∙ sym whole
 
-pub long-is : (zone : PosixRule) (count start : ℕ) → 4 ≤ count
-    → moment_nanos (civil_window_end zone (Days count) start)
-    ≡ midnight_instant zone (day_at zone (moment_nanos start) +ℤ pos count)
+pub long-is : (zone : PosixRule) (span : WindowSpan) (count start : ℕ) → span.length ≡ Days count
+    → 4 ≤ count
+    → moment_nanos (civil_window_end zone span start)
+    ≡ start_instant zone span.day_starts
+    (day_at zone span.day_starts (moment_nanos start) +ℤ pos count)
 unfolding civil_window_end
-long-is zone count start long =
-    long_end start count (rule.offset_at zone (moment_nanos start))
-    (midnight_offset zone (day_at zone (moment_nanos start) +ℤ pos count))
-    (day_at zone (moment_nanos start))
-    (midnight_instant zone (day_at zone (moment_nanos start) +ℤ pos count)) long refl refl
+long-is zone span count start days long =
+    let starts = span.day_starts in
+    let day = day_at zone starts (moment_nanos start) in
+    let later = day +ℤ pos count in
+    let instant = start_instant zone starts later in
+    ap (λ (length : WindowLength).
+    moment_nanos (end_millis start (start_instant zone starts (end_day length day)))) days
+    ∙ long_end starts start count (rule.offset_at zone (moment_nanos start))
+    (civil_offset zone later (start_nanos starts later)) day instant long refl refl

@@ -7,7 +7,7 @@ use Rattle.tariffs.specs.declared.window_span.WindowSpan.{WindowSpan}
 -- the modes' names by their places, the pairs of places with a transfer, each once, the classes by
 -- their places, their names by the same places, the place of the default class, the ranges of
 -- validators by their first numbers, increasing, the places of the riders' classes by their tokens,
--- increasing, the text of the zone, and how long windows are
+-- increasing, the text of the zone, and how long windows are and when a day starts
 pub record TableMeaning : Type 0 where
   pub modes : List (List ℕ)
   pub transfers : List (ℕ × ℕ)

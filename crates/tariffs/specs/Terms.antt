@@ -3,20 +3,11 @@ use Rattle.std.specs.Prelude.{◌≡◌, ◌≤◌, All, length}
 use Rattle.tariffs.specs.declared.class.Class.{Class}
 use Rattle.tariffs.specs.declared.terms.Terms.{Terms}
 
--- the fare, the limit of rides and the ceiling are within their bounds
+-- the fare, which may be 0, the limit of rides and the ceiling are within their bounds
 pub record AreBoundedTerms (terms : Terms) : Type 0 where
-  pub fare_low : 1 ≤ terms.fare
-  pub fare_high : terms.fare ≤ 100_000
-  pub rides_low : 1 ≤ terms.rides
-  pub rides_high : terms.rides ≤ 1_000
-  pub ceiling_low : 1 ≤ terms.ceiling
-  pub ceiling_high : terms.ceiling ≤ 100_000_000
-
--- the same of the terms of a ride, which may be free
-pub record AreRideTerms (terms : Terms) : Type 0 where
   pub fare : terms.fare ≤ 100_000
   pub rides_low : 1 ≤ terms.rides
-  pub rides_high : terms.rides ≤ 1_000
+  pub rides_high : terms.rides ≤ 60_000
   pub ceiling_low : 1 ≤ terms.ceiling
   pub ceiling_high : terms.ceiling ≤ 100_000_000
 
@@ -25,5 +16,5 @@ pub record IsBoundedClass (class : Class) : Type 0 where
   pub terms : AreBoundedTerms class.terms
   pub fares : All (λ fare. fare ≤ 100_000) class.fares
   pub modes : length class.fares ≡ 32
-  pub taps : class.transfers.taps ≤ 9
+  pub taps : class.transfers.taps ≤ 255
   pub time : class.transfers.time ≤ 86_400_000

@@ -1,20 +1,23 @@
 //! Where windows end.
-ghost use Rattle.std.specs.Prelude.{◌≡◌, ◌<◌, ◌+◌, pos, ◌+ℤ◌, ◌*ℤ◌, ◌<ℤ◌, ◌≤ℤ◌, neg_ℤ};
+ghost use Rattle.std.specs.Prelude.{◌≡◌, ◌<◌, ◌+◌, pos, ◌+ℤ◌, ◌-ℤ◌, ◌*ℤ◌, ◌<ℤ◌, ◌≤ℤ◌, neg_ℤ};
 ghost use Rattle.std.specs.Int.{int_max};
-ghost use Rattle.jiff.specs.Words.{epoch_day};
+ghost use Rattle.jiff.specs.Words.{epoch_day, time_nanos};
 ghost use Rattle.jiff.specs.ZoneView.{plain_zone};
-ghost use Rattle.tariffs.specs.WindowSpan.{IsBoundedSpan};
-ghost use Rattle.tariffs.specs.Until.{IsCivilWindowEnd, IsEndDate, IsPlainWindowEnd};
+ghost use Rattle.tariffs.specs.WindowSpan.{IsBoundedLength, IsBoundedSpan};
+ghost use Rattle.tariffs.specs.Until.{IsCivilWindowEnd, IsDayAt, IsEndDate, IsPlainWindowEnd};
+ghost use Rattle.tariffs.specs.Until.{day_start_nanos};
 ghost use Rattle.tariffs.specs.inside.Midnight.{IsMidnight};
 ghost use Rattle.tariffs.specs.Until.{moment_nanos};
 
-use crate::window_span::WindowSpan;
+use crate::window_span::{WindowLength, WindowSpan};
 use jiff::civil::{Date, DateTime};
 use jiff::tz::{Offset, TimeZone};
 use jiff::{Timestamp, ToSpan};
 use std::marker::Model;
 
 const DAY_MS: u64 = 86_400_000;
+
+const MINUTE_MS: i64 = 60_000;
 
 /// Says where the windows of one fare table end. A worker makes its own from the table.
 #[derive(Drop)]
@@ -50,12 +53,12 @@ impl Clock {
         Clock { zone }
     }
 
-    /// The end of a window of this length that starts at the moment, before 2100-01-01T00:00Z.
-    /// Without a zone `n` days are `n * 24` hours, and a calendar span (a week from Monday) ends at
-    /// 00:00 in UTC. With a zone each ends at 00:00 by its clocks, and `n` days on the `n`th date
-    /// after the start's (seven days are the MTA's, the end is this project's choice). A midnight
-    /// that clocks skip takes the offset before the gap, and of two the earlier counts. Takes no
-    /// memory.
+    /// The end of a window of this span that starts at the moment, before 2100-01-01T00:00Z.
+    /// Without a zone `n` days are `n * 24` hours, and a calendar span (a week from Monday) ends in
+    /// UTC when a day starts, at 00:00 unless the span says otherwise. With a zone each ends so by
+    /// its clocks, and `n` days on the `n`th day after the start's (seven days are the MTA's, the
+    /// end is this project's choice). A time that clocks skip takes the offset before the gap, and
+    /// of two the earlier counts. Takes no memory.
     #[inline]
     pub fn window_end(&self, span: WindowSpan, moment: u64) -> u64
         requires span { IsBoundedSpan span }
@@ -122,9 +125,9 @@ fn plain_window_end(span: WindowSpan, moment: u64) -> u64
     ensures window_end { IsPlainWindowEnd span moment result }
     ensures after { moment < result }
 {
-    match span {
-        WindowSpan::Days(count) => moment + u64::from(count) * DAY_MS,
-        calendar => civil_window_end(&TimeZone::UTC, calendar, moment),
+    match span.length {
+        WindowLength::Days(count) => moment + u64::from(count) * DAY_MS,
+        _ => civil_window_end(&TimeZone::UTC, span, moment),
     }
 }
 
@@ -136,11 +139,42 @@ fn civil_window_end(zone: &TimeZone<'static>, span: WindowSpan, moment: u64) -> 
     ensures window_end { IsCivilWindowEnd (plain_zone zone.now) span moment result }
     ensures after { moment < result }
 {
-    let start = instant(moment);
-    let shown = zone.to_offset(start).to_datetime(start);
-    let midnight = DateTime::from(end_date(span, shown.date()));
-    let window_end = zone.to_timestamp(midnight).unwrap();
+    let day = day_at(zone, span.day_starts, moment);
+    let start = day_start(end_date(span.length, day), span.day_starts);
+    let window_end = zone.to_timestamp(start).unwrap();
     end_after(moment, window_end.as_millisecond())
+}
+
+/// The date that clocks of the zone show at the moment if they are set back to 00:00 as a day
+/// starts.
+fn day_at(zone: &TimeZone<'static>, day_starts: u32, moment: u64) -> Date
+    requires starts { day_starts < 1_440 }
+    requires moment { moment < 4_102_444_800_000 }
+    ensures day { IsDayAt (plain_zone zone.now) day_starts moment result }
+    ensures low { neg_ℤ (pos 10) ≤ℤ epoch_day result }
+    ensures high { epoch_day result ≤ℤ pos 50_000 }
+{
+    let shown = zone
+        .to_offset(instant(moment))
+        .to_datetime(set_back(moment, day_starts));
+    shown.date()
+}
+
+fn set_back(moment: u64, day_starts: u32) -> Timestamp
+    requires starts { day_starts < 1_440 }
+    requires moment { moment < 4_102_444_800_000 }
+    ensures { result.nanosecond ≡ moment_nanos moment -ℤ pos (day_start_nanos day_starts) }
+{
+    let shift = i64::from(day_starts) * MINUTE_MS;
+    Timestamp::from_millisecond(moment as i64 - shift).unwrap()
+}
+
+fn day_start(date: Date, day_starts: u32) -> DateTime
+    requires { day_starts < 1_440 }
+    ensures date { result.date ≡ date }
+    ensures time { time_nanos result.time ≡ day_start_nanos day_starts }
+{
+    date.at((day_starts / 60) as i8, (day_starts % 60) as i8, 0, 0)
 }
 
 fn midnight_millis(zone: &TimeZone<'static>, date: Date) -> i64
@@ -174,22 +208,22 @@ fn instant(moment: u64) -> Timestamp
     Timestamp::from_millisecond(moment as i64).unwrap()
 }
 
-fn end_date(span: WindowSpan, shown: Date) -> Date
-    requires span { IsBoundedSpan span }
+fn end_date(length: WindowLength, shown: Date) -> Date
+    requires length { IsBoundedLength length }
     requires low { neg_ℤ (pos 10) ≤ℤ epoch_day shown }
     requires high { epoch_day shown ≤ℤ pos 50_000 }
-    ensures date { IsEndDate span shown result }
+    ensures date { IsEndDate length shown result }
     ensures after { epoch_day shown <ℤ epoch_day result }
     ensures near { epoch_day result ≤ℤ (epoch_day shown +ℤ pos 31) }
 {
-    match span {
-        WindowSpan::Days(count) => days_later(shown, i64::from(count)),
-        WindowSpan::CalendarDay => days_later(shown, 1),
-        WindowSpan::CalendarWeek => {
+    match length {
+        WindowLength::Days(count) => days_later(shown, i64::from(count)),
+        WindowLength::CalendarDay => days_later(shown, 1),
+        WindowLength::CalendarWeek => {
             let weekday = i64::from(shown.weekday().to_monday_zero_offset());
             days_later(shown, 7 - weekday)
         }
-        WindowSpan::CalendarMonth => days_later(shown.last_of_month(), 1),
+        WindowLength::CalendarMonth => days_later(shown.last_of_month(), 1),
     }
 }
 

@@ -29,5 +29,5 @@ pub use terms::Terms;
 pub use transfer_terms::TransferTerms;
 pub use transfers::Transfers;
 pub use validators::{RangeRest, Ranges};
-pub use window_span::WindowSpan;
+pub use window_span::{WindowLength, WindowSpan, minutes_named};
 pub use zone::Zone;

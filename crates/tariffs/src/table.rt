@@ -245,7 +245,7 @@ impl FareTable {
         self.first.zone_text()
     }
 
-    /// How long windows are.
+    /// How long windows are, and when a day starts.
     pub fn window_span(&self) -> WindowSpan
         ensures window { result ≡ self.now.meaning.window }
         ensures bounds { IsBoundedSpan result }

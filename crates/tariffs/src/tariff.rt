@@ -8,7 +8,7 @@ ghost use Rattle.tariffs.specs.Riders.{by_bytes};
 ghost use Rattle.tariffs.specs.WindowSpan.{IsBoundedSpan};
 ghost use Rattle.tariffs.specs.Zone.{zone_rule, zone_text};
 ghost use Rattle.tariffs.specs.TariffParts.{AreSound, view_of};
-ghost use Rattle.tariffs.specs.Terms.{AreBoundedTerms, AreRideTerms, IsBoundedClass};
+ghost use Rattle.tariffs.specs.Terms.{AreBoundedTerms, IsBoundedClass};
 
 use crate::class::Class;
 use crate::clock::Clock;
@@ -63,7 +63,7 @@ pub struct TariffParts {
     pub riders: Riders,
     /// The zone, if the table names one.
     pub zone: Option<Zone>,
-    /// How long windows are.
+    /// How long windows are, and when a day starts.
     pub window: WindowSpan,
 }
 
@@ -128,7 +128,7 @@ impl Tariff {
         requires class { class < length self.now.meaning.classes }
         requires mode { mode.position < length self.now.meaning.modes }
         ensures terms { result ≡ ride_terms self.now.meaning class mode.position }
-        ensures bounds { AreRideTerms result }
+        ensures bounds { AreBoundedTerms result }
     {
         let class = &self.parts.classes[class as usize];
         Terms {
@@ -142,7 +142,7 @@ impl Tariff {
     pub fn transfer_terms(&self, class: u32) -> TransferTerms
         requires { class < length self.now.meaning.classes }
         ensures terms { result ≡ transfer_terms self.now.meaning class }
-        ensures taps { result.taps ≤ 9 }
+        ensures taps { result.taps ≤ 255 }
         ensures time { result.time ≤ 86_400_000 }
     {
         self.parts.classes[class as usize].transfers
@@ -208,7 +208,7 @@ impl Tariff {
         text_of(&self.parts.zone)
     }
 
-    /// How long windows are.
+    /// How long windows are, and when a day starts.
     pub fn window_span(&self) -> WindowSpan
         ensures window { result ≡ self.now.meaning.window }
         ensures bounds { IsBoundedSpan result }

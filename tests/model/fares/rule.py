@@ -110,7 +110,7 @@ def no_transfer(rules, earlier, ride):
 
 # ---- the account, as its code keeps it
 
-MAX_RIDES = 1000
+MAX_RIDES = 60_000
 
 
 class Account:

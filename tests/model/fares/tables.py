@@ -25,13 +25,15 @@ CARD = f"{0xa1:032x}"
 
 
 def draw_table(draw, zone):
-    fare = draw.choice((100, 275, 290))
-    full = {"fare": fare, "rides": draw.choice((3, 12)), "transfers": draw.randrange(4),
-            "transfer_minutes": draw.choice((30, 120, 1440))}
-    low = {"fare": fare // 2, "rides": 12, "ceiling": draw.choice((fare // 3, 5 * fare + 17)),
+    fare = draw.choice((0, 100, 275, 290))
+    full = {"fare": fare, "transfers": draw.choice((0, 1, 2, 3, "any")),
+            "transfer_minutes": draw.choice((30, 120, 1440)),
+            **draw.choice(({}, {"rides": 3}, {"rides": 12}))}
+    low = {"fare": fare // 2, "rides": 12, "ceiling": draw.choice((fare // 3 + 1, 5 * fare + 17)),
            "fares": {"bus": draw.choice((0, 10, 500))}}
     table = {"modes": ["tram", "bus"], "transfers": draw.choice(PAIRS), "default_class": "full",
              "classes": {"full": full, "low": low}, "window": draw.choice(WINDOWS),
+             "day_starts": draw.choice(("00:00", "02:30", "04:30")),
              "validators": [{"first": 1, "last": 3, "mode": draw.choice(("tram", "bus"))},
                             {"first": 4, "last": draw.choice((5, 6)), "mode": "bus"}],
              "riders": {CARD: "low"} if draw.random() < 0.5 else {}}

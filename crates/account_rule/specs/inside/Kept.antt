@@ -56,7 +56,7 @@ window_at (Some window) moment until =
 -- the window with one more ride
 unfoldable pub with_ride : Terms → Window → Window
 with_ride terms window = record window {
-  rides = min (window.rides + 1) 1_000;
+  rides = min (window.rides + 1) 60_000;
   paid = window.paid + (if is_paid (charge terms window.rides window.cents) then 1 else 0);
   cents = window.cents + charged_by (charge terms window.rides window.cents);
 }

@@ -2,7 +2,7 @@
 
 ghost use Rattle.std.specs.Prelude.{◌≡◌, ℕ, ◌<◌, ◌≤◌, ◌++◌, ◌∷◌, [], List, length, Some};
 ghost use Rattle.std.specs.Option.{ForSome};
-ghost use Rattle.tariffs.specs.Terms.{AreRideTerms};
+ghost use Rattle.tariffs.specs.Terms.{AreBoundedTerms};
 ghost use Rattle.tariffs.specs.Fares.{ride_terms};
 ghost use Rattle.tariffs.specs.Until.{window_end_in};
 ghost use Rattle.account_rule.specs.declared.tap.TapIn.{TapIn};
@@ -133,7 +133,7 @@ impl Account {
         requires mode { mode.position < length tariff.now.meaning.modes }
         requires early { moment < 4_102_444_800_000 }
         requires room { IsRoomy self.old.window }
-        ensures bounds { AreRideTerms (ride_terms tariff.now.meaning self.old.class mode.position) }
+        ensures bounds { AreBoundedTerms (ride_terms tariff.now.meaning self.old.class mode.position) }
         ensures reason { result
             ≡ next_reason (ride_terms tariff.now.meaning self.old.class mode.position)
             (window_at (Some self.old.window) moment (window_end_in clock.now

@@ -20,6 +20,7 @@ request_of options = record {
   sorted = options.sorted;
   ledger = options.ledger;
   explain = options.explain;
+  json = options.json;
   traced = options.traced;
   tokens = option_map (λ t. t.now) options.tokens;
   files = map (λ f. f.now) options.files.items;

@@ -4,6 +4,7 @@ ghost use Rattle.std.specs.Prelude.{option_map, replicate, string_bytes, vec_len
 ghost use Rattle.toml.specs.View.{view, table_view};
 ghost use Rattle.fare_table.specs.Classes.{count_of};
 ghost use Rattle.fare_table.specs.Classes as spec;
+ghost use Rattle.fare_table.specs.Members.{number_or as number_or_spec};
 ghost use Rattle.fare_table.specs.declared.fault.TableFault.{TableFault};
 ghost use Rattle.fare_table.specs.inside.OrFault.{Answers, seen_through};
 ghost use Rattle.tariffs.specs.Terms.{AreBoundedTerms, IsBoundedClass};
@@ -14,7 +15,8 @@ use super::members::{
 };
 use super::modes::mode_named;
 use crate::bounds::{
-    MAX_CEILING_CENTS, MAX_FARE_CENTS, MAX_RIDE_TRANSFERS, MAX_RIDES, MAX_TRANSFER_MINUTES,
+    ANY_RIDE_TRANSFERS, MAX_CEILING_CENTS, MAX_FARE_CENTS, MAX_RIDE_TRANSFERS, MAX_RIDES,
+    MAX_TRANSFER_MINUTES, UNNAMED_RIDES,
 };
 use crate::fault::{Key, TableFault};
 use std::alloc::Global;
@@ -91,14 +93,42 @@ fn terms_of(element: &Table) -> Result<Terms, TableFault>
     ensures terms { result ≡ spec.terms_of (table_view element.now) }
     ensures bounds { IfOk result AreBoundedTerms }
 {
-    let fare = number_at(element, "fare", Key::Fare, 1, MAX_FARE_CENTS)?;
-    let rides = number_at(element, "rides", Key::Rides, 1, MAX_RIDES)?;
-    let ceiling = ceiling_of(rides * fare, optional(element, "ceiling"))?;
+    let fare = number_at(element, "fare", Key::Fare, 0, MAX_FARE_CENTS)?;
+    let rides = rides_of(optional(element, "rides"))?;
+    let own = own_ceiling(rides, fare);
+    let named = optional(element, "ceiling");
+    let ceiling = number_or(own, named, Key::Ceiling, 1, MAX_CEILING_CENTS)?;
     Ok(Terms {
         fare,
         rides,
         ceiling,
     })
+}
+
+fn rides_of(value: Option<&Value>) -> Result<u32, TableFault>
+    ensures rides { result
+        ≡ number_or_spec 60_000 Key.Rides 1 1_000 (option_map (λ v. view v.now) value.entry) }
+    ensures low { IfOk result (λ rides. 1 ≤ rides) }
+    ensures high { IfOk result (λ rides. rides ≤ 60_000) }
+{
+    match value {
+        Some(value) => number_in(value, Key::Rides, 1, MAX_RIDES),
+        None => Ok(UNNAMED_RIDES),
+    }
+}
+
+fn own_ceiling(rides: u32, fare: u32) -> u32
+    requires rides { 1 ≤ rides }
+    requires fare { fare ≤ 100_000 }
+    ensures ceiling { result ≡ spec.own_ceiling rides fare }
+    ensures low { 1 ≤ result }
+    ensures high { result ≤ 100_000_000 }
+{
+    if rides <= MAX_RIDES && 1 <= fare {
+        rides * fare
+    } else {
+        MAX_CEILING_CENTS
+    }
 }
 
 fn fares_of(
@@ -152,11 +182,10 @@ fn fares_from(modes: &[String], fare: u32, members: &Table) -> Result<[u32; MAX_
 #[tactic(auto, unfolding(crate::specs::Classes::ride_transfers_of))]
 fn ride_transfers_of(element: &Table) -> Result<TransferTerms, TableFault>
     ensures terms { result ≡ spec.ride_transfers_of (table_view element.now) }
-    ensures taps { IfOk result (λ terms. terms.taps ≤ 9) }
+    ensures taps { IfOk result (λ terms. terms.taps ≤ 255) }
     ensures time { IfOk result (λ terms. terms.time ≤ 86_400_000) }
 {
-    let taps = optional(element, "transfers");
-    let taps = number_or(1, taps, Key::RideTransfers, 0, MAX_RIDE_TRANSFERS)?;
+    let taps = taps_of(optional(element, "transfers"))?;
     let minutes = optional(element, "transfer_minutes");
     let minutes = number_or(120, minutes, Key::TransferMinutes, 1, MAX_TRANSFER_MINUTES)?;
     Ok(TransferTerms {
@@ -165,16 +194,25 @@ fn ride_transfers_of(element: &Table) -> Result<TransferTerms, TableFault>
     })
 }
 
-fn ceiling_of(price: u32, value: Option<&Value>) -> Result<u32, TableFault>
-    requires low { 1 ≤ price }
-    requires high { price ≤ 100_000_000 }
-    ensures ceiling { result ≡ spec.ceiling_of price (option_map (λ v. view v.now) value.entry) }
-    ensures low { IfOk result (λ n. 1 ≤ n) }
-    ensures high { IfOk result (λ n. n ≤ 100_000_000) }
+fn taps_of(value: Option<&Value>) -> Result<u32, TableFault>
+    ensures taps { result ≡ spec.taps_of (option_map (λ v. view v.now) value.entry) }
+    ensures high { IfOk result (λ taps. taps ≤ 255) }
 {
-    match value {
-        Some(value) => number_in(value, Key::Ceiling, 1, MAX_CEILING_CENTS),
-        None => Ok(price),
+    let Some(value) = value else {
+        return Ok(1);
+    };
+    if is_any(value) {
+        return Ok(ANY_RIDE_TRANSFERS);
+    }
+    number_in(value, Key::RideTransfers, 0, MAX_RIDE_TRANSFERS)
+}
+
+fn is_any(value: &Value) -> bool
+    ensures { result ≡ spec.is_any (view value.now) }
+{
+    match value.as_str() {
+        Some(text) => text == "any",
+        None => false,
     }
 }
 

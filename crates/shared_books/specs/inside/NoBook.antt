@@ -2,7 +2,7 @@
 -- book.
 use Rattle.std.specs.Prelude.{[], None}
 use Rattle.tariffs.specs.Fares.{Fares}
-use Rattle.tariffs.specs.declared.window_span.WindowSpan.TheVariants.{CalendarDay}
+use Rattle.tariffs.specs.declared.window_span.WindowLength.TheVariants.{CalendarDay}
 use Rattle.shard_book.specs.Book.{Book}
 
 -- a table without modes, ranges and riders
@@ -18,7 +18,7 @@ no_fares = record {
         ranges = [];
         riders = [];
         zone = None;
-        window = CalendarDay;
+        window = record { length = CalendarDay; day_starts = 0 };
       };
   later = [];
   zone = record { rule = None };

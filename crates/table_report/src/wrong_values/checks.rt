@@ -4,7 +4,9 @@ use super::people::{check_default, check_riders};
 use super::ranges::check_ranges;
 use super::wrong::{Wrong, Wrongs};
 use crate::paths::{item_path, key_path};
-use fare_table::{Key, MAX_FARE_CENTS, MAX_MODE_NAME_BYTES, MAX_MODES, WindowSpan};
+use fare_table::{
+    Key, MAX_FARE_CENTS, MAX_MODE_NAME_BYTES, MAX_MODES, WindowLength, minutes_named,
+};
 use jiff::tz::TimeZone;
 use std::alloc::{AllocError, Global};
 use toml::value::Array;
@@ -17,14 +19,16 @@ const TRANSFERS: &str = "an array of pairs of modes, from and to; [] for none";
 
 const PAIR: &str = "a pair of modes, from and to";
 
-const CLASSES: &str = "a table of at least one rider class, each with fare and rides";
+const CLASSES: &str = "a table of at least one rider class, each with fare";
 
-const CLASS: &str = "a table with fare, rides and, if it has one, ceiling";
+const CLASS: &str = "a table with fare and, if it has them, rides and ceiling";
 
 const ZONE: &str = "a POSIX rule, as \"EST5EDT,M3.2.0,M11.1.0\", not a place";
 
 const WINDOW: &str =
     "1 to 31 days as \"7 days\", or \"calendar day\", \"calendar week\", \"calendar month\"";
+
+const DAY_STARTS: &str = "a time from \"00:00\" to \"23:59\"";
 
 /// The whole path of a key at the top.
 pub(super) fn top(alloc: Global, key: &str) -> Result<String, AllocError> {
@@ -305,6 +309,17 @@ fn check_fares(
     Ok(())
 }
 
+fn check_ride_transfers(wrongs: &mut Wrongs, path: &str, class: &Table) -> Result<(), AllocError> {
+    match class.get("transfers") {
+        Some(value) if value.as_str() == Some("any") => Ok(()),
+        Some(_value) => {
+            check_key(wrongs, path, class, Key::RideTransfers, ", or \"any\"")?;
+            Ok(())
+        }
+        None => Ok(()),
+    }
+}
+
 fn check_class(
     wrongs: &mut Wrongs,
     path: &str,
@@ -312,10 +327,10 @@ fn check_class(
     modes: &Option<Vec<&str>>,
 ) -> Result<(), AllocError> {
     check_key(wrongs, path, class, Key::Fare, ", in cents")?;
-    check_key(wrongs, path, class, Key::Rides, "")?;
+    check_optional(wrongs, path, class, Key::Rides, "")?;
     check_optional(wrongs, path, class, Key::Ceiling, ", in cents")?;
     check_fares(wrongs, path, class, modes)?;
-    check_optional(wrongs, path, class, Key::RideTransfers, "")?;
+    check_ride_transfers(wrongs, path, class)?;
     check_optional(wrongs, path, class, Key::TransferMinutes, ", in minutes")
 }
 
@@ -382,11 +397,23 @@ fn check_window(wrongs: &mut Wrongs, tree: &Table) -> Result<(), AllocError> {
         return Ok(());
     };
     if let Some(text) = value.as_str() {
-        if WindowSpan::named(text).is_some() {
+        if WindowLength::named(text).is_some() {
             return Ok(());
         }
     }
     wrongs.value(top(wrongs.alloc, "window")?, value, WINDOW)
+}
+
+fn check_day_starts(wrongs: &mut Wrongs, tree: &Table) -> Result<(), AllocError> {
+    let Some(value) = tree.get("day_starts") else {
+        return Ok(());
+    };
+    if let Some(text) = value.as_str() {
+        if minutes_named(text).is_some() {
+            return Ok(());
+        }
+    }
+    wrongs.value(top(wrongs.alloc, "day_starts")?, value, DAY_STARTS)
 }
 
 /// What is wrong with a text, key by key in the order in which its keys are read.
@@ -400,5 +427,6 @@ pub(super) fn wrongs_of(alloc: Global, tree: &Table) -> Result<Vec<Wrong>, Alloc
     check_riders(&mut wrongs, tree, classes)?;
     check_zone(&mut wrongs, tree)?;
     check_window(&mut wrongs, tree)?;
+    check_day_starts(&mut wrongs, tree)?;
     Ok(wrongs.found)
 }

@@ -67,7 +67,10 @@ only_workers
     (suc (suc (suc (suc (suc (suc (suc (suc (suc (suc (suc (suc (suc (suc zero)))))))))))))) e lt
     same = absurd (true≢false (sym same))
 only_workers
-    (suc (suc (suc (suc (suc (suc (suc (suc (suc (suc (suc (suc (suc (suc (suc j))))))))))))))) e lt
+    (suc (suc (suc (suc (suc (suc (suc (suc (suc (suc (suc (suc (suc (suc (suc zero))))))))))))))) e lt
+    same = absurd (true≢false (sym same))
+only_workers
+    (suc (suc (suc (suc (suc (suc (suc (suc (suc (suc (suc (suc (suc (suc (suc (suc j)))))))))))))))) e lt
     same = absurd (omega arith)
 
 only_shards : (j : ℕ) (e : Rule) → j < length program.top.rules
@@ -97,7 +100,10 @@ only_shards (suc (suc (suc (suc (suc (suc (suc (suc (suc (suc (suc (suc (suc zer
 only_shards (suc (suc (suc (suc (suc (suc (suc (suc (suc (suc (suc (suc (suc (suc zero))))))))))))))
     e lt same = absurd (true≢false (sym same))
 only_shards
-    (suc (suc (suc (suc (suc (suc (suc (suc (suc (suc (suc (suc (suc (suc (suc j))))))))))))))) e lt
+    (suc (suc (suc (suc (suc (suc (suc (suc (suc (suc (suc (suc (suc (suc (suc zero))))))))))))))) e lt
+    same = absurd (true≢false (sym same))
+only_shards
+    (suc (suc (suc (suc (suc (suc (suc (suc (suc (suc (suc (suc (suc (suc (suc (suc j)))))))))))))))) e lt
     same = absurd (omega arith)
 
 workers_given : (c : Command) (m : ArgMatches) → app_of c ≡ program → IsParsedFrom c m

@@ -10,12 +10,14 @@ returns c =
     ∙ ap₂ with_rule refl c.flag_arg-ledger.ensures.rule in
     let two = c.in_ok-arg-2.ensures.shape c.flag_arg-explain.ensures.local
     ∙ ap₂ with_rule one c.flag_arg-explain.ensures.rule in
-    let three = c.in_ok-arg-3.ensures.shape c.flag_arg-traced.ensures.local
-    ∙ ap₂ with_rule two c.flag_arg-traced.ensures.rule in
-    let four = c.in_ok-command.ensures.shape c.option_arg-tokens.ensures.local
-    ∙ ap₂ with_rule three c.option_arg-tokens.ensures.rule in
-    let five = c.in_ok-add_list_args.ensures
-    ∙ ap (λ (a : App). with_rule (with_rule a list_option) null_flag) four in
-    IfOk-weaker c.arg-5.result _ _
+    let three = c.in_ok-arg-3.ensures.shape c.flag_arg-json.ensures.local
+    ∙ ap₂ with_rule two c.flag_arg-json.ensures.rule in
+    let four = c.in_ok-arg-4.ensures.shape c.flag_arg-traced.ensures.local
+    ∙ ap₂ with_rule three c.flag_arg-traced.ensures.rule in
+    let five = c.in_ok-command.ensures.shape c.option_arg-tokens.ensures.local
+    ∙ ap₂ with_rule four c.option_arg-tokens.ensures.rule in
+    let six = c.in_ok-add_list_args.ensures
+    ∙ ap (λ (a : App). with_rule (with_rule a list_option) null_flag) five in
+    IfOk-weaker c.arg-6.result _ _
     (λ command adds. adds.shape c.positional_arg-file.ensures.local
-    ∙ ap₂ with_rule five c.positional_arg-file.ensures.rule) c.arg-5.ensures
+    ∙ ap₂ with_rule six c.positional_arg-file.ensures.rule) c.arg-6.ensures

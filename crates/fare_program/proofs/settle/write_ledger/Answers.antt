@@ -10,6 +10,7 @@ use Rattle.tap_parts.specs.Canonical.{tap_cmp}
 use Rattle.fare_texts.specs.Ledger.{IsLedgerOver}
 use Rattle.settlement.specs.Posted.{HasName, posted}
 use Rattle.tap_views.specs.UploadEnds.{are_posted}
+use Rattle.fare_program.specs.Options.{form_of}
 use Rattle.fare_program.specs.Settling.{IsTextOver}
 use Rattle.fare_program.proofs.settle.write_ledger.Goals as goal
 
@@ -59,7 +60,7 @@ returns-clause-ok g c =
         history = history;
         is_settled = c.posted_taps.ensures.history fares files order made;
         shows = subst (λ (b : Bool). MatchBool b (IsLedgerOver fares history None text)
-            (IsTextOver request.explain None fares files history text)) (sym ledger) is;
+            (IsTextOver (form_of request) None fares files history text)) (sym ledger) is;
         ends = c.in_ok-ends.field-0.ends.items;
         ended = ended;
         succeeded = c.are_posted.ensures ∙ ap are_posted c.deref-2.ensures.value;
@@ -92,7 +93,7 @@ returns-in_err-write_settled_ledger-clause-started g c =
         history = history;
         is_settled = c.posted_taps.ensures.history fares files order made;
         shows = subst (λ (b : Bool). MatchBool b (IsLedgerOver fares history None text)
-            (IsTextOver request.explain None fares files history text)) (sym ledger) is;
+            (IsTextOver (form_of request) None fares files history text)) (sym ledger) is;
         ends = c.in_ok-ends.field-0.ends.items;
         ended = ended;
         succeeded = refl;

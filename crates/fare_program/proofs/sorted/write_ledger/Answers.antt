@@ -2,6 +2,7 @@ use Rattle.std.proofs.Common.{Bool, None, subst, sym}
 use Rattle.std.specs.Prelude.{MatchBool}
 use Rattle.std.proofs.KnownBytes.{Keeps-refl}
 use Rattle.fare_texts.specs.Ledger.{IsLedgerOver}
+use Rattle.fare_program.specs.Options.{form_of}
 use Rattle.fare_program.specs.Settling.{IsTextOver}
 use Rattle.fare_program.specs.inside.Options.{request_of}
 use Rattle.fare_program.proofs.sorted.write_ledger.Goals as goal
@@ -19,7 +20,7 @@ returns-in-Ok-clause-ok g c = λ ledger.
             history = made.history;
             is_settled = made.is_settled;
             shows = subst (λ (b : Bool). MatchBool b (IsLedgerOver fares made.history None text)
-                (IsTextOver request.explain None fares all made.history text)) (sym ledger)
+                (IsTextOver (form_of request) None fares all made.history text)) (sym ledger)
                 made.over;
             ends = c.in-Ok._ends.items;
             ended = c.in-Ok.ensures.ended all are;
@@ -49,7 +50,7 @@ returns-in-Err-clause-started g c = λ write ledger bytes.
             history = made.history;
             is_settled = made.is_settled;
             shows = subst (λ (b : Bool). MatchBool b (IsLedgerOver fares made.history None text)
-                (IsTextOver request.explain None fares all made.history text)) (sym ledger)
+                (IsTextOver (form_of request) None fares all made.history text)) (sym ledger)
                 made.over;
             ends = ends;
             ended = plain;

@@ -24,7 +24,8 @@ returns-clause-request c =
     let sorted = c.flag_in-4.ensures ∙ ap (is_given (codes "sorted")) rows in
     let ledger = c.flag_in-5.ensures ∙ ap (is_given (codes "ledger")) rows in
     let explain = c.flag_in-6.ensures ∙ ap (is_given (codes "explain")) rows in
-    let traced = c.flag_in-7.ensures ∙ ap (is_given (codes "traced")) rows in
+    let json = c.flag_in-7.ensures ∙ ap (is_given (codes "json")) rows in
+    let traced = c.flag_in-8.ensures ∙ ap (is_given (codes "traced")) rows in
     let tokens = c.get_str-2.ensures ∙ first_value-rows found (codes "tokens")
     ∙ ap (first_of (codes "tokens")) rows in
     let files = c.in_ok-names_in.ensures ∙ ap (λ r. unwrap_or (all_of (codes "FILE") r) []) rows in
@@ -39,6 +40,7 @@ returns-clause-request c =
       sorted = sorted i;
       ledger = ledger i;
       explain = explain i;
+      json = json i;
       traced = traced i;
       tokens = tokens i;
       files = files i;

@@ -1,6 +1,7 @@
 use Rattle.std.proofs.Common.{◌++◌, refl, string_bytes}
 use Rattle.std.specs.Prelude.{codes}
 use Rattle.fare_texts.proofs.Parts.{in_parts}
+use Rattle.fare_texts.specs.Local.{local_words}
 use Rattle.fare_texts.specs.StatementText.{entry_words}
 use Rattle.fare_texts.proofs.explained.lines.write_line.Goals as goal
 
@@ -11,10 +12,10 @@ returns c =
     let words = entry_words c.args.table.now c.args.entry.now in
     let reason_words = c.in_ok-write_reason_words.ensures in
     let lack = c.in_ok-write_no_transfer.ensures in
-    let local = rw c.requires.clock at c.in_ok-write_local.ensures in
+    let local = local_words c.args.table.now.zone (codes ", local ") c.args.entry.now.moment in
     let done = string_bytes c.push_str.new.self in
     let last = codes "\n" in (
-      moment.0 ++ (words ++ (reason_words.0 ++ (lack.0 ++ (local.0 ++ last)))),
+      moment.0 ++ (words ++ (reason_words.0 ++ (lack.0 ++ (local ++ last)))),
       record {
         moment = moment.0;
         is = moment.1;
@@ -22,21 +23,19 @@ returns c =
         explained = reason_words.1;
         lack = lack.0;
         lacks = lack.1;
-        local = local.0;
-        at = local.1;
         shown = refl;
       },
       in_parts (string_bytes c.args.text.now) (string_bytes c.write_moment.new.text) done moment.0
-          (words ++ (reason_words.0 ++ (lack.0 ++ (local.0 ++ last)))) moment.2
+          (words ++ (reason_words.0 ++ (lack.0 ++ (local ++ last)))) moment.2
           (in_parts (string_bytes c.write_moment.new.text)
           (string_bytes c.write_entry_words.new.text) done words
-          (reason_words.0 ++ (lack.0 ++ (local.0 ++ last))) c.in_ok-write_entry_words.ensures
+          (reason_words.0 ++ (lack.0 ++ (local ++ last))) c.in_ok-write_entry_words.ensures
           (in_parts (string_bytes c.write_entry_words.new.text)
           (string_bytes c.write_reason_words.new.text) done reason_words.0
-          (lack.0 ++ (local.0 ++ last)) reason_words.2
+          (lack.0 ++ (local ++ last)) reason_words.2
           (in_parts (string_bytes c.write_reason_words.new.text)
-          (string_bytes c.write_no_transfer.new.text) done lack.0 (local.0 ++ last) lack.2
+          (string_bytes c.write_no_transfer.new.text) done lack.0 (local ++ last) lack.2
           (in_parts (string_bytes c.write_no_transfer.new.text)
           (string_bytes c.write_local.new.text)
-          done local.0 last local.2 c.in_ok-push_str.ensures.bytes)))),
+          done local last (rw c.requires.clock at c.in_ok-write_local.ensures) c.in_ok-push_str.ensures.bytes)))),
     )
