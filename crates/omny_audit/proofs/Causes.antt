@@ -237,40 +237,56 @@ ends_audit request did (Err fault) decide files is = (
   is.2,
 )
 
--- what was written was written before the fault was reported
-fails_reported : (request : AuditRequest) (did : Did) (before : Run) (fault : Fault)
-    → FailsAudit request (record did { new = before }) fault
-    → FailsAudit request (record did { new = reported fault before }) fault
-fails_reported request did before Closed fails = fails
-fails_reported request did before _ fails = fails
-
 said_reported : (fault : Fault) (r s : Run) → s.said ≡ r.said
     → (reported fault s).said ≡ (reported fault r).said
 said_reported Closed r s same = same
 said_reported fault r s same =
     ap (λ (t : List ℕ). t ++ (audit_fault_text fault ++ codes "\n")) same
 
--- a run whose fault is reported; that memory was refused for its line is one, too
-pub fails_as : (request : AuditRequest) (did : Did) (before after : Run) (fault : Fault)
-    → FailsAudit request (record did { new = before }) fault → before.said ≡ did.old.said
+-- What holds of a fault holds when it is reported. That an allocation for its line failed may be
+-- reported in its place.
+pub reported_as : (P : Run → Fault → Type 0)
+    → ((r : Run) (fault : Fault) → P r fault → P (reported fault r) fault)
+    → ((r : Run) (fault : Fault) → P r fault → P r NoMemory)
+    → (start before after : Run) (fault : Fault) → P before fault → before.said ≡ start.said
     → IsReported fault before after
-    → (said : Fault) × FailsAudit request (record did { new = after }) said
-    × HasReported (record did { new = after }) said
-fails_as request did before after fault fails same is =
-    ⊎_elim (by fault fails) (by NoMemory (record { is_cause = tt; started = fails.started })) is
+    → (said : Fault) × P after said × (after.said ≡ (reported said start).said)
+reported_as P keeps memory start before after fault has same is =
+    ⊎_elim (by fault has) (by NoMemory (memory before fault has)) is
   where
-    by : (said : Fault) → FailsAudit request (record did { new = before }) said
-        → after ≡ reported said before → (other : Fault)
-        × FailsAudit request (record did { new = after }) other
-        × HasReported (record did { new = after }) other
-    by said fails e = (
+    by : (said : Fault) → P before said → after ≡ reported said before
+        → (other : Fault) × P after other × (after.said ≡ (reported other start).said)
+    by said has e = (
       said,
-      subst (λ (r : Run). FailsAudit request (record did { new = r }) said) (sym e)
-          (fails_reported request did before said fails),
-      ap (λ (r : Run). r.said) e ∙ said_reported said did.old before same,
+      subst (λ (r : Run). P r said) (sym e) (keeps before said has),
+      ap (λ (r : Run). r.said) e ∙ said_reported said start before same,
     )
 
--- the whole text was written, and the flush behind it failed
+keeps_answer : (r : Run) (fault : Fault) → IsAnswerFault r.cut fault
+    → IsAnswerFault (reported fault r).cut fault
+keeps_answer r Closed is = is
+keeps_answer r _ is = is
+
+pub answers_as : (start before after : Run) (fault : Fault) → IsAnswerFault before.cut fault
+    → before.said ≡ start.said → IsReported fault before after
+    → (said : Fault) × IsAnswerFault after.cut said × (after.said ≡ (reported said start).said)
+answers_as = reported_as (λ r fault. IsAnswerFault r.cut fault) keeps_answer (λ r fault is. tt)
+
+module _ (request : AuditRequest) (did : Did) where
+  keeps_failure : (r : Run) (fault : Fault) → FailsAudit request (record did { new = r }) fault
+      → FailsAudit request (record did { new = reported fault r }) fault
+  keeps_failure r Closed fails = fails
+  keeps_failure r _ fails = fails
+
+  pub fails_as : (before after : Run) (fault : Fault)
+      → FailsAudit request (record did { new = before }) fault → before.said ≡ did.old.said
+      → IsReported fault before after
+      → (said : Fault) × FailsAudit request (record did { new = after }) said
+      × HasReported (record did { new = after }) said
+  fails_as = reported_as (λ r fault. FailsAudit request (record did { new = r }) fault)
+      keeps_failure (λ r fault fails. record { is_cause = tt; started = fails.started }) did.old
+
+-- the whole text was written, and the flush after it failed
 pub unflushed : (request : AuditRequest) (did : Did) (before after : Run) (text : List ℕ)
     (success : Bool)
     (why : WriteFault) (fault : Fault) → IsWriteFault (Some why) fault
