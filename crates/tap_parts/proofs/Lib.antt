@@ -2,6 +2,7 @@ pub mod Adding
 pub mod Buckets
 pub mod Early
 pub mod FullBatches
+mod Keys
 pub mod Pieces
 pub mod Positions
 pub mod RangeLemmas
