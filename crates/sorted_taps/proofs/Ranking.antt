@@ -11,6 +11,7 @@ use Rattle.std.proofs.lemmas.Cmp.{tied_itself}
 use Rattle.tap_views.proofs.TapOrders.{tap_cmp_total}
 use Rattle.tap_views.specs.declared.encoder.TapFields.{TapFields}
 use Rattle.sorted_taps.specs.Heads.{HasLeaves, IsChosen, IsChosenAt, IsNotAfter, IsRanked}
+use Rattle.sorted_taps.specs.Heads.{tap_of}
 use Rattle.sorted_taps.specs.Merged.{BeginsNotBefore}
 use Rattle.sorted_taps.specs.Merges.{AreAtEnd, IsLeastHead}
 use Rattle.sorted_taps.specs.Readers.{ahead, first_of, head_of}
@@ -47,8 +48,8 @@ begins tap (head ∷ rest) is = is
 module _ (readers : List TapReader) (tree : List Head) (is : IsRanked readers tree) where
   -- the root is not after a place, if it is not after the place above
   from_above : (position : ℕ) (d : Head) → 1 < position → position < 2 * length readers
-      → IsNotAfter (get_or tree 1 d).tap (get_or tree (position / 2) d).tap
-      → IsNotAfter (get_or tree 1 d).tap (get_or tree position d).tap
+      → IsNotAfter (tap_of (get_or tree 1 d)) (tap_of (get_or tree (position / 2) d))
+      → IsNotAfter (tap_of (get_or tree 1 d)) (tap_of (get_or tree position d))
   from_above position d more within above =
       by_child (is.inner (position / 2) (omega (arith, more)) (omega (arith, within)) d)
       (cases_eq position (2 * (position / 2)))
@@ -57,19 +58,19 @@ module _ (readers : List TapReader) (tree : List Head) (is : IsRanked readers tr
           (get_or tree (2 * (position / 2) + 1) d)
           (get_or tree (position / 2) d)
           → (position ≡ 2 * (position / 2)) ⊎ (position ≢ 2 * (position / 2))
-          → IsNotAfter (get_or tree 1 d).tap (get_or tree position d).tap
+          → IsNotAfter (tap_of (get_or tree 1 d)) (tap_of (get_or tree position d))
       by_child chosen (inl left) =
-          subst (λ p. IsNotAfter (get_or tree 1 d).tap (get_or tree p d).tap) (sym left)
+          subst (λ p. IsNotAfter (tap_of (get_or tree 1 d)) (tap_of (get_or tree p d))) (sym left)
           (not_after_far _ _ _ above chosen.left_not_before)
       by_child chosen (inr other) =
           let right : position ≡ 2 * (position / 2) + 1 = omega (arith, other) in
-          subst (λ p. IsNotAfter (get_or tree 1 d).tap (get_or tree p d).tap) (sym right)
+          subst (λ p. IsNotAfter (tap_of (get_or tree 1 d)) (tap_of (get_or tree p d))) (sym right)
           (not_after_far _ _ _ above chosen.right_not_before)
 
   -- the root is not after any other
   below_root : (fuel position : ℕ) (d : Head) → position ≤ fuel → 0 < position
       → position < 2 * length readers
-      → IsNotAfter (get_or tree 1 d).tap (get_or tree position d).tap
+      → IsNotAfter (tap_of (get_or tree 1 d)) (tap_of (get_or tree position d))
   below_root zero position d most some within = absurd (omega (arith, most, some))
   below_root (suc fuel) position d most some within =
       by_case (cases_lt 1 position)
@@ -77,12 +78,12 @@ module _ (readers : List TapReader) (tree : List Head) (is : IsRanked readers tr
     where
       by_case : (1 < position) ⊎ (position ≤ 1)
           → (position / 2 ≤ fuel → 0 < position / 2 → position / 2 < 2 * length readers
-          → IsNotAfter (get_or tree 1 d).tap (get_or tree (position / 2) d).tap)
-          → IsNotAfter (get_or tree 1 d).tap (get_or tree position d).tap
+          → IsNotAfter (tap_of (get_or tree 1 d)) (tap_of (get_or tree (position / 2) d)))
+          → IsNotAfter (tap_of (get_or tree 1 d)) (tap_of (get_or tree position d))
       by_case (inr one) above =
           let same : 1 ≡ position = omega (arith, one, some) in
-          subst (λ p. IsNotAfter (get_or tree 1 d).tap (get_or tree p d).tap) same
-          (not_after_self (get_or tree 1 d).tap)
+          subst (λ p. IsNotAfter (tap_of (get_or tree 1 d)) (tap_of (get_or tree p d))) same
+          (not_after_self (tap_of (get_or tree 1 d)))
       by_case (inl more) above =
           from_above position d more within
           (above (omega (arith, most, more)) (omega (arith, more)) (omega (arith, within, more)))
@@ -124,16 +125,16 @@ module _ (readers : List TapReader) (tree : List Head) (is : IsRanked readers tr
 
   -- none of the readers stands at a tap before the root's
   pub none_before : (root : Head) → root ≡ get_or tree 1 root → (k : ℕ) (e : TapReader)
-      → k < length readers → IsNotAfter root.tap (head_of (get_or readers k e))
+      → k < length readers → IsNotAfter (tap_of root) (head_of (get_or readers k e))
   none_before root here k e low =
-      subst (λ t. IsNotAfter root.tap t) (is.leaves.tap k root e low)
-      (subst (λ (h : Head). IsNotAfter h.tap (get_or tree (length readers + k) root).tap) (sym here)
+      subst (λ t. IsNotAfter (tap_of root) t) (is.leaves.tap k root e low)
+      (subst (λ (h : Head). IsNotAfter (tap_of h) (tap_of (get_or tree (length readers + k) root))) (sym here)
       (below_root (length readers + k) (length readers + k) root (omega arith) (omega (arith, low))
       (omega (arith, low))))
 
   -- at the root is a least head
   pub root_is_least : (root : Head) (tap : TapFields) → 0 < length readers
-      → root ≡ get_or tree 1 root → root.tap ≡ Some tap → IsLeastHead readers root.at tap
+      → root ≡ get_or tree 1 root → tap_of root ≡ Some tap → IsLeastHead readers root.at tap
   root_is_least root tap some here holds =
       let (k, low, leaf) = of_reader (2 * length readers) 1 root (omega arith) (omega arith)
       (omega (arith, some)) in
@@ -143,14 +144,14 @@ module _ (readers : List TapReader) (tree : List Head) (is : IsRanked readers tr
         within = omega (arith, at, low);
         head = λ e. is_first (ahead (get_or readers root.at e)) tap
             (subst (λ p. head_of (get_or readers p e) ≡ Some tap) (sym at)
-            (sym (is.leaves.tap k root e low) ∙ sym (ap (λ (h : Head). h.tap) same) ∙ holds));
+            (sym (is.leaves.tap k root e low) ∙ sym (ap tap_of same) ∙ holds));
         least = λ j e within. begins tap (ahead (get_or readers j e))
             (subst (λ t. IsNotAfter t (head_of (get_or readers j e))) holds
             (none_before root here j e within));
       }
 
   -- if the root has no tap, no reader has
-  pub root_is_end : (root : Head) → root ≡ get_or tree 1 root → root.tap ≡ None → AreAtEnd readers
+  pub root_is_end : (root : Head) → root ≡ get_or tree 1 root → tap_of root ≡ None → AreAtEnd readers
   root_is_end root here none k e within = is_none (ahead (get_or readers k e))
       (subst (λ t. IsNotAfter t (head_of (get_or readers k e))) none
       (none_before root here k e within))
@@ -159,7 +160,7 @@ module _ (readers : List TapReader) (tree : List Head) (is : IsRanked readers tr
 pub record HasLeavesBelow (readers : List TapReader) (tree : List Head) (below : ℕ) : Type 0 where
   pub size : length tree ≡ 2 * length readers
   pub tap : (k : ℕ) (d : Head) (e : TapReader) → k < below
-      → (get_or tree (length readers + k) d).tap ≡ head_of (get_or readers k e)
+      → tap_of (get_or tree (length readers + k) d) ≡ head_of (get_or readers k e)
   pub at : (k : ℕ) (d : Head) → k < below → (get_or tree (length readers + k) d).at ≡ k
 
 -- each place of the first half, from 1 on, has the one chosen of two, but for the place above this
@@ -259,7 +260,7 @@ put_chosen readers tree at was head is position some within left right =
 module _ (readers : List TapReader) (tree : List Head) (at : ℕ) (was reader : TapReader)
     (head : Head)
     (low : at < length readers) (is : IsRanked (set readers at was) tree)
-    (there : reader ≡ get_or readers at reader) (tap : head.tap ≡ head_of reader)
+    (there : reader ≡ get_or readers at reader) (tap : tap_of head ≡ head_of reader)
     (number : head.at ≡ at) where
   long : length (set readers at was) ≡ length readers
   long = length-set readers at was
@@ -275,18 +276,18 @@ module _ (readers : List TapReader) (tree : List Head) (at : ℕ) (was reader : 
       room = let size = is.leaves.size in let l = long in omega (arith, size, l, low)
 
       by_tap : (k : ℕ) (d : Head) (e : TapReader) → k < length readers → (k ≡ at) ⊎ (k ≢ at)
-          → (get_or (set tree (length readers + at) head) (length readers + k) d).tap
+          → tap_of (get_or (set tree (length readers + at) head) (length readers + k) d)
           ≡ head_of (get_or readers k e)
       by_tap k d e within (inl same) =
-          subst (λ j. (get_or (set tree (length readers + at) head) (length readers + j) d).tap
+          subst (λ j. tap_of (get_or (set tree (length readers + at) head) (length readers + j) d)
           ≡ head_of (get_or readers j e))
           (sym same)
-          (ap (λ (h : Head). h.tap) (get_or-set_same tree (length readers + at) head d room) ∙ tap
+          (ap tap_of (get_or-set_same tree (length readers + at) head d room) ∙ tap
           ∙ ap head_of (there ∙ get_or_default readers at reader e low))
       by_tap k d e within (inr other) =
-          ap (λ (h : Head). h.tap) (get_or-set_other tree (length readers + at) (length readers + k)
+          ap tap_of (get_or-set_other tree (length readers + at) (length readers + k)
           head d (λ e. other (omega (arith, e))))
-          ∙ subst (λ n. (get_or tree (n + k) d).tap ≡ head_of (get_or (set readers at was) k e))
+          ∙ subst (λ n. tap_of (get_or tree (n + k) d) ≡ head_of (get_or (set readers at was) k e))
           long
           (is.leaves.tap k d e (let l = long in omega (arith, l, within)))
           ∙ ap head_of (get_or-set_other readers at k was e other)
@@ -328,4 +329,34 @@ set_back readers at is was there =
 
 -- a head that is read if there is none
 abbrev pub no_head : Head
-no_head = record { tap = None; at = 0 }
+no_head = record { key = None; at = 0 }
+
+-- a head of the same tap remains the reader's
+pub same_head_ranked : (readers : List TapReader) (tree : List Head) (at : ℕ) (gone : TapReader)
+    → at < length readers → ((d : TapReader) → head_of (get_or readers at d) ≡ head_of gone)
+    → IsRanked (set readers at gone) tree → IsRanked readers tree
+same_head_ranked readers tree at gone low same is = record {
+  leaves = record {
+    size = let l = length-set readers at gone in let size = is.leaves.size in omega (arith, l, size);
+    tap = λ k d e within.
+        subst (λ n. tap_of (get_or tree (n + k) d) ≡ head_of (get_or readers k e)) long
+        (is.leaves.tap k d e (inside k within) ∙ by_position k e (cases_eq k at));
+    at = λ k d within.
+        subst (λ n. (get_or tree (n + k) d).at ≡ k) long (is.leaves.at k d (inside k within));
+  };
+  inner = λ position some within. is.inner position some (inside position within);
+}
+  where
+    long : length (set readers at gone) ≡ length readers
+    long = length-set readers at gone
+
+    inside : (k : ℕ) → k < length readers → k < length (set readers at gone)
+    inside k within = let l = long in omega (arith, l, within)
+
+    by_position : (k : ℕ) (e : TapReader) → (k ≡ at) ⊎ (k ≢ at)
+        → head_of (get_or (set readers at gone) k e) ≡ head_of (get_or readers k e)
+    by_position k e (inl here) =
+        subst (λ j. head_of (get_or (set readers at gone) j e) ≡ head_of (get_or readers j e))
+        (sym here)
+        (ap head_of (get_or-set_same readers at gone e low) ∙ sym (same e))
+    by_position k e (inr other) = ap head_of (get_or-set_other readers at k gone e other)

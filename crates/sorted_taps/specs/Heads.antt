@@ -1,6 +1,8 @@
 -- The heads of readers, in a tree whose root is a least one.
 use Rattle.std.specs.Prelude.{◌≡◌, ◌⊎◌, ℕ, ◌+◌, ◌*◌, ◌<◌, List, length, get_or, Option, None, Some}
+use Rattle.std.specs.Prelude.{option_map}
 use Rattle.tap_views.specs.declared.encoder.TapFields.{TapFields}
+use Rattle.tap_parts.specs.Keys.{tap_of_key}
 use Rattle.sorted_taps.specs.Merged.{IsNotBefore}
 use Rattle.sorted_taps.specs.Readers.{head_of}
 use Rattle.sorted_taps.specs.declared.heads.Head.{Head}
@@ -12,11 +14,15 @@ IsNotAfter tap None = Unit {0}
 IsNotAfter None (Some other) = ⊥
 IsNotAfter (Some tap) (Some other) = IsNotBefore tap other
 
+-- the tap of the head, or none at the file's end
+abbrev pub tap_of : Head → Option TapFields
+tap_of head = option_map tap_of_key head.key
+
 -- one of the two was chosen, and neither is before it
 pub record IsChosen (left right chosen : Head) : Type 0 where
   pub one : (chosen ≡ left) ⊎ (chosen ≡ right)
-  pub left_not_before : IsNotAfter chosen.tap left.tap
-  pub right_not_before : IsNotAfter chosen.tap right.tap
+  pub left_not_before : IsNotAfter (tap_of chosen) (tap_of left)
+  pub right_not_before : IsNotAfter (tap_of chosen) (tap_of right)
 
 -- at this place of the tree is the one chosen of those at twice the place and after that
 abbrev pub IsChosenAt : List Head → ℕ → Type 0
@@ -28,7 +34,7 @@ IsChosenAt tree position =
 pub record HasLeaves (readers : List TapReader) (tree : List Head) : Type 0 where
   pub size : length tree ≡ 2 * length readers
   pub tap : (k : ℕ) (d : Head) (e : TapReader) → k < length readers
-      → (get_or tree (length readers + k) d).tap ≡ head_of (get_or readers k e)
+      → tap_of (get_or tree (length readers + k) d) ≡ head_of (get_or readers k e)
   pub at : (k : ℕ) (d : Head) → k < length readers → (get_or tree (length readers + k) d).at ≡ k
 
 -- the tree has the heads of the readers, and at each place of its first half, from 1 on, the one

@@ -1,8 +1,9 @@
 //! The heads of readers, as a tree whose root is a least one.
 
 ghost use Rattle.std.specs.Prelude.{◌≡◌, ◌+◌, ◌*◌, ◌<◌, ℕ, List, get_or, length, set, IfOk};
-ghost use Rattle.std.specs.Prelude.{[], MatchOption, Some, true, false};
-ghost use Rattle.sorted_taps.specs.Heads.{HasLeaves, IsChosen, IsNotAfter, IsRanked};
+ghost use Rattle.std.specs.Prelude.{[], MatchOption, Some, option_map, true, false};
+ghost use Rattle.tap_parts.specs.Keys.{tap_of_key};
+ghost use Rattle.sorted_taps.specs.Heads.{HasLeaves, IsChosen, IsNotAfter, IsRanked, tap_of};
 ghost use Rattle.sorted_taps.specs.Merges.{AreAtEnd, IsLeastHead};
 ghost use Rattle.sorted_taps.specs.Readers.{ahead, head_of};
 ghost use Rattle.sorted_taps.specs.declared.heads.Head.{Head};
@@ -11,14 +12,14 @@ ghost use Rattle.sorted_taps.specs.inside.Choosing.{IsChosenAnew};
 
 use crate::reader::TapReader;
 use std::alloc::{AllocError, Global};
-use tap_parts::compare;
+use tap_parts::TapKey;
 use tap_views::TapFields;
 
 /// Where a reader is.
 #[derive(Clone, Copy)]
 pub(crate) struct Head {
-    /// None at the file's end.
-    tap: Option<TapFields>,
+    /// Of its tap. None at the file's end.
+    key: Option<TapKey>,
     at: usize,
 }
 
@@ -26,11 +27,14 @@ impl Head {
     #[inline(always)]
     fn of(reader: &TapReader, at: usize) -> Head
         ensures at { result.at ≡ at }
-        ensures tap { result.tap ≡ head_of reader.now }
+        ensures tap { tap_of result ≡ head_of reader.now }
     {
-        Head {
-            tap: reader.head().copied(),
-            at,
+        match reader.head() {
+            Some(tap) => Head {
+                key: Some(TapKey::of(tap)),
+                at,
+            },
+            None => Head { key: None, at },
         }
     }
 }
@@ -38,25 +42,31 @@ impl Head {
 /// A head at its file's end is before none.
 #[inline(always)]
 fn is_before(head: &Head, other: &Head) -> bool
-    ensures yes { result ≡ true → IsNotAfter head.now.tap other.now.tap }
-    ensures no { result ≡ false → IsNotAfter other.now.tap head.now.tap }
+    ensures yes { result ≡ true → IsNotAfter (tap_of head.now) (tap_of other.now) }
+    ensures no { result ≡ false → IsNotAfter (tap_of other.now) (tap_of head.now) }
+    ensures strictly { result ≡ true → IsNotAfter (tap_of other.now) (tap_of head.now) → ⊥ }
 {
-    match (&head.tap, &other.tap) {
-        (Some(tap), Some(next)) => compare(tap, next).is_lt(),
+    match (&head.key, &other.key) {
+        (Some(key), Some(next)) => key.is_before(*next),
         (Some(_), None) => true,
         (None, _) => false,
     }
 }
 
+/// The place of a head that the other is not before.
 #[inline(always)]
-fn lesser(tree: &[Head], left: usize, right: usize) -> Head
+fn lesser(tree: &[Head], left: usize, right: usize) -> usize
     requires left { left < length tree.now }
     requires right { right < length tree.now }
-    ensures { (d : Head) → IsChosen (get_or tree.now left d) (get_or tree.now right d) result }
+    ensures within { result < length tree.now }
+    ensures chosen { (d : Head) → IsChosen (get_or tree.now left d) (get_or tree.now right d)
+        (get_or tree.now result d) }
 {
-    let one = &tree[left];
-    let other = &tree[right];
-    if is_before(other, one) { *other } else { *one }
+    if is_before(&tree[right], &tree[left]) {
+        right
+    } else {
+        left
+    }
 }
 
 #[inline(always)]
@@ -73,7 +83,8 @@ fn choose(tree: &mut [Head], position: usize)
     requires { 2 * position + 1 < length tree.old }
     ensures { IsChosenAnew tree.old position tree.new }
 {
-    let chosen = lesser(tree, 2 * position, 2 * position + 1);
+    let from = lesser(tree, 2 * position, 2 * position + 1);
+    let chosen = head_at(tree, from);
     tree[position] = chosen;
 }
 
@@ -91,7 +102,7 @@ fn choose_all(tree: &mut [Head], readers: &[TapReader])
 pub(crate) fn tree_of(alloc: Global, readers: &[TapReader]) -> Result<Vec<Head>, AllocError>
     ensures { IfOk result (λ tree. IsRanked readers.now tree.items) }
 {
-    let none = Head { tap: None, at: 0 };
+    let none = Head { key: None, at: 0 };
     let mut tree = vec![in alloc; none; 2 * readers.len()]?;
     for at in 0..readers.len() {
         let reader = &readers[at];
@@ -106,7 +117,7 @@ pub(crate) fn tree_of(alloc: Global, readers: &[TapReader]) -> Result<Vec<Head>,
 fn put(tree: &mut [Head], readers: &[TapReader], head: Head)
     requires within { head.at < length readers.now }
     requires ranked { (was : TapReader) × IsRanked (set readers.now head.at was) tree.old }
-    ensures { (is : TapReader) → head.tap ≡ head_of is
+    ensures { (is : TapReader) → tap_of head ≡ head_of is
         → IsRanked (set readers.now head.at is) tree.new }
 {
     let mut position = readers.len() + head.at;
@@ -132,7 +143,34 @@ pub(crate) fn put_end(tree: &mut [Head], readers: &[TapReader], at: usize)
     ensures { (gone : TapReader) → ahead gone ≡ []
         → IsRanked (set readers.now at gone) tree.new }
 {
-    put(tree, readers, Head { tap: None, at });
+    put(tree, readers, Head { key: None, at });
+}
+
+/// The tree has the end of the reader's file, above which are the least of the other heads. So
+/// the reader's head climbs until one of them is not after it.
+pub(crate) fn put_back(tree: &mut [Head], readers: &[TapReader], at: usize)
+    requires within { at < length readers.now }
+    requires ranked { (gone : TapReader) × (ahead gone ≡ [])
+        × IsRanked (set readers.now at gone) tree.old }
+    ensures { IsRanked readers.now tree.new }
+{
+    let reader = &readers[at];
+    let Some(tap) = reader.head() else {
+        return;
+    };
+    let key = Some(TapKey::of(tap));
+    let head = Head { key, at };
+    let mut position = readers.len() + at;
+    tree[position] = head;
+    while position > 1 {
+        let above = position / 2;
+        if is_before(&head, &tree[above]) {
+            tree[above] = head;
+        } else {
+            return;
+        }
+        position = above;
+    }
 }
 
 pub(crate) fn least_of(tree: &[Head]) -> Option<(usize, TapFields)>
@@ -143,29 +181,30 @@ pub(crate) fn least_of(tree: &[Head]) -> Option<(usize, TapFields)>
         return None;
     }
     let root = head_at(tree, 1);
-    match root.tap {
-        Some(tap) => Some((root.at, tap)),
+    match root.key {
+        Some(key) => Some((root.at, key.tap())),
         None => None,
     }
 }
 
-pub(crate) fn least_tap(tree: &[Head]) -> Option<TapFields>
+pub(crate) fn least_key(tree: &[Head]) -> Option<TapKey>
     ensures { (readers : List TapReader) → IsRanked readers tree.now → (k : ℕ) (d : TapReader)
-        → k < length readers → IsNotAfter result (head_of (get_or readers k d)) }
+        → k < length readers
+        → IsNotAfter (option_map tap_of_key result) (head_of (get_or readers k d)) }
 {
     if tree.len() < 2 {
         return None;
     }
     let root = head_at(tree, 1);
-    root.tap
+    root.key
 }
 
 #[inline(always)]
-pub(crate) fn is_after(tap: &TapFields, other: &Option<TapFields>) -> bool
-    ensures { result ≡ false → IsNotAfter (Some tap.now) other.now }
+pub(crate) fn is_after(tap: &TapFields, other: &Option<TapKey>) -> bool
+    ensures { result ≡ false → IsNotAfter (Some tap.now) (option_map tap_of_key other.now) }
 {
     match other {
-        Some(next) => compare(next, tap).is_lt(),
+        Some(next) => next.is_before(TapKey::of(tap)),
         None => false,
     }
 }

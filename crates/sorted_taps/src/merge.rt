@@ -9,7 +9,7 @@ ghost use Rattle.sorted_taps.specs.declared.reader.TapReader.{TapReader};
 ghost use Rattle.sorted_taps.specs.Reading.{window_bytes};
 
 use crate::fault::SortedFault;
-use crate::heads::{Head, least_of, least_tap, put_end, put_head, tree_of};
+use crate::heads::{Head, least_key, least_of, put_back, put_end, put_head, tree_of};
 use crate::ranges::reader_near;
 use crate::reader::TapReader;
 use crate::run::{is_below, take_run};
@@ -174,10 +174,10 @@ impl Merge {
         ensures few { OnOk result (length taps.new.items ≤ most) }
     {
         put_end(&mut self.heads, &self.readers, at);
-        let other = least_tap(&self.heads);
+        let other = least_key(&self.heads);
         let reader = &mut self.readers[at];
         take_run(reader, &files[at], window, &other, below, most, taps)?;
-        put_head(&mut self.heads, &self.readers, at);
+        put_back(&mut self.heads, &self.readers, at);
         Ok(())
     }
 

@@ -1,6 +1,6 @@
 //! A reader of a file's taps.
 
-ghost use Rattle.std.specs.Prelude.{◌≡◌, ◌<◌, ◌≤◌, ◌∷◌, [], List, length, IfOk, IfErr, OnOk};
+ghost use Rattle.std.specs.Prelude.{◌≡◌, ◌+◌, ◌<◌, ◌≤◌, ◌∷◌, [], List, length, IfOk, IfErr, OnOk};
 ghost use Rattle.std.specs.Prelude.{IfSome, IsTrue, MatchOption, true, false};
 ghost use Rattle.tap_views.specs.declared.encoder.TapFields.{TapFields};
 ghost use Rattle.sorted_taps.specs.Reading.{window_bytes};
@@ -15,7 +15,7 @@ use crate::file_batches::read_batches;
 use placed_files::Placed;
 use std::alloc::{AllocError, Global};
 use std::cmp::Ordering;
-use tap_parts::compare;
+use tap_parts::{compare, is_before};
 use tap_views::TapFields;
 
 /// A position in a file's taps: at a tap, or at the end. It stores the batches that it read last,
@@ -99,7 +99,8 @@ impl TapReader {
         })
     }
 
-    fn ahead(&self) -> &[TapFields]
+    /// The taps in memory from the one on at which it is.
+    pub(crate) fn ahead(&self) -> &[TapFields]
         ensures { result.now ≡ ahead self.now }
     {
         self.taps.get(self.next..).unwrap_or(&[])
@@ -156,6 +157,22 @@ impl TapReader {
         Ok(())
     }
 
+    /// Passes taps in memory that are known to be in order.
+    pub(crate) fn pass(&mut self, number: usize) -> Result<(), SortedFault>
+        requires { number ≤ length (ahead self.old) }
+        ensures { OnOk result (self.new ≡ record self.old {
+          next = self.old.next + number;
+          passed = self.old.passed + number;
+        }) }
+    {
+        let Some(passed) = self.passed.checked_add(number as u64) else {
+            return Err(SortedFault::Unread);
+        };
+        self.next += number;
+        self.passed = passed;
+        Ok(())
+    }
+
     fn move_on<F: Placed>(&mut self, file: &F, window: &mut [u8]) -> Result<(), SortedFault>
         requires window { window_bytes ≤ length window.old }
         requires head { 0 < length (ahead self.old) }
@@ -176,7 +193,7 @@ impl TapReader {
         ensures yes { result ≡ true → BeginsBefore last.now (ahead self.now) }
     {
         match self.head() {
-            Some(tap) => compare(tap, last) == Ordering::Less,
+            Some(tap) => is_before(tap, last),
             None => false,
         }
     }

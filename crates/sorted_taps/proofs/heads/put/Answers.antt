@@ -1,6 +1,6 @@
 use Rattle.std.proofs.Common.{◌≡◌, ◌/◌, ◌+◌, ◌*◌, ◌<◌, length, set, arith, refl, sym, subst}
 use Rattle.std.proofs.lemmas.List.{get_or-set_same, length-set, set-set}
-use Rattle.sorted_taps.specs.Heads.{HasLeaves, IsRanked}
+use Rattle.sorted_taps.specs.Heads.{HasLeaves, IsRanked, tap_of}
 use Rattle.sorted_taps.specs.Readers.{head_of}
 use Rattle.sorted_taps.specs.declared.reader.TapReader.{TapReader}
 use Rattle.sorted_taps.proofs.Ranking.{AreChosenBut, chosen_above, leaves_kept, put_chosen}
@@ -51,7 +51,7 @@ loop-position-preserved c =
     let more = c.loop-position-test.true in
     let long = length-set tree (position / 2) anew.head in
     subst (λ t. record {
-      leaves : (is : TapReader) → head.tap ≡ head_of is → HasLeaves (set readers head.at is) t;
+      leaves : (is : TapReader) → tap_of head ≡ head_of is → HasLeaves (set readers head.at is) t;
       chosen : AreChosenBut (length readers) t (position / 2);
       size : length t ≡ 2 * length readers;
       within : position / 2 < length t;

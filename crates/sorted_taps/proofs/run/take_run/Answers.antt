@@ -1,29 +1,35 @@
-use Rattle.std.proofs.Common.{List, ◌∷◌, [], length, length-append, arith, ap, sym, subst}
-use Rattle.tap_views.specs.declared.encoder.TapFields.{TapFields}
-use Rattle.sorted_taps.specs.inside.Runs.{TakesRun}
-use Rattle.sorted_taps.proofs.Running.{takes_more}
+use Rattle.std.proofs.Common.{arith}
+use Rattle.std.specs.Prelude.{option_map}
+use Rattle.tap_parts.specs.Keys.{tap_of_key}
+use Rattle.sorted_taps.proofs.Running.{takes_then}
 use Rattle.sorted_taps.proofs.run.take_run.Goals as goal
 
-pub loop-position-preserved : goal.loop-position-preserved
-loop-position-preserved g c =
-    let inv = c.loop-position.invariant in
+pub loop-round-preserved : goal.loop-round-preserved
+loop-round-preserved g c =
+    let inv = c.loop-round.invariant in
     let bytes = g.F.Placed.bytes c.args.file.now in
-    let other = c.args.other.now in
-    let taps = c.loop-position.taps.items in
-    let tap = c.in-Some.head.now in
-    let items = c.in_ok-push.ensures.items in
-    let (rest, holds) = c.in-Some.ensures in
-    let long = length-append taps (tap ∷ []) in
-    let more = ap length items in
-    let number = inv.number in
-    let wide = c.advance.auto.window in
+    let other = option_map tap_of_key c.args.other.now in
+    let wide = c.take_one.auto.window in
     let room = inv.window in
     record {
       window = omega (arith, wide, room);
-      taken = subst (λ (ts : List TapFields). TakesRun bytes other c.args.reader.now
-          c.args.taps.now.items ts c.advance.new.self) (sym items)
-          (takes_more bytes other c.args.reader.now c.loop-position.reader c.advance.new.self
-          c.args.taps.now.items taps tap rest inv.taken holds c.in_ok-advance.ensures.kept
-          (c.is_after.ensures c.if-is_after.false));
-      number = omega (arith, more, long, number);
+      taken = takes_then bytes other c.args.reader.now c.take_ahead.new.reader
+          c.take_one.new.reader c.args.taps.now.items c.take_ahead.new.taps.items
+          c.take_one.new.taps.items
+          (takes_then bytes other c.args.reader.now c.loop-round.reader c.take_ahead.new.reader
+          c.args.taps.now.items c.loop-round.taps.items c.take_ahead.new.taps.items inv.taken
+          (c.in_ok-take_ahead.ensures.taken bytes)) c.in_ok-goes_on.ensures.taken;
+      few = c.in_ok-goes_on.ensures.few;
     }
+
+pub returns-then-not-goes_on-clause-taken : goal.returns-then-not-goes_on-clause-taken
+returns-then-not-goes_on-clause-taken g c =
+    let inv = c.loop-round.invariant in
+    let bytes = g.F.Placed.bytes c.args.file.now in
+    let other = option_map tap_of_key c.args.other.now in
+    takes_then bytes other c.args.reader.now c.take_ahead.new.reader
+    c.take_one.new.reader c.args.taps.now.items c.take_ahead.new.taps.items
+    c.take_one.new.taps.items
+    (takes_then bytes other c.args.reader.now c.loop-round.reader c.take_ahead.new.reader
+    c.args.taps.now.items c.loop-round.taps.items c.take_ahead.new.taps.items inv.taken
+    (c.in_ok-take_ahead.ensures.taken bytes)) c.in_ok-goes_on.ensures.taken

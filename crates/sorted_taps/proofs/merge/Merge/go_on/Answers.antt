@@ -1,6 +1,8 @@
 use Rattle.std.proofs.Common.{◌∙◌, [], length, get_or, set, arith, sym, subst, drop}
 use Rattle.std.proofs.Math.Seq.{drop-length}
 use Rattle.std.proofs.lemmas.List.{get_or_default, get_or-set_other, length-set, set-set, take_at}
+use Rattle.std.specs.Prelude.{option_map}
+use Rattle.tap_parts.specs.Keys.{tap_of_key}
 use Rattle.sorted_taps.specs.Heads.{IsNotAfter, IsRanked}
 use Rattle.sorted_taps.specs.Readers.{head_of}
 use Rattle.sorted_taps.specs.inside.Runs.{IsRunOf}
@@ -14,8 +16,8 @@ put_end-requires-clause-ranked g c =
     let (was, is) = c.requires.ranked in
     (was, rw (c.deref.ensures.value, c.deref_mut.ensures.value) is)
 
-pub put_head-requires-clause-ranked : goal.put_head-requires-clause-ranked
-put_head-requires-clause-ranked g c =
+pub put_back-requires-clause-ranked : goal.put_back-requires-clause-ranked
+put_back-requires-clause-ranked g c =
     let readers = c.args.self.now.readers.items in
     let heads = c.args.self.now.heads in
     let at = c.args.at in
@@ -32,6 +34,7 @@ put_head-requires-clause-ranked g c =
     let now = length-set readers at gone in
     let then = length-set readers at was in (
       gone,
+      drop-length reader.taps.items,
       rw (
         c.deref-3.ensures.value,
         c.deref_mut-2.ensures.value,
@@ -49,7 +52,7 @@ returns-clause-taken g c =
     let within = c.requires.within in
     let reader = c.index_mut-reader.result.now in
     let new = c.take_run.new.reader in
-    let other = c.least_tap-other.result in
+    let other = option_map tap_of_key c.least_key-other.result in
     let file = c.index-files-at.result in
     let gone = record reader { next = length reader.taps.items } in
     let tree = c.put_end.new.tree in
@@ -77,7 +80,7 @@ returns-clause-taken g c =
           (λ k d low apart.
           subst (λ (r : TapReader). IsNotAfter other (head_of r))
           (get_or-set_other readers at k gone d apart)
-          (c.least_tap-other.ensures (set readers at gone) ranked k d (omega (arith, now, low))))
+          (c.least_key-other.ensures (set readers at gone) ranked k d (omega (arith, now, low))))
           (λ d. sym (c.index_mut-reader.ensures.value
           ∙ get_or_default readers at reader d within))
           (if_known (λ a. IsRunOf a other reader takes.run new) (g.F.Placed.bytes file)

@@ -1,5 +1,5 @@
 use Rattle.sorted_taps.proofs.Ranking.{none_before}
-use Rattle.sorted_taps.proofs.heads.least_tap.Goals as goal
+use Rattle.sorted_taps.proofs.heads.least_key.Goals as goal
 
 pub returns : goal.returns
 returns c = λ readers is k d low.
