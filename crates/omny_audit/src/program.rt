@@ -1,5 +1,5 @@
 //! The whole program.
-ghost use Rattle.std.specs.Prelude.{◌≡◌, ◌≢◌, ◌≤◌, ◌⊎◌, ◌++◌, ◌∷◌, [], List, ℕ, IfErr, IfOk};
+ghost use Rattle.std.specs.Prelude.{◌≡◌, ◌≢◌, ◌≤◌, ◌⊎◌, ◌++◌, ◌∷◌, [], List, ℕ, IfErr, IfOk, IfSome};
 ghost use Rattle.std.specs.Prelude.{Contains, None, OnOk, Option, Some, false, if◌then◌else◌, is_some};
 ghost use Rattle.std.specs.Prelude.{codes, length, map, option_map, string_bytes, true};
 ghost use Rattle.clap.specs.Words.{kind_of};
