@@ -327,7 +327,7 @@ fn report_fault<W: World>(alloc: Global, fault: &Fault<'_>, world: &mut W) -> u8
     ensures status { result ≡ 1 }
     ensures reported { IsReported fault.now (W.run world.old) (W.run world.new) }
 {
-    if let Fault::Closed = fault {
+    if fault.is_quiet() {
         return 1;
     }
     match line_of(alloc, fault) {
