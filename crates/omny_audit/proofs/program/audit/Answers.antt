@@ -205,4 +205,12 @@ returns g c =
     (subst (λ (x : Given). EndsAs x did.ledger did.old did.new c.audit_over.result)
     (given_is _ options.all (compared request.uploads loaded.1) (compared request.uploads ends)
     c.new.ensures.all valid known)
-    (c.audit_over.ensures.ends loaded.1 (audit_over-requires-clause-audited g c).1))
+    (c.audit_over.ensures.ends loaded.1 (record {
+      text = [];
+      as_text = c.in-Ok-trace_of.ensures.read;
+      taken = record {
+        clock = c.in-Ok-clock.ensures.zone;
+        checked = c.new.ensures.checked tables.fares _ loaded.1 loaded.4.balance;
+        summed = c.in-Ok-load_report.ensures.sums tables.fares;
+      };
+    })))
