@@ -2,7 +2,6 @@
 
 use crate::faults::WriteFault;
 use crate::ghost_bytes::GhostBytes;
-use crate::staged::Staged;
 use std::marker::Model;
 use std::snapshot::Snapshot;
 
@@ -39,10 +38,8 @@ enum Call {
     Flushed(Snapshot<Trace>),
     /// These bytes were given to the standard error.
     Said(Snapshot<Trace>, Snapshot<GhostBytes>),
-    /// A file of these bytes was written whole and synced, under another name.
-    Staged(Snapshot<Trace>, Snapshot<GhostBytes>, Snapshot<GhostBytes>),
-    /// A file that was staged was given its name.
-    Made(Snapshot<Trace>, Snapshot<Staged>),
+    /// A file, written by these calls and synced, was given this name.
+    Made(Snapshot<Trace>, Snapshot<GhostBytes>, Snapshot<Trace>),
     /// The file of this name could not be made.
     Unmade(Snapshot<Trace>, Snapshot<GhostBytes>),
     /// Another thread made these calls.
@@ -155,23 +152,13 @@ impl Trace {
         self.last = Snapshot::of(&Call::Said(Snapshot::of(self), Snapshot::of(&text)));
     }
 
-    pub(crate) fn staged(&mut self, name: &str, bytes: &[u8])
-        ensures { self.new ≡ one_more self.old self.old.run }
+    pub(crate) fn made(&mut self, name: &str, calls: &Trace)
+        ensures { self.new ≡ one_more self.old (with_made self.old.run
+            (record { name = name.now; bytes = calls.now.run.written })) }
     {
         let name = GhostBytes::of(name.as_bytes());
-        let bytes = GhostBytes::of(bytes);
-        let call = Call::Staged(
-            Snapshot::of(self),
-            Snapshot::of(&name),
-            Snapshot::of(&bytes),
-        );
+        let call = Call::Made(Snapshot::of(self), Snapshot::of(&name), Snapshot::of(calls));
         self.last = Snapshot::of(&call);
-    }
-
-    pub(crate) fn made(&mut self, file: &Staged)
-        ensures { self.new ≡ one_more self.old (with_made self.old.run file.now) }
-    {
-        self.last = Snapshot::of(&Call::Made(Snapshot::of(self), Snapshot::of(file)));
     }
 
     pub(crate) fn unmade(&mut self, name: &str)

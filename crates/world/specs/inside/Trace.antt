@@ -6,7 +6,7 @@ use Rattle.world.specs.Run.{with_unmade, with_unread, with_written}
 use Rattle.world.specs.declared.trace.Call.{Call}
 use Rattle.world.specs.declared.trace.Call.TheVariants.{Start, Opened, Input, Read, Stopped, Unread}
 use Rattle.world.specs.declared.trace.Call.TheVariants.{Unopened, Wrote, Cut, Flushed, Said}
-use Rattle.world.specs.declared.trace.Call.TheVariants.{Staged, Made, Unmade, Joined}
+use Rattle.world.specs.declared.trace.Call.TheVariants.{Made, Unmade, Joined}
 
 abbrev pub after_call : Call → Calls
 after_call Start = no_calls
@@ -26,8 +26,8 @@ after_call (Cut before fault) = one_more before.value (with_cut before.value.run
 after_call (Flushed before) = one_more before.value (with_flushed before.value.run)
 after_call (Said before text) =
     one_more before.value (with_said before.value.run text.value.bytes)
-after_call (Staged before name bytes) = one_more before.value before.value.run
-after_call (Made before file) = one_more before.value (with_made before.value.run file.value)
+after_call (Made before name calls) = one_more before.value (with_made before.value.run
+    (record { name = name.value.bytes; bytes = calls.value.run.written }))
 after_call (Unmade before name) =
     one_more before.value (with_unmade before.value.run name.value.bytes)
 after_call (Joined before other) = after_joined before.value other.value
