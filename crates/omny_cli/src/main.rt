@@ -107,7 +107,7 @@ fn report_hints(rt: &HostRuntime, files: &FileWords<'_>, said: &Said, findings: 
             }
         }
         _ => {
-            if let Ok(hints) = damaged(rt, rt.alloc(), &files.files) {
+            if let Ok(hints) = damaged(rt, rt.alloc(), &files.uploads) {
                 for hint in &hints {
                     err.report_line(*hint);
                 }
@@ -185,7 +185,7 @@ fn main(rt: HostRuntime) -> ExitCode {
         Complaints::new(rt.stderr()).report_line("fault: out of memory");
         return ExitCode::from(1);
     };
-    if files.files.is_empty() && files.tables.contains(&INPUT_FILE) {
+    if files.uploads.is_empty() && files.tables.contains(&INPUT_FILE) {
         Complaints::new(rt.stderr()).report_line(INPUT_TWICE);
         return ExitCode::from(2);
     }

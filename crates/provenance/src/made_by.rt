@@ -6,8 +6,8 @@ use std::alloc::{AllocError, Global};
 use std::fmt;
 
 /// A word with its control characters escaped, so that it stays within its line.
-#[derive(Clone, Copy)]
-struct Escaped<'a>(&'a str);
+#[derive(Clone, Copy, Debug)]
+pub struct Escaped<'a>(pub &'a str);
 
 impl fmt::Display for Escaped<'_> {
     fn fmt<W: fmt::Write>(&self, f: &mut fmt::Formatter<W>) -> fmt::Result {
@@ -71,12 +71,25 @@ fn parts_of(text: &str) -> Option<(&str, &str, &str)> {
     Some((program, lines, sum))
 }
 
+/// Whether there is no control character but line feeds.
+fn are_plain(text: &str) -> bool {
+    for letter in text.chars() {
+        if letter.is_control() && letter != '\n' {
+            return false;
+        }
+    }
+    true
+}
+
 impl<'a> MadeBy<'a> {
     /// What the text says; none if it is no such text, or not whole.
     pub fn read(alloc: Global, text: &'a str) -> Result<Option<MadeBy<'a>>, AllocError> {
         let Some((program, lines, sum)) = parts_of(text) else {
             return Ok(None);
         };
+        if !are_plain(text) {
+            return Ok(None);
+        }
         let mut files = Vec::new(alloc);
         for line in lines.split('\n') {
             if let Some(file) = line.strip_prefix("file ") {
