@@ -165,8 +165,16 @@ pub(crate) fn compare<'a>(
     let is_same = lines.is_empty();
     if is_same {
         let program = made.program;
-        let text = if is_text.is_none() { ", text not compared" } else { "" };
-        let uploads = if has_uploads { "" } else { ", uploads not compared" };
+        let text = if is_text.is_none() {
+            ", text not compared"
+        } else {
+            ""
+        };
+        let uploads = if has_uploads {
+            ""
+        } else {
+            ", uploads not compared"
+        };
         write!(lines, "made by {program}{text}{uploads}\n")?;
     }
     Ok(Comparison {

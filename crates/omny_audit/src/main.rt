@@ -20,9 +20,7 @@ use hints::{Named, Overheard, Said, Unwritten, hint_on_fault};
 use made_by::compare;
 use options::{Options, list_words, reads_input};
 use program::main_over;
-use program_manners::{
-    Complaints, Escaping, Output, WriteEnd, take_list, unread_words, words_of,
-};
+use program_manners::{Complaints, Escaping, Output, WriteEnd, take_list, unread_words, words_of};
 use std::io;
 use std::io::{IsTerminal, Write};
 use std::process::ExitCode;
@@ -75,7 +73,11 @@ fn compare_made_by<W: Write, E: Write>(
     if out.end() == Some(WriteEnd::Refused) {
         err.report_line("fault: cannot write");
     }
-    if comparison.is_same && out.end().is_none() { 0 } else { 1 }
+    if comparison.is_same && out.end().is_none() {
+        0
+    } else {
+        1
+    }
 }
 
 /// Says on a terminal what to do about the fault that was reported.

@@ -41,6 +41,10 @@ pub(crate) fn with_input_file(
             name = INPUT_FILE;
             inputs = inputs.saturating_add(1);
         }
+        if name == "--table=-" {
+            name = "--table=/dev/stdin";
+            inputs = inputs.saturating_add(1);
+        }
         if name == "--files-from=-" || (name == "-" && before == "--files-from") {
             inputs = inputs.saturating_add(1);
         }

@@ -1,7 +1,7 @@
 //! The file that says what a text was made by.
 
 use hints::Hint;
-use program_manners::{Complaints, Escaping};
+use program_manners::{Complaints, Escaping, words_of};
 use provenance::{RunSums, made_by_text, make_new};
 use std::fmt::Display;
 use std::fs;
@@ -23,7 +23,11 @@ pub(crate) fn is_new(rt: &HostRuntime, name: &str) -> bool {
 }
 
 /// Makes the file of this name after a run whose text was written. On an error it was reported.
-pub(crate) fn make(rt: &HostRuntime, words: &[String], name: &str, sums: RunSums) -> bool {
+pub(crate) fn make(rt: &HostRuntime, name: &str, sums: RunSums) -> bool {
+    let Ok(words) = words_of(rt) else {
+        report(rt, "fault: out of memory");
+        return false;
+    };
     let sums = match sums.finish(rt) {
         Ok(sums) => sums,
         Err(fault) => {
@@ -31,7 +35,7 @@ pub(crate) fn make(rt: &HostRuntime, words: &[String], name: &str, sums: RunSums
             return false;
         }
     };
-    let Ok(text) = made_by_text(rt.alloc(), "omny_cli", words, &sums) else {
+    let Ok(text) = made_by_text(rt.alloc(), "omny_cli", &words, &sums) else {
         report(rt, "fault: out of memory");
         return false;
     };

@@ -37,8 +37,8 @@ fn ticker_for(rt: &HostRuntime, words: &[String], sums: Option<RunSums>) -> Tick
     Ticker::new(Steps::of(words), rt.stderr(), is_terminal, sums)
 }
 
-/// The words, with the names of the list that they name, and with that of the standard input. On an
-/// error the reason was printed.
+/// The words, with the name of the standard input for `-`, and with the names of the list that they
+/// name. On an error the reason was printed.
 fn words_with_files(rt: &HostRuntime) -> Result<Vec<String>, u8> {
     let mut err = Complaints::new(Escaping::new(rt.stderr()));
     let words = named_words(rt, &mut err);
@@ -46,36 +46,22 @@ fn words_with_files(rt: &HostRuntime) -> Result<Vec<String>, u8> {
     words
 }
 
-/// The words with the name of the standard input, which one of them may represent.
-fn with_input<E: Write>(
-    rt: &HostRuntime,
-    words: &[String],
-    err: &mut Complaints<E>,
-) -> Result<Vec<String>, u8> {
-    match with_input_file(rt.alloc(), words) {
-        Ok((words, inputs)) if inputs < 2 => Ok(words),
-        Ok(_) => {
-            err.report_line(INPUT_TWICE);
-            Err(2)
-        }
-        Err(_) => {
-            err.report_line("fault: out of memory");
-            Err(1)
-        }
-    }
-}
-
 fn named_words<E: Write>(rt: &HostRuntime, err: &mut Complaints<E>) -> Result<Vec<String>, u8> {
     let words = match words_of(rt) {
         Ok(words) => words,
         Err(fault) => return Err(unread_words(&fault, err)),
     };
-    // before the list is read
-    let _ = with_input(rt, &words, err)?;
+    let Ok((words, inputs)) = with_input_file(rt.alloc(), &words) else {
+        err.report_line("fault: out of memory");
+        return Err(1);
+    };
+    if inputs > 1 {
+        err.report_line(INPUT_TWICE);
+        return Err(2);
+    }
     let list = list_words(rt.alloc(), &words);
     let more = take_list(rt, &words, list, None, err)?;
-    let named = more.unwrap_or(words);
-    with_input(rt, &named, err)
+    Ok(more.unwrap_or(words))
 }
 
 fn report_findings(findings: &Findings, err: &mut Complaints<Stderr>) {
@@ -169,7 +155,7 @@ fn run<R: Threads + Wait + Clock + RandomSource + Sync + AllocGlobal>(
     if let Some(name) = files.made_by
         && is_written
         && let Some(sums) = ticker.into_sums()
-        && !made_by::make(rt, words, name, sums)
+        && !made_by::make(rt, name, sums)
     {
         return 1;
     }
