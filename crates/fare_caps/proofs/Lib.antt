@@ -1,0 +1,3 @@
+pub mod FoldLemmas
+pub mod NoCapsLemmas
+pub mod RideLemmas
