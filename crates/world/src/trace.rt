@@ -68,7 +68,7 @@ impl Trace {
     ghost use Rattle.std.specs.Prelude.{◌≡◌, ◌+◌, ◌≤◌, None, Some, drop, length, string_bytes};
     ghost use Rattle.std.specs.Prelude.{take};
     ghost use Rattle.world.specs.Run.{no_calls, one_more, after_joined, after_opened};
-    ghost use Rattle.world.specs.Run.{after_read, with_cut, with_flushed, with_made, with_said};
+    ghost use Rattle.world.specs.Run.{after_made, after_read, with_cut, with_flushed, with_said};
     ghost use Rattle.world.specs.Run.{with_too_long, with_unmade, with_unread, with_written};
 
     /// No call yet.
@@ -153,8 +153,7 @@ impl Trace {
     }
 
     pub(crate) fn made(&mut self, name: &str, calls: &Trace)
-        ensures { self.new ≡ one_more self.old (with_made self.old.run
-            (record { name = name.now; bytes = calls.now.run.written })) }
+        ensures { self.new ≡ after_made self.old name.now calls.now }
     {
         let name = GhostBytes::of(name.as_bytes());
         let call = Call::Made(Snapshot::of(self), Snapshot::of(&name), Snapshot::of(calls));
