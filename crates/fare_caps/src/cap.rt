@@ -54,6 +54,7 @@ impl Cap {
         self.terms_at(moment).of_ride(mode, class)
     }
 
+    #[tactic(auto, unfolding(crate::specs::CapMeanings::terms_from))]
     fn terms_at(&self, moment: u64) -> &CapTerms
         requires bounds { IsBoundedCap self.now }
         ensures terms { result.now ≡ terms_at self.now moment }

@@ -83,6 +83,7 @@ impl Further {
             (window_end_in clock.now tariff.now.meaning.window moment)
             (spec.said_by caps.now moment mode.position class) self.old) }
         ensures few { cap_cents result ≤ 100_000 }
+        ensures room { HasRoom self.new }
     {
         let said = RideCaps {
             first: caps.of_ride(0, moment, mode, class),
