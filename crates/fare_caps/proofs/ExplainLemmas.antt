@@ -16,7 +16,7 @@ use Rattle.account_rule.specs.Replies.{reply}
 use Rattle.account_rule.specs.TokenRules.{rules_of, token_class}
 use Rattle.account_rule.specs.Taps.{live_at}
 use Rattle.fare_caps.specs.CapMeanings.{cap_rules, capped_rules_of}
-use Rattle.fare_caps.specs.CapStates.{CapStates, ride_charge, states}
+use Rattle.fare_caps.specs.CapStates.{CapStates, after_ride, ride_charge, states}
 use Rattle.fare_caps.specs.CappedReplies.{capped_reason, capped_reply, uncapped}
 use Rattle.fare_caps.specs.Caps.{CapRules, CappedRules}
 use Rattle.fare_caps.specs.Represents.{HasRoom, IsFurther, KeepsStates, Represents}
@@ -114,7 +114,9 @@ ride-step fares caps token account further after taps tap one seen charge few so
       holds = record {
         account = holds;
         further = rw it.more (keeps-is (map (cap_rules fares token) caps) after _
-            (subst (λ n. IsFurther n after _) (sym long) now.state));
+            (subst (λ n. IsFurther n after (after_ride (capped_rules_of fares caps token)
+            (states (capped_rules_of fares caps token) taps) (live_at tap.moment seen.mode)))
+            (sym long) now.state));
       };
     }
 

@@ -196,7 +196,7 @@ pub record IsMore (capped : CappedRules) (dear cheap : ℕ) (states : CapStates)
     (window : CapWindow) (others : List CapWindow) : Type 0 where
   pub bill : cheap ≤ dear
   pub count : states.rides ≡ rides
-  pub window : IsAhead dear cheap states.window window
+  pub main : IsAhead dear cheap states.window window
   pub caps : AreAhead dear cheap capped.caps states.caps others
 
 -- the rides of the last window go on in both
@@ -232,7 +232,7 @@ cheaper-at capped more dear cheap ride states rides paid window cap others all i
     let both : cheap + charged_by (charge (capped.rules.terms ride) rides window.cents)
     ≤ dear + charged_by (charge (capped.rules.terms ride) states.rides states.window.cents) =
     rw is.count (by-window (capped.rules.terms ride) rides dear cheap states.window.cents
-    window.cents is.bill is.window.1) in
+    window.cents is.bill is.main.1) in
     omega (
       arith,
       cost-at (with_cap capped more) ride (record {
@@ -279,9 +279,9 @@ cheaper-rides capped more dear cheap states rides paid window cap others (ride �
     let now : IsMore capped dear cheap one two.rides two.window
     (each_window (opened ride) capped.caps others) = record {
       bill = is.bill;
-      count = same-rides ride.moment states.rides rides states.window window is.window.0 is.count;
-      window = opened-ahead dear cheap ride.moment (capped.rules.until ride.moment) states.window
-          window is.bill is.window;
+      count = same-rides ride.moment states.rides rides states.window window is.main.0 is.count;
+      main = opened-ahead dear cheap ride.moment (capped.rules.until ride.moment) states.window
+          window is.bill is.main;
       caps = all-opened dear cheap ride capped.caps states.caps others is.bill is.caps;
     } in
     let most = cap_cents (charge_at capped ride one) in
@@ -293,8 +293,8 @@ cheaper-rides capped more dear cheap states rides paid window cap others (ride �
     (with_charge capped ride (charge_at capped ride one) one) _ _ _ _ _ taps all (record {
       bill = costs;
       count = ap (λ n. n + 1) now.count;
-      window = counted-ahead dear cheap most least ride (window_cap capped.rules) one.window
-          two.window (window-all capped) now.window;
+      main = counted-ahead dear cheap most least ride (window_cap capped.rules) one.window
+          two.window (window-all capped) now.main;
       caps = all-counted dear cheap most least ride capped.caps one.caps
           (each_window (opened ride) capped.caps others) caps-all now.caps;
     }) in
@@ -326,7 +326,7 @@ cheaper-charged capped more taps all =
           (map (λ cap. no_window) capped.caps) (rides capped.rules taps) all (record {
             bill = omega arith;
             count = refl;
-            window = (refl, omega arith);
+            main = (refl, omega arith);
             caps = none-ahead capped.caps;
           }),
     )
