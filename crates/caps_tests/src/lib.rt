@@ -1,5 +1,5 @@
-//! Tests of `fare_caps` by its public calls: worked cases. They are apart, so that `fare_caps` needs no
-//! reader of tables.
+//! Tests of `fare_caps` by its public calls: worked cases. They are apart, so that `fare_caps` needs
+//! no reader of tables.
 #![tactic(auto)]
 
 #[cfg(test)]

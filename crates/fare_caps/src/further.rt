@@ -43,8 +43,14 @@ struct RideCaps {
 
 impl Further {
     pub(crate) fn none() -> Self
-        ensures { result ≡ record { window = no_window; first = no_window; second = no_window;
-            third = no_window; rides = 0; paid = 0 } }
+        ensures { result ≡ record {
+          window = no_window;
+          first = no_window;
+          second = no_window;
+          third = no_window;
+          rides = 0;
+          paid = 0;
+        } }
     {
         Further {
             window: CapWindow::none(),
