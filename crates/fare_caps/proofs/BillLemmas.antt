@@ -1,5 +1,6 @@
 -- The rides add up to all replies.
-use Rattle.std.proofs.Common.{◌≡◌, ℕ, ◌+◌, false, List, [], ◌∷◌, ◌++◌, Option, Some, None, refl, sym}
+use Rattle.std.proofs.Common.{◌≡◌, ℕ, ◌+◌, false, List, [], ◌∷◌, ◌++◌, Option, Some, None, refl}
+use Rattle.std.proofs.Common.{sym}
 use Rattle.std.proofs.Common.{ap, ◌∙◌, append_assoc, append-nil, arith, sum_by}
 use Rattle.std.proofs.lemmas.List.Sums.{sum_by_push}
 use Rattle.account_rule.specs.declared.reason.Charge.TheVariants.{CeilingCut, CeilingReached, Full}
@@ -79,7 +80,8 @@ IsBill capped taps =
     ≡ sum_by (λ reply. reply.cents) (capped_replies capped taps)
 
 no-bill : (capped : CappedRules) → IsBill capped []
-unfolding charged charged_after rides trips live live_after blocks_by capped_replies capped_replies_after
+unfolding charged charged_after rides trips live live_after blocks_by capped_replies
+    capped_replies_after
 no-bill capped = refl
 
 one-bill : (capped : CappedRules) (taps : List TapIn) (tap : TapIn) → IsBill capped taps
@@ -88,7 +90,8 @@ unfolding charged capped_reply capped_reason states
 one-bill capped taps tap bill =
     rw (
       replies-push capped taps tap,
-      sum_by_push (λ reply. reply.cents) (capped_replies capped taps) (capped_reply capped taps tap),
+      sum_by_push (λ reply. reply.cents) (capped_replies capped taps)
+          (capped_reply capped taps tap),
     )
     (elim (tapped capped.rules taps tap) [
       | is_free free same ↦ rw same

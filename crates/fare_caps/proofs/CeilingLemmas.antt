@@ -34,7 +34,8 @@ in_window cap window one = opened one.ride cap window
 abbrev Fits : CapRules → CapWindow → List Charged → Type 0
 Fits cap window [] = Unit {0}
 Fits cap window (one ∷ more) =
-    (cap.counts one.ride ≡ true → one.cents ≤ cap.ceiling one.ride - (in_window cap window one).cents)
+    (cap.counts one.ride ≡ true
+    → one.cents ≤ cap.ceiling one.ride - (in_window cap window one).cents)
     × Fits cap (counted one.ride one.cents cap (in_window cap window one)) more
 
 abbrev AllFit : List CapRules → List CapWindow → List Charged → Type 0
@@ -68,7 +69,8 @@ least-here index least ride cap window counts = rw counts (lesser-here least ind
 
 all-leave : (one : Charge) (index : ℕ) (least : Option CapLeft) (ride : LiveTap)
     (caps : List CapRules) (windows : List CapWindow)
-    → AllLeave (cap_cents (lowered (least_from index least ride caps windows) one)) ride caps windows
+    → AllLeave (cap_cents (lowered (least_from index least ride caps windows) one)) ride caps
+    windows
 unfolding least_from
 all-leave one index least ride [] windows = tt
 all-leave one index least ride (cap ∷ caps) [] = tt
@@ -295,7 +297,8 @@ windows-within cap (one ∷ more) fits =
     λ ceiling. blocks-within cap ceiling one [] more
     (subst (λ w. Fits cap w more) (fresh-said cap one) fits.1)
     (within-one cap ceiling one
-    (λ counts. omega (arith, fits.0 counts, ap (λ (w : CapWindow). w.cents) (fresh-window cap one))))
+    (λ counts. omega
+    (arith, fits.0 counts, ap (λ (w : CapWindow). w.cents) (fresh-window cap one))))
 
 each-within : (caps : List CapRules) (rides : List Charged)
     → AllFit caps (map (λ cap. no_window) caps) rides → All (KeepsCeiling rides) caps

@@ -1,5 +1,6 @@
 -- Each way out of a step under caps is one of the rule's cases.
-use Rattle.std.proofs.Common.{◌≡◌, ℕ, ◌≤◌, List, [], ◌∷◌, ◌++◌, length, map, Some, None, refl, sym, ap}
+use Rattle.std.proofs.Common.{◌≡◌, ℕ, ◌≤◌, List, [], ◌∷◌, ◌++◌, length, map, Some, None, refl, sym}
+use Rattle.std.proofs.Common.{ap}
 use Rattle.std.proofs.Common.{◌∙◌, arith, subst}
 use Rattle.std.proofs.lemmas.List.{length-map}
 use Rattle.tariffs.specs.ClockView.{ClockView}
@@ -147,7 +148,8 @@ ride-step-by fares caps token account further after taps tap one seen charge clo
     some is holds keeps seen-is clock-is meaning-is class-is bounds room costs counted =
     let class-at : class ≡ class_of (meaning_at fares tap.moment) token =
     rw meaning-is at class-is in
-    ride-step fares caps token account further after taps tap one seen charge few some is holds keeps
+    ride-step fares caps token account further after taps tap one seen charge few some is holds
+    keeps
     seen-is (rw (meaning-is, class-at) at bounds) room
     (rw (clock-is, meaning-is, class-at) at costs)
     (rw (clock-is, meaning-is, class-at) at counted)
@@ -163,9 +165,11 @@ has-room fares caps token further states some keeps =
     (λ none. some (omega (arith, none, long))) keeps).room
 
 -- there are no caps, and the reply is asked for
-pub empty-reply : (fares : Fares) (caps : List Cap) (token : List ℕ) (taps : List TapIn) (tap : TapIn)
+pub empty-reply : (fares : Fares) (caps : List Cap) (token : List ℕ) (taps : List TapIn)
+    (tap : TapIn)
     → length caps ≡ 0
-    → capped_reply (capped_rules_of fares caps token) taps tap ≡ reply (rules_of fares token) taps tap
+    → capped_reply (capped_rules_of fares caps token) taps tap
+    ≡ reply (rules_of fares token) taps tap
 unfolding capped_rules_of
 empty-reply fares caps token taps tap none =
     reply-empty (rules_of fares token) (map (cap_rules fares token) caps) taps tap

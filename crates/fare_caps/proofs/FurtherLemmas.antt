@@ -48,7 +48,8 @@ abbrev Alike : Fares → List ℕ → ℕ → Mode → (CapRules → CapWindow �
     → (Option RideCap → CapWindow → CapWindow) → Type 0
 Alike fares token moment mode change by =
     (cap : Cap) (window : CapWindow)
-    → by (Some (said_of (terms_at cap moment) mode.position (token_class fares token moment))) window
+    → by (Some (said_of (terms_at cap moment) mode.position (token_class fares token moment)))
+    window
     ≡ change (cap_rules fares token cap) window
 
 three : (fares : Fares) (token : List ℕ) (moment : ℕ) (mode : Mode)

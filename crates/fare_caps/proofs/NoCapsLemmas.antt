@@ -1,6 +1,7 @@
 -- With no cap beside `window`, the states are the numbers of its last window.
 use Rattle.std.proofs.Common.{◌≡◌, ℕ, suc, ◌+◌, ◌-◌, Bool, true, false, cond, List, [], ◌∷◌, ◌++◌}
-use Rattle.std.proofs.Common.{Option, Some, None, refl, sym, ap, ◌∙◌, length, nat_lt, is_some, arith}
+use Rattle.std.proofs.Common.{Option, Some, None, refl, sym, ap, ◌∙◌, length, nat_lt, is_some}
+use Rattle.std.proofs.Common.{arith}
 use Rattle.std.proofs.Common.{append-nil, append_assoc, map, option_map}
 use Rattle.std.specs.List.{last_or}
 use Rattle.std.proofs.lemmas.Bool.{le-ltb}
@@ -27,7 +28,8 @@ use Rattle.account_rule.proofs.ReasonLemmas.{reply-follows}
 use Rattle.account_rule.proofs.WindowLemmas.{after_ride as after_window}
 use Rattle.fare_caps.specs.Represents.{KeepsStates}
 use Rattle.fare_caps.specs.declared.further.Further.{Further}
-use Rattle.fare_caps.specs.Caps.{CapRules, CappedRules, counted, each_window, no_window, opened, opened_until}
+use Rattle.fare_caps.specs.Caps.{CapRules, CappedRules, counted, each_window, no_window, opened}
+use Rattle.fare_caps.specs.Caps.{opened_until}
 use Rattle.fare_caps.specs.Caps.{window_cap}
 use Rattle.fare_caps.specs.CapStates.{CapStates, after_ride, at_ride, charge_at, no_rides}
 use Rattle.fare_caps.specs.CapStates.{ride_charge, states, with_charge}
@@ -295,7 +297,8 @@ keeps-empty (cap ∷ caps) further states none = absurd (omega (arith, none))
 
 later-after : (capped : CappedRules) (earlier taps later : List TapIn)
     → capped_replies_after capped earlier (taps ++ later)
-    ≡ capped_replies_after capped earlier taps ++ capped_replies_after capped (earlier ++ taps) later
+    ≡ capped_replies_after capped earlier taps ++ capped_replies_after capped (earlier ++ taps)
+    later
 unfolding capped_replies_after
 later-after capped earlier [] later = rw (append-nil earlier) refl
 later-after capped earlier (tap ∷ taps) later =

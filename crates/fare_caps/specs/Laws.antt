@@ -7,7 +7,8 @@ use Rattle.account_rule.specs.TokenRules.{TokenRules}
 use Rattle.account_rule.specs.Windows.{last_window}
 use Rattle.fare_caps.specs.CappedReplies.{capped_replies, capped_replies_after, capped_window}
 use Rattle.fare_caps.specs.Caps.{CapRules, CappedRules}
-use Rattle.fare_caps.specs.CapWindows.{Charged, all_caps, cents_for, charged, counted_in, windows_of}
+use Rattle.fare_caps.specs.CapWindows.{Charged, all_caps, cents_for, charged, counted_in}
+use Rattle.fare_caps.specs.CapWindows.{windows_of}
 
 -- the rules with no cap beside `window`
 abbrev pub without_caps : TokenRules → CappedRules

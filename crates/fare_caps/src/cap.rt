@@ -32,7 +32,7 @@ pub struct CapTerms {
     pub span: WindowSpan,
     /// Whether it counts rides on a mode, by the index of the mode.
     pub counts: [bool; MAX_MODES],
-    /// The ceilings in cents by the indices of classes, at most 100,000,000: so are those that lack.
+    /// The ceilings in cents by the index of the class, at most 100,000,000. So is one that lacks.
     pub ceilings: Vec<u32>,
 }
 

@@ -63,7 +63,8 @@ impl CappedAccount {
             → result ≡ capped_reply (capped_rules_of table.now caps.now token.now) taps tap }
         ensures holds { (taps : List TapIn)
             → Represents (capped_rules_of table.now caps.now token.now) self.old taps
-            → Represents (capped_rules_of table.now caps.now token.now) self.new (taps ++ tap ∷ []) }
+            → Represents (capped_rules_of table.now caps.now token.now) self.new
+            (taps ++ tap ∷ []) }
         ensures some { RepresentsSome (capped_rules_of table.now caps.now token.now) self.new }
         ensures few { result.cents ≤ 100_000 }
     {
@@ -93,7 +94,8 @@ impl CappedAccount {
             → result ≡ capped_reason (capped_rules_of table.now caps.now token.now) taps tap }
         ensures holds { (taps : List TapIn)
             → Represents (capped_rules_of table.now caps.now token.now) self.old taps
-            → Represents (capped_rules_of table.now caps.now token.now) self.new (taps ++ tap ∷ []) }
+            → Represents (capped_rules_of table.now caps.now token.now) self.new
+            (taps ++ tap ∷ []) }
         ensures some { RepresentsSome (capped_rules_of table.now caps.now token.now) self.new }
         ensures few { (replied_by result).cents ≤ 100_000 }
     {
