@@ -267,6 +267,7 @@ cheaper-rides : (capped : CappedRules) (more : CapRules) (dear cheap : ℕ) (sta
     }) taps)
     ≤ dear + sum_by (λ (one : Charged). one.cents) (charged_after capped states taps)
 unfolding charged_after ride_charge after_ride with_charge at_ride each_window opened counted
+    window_cap
 cheaper-rides capped more dear cheap states rides paid window cap others [] all is =
     omega (arith, is.bill)
 cheaper-rides capped more dear cheap states rides paid window cap others (ride ∷ taps) all is =
@@ -291,8 +292,13 @@ cheaper-rides capped more dear cheap states rides paid window cap others (ride �
     let costs : cheap + least ≤ dear + most =
     cheaper-at capped more dear cheap ride one two.rides two.paid two.window
     (opened ride more cap) (each_window (opened ride) capped.caps others) all now in
+    let after = with_charge (with_cap capped more) ride
+    (charge_at (with_cap capped more) ride two) two in
     let rest = cheaper-rides capped more (dear + most) (cheap + least)
-    (with_charge capped ride (charge_at capped ride one) one) _ _ _ _ _ taps all (record {
+    (with_charge capped ride (charge_at capped ride one) one) after.rides after.paid after.window
+    (counted ride least more (opened ride more cap))
+    (each_window (counted ride least) capped.caps
+    (each_window (opened ride) capped.caps others)) taps all (record {
       bill = costs;
       count = ap (λ n. n + 1) now.count;
       main = counted-ahead dear cheap most least ride (window_cap capped.rules) one.window
