@@ -1,6 +1,6 @@
 //! Worked cases of caps beside `window`, after fare systems of cities: all amounts are made up.
 
-ghost use Rattle.std.specs.Prelude.{◌≤◌, ◌<◌, All, IfOk, length};
+ghost use Rattle.std.specs.Prelude.{◌≤◌, ◌<◌, IfOk, length};
 ghost use Rattle.tariffs.specs.WindowSpan.{IsBoundedLength};
 ghost use Rattle.fare_caps.specs.CapMeanings.{AreBoundedCapTerms, IsBoundedCap};
 
@@ -96,6 +96,7 @@ fn dated(alloc: Global, first: CapTerms, next: CapTerms) -> Result<Cap, Fail>
 
 fn one_cap(alloc: Global, cap: Cap) -> Result<CapTable, Fail>
     requires { IsBoundedCap cap }
+    ensures { IfOk result (λ t. length t ≤ 3) }
 {
     let mut caps = Vec::new(alloc);
     caps.push(cap)?;
@@ -107,26 +108,30 @@ const MINUTES: u64 = 68_374_080;
 
 /// Charges taps, each with its minute, its validator and the cents that a ride costs, or `None` of
 /// a capped one. Returns how many are answered so, up to the first that is not.
+#[tactic(auto, unfolding(fare_caps::specs::CapMeanings::capped_rules_of))]
 fn charged(
     alloc: Global,
     table: &FareTable,
     caps: &CapTable,
     taps: &[(u64, u32, Option<u32>)],
-) -> Result<usize, Fail> {
+) -> Result<usize, Fail>
+    requires { length caps.now ≤ 3 }
+{
     let clock = table.clock(alloc)?;
+    let token = [0; 16];
     let mut account = CappedAccount::fresh();
     let mut explained = CappedAccount::fresh();
     let mut count = 0;
-    for (minute, validator, cents) in taps {
-        let moment = *minute % MINUTES * 60_000;
-        let mode = table.mode_of(moment, *validator);
+    for row in taps {
+        let moment = row.0 % MINUTES * 60_000;
+        let mode = table.mode_of(moment, row.1);
         let tap = TapIn { moment, mode };
-        let reply = account.step(table, caps, &clock, &[0; 16], tap);
-        let reason = explained.explain_step(table, caps, &clock, &[0; 16], tap);
-        let wanted = match cents {
+        let reply = account.step(table, caps, &clock, &token, tap);
+        let reason = explained.explain_step(table, caps, &clock, &token, tap);
+        let wanted = match row.2 {
             Some(cents) => Reply {
                 answer: Answer::Paid,
-                cents: *cents,
+                cents,
             },
             None => Reply {
                 answer: Answer::Capped,
