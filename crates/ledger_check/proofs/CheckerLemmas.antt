@@ -171,7 +171,7 @@ module _ (fares : Fares) (checker : Checker) (balance : Balance) (text : List �
       → IsVerdict fares text (Refuses (lines + 1))
   ended_in_line not_whole =
       let next : TakenLine = record { line = is.fed.started; finding = no_line; wanted = [] } in
-      let are = (
+      let are : AreTaken fares (next ∷ is.taken) = (
         is.fed.lines.are,
         cut_taken fares is.taken is.fed.started no_line is.fed.lacks refl refl,
       ) in

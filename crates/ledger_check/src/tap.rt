@@ -9,6 +9,7 @@ ghost use Rattle.ledger_check.specs.inside.Taps.{tap_fields};
 
 use crate::bytes::field;
 use crate::moment::read_moment;
+use line_forms::number::number_32_of;
 use tap_views::{TapFields, Token};
 
 /// What a line says of a tap.
@@ -68,7 +69,7 @@ pub(crate) fn read_tap(line: &[u8]) -> Option<Tap>
     let (text, rest) = field(rest)?;
     let moment = read_moment(text)?;
     let (digits, _rest) = field(rest)?;
-    let validator = read_small_number(digits)?;
+    let validator = number_32_of(digits)?;
     Some(Tap {
         token,
         validator,
