@@ -84,7 +84,12 @@ pub(crate) fn run<R: Threads + Sync, E: Write>(
     };
     let mut source = texts_of(rt, manner, shows);
     let mut sink = FilesMade::new(rt);
-    let mut framed = Framed::new(rt, framed_progress, io::writer(rt), rt.stderr());
+    let counts = if shows.counts {
+        Progress::new(rt)
+    } else {
+        Progress::hidden(rt)
+    };
+    let mut framed = Framed::new(rt, counts, framed_progress, io::writer(rt), rt.stderr());
     main_over(
         threads,
         rt.alloc(),

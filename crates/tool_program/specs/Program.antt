@@ -15,6 +15,7 @@ use Rattle.tool_tasks.specs.Decode.{are_whole}
 use Rattle.tool_tasks.specs.Encode.{EncodesTable, AbortsEncode}
 use Rattle.tool_tasks.specs.EncodeRows.{EncodesWith, AbortsRows}
 use Rattle.tool_tasks.specs.Fault.{IsFaultReported}
+use Rattle.tool_tasks.specs.Informs.{EndsInforming}
 use Rattle.tool_tasks.specs.ValidPrefix.{AbortsValidPrefix, KeepsValidPrefix}
 use Rattle.tool_tasks.specs.MergeSorted.{AbortsMergeSorted, Merges}
 use Rattle.tool_tasks.specs.Sink.{Made}
@@ -97,6 +98,7 @@ IsIdle run Silent = (run.loaded' ≡ run.loaded) × (run.made' ≡ run.made) × 
 abbrev pub IsFramed : (List ℕ → Option (List ℕ)) → Request → WorldRun → WorldRun → ℕ → Type 0
 IsFramed bytes_under (corrections ledgers) old new status =
     Ends (IsCorrected bytes_under ledgers) (ledgers.old ∷ ledgers.new ∷ []) old new status
+IsFramed bytes_under shows old new status = EndsInforming old new status ⊎ (new ≡ old)
 IsFramed bytes_under request old new status = new ≡ old
 
 -- What is asked for was done, with status 0. Of a source that keeps what it loads. `Silent` says

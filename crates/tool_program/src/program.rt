@@ -23,7 +23,7 @@ use std::io::Write;
 use std::marker::Sync;
 use std::thread::Threads;
 use tool_tasks::{
-    Escaped, Fault, PlacedFiles, Sink, SortWords, Source, bounds_over, corrections_over,
+    Counted, Escaped, Fault, PlacedFiles, Sink, SortWords, Source, bounds_over, corrections_over,
     decode_over, encode_over, encode_rows_over, look_over, merge_sorted_over, say, sort_over,
     table_over, uploads_over, valid_prefix_over,
 };
@@ -104,7 +104,7 @@ fn task_over<
     K: Sink,
     W: Write,
     E: Write,
-    X: World + Streams,
+    X: World + Streams + Counted,
 >(
     threads: &R,
     alloc: Global,
@@ -152,15 +152,13 @@ fn task_over<
             encode_rows_over(alloc, seed, &words, word, source, sink, out, err)
         }
         Task::Decode(words) => decode_over(alloc, &words, source, out, err),
-        Task::Uploads(words, has_tokens) => {
-            uploads_over(alloc, &words, has_tokens, source, out, err)
-        }
+        Task::Uploads(words, has_tokens) => uploads_over(alloc, words, has_tokens, world),
         Task::ValidPrefix(words) => valid_prefix_over(alloc, &words, source, sink, out, err),
-        Task::Look(words, names) => look_over(threads, alloc, &words, &names, source, out, err),
-        Task::Table(question) => table_over(alloc, &question, moment, source, out, err),
+        Task::Look(words, names) => look_over(threads, alloc, &words, &names, world),
+        Task::Table(question) => table_over(alloc, &question, moment, world),
         Task::Sort(words) => sort_task(threads, alloc, &words, source, files, sink, err),
         Task::Merge(parts) => merge_over(alloc, &parts, source, out, err),
-        Task::Bounds(words) => bounds_over(alloc, &words, files, out, err),
+        Task::Bounds(words) => bounds_over(alloc, &words, files, world),
         Task::Corrections(words) => corrections_over(alloc, &words, world),
         Task::UsageError(usage_error) => report_usage_error(err, usage_error),
         Task::Unshown(usage_error) => report_usage_error(err, usage_error),
@@ -171,7 +169,7 @@ fn task_over<
 /// The whole program: reads the words, of which the first is the program's name, and does what they
 /// ask for. What uploads and texts have comes from the source, and files that are merged are read
 /// at any offset. Files are made in the sink, text goes to `out`, and mistakes, faults and warnings
-/// to `err`. `corrections` reads and writes in `world`. `seed` is random, so that no file can choose names of devices that are found slowly.
+/// to `err`. `corrections` and what only informs read and write in `world`. `seed` is random, so that no file can choose names of devices that are found slowly.
 /// `table` prints the changes of clocks after `moment`, unless the words name another one. Gives
 /// the status: 0 if all is well, 1 after a fault or if no row is a tap, 2 if the words are no
 /// command line, 3 if an upload has a layout fault or rows were refused, and yet all is written.
@@ -182,7 +180,7 @@ pub fn main_over<
     K: Sink,
     W: Write,
     E: Write,
-    X: World + Streams,
+    X: World + Streams + Counted,
 >(
     threads: &R,
     alloc: Global,

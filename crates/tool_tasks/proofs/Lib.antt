@@ -1,10 +1,11 @@
+mod Informing
 pub mod DecodedTables
 pub mod Decoding
 pub mod Encoded
 pub mod EncodedRows
 pub mod Faults
 pub mod FilesMade
-pub mod ValidPrefixes
 pub mod MergedUploads
 pub mod Opened
 pub mod Sorting
+pub mod ValidPrefixes

@@ -5,4 +5,5 @@ pub mod Decode
 pub mod EncodeRows
 pub mod Fault
 pub mod ValidPrefix
+pub mod Informs
 pub mod Sort

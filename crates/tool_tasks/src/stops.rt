@@ -1,22 +1,23 @@
 //! Fault lines of what stops a task from outside.
 
 use crate::fault::Fault;
+use crate::names::word_at;
 use frame::Stop;
-use world::{LoadFault, MakeFault, WriteFault};
+use world::{MakeFault, WriteFault};
 
-/// The fault of what stopped a task over two files: the words name them.
-pub(crate) fn fault_of<'a>(why: Stop, first: &'a str, second: &'a str) -> Fault<'a> {
+/// The fault of what stopped a task over files that these words name.
+pub(crate) fn fault_of<'a>(why: Stop, words: &[&'a str]) -> Fault<'a> {
     match why {
-        Stop::Unread(0, LoadFault::Unread) => Fault::Unread(first),
-        Stop::Unread(_, LoadFault::Unread) => Fault::Unread(second),
-        Stop::Unread(0, LoadFault::TooLong) => Fault::TooLong(first),
-        Stop::Unread(_, LoadFault::TooLong) => Fault::TooLong(second),
+        Stop::Unread(number, why) => match word_at(words, number) {
+            Some(word) => Fault::of_load(word, why),
+            None => Fault::NoMemory,
+        },
         Stop::Unwritten(WriteFault::Closed) => Fault::Closed,
         Stop::Unwritten(WriteFault::Refused) => Fault::Write,
-        Stop::Unmade(0, MakeFault::Unmade) => Fault::Unmade(first),
-        Stop::Unmade(_, MakeFault::Unmade) => Fault::Unmade(second),
-        Stop::Unread(_, LoadFault::NoMemory)
-        | Stop::Unmade(_, MakeFault::NoMemory)
-        | Stop::NoMemory => Fault::NoMemory,
+        Stop::Unmade(number, MakeFault::Unmade) => match word_at(words, number) {
+            Some(word) => Fault::Unmade(word),
+            None => Fault::NoMemory,
+        },
+        Stop::Unmade(_, MakeFault::NoMemory) | Stop::NoMemory => Fault::NoMemory,
     }
 }
