@@ -23,11 +23,11 @@ use std::io::Write;
 use std::marker::Sync;
 use std::thread::Threads;
 use tool_tasks::{
-    Counted, Escaped, Fault, PlacedFiles, Sink, SortWords, Source, bounds_over, corrections_over,
+    Counted, Escaped, Fault, PlacedFiles, Sink, Source, bounds_over, corrections_over,
     decode_over, encode_over, encode_rows_over, look_over, merge_sorted_over, say, sort_over,
     table_over, uploads_over, valid_prefix_over,
 };
-use tool_words::{SortingWords, Task, UsageError, read};
+use tool_words::{Task, UsageError, read};
 use world::World;
 
 /// Says what is wrong with the words, and gives the status.
@@ -55,45 +55,6 @@ fn report_wrong_date<E: Write>(alloc: Global, err: &mut Complaints<E>, wrong: &W
     };
     err.report_line(format_args!("error: {line}"));
     2
-}
-
-/// Sorts uploads, or merges sorted ones.
-fn sort_task<R: Threads + Sync, S: Source, D: PlacedFiles, K: Sink, E: Write>(
-    threads: &R,
-    alloc: Global,
-    words: &SortingWords<'_>,
-    source: &mut S,
-    files: &D,
-    sink: &mut K,
-    err: &mut Complaints<E>,
-) -> u8
-    ensures done { (o o' : Option (List ℕ)) (end : Option AWriteEnd) (flushed : Bool)
-        → result ≡ 0 → IsDone (sort (sorting_of words.now)) (run_of (S.loaded source.old)
-        (S.loaded source.new) (S.refused source.new) (D.bytes_under files.now) (K.made sink.old)
-        (K.made sink.new) (K.unstarted sink.new) (K.failed sink.new) o o' end flushed
-        (E.contents err.old.writer) (E.contents err.new.writer) err.new.failed)
-        (err.new ≡ err.old) }
-    ensures partly { (o o' : Option (List ℕ)) (end : Option AWriteEnd) (flushed : Bool)
-        → result ≡ 3 → IsPartlyDone (sort (sorting_of words.now)) (run_of (S.loaded source.old)
-        (S.loaded source.new) (S.refused source.new) (D.bytes_under files.now) (K.made sink.old)
-        (K.made sink.new) (K.unstarted sink.new) (K.failed sink.new) o o' end flushed
-        (E.contents err.old.writer) (E.contents err.new.writer) err.new.failed) }
-    ensures aborted { (o o' : Option (List ℕ)) (end : Option AWriteEnd) (flushed : Bool)
-        → result ≡ 1 → IsAborted (sort (sorting_of words.now)) (run_of (S.loaded source.old)
-        (S.loaded source.new) (S.refused source.new) (D.bytes_under files.now) (K.made sink.old)
-        (K.made sink.new) (K.unstarted sink.new) (K.failed sink.new) o o' end flushed
-        (E.contents err.old.writer) (E.contents err.new.writer) err.new.failed)
-        (err.new ≡ err.old) }
-    ensures status { (result ≡ 0) ⊎ ((result ≡ 1) ⊎ (result ≡ 3)) }
-{
-    let request = SortWords {
-        out: words.out,
-        ends: words.ends,
-    };
-    if words.is_merge {
-        return merge_sorted_over(alloc, &request, &words.uploads, files, sink, err);
-    }
-    sort_over(threads, alloc, &request, &words.uploads, source, sink, err)
 }
 
 /// Does what is asked for, and gives the status.
@@ -156,7 +117,8 @@ fn task_over<
         Task::ValidPrefix(words) => valid_prefix_over(alloc, &words, source, sink, out, err),
         Task::Look(words, names) => look_over(threads, alloc, &words, &names, world),
         Task::Table(question) => table_over(alloc, &question, moment, world),
-        Task::Sort(words) => sort_task(threads, alloc, &words, source, files, sink, err),
+        Task::Sort(words) if words.is_merge => merge_sorted_over(alloc, &words, files, world),
+        Task::Sort(words) => sort_over(threads, alloc, &words, world),
         Task::Merge(parts) => merge_over(alloc, &parts, source, out, err),
         Task::Bounds(words) => bounds_over(alloc, &words, files, world),
         Task::Corrections(words) => corrections_over(alloc, &words, world),

@@ -1,4 +1,5 @@
 mod Informing
+mod Loading
 pub mod DecodedTables
 pub mod Decoding
 pub mod Encoded

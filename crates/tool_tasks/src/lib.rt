@@ -66,7 +66,7 @@ pub use merge_sorted::merge_sorted_over;
 pub use names::{Escaped, Name, word_at};
 pub use placed::PlacedFiles;
 pub use sink::{MakeFault, NewFault, Sink};
-pub use sort::{SortWords, sort_over};
+pub use sort::sort_over;
 pub use source::{Shown, Source, open_all};
 pub use table::table_over;
 pub use uploads::uploads_over;

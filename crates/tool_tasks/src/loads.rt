@@ -1,13 +1,29 @@
 //! Files that a task loads, by their words.
-ghost use Rattle.std.specs.Prelude.{◌<◌, IfErr, IfOk, length, map};
+ghost use Rattle.std.specs.Prelude.{◌≡◌, ◌<◌, IfErr, IfOk, length, map};
 ghost use Rattle.frame.specs.Stops.{IsNamed, Leaves};
+ghost use Rattle.world.specs.Loads.{IsRefused};
+ghost use Rattle.world.specs.Run.{with_load};
 ghost use Rattle.tool_tasks.specs.Loads.{LoadsAt};
+ghost use Rattle.tool_tasks.specs.Names.{file_named};
 
 use crate::names::file_of;
 use frame::Stop;
-use world::Inputs;
+use world::{Inputs, LoadFault};
 
-/// All bytes of the file that the word of this number names, `-` being standard input.
+/// All bytes of the file that the word names, `-` being standard input.
+pub(crate) fn load_word<I: Inputs>(files: &mut I, word: &str) -> Result<Vec<u8>, LoadFault>
+    ensures loaded { IfOk result (λ bytes.
+        I.run files.new ≡ with_load (I.run files.old) (file_named word.now) bytes.items) }
+    ensures refused { IfErr result
+        (IsRefused (I.run files.old) (I.run files.new) (file_named word.now)) }
+{
+    match file_of(word) {
+        Some(name) => files.load(name),
+        None => files.input(),
+    }
+}
+
+/// The same of the word of this number.
 pub(crate) fn load_at<I: Inputs>(
     files: &mut I,
     words: &[&str],
@@ -19,12 +35,7 @@ pub(crate) fn load_at<I: Inputs>(
     ensures stopped { IfErr result (λ why. Leaves (map (λ w. w.now) words.now) why
         (I.run files.old) (I.run files.new) × IsNamed (map (λ w. w.now) words.now) why) }
 {
-    let word = words[number];
-    let loaded = match file_of(word) {
-        Some(name) => files.load(name),
-        None => files.input(),
-    };
-    match loaded {
+    match load_word(files, words[number]) {
         Ok(bytes) => Ok(bytes),
         Err(why) => Err(Stop::Unread(number, why)),
     }

@@ -5,19 +5,27 @@ use crate::names::word_at;
 use frame::Stop;
 use world::{MakeFault, WriteFault};
 
+/// The number of the file that stopped a task; 0 if none did.
+pub(crate) fn number_in(why: Stop) -> usize {
+    match why {
+        Stop::Unread(number, _) | Stop::Unmade(number, _) => number,
+        Stop::Unwritten(_) | Stop::NoMemory => 0,
+    }
+}
+
+/// The fault of what stopped a task; of a file, this is its word.
+pub(crate) fn fault_at<'a>(why: Stop, word: Option<&'a str>) -> Fault<'a> {
+    match (why, word) {
+        (Stop::Unread(_, why), Some(word)) => Fault::of_load(word, why),
+        (Stop::Unmade(_, MakeFault::Exists), Some(word)) => Fault::Exists(word),
+        (Stop::Unmade(_, MakeFault::Unmade), Some(word)) => Fault::Unmade(word),
+        (Stop::Unwritten(WriteFault::Closed), _) => Fault::Closed,
+        (Stop::Unwritten(WriteFault::Refused), _) => Fault::Write,
+        (Stop::Unread(..), _) | (Stop::Unmade(..), _) | (Stop::NoMemory, _) => Fault::NoMemory,
+    }
+}
+
 /// The fault of what stopped a task over files that these words name.
 pub(crate) fn fault_of<'a>(why: Stop, words: &[&'a str]) -> Fault<'a> {
-    match why {
-        Stop::Unread(number, why) => match word_at(words, number) {
-            Some(word) => Fault::of_load(word, why),
-            None => Fault::NoMemory,
-        },
-        Stop::Unwritten(WriteFault::Closed) => Fault::Closed,
-        Stop::Unwritten(WriteFault::Refused) => Fault::Write,
-        Stop::Unmade(number, MakeFault::Unmade) => match word_at(words, number) {
-            Some(word) => Fault::Unmade(word),
-            None => Fault::NoMemory,
-        },
-        Stop::Unmade(_, MakeFault::NoMemory) | Stop::NoMemory => Fault::NoMemory,
-    }
+    fault_at(why, word_at(words, number_in(why)))
 }

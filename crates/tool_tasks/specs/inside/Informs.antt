@@ -1,5 +1,6 @@
 -- What a call of what only informs does.
-use Rattle.std.proofs.Common.{◌≡◌, ◌≤◌, ⊤, arith, inr, List, [], Result, Ok, Err}
+use Rattle.std.proofs.Common.{◌≡◌, ◌≤◌, arith, inr, List, [], Result, Ok, Err}
+use Rattle.std.specs.Bool.{⊤}
 use Rattle.frame.specs.Ends.{Answer, IsStarted, no_answer}
 use Rattle.frame.specs.declared.stop.Stop.{Stop}
 use Rattle.frame.specs.declared.stop.Stop.TheVariants.{NoMemory}
