@@ -5,18 +5,18 @@ use Rattle.tap_views.specs.UploadEnds.{are_posted}
 use Rattle.tap_views.specs.declared.upload_end.UploadEnd.{UploadEnd}
 use Rattle.program_manners.specs.Loads.{Loaded}
 use Rattle.frame.specs.Ends.{Ends}
+use Rattle.frame.specs.Making.{EndsMaking}
 use Rattle.world.specs.Run.{Run as WorldRun}
 use Rattle.world.specs.declared.faults.LoadFault.{LoadFault}
 use Rattle.program_manners.specs.declared.output.WriteEnd.{WriteEnd}
 use Rattle.tool_program.specs.Merge.{AbortsMerge, MergesParts}
 use Rattle.tool_tasks.specs.Corrections.{IsCorrected}
-use Rattle.tool_tasks.specs.Decode.{AreReported, Decoded, Decodes, DecodesFaulty, AbortsDecode}
-use Rattle.tool_tasks.specs.Decode.{are_whole}
+use Rattle.tool_tasks.specs.Decode.{IsTapTableOf}
 use Rattle.tool_tasks.specs.Encode.{EncodesTable, AbortsEncode}
 use Rattle.tool_tasks.specs.EncodeRows.{EncodesWith, AbortsRows}
-use Rattle.tool_tasks.specs.Fault.{IsFaultReported}
+use Rattle.tool_tasks.specs.Fault.{AreReported, IsFaultReported}
 use Rattle.tool_tasks.specs.Informs.{EndsInforming}
-use Rattle.tool_tasks.specs.ValidPrefix.{AbortsValidPrefix, KeepsValidPrefix}
+use Rattle.tool_tasks.specs.ValidPrefix.{HasValidPrefix}
 use Rattle.tool_tasks.specs.MergeSorted.{AbortsMergeSorted, Merges}
 use Rattle.tool_tasks.specs.Sink.{Made}
 use Rattle.tool_tasks.specs.Sort.{AbortsSort, Sorts, ends_name, refused_lines}
@@ -28,8 +28,7 @@ use Rattle.tool_tasks.specs.declared.sort.SortWords.{SortWords}
 use Rattle.tool_words.specs.Request.{Request, RowsRequest, SortRequest, corrections, decode, encode}
 use Rattle.tool_words.specs.Request.{encode_rows, valid_prefix, merge, usage_error, shows, sort}
 use Rattle.tool_words.specs.UsageErrors.{usage_error_text}
-use Rattle.tool_words.specs.Tasks.{valid_prefix_of, rows_words_of}
-use Rattle.tool_words.specs.declared.task.ValidPrefixWords.{ValidPrefixWords}
+use Rattle.tool_words.specs.Tasks.{rows_words_of}
 use Rattle.tool_words.specs.declared.task.RowsWords.{RowsWords}
 
 -- What is known of a run, before it and behind it: what the source loaded and last refused, what
@@ -98,6 +97,10 @@ IsIdle run Silent = (run.loaded' ≡ run.loaded) × (run.made' ≡ run.made) × 
 abbrev pub IsFramed : (List ℕ → Option (List ℕ)) → Request → WorldRun → WorldRun → ℕ → Type 0
 IsFramed bytes_under (corrections ledgers) old new status =
     Ends (IsCorrected bytes_under ledgers) (ledgers.old ∷ ledgers.new ∷ []) old new status
+IsFramed bytes_under (decode words) old new status =
+    Ends (IsTapTableOf words) words old new status
+IsFramed bytes_under (valid_prefix request) old new status =
+    EndsMaking (HasValidPrefix request) (request.upload ∷ request.out ∷ []) old new status
 IsFramed bytes_under shows old new status = EndsInforming old new status ⊎ (new ≡ old)
 IsFramed bytes_under request old new status = new ≡ old
 
@@ -109,12 +112,8 @@ IsDone (encode word) run Silent =
     × (run.is_flushed ≡ true) × Silent
 IsDone (encode_rows word request) run Silent =
     EncodesSo outcomes.Whole word request run × (run.is_flushed ≡ true)
-IsDone (decode words) run Silent = ((decoded : List Decoded)
-    × Decodes words run.loaded run.loaded' run.out run.out' decoded
-    × (are_whole decoded ≡ true)) × (run.is_flushed ≡ true) × Silent
-IsDone (valid_prefix request) run Silent = (words : ValidPrefixWords) × (valid_prefix_of words ≡ request)
-    × KeepsValidPrefix words run.loaded run.loaded' run.made run.made' true
-    × (run.is_flushed ≡ true) × Silent
+IsDone (decode words) run Silent = IsIdle run Silent
+IsDone (valid_prefix request) run Silent = IsIdle run Silent
 IsDone (sort request) run Silent =
     MatchBool request.is_merge (MergesAll request run) (IfKept run (SortsAll request run true)) × Silent
 IsDone (merge parts) run Silent =
@@ -146,16 +145,8 @@ IsAborted (encode_rows word request) run Silent = EncodesSo outcomes.NoTap word 
     ⊎ Faults run (λ fault. (words : RowsWords)
     × (rows_words_of words ≡ request) × IfKept run (AbortsRows words word run.loaded run.loaded'
     run.refused run.made run.made' run.unstarted run.unmade run.end fault run.out run.out'))
-IsAborted (decode words) run Silent =
-    (DecodesFaulty words run.loaded run.loaded' run.out run.out' run.said run.said' run.unsaid
-    × (run.is_flushed ≡ true))
-    ⊎ ((fault : Fault) × AbortsDecode words run.loaded run.refused run.end fault run.out run.out'
-    run.said run.said' run.unsaid)
-IsAborted (valid_prefix request) run Silent = (words : ValidPrefixWords) × (valid_prefix_of words ≡ request)
-    × ((KeepsValidPrefix words run.loaded run.loaded' run.made run.made' false
-    × (run.is_flushed ≡ true) × Silent)
-    ⊎ Faults run (λ fault. AbortsValidPrefix words run.loaded run.loaded' run.refused run.made
-    run.made' run.unmade run.unstarted run.end fault))
+IsAborted (decode words) run Silent = IsIdle run Silent
+IsAborted (valid_prefix request) run Silent = IsIdle run Silent
 IsAborted (sort request) run Silent = Faults run (λ fault. (words : SortWords)
     × AreSortWords request words × MatchBool request.is_merge
     (AbortsMergeSorted words request.uploads (known_of run request.uploads) run.made run.made'

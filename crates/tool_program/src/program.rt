@@ -151,9 +151,9 @@ fn task_over<
         Task::EncodeRows(word, words) => {
             encode_rows_over(alloc, seed, &words, word, source, sink, out, err)
         }
-        Task::Decode(words) => decode_over(alloc, &words, source, out, err),
+        Task::Decode(words) => decode_over(alloc, words, world),
         Task::Uploads(words, has_tokens) => uploads_over(alloc, words, has_tokens, world),
-        Task::ValidPrefix(words) => valid_prefix_over(alloc, &words, source, sink, out, err),
+        Task::ValidPrefix(words) => valid_prefix_over(alloc, &words, world),
         Task::Look(words, names) => look_over(threads, alloc, &words, &names, world),
         Task::Table(question) => table_over(alloc, &question, moment, world),
         Task::Sort(words) => sort_task(threads, alloc, &words, source, files, sink, err),

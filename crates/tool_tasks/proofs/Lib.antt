@@ -1,5 +1,4 @@
 mod Informing
-pub mod DecodedTables
 pub mod Decoding
 pub mod Encoded
 pub mod EncodedRows

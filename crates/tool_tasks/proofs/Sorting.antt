@@ -14,7 +14,7 @@ use Rattle.tap_views.specs.declared.upload_end.UploadEnd.TheVariants.{Posted}
 use Rattle.tool_tasks.proofs.Opened.{loaded_as, opened_word}
 use Rattle.tool_tasks.specs.Names.{file_named}
 use Rattle.tool_tasks.specs.Sink.{IsNotMade}
-use Rattle.tool_tasks.specs.Decode.{AreReported}
+use Rattle.tool_tasks.specs.Fault.{AreReported}
 use Rattle.tool_tasks.specs.Sort.{IsUnmade, refused_line, refused_lines}
 use Rattle.tool_tasks.specs.Source.{HasOpened}
 use Rattle.tool_tasks.specs.declared.fault.Fault.{Fault}

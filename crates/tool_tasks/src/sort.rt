@@ -6,7 +6,7 @@ ghost use Rattle.tap_views.specs.UploadEnds.{ArePlainEnds, are_posted, is_posted
 ghost use Rattle.tap_views.specs.declared.upload_end.UploadEnd.{UploadEnd as AnEnd};
 ghost use Rattle.program_manners.specs.Loads.{Loaded};
 ghost use Rattle.sorted_uploads.specs.SortedUploads.{IsSortedFileOf};
-ghost use Rattle.tool_tasks.specs.Decode.{AreReported};
+ghost use Rattle.tool_tasks.specs.Fault.{AreReported};
 ghost use Rattle.tool_tasks.specs.Fault.{IsFaultReported, IsRefusal};
 ghost use Rattle.tool_tasks.specs.Sink.{Makes};
 ghost use Rattle.tool_tasks.specs.Sort.{AbortsSort, IsUnmade, Sorts, ends_files};

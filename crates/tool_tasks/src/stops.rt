@@ -14,6 +14,10 @@ pub(crate) fn fault_of<'a>(why: Stop, words: &[&'a str]) -> Fault<'a> {
         },
         Stop::Unwritten(WriteFault::Closed) => Fault::Closed,
         Stop::Unwritten(WriteFault::Refused) => Fault::Write,
+        Stop::Unmade(number, MakeFault::Exists) => match word_at(words, number) {
+            Some(word) => Fault::Exists(word),
+            None => Fault::NoMemory,
+        },
         Stop::Unmade(number, MakeFault::Unmade) => match word_at(words, number) {
             Some(word) => Fault::Unmade(word),
             None => Fault::NoMemory,

@@ -1,7 +1,7 @@
 use Rattle.std.proofs.Common.{◌≡◌, Bor, List, false, map, refl, subst, ℕ}
 use Rattle.tap_views.specs.UploadEnds.{are_posted}
 use Rattle.tap_views.specs.declared.upload_end.UploadEnd.{UploadEnd}
-use Rattle.tool_tasks.specs.Decode.{AreReported}
+use Rattle.tool_tasks.specs.Fault.{AreReported}
 use Rattle.tool_tasks.specs.MergeSorted.{AbortsMergeSorted}
 use Rattle.tool_tasks.specs.Sort.{AbortsSort, Sorts, refused_lines}
 use Rattle.tool_tasks.specs.declared.sort.SortWords.{SortWords}

@@ -54,15 +54,6 @@ returns-in-EncodeRows-clause-aborted g c = λ one. rw c.in-EncodeRows.is (
     ]
     )
 
-pub returns-in-ValidPrefix-clause-done : goal.returns-in-ValidPrefix-clause-done
-returns-in-ValidPrefix-clause-done g c = λ zero.
-    let done = c.valid_prefix_over.ensures.done zero in
-    rw c.in-ValidPrefix.is (c.in-ValidPrefix.words, refl, done.0, done.1, done.2)
-
-pub returns-in-ValidPrefix-clause-aborted : goal.returns-in-ValidPrefix-clause-aborted
-returns-in-ValidPrefix-clause-aborted g c = λ one.
-    rw c.in-ValidPrefix.is (c.in-ValidPrefix.words, refl, c.valid_prefix_over.ensures.faults one)
-
 pub returns-in-UsageError-clause-misused : goal.returns-in-UsageError-clause-misused
 returns-in-UsageError-clause-misused g c = λ line is.
     let same = some_is (usage_error_text c.in-UsageError.usage_error) line

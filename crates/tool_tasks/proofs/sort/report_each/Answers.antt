@@ -1,7 +1,7 @@
 use Rattle.std.proofs.Common.{◌∙◌, List, ℕ, Option, get_or, map, subst, sym}
 use Rattle.tap_views.specs.declared.upload_end.UploadEnd.TheVariants.{Posted}
 use Rattle.tool_tasks.proofs.Sorting.{lines_next, posted_next, reported_more}
-use Rattle.tool_tasks.specs.Decode.{AreReported}
+use Rattle.tool_tasks.specs.Fault.{AreReported}
 use Rattle.tool_tasks.specs.inside.Sort.{line_at}
 use Rattle.tool_tasks.proofs.sort.report_each.Goals as goal
 

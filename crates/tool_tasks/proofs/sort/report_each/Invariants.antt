@@ -1,6 +1,6 @@
 use Rattle.std.proofs.Common.{◌≡◌, map, take, true}
 use Rattle.tap_views.specs.UploadEnds.{are_posted}
-use Rattle.tool_tasks.specs.Decode.{AreReported}
+use Rattle.tool_tasks.specs.Fault.{AreReported}
 use Rattle.tool_tasks.specs.Sort.{refused_lines}
 use Rattle.tool_tasks.proofs.sort.report_each.Given as goal
 
