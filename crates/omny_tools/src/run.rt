@@ -87,7 +87,7 @@ pub(crate) fn run<R: Threads + Sync, E: Write>(
     let counts = if shows.counts {
         Progress::new(rt)
     } else {
-        Progress::hidden(rt)
+        Progress::beside_text(rt)
     };
     let mut framed = Framed::new(rt, counts, framed_progress, io::writer(rt), rt.stderr());
     main_over(

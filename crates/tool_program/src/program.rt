@@ -2,14 +2,13 @@
 ghost use Rattle.std.specs.Prelude.{◌≡◌, ◌⊎◌, ◌≤◌, ℕ, Bool, List, Option, Some, map};
 ghost use Rattle.std.specs.Prelude.{string_bytes};
 ghost use Rattle.program_manners.specs.LineWritten.{LineWritten};
-ghost use Rattle.program_manners.specs.declared.output.WriteEnd.{WriteEnd as AWriteEnd};
 ghost use Rattle.tool_program.specs.Program.{IsDone, IsFramed, IsAborted, IsPartlyDone};
 ghost use Rattle.tool_program.specs.Program.{usage_error_line, run_of};
 ghost use Rattle.tool_tasks.specs.Fault.{IsFaultReported};
 ghost use Rattle.tool_tasks.specs.declared.fault.Fault.TheVariants.{NoMemory};
-ghost use Rattle.tool_words.specs.Request.{request_by, shows, sort};
+ghost use Rattle.tool_words.specs.Request.{request_by, shows};
 ghost use Rattle.tool_words.specs.UsageErrors.{usage_error_text};
-ghost use Rattle.tool_words.specs.Tasks.{request_of, sorting_of};
+ghost use Rattle.tool_words.specs.Tasks.{request_of};
 ghost use Rattle.tool_words.specs.ToolLine.{AsksForText, Parses};
 
 use crate::answers::show;
@@ -80,8 +79,8 @@ fn task_over<
     world: &mut X,
 ) -> u8
     // What the frame runs ends as it says. Anything else does nothing in its world.
-    ensures framed { IsFramed X.bytes_under (request_of task.entry) (X.run world.old)
-        (X.run world.new) result }
+    ensures framed { IsFramed X.bytes_under (D.bytes_under files.now)
+        (request_of task.entry) (X.run world.old) (X.run world.new) result }
     ensures done { result ≡ 0 → IsDone (request_of task.entry) (run_of (S.loaded source.old)
         (S.loaded source.new) (S.refused source.new) (D.bytes_under files.now) (K.made sink.old)
         (K.made sink.new) (K.unstarted sink.new) (K.failed sink.new) (W.contents out.old.writer)
@@ -112,9 +111,9 @@ fn task_over<
         Task::EncodeRows(word, words) => {
             encode_rows_over(alloc, seed, &words, word, source, sink, out, err)
         }
-        Task::Decode(words) => decode_over(alloc, &words, source, out, err),
+        Task::Decode(words) => decode_over(alloc, words, world),
         Task::Uploads(words, has_tokens) => uploads_over(alloc, words, has_tokens, world),
-        Task::ValidPrefix(words) => valid_prefix_over(alloc, &words, source, sink, out, err),
+        Task::ValidPrefix(words) => valid_prefix_over(alloc, &words, world),
         Task::Look(words, names) => look_over(threads, alloc, &words, &names, world),
         Task::Table(question) => table_over(alloc, &question, moment, world),
         Task::Sort(words) if words.is_merge => merge_sorted_over(alloc, &words, files, world),
@@ -159,8 +158,8 @@ pub fn main_over<
     // `corrections` is run by the frame in its world, and ends as it says. Only being out of memory,
     // while the words are read, may come before it. Anything else does nothing in that world.
     ensures framed { Parses (map string_bytes words.now)
-        → IsFramed X.bytes_under (request_by (map string_bytes words.now)) (X.run world.old)
-        (X.run world.new) result
+        → IsFramed X.bytes_under (D.bytes_under files.now) (request_by (map string_bytes words.now))
+        (X.run world.old) (X.run world.new) result
         ⊎ ((result ≡ 1) × (X.run world.new ≡ X.run world.old)) }
     ensures unframed { ¬ Parses (map string_bytes words.now) → X.run world.new ≡ X.run world.old }
 

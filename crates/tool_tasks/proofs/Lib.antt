@@ -1,11 +1,11 @@
 mod Informing
 mod Loading
-pub mod DecodedTables
 pub mod Decoding
 pub mod Encoded
 pub mod EncodedRows
 pub mod Faults
 pub mod FilesMade
+mod Making
 pub mod MergedUploads
 pub mod Opened
 pub mod Sorting

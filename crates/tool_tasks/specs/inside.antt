@@ -2,6 +2,7 @@
 pub mod Corrected
 pub mod Corrections
 pub mod Decode
+pub mod Decoded
 pub mod EncodeRows
 pub mod Fault
 pub mod ValidPrefix

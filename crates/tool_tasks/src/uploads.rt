@@ -1,6 +1,5 @@
 //! `uploads`: what each upload has.
 ghost use Rattle.std.specs.Prelude.{◌≡◌, ◌≤◌, ◌++◌, ℕ, IfErr, List, OnOk, string_bytes};
-ghost use Rattle.tool_tasks.specs.Fault.{failed_as};
 ghost use Rattle.tool_tasks.specs.Informs.{EndsInforming};
 ghost use Rattle.tool_tasks.specs.Uploads.{IsMomentOrDash};
 
@@ -10,11 +9,9 @@ use crate::informs::{Informed, Informs, WordFile, inform};
 use crate::layout::{AtTap, Cause, Remedy};
 use crate::names::Name;
 use crate::upload_tokens::{add_tokens, no_tokens, tokens_text};
-use fare_texts::{write_bytes, write_moment};
+use fare_texts::write_moment;
 use frame::For;
-use program_manners::Output;
 use std::alloc::{AllocError, Global};
-use std::io::Write;
 use tap_views::{Facts, facts_of};
 use upload_checks::CommonTokens;
 use world::World;
@@ -54,15 +51,6 @@ pub(crate) fn upload_text(
         )?;
     }
     Ok(text)
-}
-
-pub(crate) fn write_text<'a, W: Write>(text: &str, out: &mut Output<W>) -> Result<(), Fault<'a>>
-    ensures { IfErr result (λ fault. fault ≡ failed_as out.new.end) }
-{
-    match write_bytes(text.as_bytes(), out) {
-        Ok(()) => Ok(()),
-        Err(_) => Err(Fault::of_write(out.end())),
-    }
 }
 
 /// The lines of each upload, then those of the tokens, if these are counted.
