@@ -45,9 +45,6 @@ fn texts_of<'r>(rt: &'r HostRuntime, manner: Manner, shows: Shows) -> Texts<'r> 
     if let Manner::Rows(separator) = manner {
         return Texts::of_rows(rt, separator);
     }
-    if shows.counts {
-        return Texts::shown(rt);
-    }
     if shows.text {
         return Texts::of_others(rt);
     }
