@@ -1,4 +1,5 @@
 mod Informing
+pub mod KnownBytes
 mod Loading
 pub mod Decoding
 pub mod Encoded

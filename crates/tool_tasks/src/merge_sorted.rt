@@ -13,6 +13,7 @@ ghost use Rattle.tool_tasks.specs.inside.Sort.{IsFileFault};
 ghost use Rattle.tool_words.specs.Tasks.{sorting_of};
 
 use crate::fault::Fault;
+use crate::known::Known;
 use crate::names::word_at;
 use crate::placed::{PlacedFiles, open_placed};
 use crate::sort::{Written, fault_of, lines_of, make_both};
@@ -126,11 +127,13 @@ fn merge<D: PlacedFiles, W: World>(
         (map (D.bytes_under disk.now) (sorting_of words.now).uploads))
         (names_of (sorting_of words.now)) (W.run world.old) (W.run world.new)) }
 {
-    let mut file = match world.begin(words.out, false) {
-        Ok(file) => file,
+    let mut known = match world.begin(words.out, false) {
+        Ok(file) => Known::new(file),
         Err(why) => return Err(Stop::Unmade(0, why)),
     };
-    match merge_all(alloc, &words.uploads, disk, &mut file) {
+    let merged = merge_all(alloc, &words.uploads, disk, &mut known);
+    let file = known.into_file();
+    match merged {
         Ok(ends) => match lines_of(alloc, &ends) {
             Ok(lines) => {
                 let written = Written {
