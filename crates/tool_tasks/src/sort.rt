@@ -190,11 +190,7 @@ pub(crate) fn make_both<W: World>(
     }
 }
 
-fn written_of(
-    alloc: Global,
-    uploads: &[&str],
-    ends: &[UploadEnd],
-) -> Result<Written, AllocError>
+fn written_of(alloc: Global, uploads: &[&str], ends: &[UploadEnd]) -> Result<Written, AllocError>
     ensures lines { IfOk result (λ written.
         string_bytes written.lines ≡ upload_lines 0 ends.now) }
     ensures note { IfOk result (λ written. string_bytes written.note
