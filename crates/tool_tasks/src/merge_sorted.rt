@@ -5,11 +5,10 @@ ghost use Rattle.tap_views.specs.declared.upload_end.UploadEnd.TheVariants.{Post
 ghost use Rattle.sorted_taps.specs.Checked.{IsMergeFault};
 ghost use Rattle.sorted_taps.specs.Written.{IsMergedFile};
 ghost use Rattle.world.specs.Run.{with_flushed, with_said};
-ghost use Rattle.frame.specs.Stops.{IsNamed, Leaves};
 ghost use Rattle.tool_tasks.specs.Fault.{fault_text};
 ghost use Rattle.tool_tasks.specs.MergeSorted.{IsRightFileFault, MergesOrRefuses};
 ghost use Rattle.tool_tasks.specs.Sort.{names_of};
-ghost use Rattle.tool_tasks.specs.inside.Sort.{IsFileFault};
+ghost use Rattle.tool_tasks.specs.inside.Sort.{HaltsMaking, IsFileFault};
 ghost use Rattle.tool_words.specs.Tasks.{sorting_of};
 
 use crate::fault::Fault;
@@ -98,9 +97,9 @@ fn merge_all<'a, D: PlacedFiles, W: Write>(
 fn refuse<W: World>(alloc: Global, fault: Fault<'_>, world: &mut W) -> Result<u8, Stop>
     ensures done { IfOk result (λ status. (status ≡ 1) × (W.run world.new
         ≡ with_flushed (with_said (W.run world.old) (fault_text fault.entry ++ codes "\n")))) }
-    ensures halted { IfErr result (λ why. (said : List ℕ) × (rest : List ℕ)
-        × (fault_text fault.entry ++ codes "\n" ≡ said ++ rest) × IsNamed [] why
-        × Leaves [] why (with_said (W.run world.old) said) (W.run world.new)) }
+    ensures halted { IfErr result (λ why. (names : List (List ℕ))
+        → HaltsMaking names [] (fault_text fault.entry ++ codes "\n") why (W.run world.old)
+        (W.run world.new)) }
 {
     let Ok(line) = format!(in alloc; "{fault}\n") else {
         return Err(Stop::NoMemory);

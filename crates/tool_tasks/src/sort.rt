@@ -142,8 +142,9 @@ fn make<W: World>(name: &str, number: usize, bytes: &[u8], world: &mut W) -> Res
 fn make_ends<W: World>(words: &SortingWords<'_>, lines: &str, world: &mut W) -> Result<(), Stop>
     ensures made { OnOk result (W.run world.new ≡ with_files (W.run world.old)
         (ends_files (sorting_of words.now).ends lines.now)) }
-    ensures halted { IfErr result (λ why. HaltsMaking (names_of (sorting_of words.now)) [] [] why
-        (W.run world.old) (W.run world.new)) }
+    ensures unmade { IfErr result (λ why. (name : List ℕ)
+        × ((sorting_of words.now).ends ≡ Some name)
+        × HaltsMade name 1 why (W.run world.old) (W.run world.new)) }
 {
     match words.ends {
         Some(name) => make(name, 1, lines.as_bytes(), world),
@@ -190,11 +191,7 @@ pub(crate) fn make_both<W: World>(
     }
 }
 
-fn written_of(
-    alloc: Global,
-    uploads: &[&str],
-    ends: &[UploadEnd],
-) -> Result<Written, AllocError>
+fn written_of(alloc: Global, uploads: &[&str], ends: &[UploadEnd]) -> Result<Written, AllocError>
     ensures lines { IfOk result (λ written.
         string_bytes written.lines ≡ upload_lines 0 ends.now) }
     ensures note { IfOk result (λ written. string_bytes written.note
