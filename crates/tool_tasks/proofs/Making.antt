@@ -77,7 +77,7 @@ halts_in Right names files note status old new why h right = record {
     others = h.others;
     status = status;
     right = inr (subst (λ n. Right [] (record { text = []; note = n }) (h.made ++ h.others) status)
-        h.note (subst (λ fs. Right [] (record { text = []; note = note }) fs status) h.files right));
+        h.is_note (subst (λ fs. Right [] (record { text = []; note = note }) fs status) h.is_files right));
   };
   named = h.named;
   all = h.all;
@@ -94,10 +94,10 @@ pub halts_none : (names : List (List ℕ)) (files : List Named) (note : List ℕ
 halts_none names files note why old new named leaves = record {
   made = [];
   others = files;
-  files = refl;
+  is_files = refl;
   said = [];
   rest = note;
-  note = refl;
+  is_note = refl;
   named = named;
   all = subst (λ r. Leaves names why r new) (no_loads old ∙ did_loads old []) leaves;
 }
@@ -128,10 +128,10 @@ pub halts_second : (out : List ℕ) (names : List (List ℕ)) (first : List Name
 halts_second out names first file note fault old mid new made unmade = record {
   made = first;
   others = file ∷ [];
-  files = refl;
+  is_files = refl;
   said = [];
   rest = note;
-  note = refl;
+  is_note = refl;
   named = omega arith;
   all = (out, refl, subst (λ r. IsUnmade r new out fault) (made ∙ did_files old first) unmade);
 }
@@ -153,10 +153,10 @@ pub halts_flush : (names : List (List ℕ)) (files : List Named) (note : List �
 halts_flush names files note fault old said new is cut = record {
   made = files;
   others = [];
-  files = sym (append-nil files);
+  is_files = sym (append-nil files);
   said = note;
   rest = [];
-  note = sym (append-nil note);
+  is_note = sym (append-nil note);
   named = tt;
   all = cut ∙ ap (λ r. with_cut r fault) is;
 }

@@ -109,14 +109,10 @@ fn is_posted(end: UploadEnd) -> bool
     end.is_posted()
 }
 
-fn status_of(ends: &[UploadEnd]) -> u8
-    ensures { result ≡ (if are_posted ends.now then 0 else 3) }
+fn are_posted(ends: &[UploadEnd]) -> bool
+    ensures { result ≡ are_posted ends.now }
 {
-    if ends.iter().all(|end| is_posted(*end)) {
-        0
-    } else {
-        3
-    }
+    ends.iter().all(|end| is_posted(*end))
 }
 
 /// Makes a file of these bytes, whose word has this number.
@@ -202,7 +198,7 @@ fn written_of(alloc: Global, uploads: &[&str], ends: &[UploadEnd]) -> Result<Wri
     Ok(Written {
         lines: lines_of(alloc, ends)?,
         note: note_of(alloc, uploads, ends)?,
-        status: status_of(ends),
+        status: if are_posted(ends) { 0 } else { 3 },
     })
 }
 
