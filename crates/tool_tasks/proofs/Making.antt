@@ -1,5 +1,5 @@
 -- Runs that make files: what was done of them when they were stopped.
-use Rattle.std.proofs.Common.{◌≡◌, ◌∙◌, ◌⊎◌, ◌++◌, ◌∷◌, ◌<◌, ◌+◌, [], Bor, ℕ, List, None, Option, Some}
+use Rattle.std.proofs.Common.{◌≡◌, ◌∙◌, ◌⊎◌, ◌++◌, ◌∷◌, ◌<◌, ◌+◌, [], Bool, Bor, false, true, ℕ, List, None, Option, Some}
 use Rattle.std.proofs.Common.{append-nil, append_assoc, ap, arith, get_or, if◌then◌else◌, inl, inr}
 use Rattle.std.proofs.Common.{length, map, refl, subst, suc, sym, take}
 use Rattle.std.proofs.lemmas.List.{map-append, take_more}
@@ -304,3 +304,13 @@ halted_after request texts names old mid new why all h = record {
           ∙ ap (λ ls. all.loads ++ ls) (none_left h.loads h.started.later right.0)
           ∙ append-nil all.loads)) (right.1 all.loads all.named all.bytes));
     }
+
+-- ---- statuses
+pub sort_status : (request : SortRequest) (old new : Run) (status : ℕ)
+    → IsDoneMaking (Sorts request) old new status
+    → (status ≡ 0) ⊎ ((status ≡ 1) ⊎ (status ≡ 3))
+sort_status request old new status done = by (are_posted done.right.ends) done.right.success
+  where
+    by : (b : Bool) → status ≡ (if b then 0 else 3) → (status ≡ 0) ⊎ ((status ≡ 1) ⊎ (status ≡ 3))
+    by true is = inl is
+    by false is = inr (inr is)

@@ -1,5 +1,5 @@
 //! `sort --merge`, of files that are in canonical order already.
-ghost use Rattle.std.specs.Prelude.{◌≡◌, ◌++◌, [], ℕ, List, IfErr, IfOk, IfSome, Option, Some, codes, map};
+ghost use Rattle.std.specs.Prelude.{◌≡◌, ◌≤◌, ◌++◌, [], ℕ, List, IfErr, IfOk, IfSome, Option, Some, codes, map};
 ghost use Rattle.frame.specs.Making.{EndsMaking, IsDoneMaking, IsHaltedMaking};
 ghost use Rattle.tap_views.specs.declared.upload_end.UploadEnd.TheVariants.{Posted as APosted};
 ghost use Rattle.sorted_taps.specs.Checked.{IsMergeFault};
@@ -169,7 +169,8 @@ pub fn merge_sorted_over<D: PlacedFiles, W: World>(
     disk: &D,
     world: &mut W,
 ) -> u8
-    ensures { EndsMaking (MergesOrRefuses (sorting_of words.now)
+    ensures status { result ≤ 1 }
+    ensures ends { EndsMaking (MergesOrRefuses (sorting_of words.now)
         (map (D.bytes_under disk.now) (sorting_of words.now).uploads))
         (names_of (sorting_of words.now)) (W.run world.old) (W.run world.new) result }
 {

@@ -1,5 +1,6 @@
 //! `sort` of uploads that are loaded.
-ghost use Rattle.std.specs.Prelude.{◌≡◌, ◌++◌, ◌∷◌, [], ℕ, List, IfErr, IfOk, OnOk, Some};
+ghost use Rattle.std.specs.Prelude.{◌≡◌, ◌⊎◌, ◌++◌, ◌∷◌, [], ℕ, List, IfErr, IfOk};
+ghost use Rattle.std.specs.Prelude.{OnOk, Some};
 ghost use Rattle.std.specs.Prelude.{if◌then◌else◌, map, option_map, string_bytes};
 ghost use Rattle.frame.specs.Making.{EndsMaking, IsDoneMaking, IsHaltedMaking, did_making};
 ghost use Rattle.report_texts.specs.Report.{upload_lines};
@@ -271,13 +272,15 @@ pub(crate) fn fault_of<'a>(why: Stop, words: &SortingWords<'a>) -> Fault<'a> {
 /// Makes the file of the valid taps of the uploads that the words name, `-` being standard input,
 /// in canonical order, and before it that of the upload ends, if it has a name. The status is 0, or
 /// 3 if an upload has a layout fault, or 1 after a fault. Each fault is reported.
+#[tactic(auto, using(crate::proofs::Making::sort_status))]
 pub fn sort_over<R: Threads + Sync, W: World + Counted>(
     threads: &R,
     alloc: Global,
     words: &SortingWords<'_>,
     world: &mut W,
 ) -> u8
-    ensures { EndsMaking (Sorts (sorting_of words.now)) (names_of (sorting_of words.now))
+    ensures status { (result ≡ 0) ⊎ ((result ≡ 1) ⊎ (result ≡ 3)) }
+    ensures ends { EndsMaking (Sorts (sorting_of words.now)) (names_of (sorting_of words.now))
         (W.run world.old) (W.run world.new) result }
 {
     match sort(threads, alloc, words, world) {
