@@ -6,7 +6,7 @@ pub mod Encoded
 pub mod EncodedRows
 pub mod Faults
 pub mod FilesMade
-mod Making
+pub mod Making
 pub mod MergedUploads
 pub mod Opened
 pub mod Sorting
