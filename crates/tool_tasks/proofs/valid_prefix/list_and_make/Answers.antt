@@ -26,8 +26,8 @@ returns-in-Err-flush-clause-halted g c =
     c.of-in-Err-flush.result.why c.of-in-Err-flush.ensures c.in-Ok.ensures.whole
     c.in-Ok-make.ensures.made c.in-Err-flush.ensures.cut
 
-pub returns-clause-done : goal.returns-clause-done
-returns-clause-done g c =
+pub returns-in-Ok-flush-clause-done : goal.returns-in-Ok-flush-clause-done
+returns-in-Ok-flush-clause-done g c =
     all_made c.args.text.now c.args.text.now
     (record { name = c.args.words.now.out.now; bytes = c.args.bytes.now })
     (g.W.Inputs.run c.args.world.now) (g.W.Inputs.run c.write.new.self)

@@ -27,8 +27,8 @@ returns-in-Err-finish-clause-halted g c =
     (g.W.Inputs.run c.finish.new.self) c.unfinished.ensures c.in-Ok.ensures.unchanged
     c.in-Err-finish.ensures.unmade
 
-pub returns-clause-halted : goal.returns-clause-halted
-returns-clause-halted g c =
+pub returns-in-Err-write_bytes-clause-halted : goal.returns-in-Err-write_bytes-clause-halted
+returns-in-Err-write_bytes-clause-halted g c =
     unmade_at c.args.words.now.upload.now c.args.words.now.out.now
     c.unfinished-in-Err-write_bytes.result.why c.fail.result (g.W.Inputs.run c.args.world.now)
     (g.W.Inputs.run c.begin.new.self) (g.W.Inputs.run c.fail.new.self)
