@@ -1,6 +1,6 @@
 -- Why a subcommand is given up, and the line that says so, without its line feed.
-use Rattle.std.specs.Prelude.{◌≡◌, ⊤, ℕ, Bool, true, false, List, [], ◌++◌, Option, None, Some}
-use Rattle.std.specs.Prelude.{MatchBool, codes, decimal, if◌then◌else◌}
+use Rattle.std.specs.Prelude.{◌≡◌, ⊤, ℕ, Bool, true, false, List, ◌++◌, Option, None, Some}
+use Rattle.std.specs.Prelude.{MatchBool, codes, decimal}
 use Rattle.report_texts.specs.declared.wrong.Wrong.{Wrong}
 use Rattle.report_texts.specs.declared.wrong.Wrong.TheVariants as wrong
 use Rattle.program_manners.specs.LineWritten.{LineWritten}
@@ -70,10 +70,6 @@ fault_text NoMemory = codes "fault: out of memory"
 abbrev pub is_quiet : Fault → Bool
 is_quiet Closed = true
 is_quiet _ = false
-
--- the line of the fault as it is reported, with its line feed
-abbrev pub fault_line : Fault → List ℕ
-fault_line fault = if is_quiet fault then [] else fault_text fault ++ codes "\n"
 
 -- The line of the fault was reported, unless a write of it failed. If who reads the text has closed
 -- it, nothing was reported.
