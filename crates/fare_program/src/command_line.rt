@@ -3,7 +3,7 @@ ghost use Rattle.std.specs.Prelude.{◌≡◌, ◌≤◌, ◌^◌, ◌<◌, ℕ,
 ghost use Rattle.clap.specs.Words.{FailsBy, app_of, fault_of, found_of, matches_of, rows_of};
 ghost use Rattle.clap.specs.Words.{with_rule};
 ghost use Rattle.fare_program.specs.Options.{explain_flag, file_argument, json_flag, ledger_flag};
-ghost use Rattle.fare_program.specs.Options.{traced_flag};
+ghost use Rattle.fare_program.specs.Options.{form_of, traced_flag};
 ghost use Rattle.fare_program.specs.Options.{request_by, is_given, number_of, program, tokens_option};
 ghost use Rattle.fare_program.specs.inside.Options.{request_of};
 ghost use Rattle.fare_program.specs.inside.Options.{HasNumber};
@@ -11,6 +11,7 @@ ghost use Rattle.program_manners.specs.Words.{list_option, null_flag};
 
 use crate::options::Options;
 use clap::{ArgAction, ArgMatches, Command, Error};
+use fare_texts::Form;
 use program_manners::{
     TableWords, add_list_args, flag_arg, names_in, new_command, number_arg, option_arg,
     positional_arg, repeated_arg,
@@ -190,6 +191,19 @@ fn number_in<'a>(matches: &ArgMatches<'a>, name: &str) -> u32
 }
 
 impl<'a> Options<'a> {
+    /// The form in which the statement is explained, if it is.
+    pub(crate) fn form(&self) -> Option<Form>
+        ensures { result ≡ form_of (request_of self.now) }
+    {
+        if !self.explain {
+            return None;
+        }
+        if self.json {
+            return Some(Form::Json);
+        }
+        Some(Form::Text)
+    }
+
     /// What the words ask for; else clap's error, which may be a call for help.
     pub(crate) fn read(alloc: Global, words: &'a [String]) -> Result<Options<'a>, Error>
         ensures request { IfOk result

@@ -1,9 +1,6 @@
 //! What a command line asks for.
-ghost use Rattle.std.specs.Prelude.{◌≤◌, ◌≡◌};
-ghost use Rattle.fare_program.specs.Options.{form_of};
-ghost use Rattle.fare_program.specs.inside.Options.{request_of};
+ghost use Rattle.std.specs.Prelude.{◌≤◌};
 
-use fare_texts::Form;
 use program_manners::TableWords;
 
 /// What the words ask for.
@@ -41,19 +38,4 @@ pub(crate) struct Options<'a> {
     ghost few_workers: { workers ≤ 16 },
     ghost some_shard: { 1 ≤ shards },
     ghost few_shards: { shards ≤ 64 },
-}
-
-impl<'a> Options<'a> {
-    /// The form in which the statement is explained, if it is.
-    pub(crate) fn form(&self) -> Option<Form>
-        ensures { result ≡ form_of (request_of self.now) }
-    {
-        if !self.explain {
-            return None;
-        }
-        if self.json {
-            return Some(Form::Json);
-        }
-        Some(Form::Text)
-    }
 }

@@ -123,10 +123,6 @@ read_named s name bytes read =
     subst (λ (n : Option Text). HasRead s n bytes) (sym (ap (λ (x : Load). x.name) read.reading))
     read
 
-pub nothing_after : (xs ys : List ℕ) → xs ++ ys ≡ [] → ys ≡ []
-nothing_after [] ys none = none
-nothing_after (x ∷ xs) ys none = absurd cc
-
 -- a read of the ledger that was refused
 pub refused_stream : (before : Run) (ledger : Calls) (name : Option Text)
     (cut : Option WriteFault) (why : LoadFault) → why ≢ load.TooLong → ledger.reading.name ≡ name

@@ -1,5 +1,5 @@
 -- The fault lines, without their newlines, and the cause of each fault.
-use Rattle.std.specs.Prelude.{◌++◌, ℕ, List, codes, None}
+use Rattle.std.specs.Prelude.{◌++◌, ℕ, List, Bool, true, false, codes, if◌then◌else◌, None}
 use Rattle.frame.specs.Failing.{Cause, no_memory, unread, unwritten, wrong}
 use Rattle.program_manners.specs.Lines.{follow_text, load_text, named_class_text, named_table_text}
 use Rattle.program_manners.specs.Lines.{table_text}
@@ -43,7 +43,12 @@ cause_of request Write = unwritten write.Refused
 cause_of request Closed = unwritten write.Closed
 cause_of request NoMemory = no_memory
 
--- The run that reports the fault. If who reads the text has closed it, nothing is reported.
+-- whether who reads the text has closed it, so that nothing is reported
+abbrev pub is_quiet : Fault → Bool
+is_quiet Closed = true
+is_quiet _ = false
+
+-- the run that reports the fault
 abbrev pub reported : Fault → Run → Run
-reported Closed run = run
-reported fault run = with_said run (audit_fault_text fault ++ codes "\n")
+reported fault run =
+    if is_quiet fault then run else with_said run (audit_fault_text fault ++ codes "\n")

@@ -1,6 +1,6 @@
 //! Why the program fails, with the line that says so.
 ghost use Rattle.std.specs.Prelude.{◌≡◌, Some};
-ghost use Rattle.omny_audit.specs.Fault.{audit_fault_text};
+ghost use Rattle.omny_audit.specs.Fault.{audit_fault_text, is_quiet};
 ghost use Rattle.omny_audit.specs.inside.Fault.{IsWriteFault, unloaded_as, unread_as};
 
 use fare_table::TableFault;
@@ -77,6 +77,13 @@ impl<'a> Fault<'a> {
             TablesFault::NamedTable(line) => Fault::NamedTable(line),
             TablesFault::Follow(line) => Fault::Follow(line),
         }
+    }
+
+    /// Whether the reader of the text is gone, so that nothing is reported.
+    pub(crate) fn is_quiet(&self) -> bool
+        ensures { result ≡ is_quiet self.now }
+    {
+        matches!(self, Fault::Closed)
     }
 }
 

@@ -1,5 +1,5 @@
 //! The whole program.
-ghost use Rattle.std.specs.Prelude.{◌≡◌, ◌≢◌, ◌≤◌, ◌⊎◌, ◌++◌, ◌∷◌, [], List, ℕ, IfErr, IfOk};
+ghost use Rattle.std.specs.Prelude.{◌≡◌, ◌≢◌, ◌≤◌, ◌⊎◌, ◌++◌, ◌∷◌, [], List, ℕ, IfErr, IfOk, IfSome};
 ghost use Rattle.std.specs.Prelude.{Contains, None, OnOk, Option, Some, false, if◌then◌else◌, is_some};
 ghost use Rattle.std.specs.Prelude.{codes, length, map, option_map, string_bytes, true};
 ghost use Rattle.clap.specs.Words.{kind_of};
@@ -327,7 +327,7 @@ fn report_fault<W: World>(alloc: Global, fault: &Fault<'_>, world: &mut W) -> u8
     ensures status { result ≡ 1 }
     ensures reported { IsReported fault.now (W.run world.old) (W.run world.new) }
 {
-    if let Fault::Closed = fault {
+    if fault.is_quiet() {
         return 1;
     }
     match line_of(alloc, fault) {

@@ -1,5 +1,5 @@
 -- Texts of batches, and one more.
-use Rattle.std.proofs.Common.{ℕ, ◌+◌, List, [], ◌∷◌, ◌++◌}
+use Rattle.std.proofs.Common.{ℕ, List, [], ◌∷◌, ◌++◌}
 use Rattle.std.specs.List.{AllZip}
 use Rattle.tap_views.specs.Encoding.{Encodes}
 use Rattle.tap_views.specs.declared.encoder.TapFields.{TapFields}

@@ -89,7 +89,7 @@ returns-in-Err-read_head g c =
             (did_by c.args.files.now.loads c.load_report.new.files.loads
             c.read_head.new.ledger.trace run run)
             (c.read_head.ensures.name
-            ∙ ap (λ (x : Load). x.name) c.in-Ok-open_ledger.ensures.opened.reading)
+            ∙ ap (λ (x : Load). x.name) c.in_default-open_ledger.ensures.opened.reading)
             c.in-Err-read_head.fault (c.in-Err-read_head.ensures.fault run.cut);
         started = started_none _ _;
       },
@@ -120,7 +120,7 @@ trace_of-requires-clause-positions g c =
 
 pub read_head-requires : goal.read_head-requires
 read_head-requires g c =
-    read_named c.open_ledger.new.ledger _ [] c.in-Ok-open_ledger.ensures.opened
+    read_named c.open_ledger.new.ledger _ [] c.in_default-open_ledger.ensures.opened
 
 pub audit_over-requires-clause-audited : goal.audit_over-requires-clause-audited
 audit_over-requires-clause-audited g c =
@@ -182,7 +182,7 @@ returns g c =
       ends = ends;
       are_ends = loaded.4.ends;
       reads_ledger = goes.name ∙ ap (λ (x : Load). x.name) c.in-Ok-read_head.ensures.read.reading
-          ∙ ap (λ (x : Load). x.name) c.in-Ok-open_ledger.ensures.opened.reading;
+          ∙ ap (λ (x : Load). x.name) c.in_default-open_ledger.ensures.opened.reading;
       traced = has_traced_head head;
       is_traced = headed c.read_head.new.ledger c.audit_over.new.ledger _ head
           c.in-Ok-read_head.ensures.read c.in-Ok-read_head.ensures.enough goes;
@@ -205,4 +205,12 @@ returns g c =
     (subst (λ (x : Given). EndsAs x did.ledger did.old did.new c.audit_over.result)
     (given_is _ options.all (compared request.uploads loaded.1) (compared request.uploads ends)
     c.new.ensures.all valid known)
-    (c.audit_over.ensures.ends loaded.1 (audit_over-requires-clause-audited g c).1))
+    (c.audit_over.ensures.ends loaded.1 (record {
+      text = [];
+      as_text = c.in-Ok-trace_of.ensures.read;
+      taken = record {
+        clock = c.in-Ok-clock.ensures.zone;
+        checked = c.new.ensures.checked tables.fares _ loaded.1 loaded.4.balance;
+        summed = c.in-Ok-load_report.ensures.sums tables.fares;
+      };
+    })))
