@@ -32,7 +32,8 @@ byte order mark or none. A token may be a UUID, too, and a moment may have an of
 many are taps, left out and refused, and the first and the last moment. The head is row 1.
 
 With --columns a plain number is a moment in milliseconds. Moments before 2000 are refused, since
-they may be seconds: --unit s reads plain numbers as seconds, --unit ms as milliseconds of any year.
+they may be seconds: --unit s reads plain numbers as seconds, --unit ms as milliseconds of any year,
+--unit us as microseconds. A number may have a fraction, and a time has any number of its digits.
 
 With --validators the column of validators has the names of devices. DEVICES is CSV with the head
 device,validator and a row for each device, which gives it its number. A row of another device is no
@@ -43,29 +44,37 @@ const ENCODE_HELP: &str = "The tap table; - stands for standard input [default: 
 const COLUMNS_HELP: &str =
     "Read any CSV: token=NAME,validator=NAME,moment=NAME are the columns with these names in the head";
 
+const FROM_HELP: &str = "In place of --columns, for a published export: littlepay or tides";
+
 const ONLY_HELP: &str =
-    "Keep only the rows with this value in this column; of several, each must be met";
+    "Keep only the rows with this value in this column; of several for one column, one is enough";
+
+const DROP_HELP: &str = "Leave out the rows with this value in this column";
+
+const COUNT_HELP: &str = "Refuse a row unless it has 1 in this column, of how many riders it is";
+
+const HASH_HELP: &str = "The token is the first half of the SHA-256 of its field, which is any text";
 
 const VALIDATORS_HELP: &str =
     "Take the validators by the names of their devices in the file DEVICES";
 
-const SEPARATOR_HELP: &str = "What stands between two fields: , or ; or tab [default: ,]";
+const SEPARATOR_HELP: &str = "The byte between two fields, or tab [default: ,]";
 
 const UNIT_HELP: &str =
-    "Plain numbers are seconds (s) or milliseconds (ms), also before 2000 [default: ms, from 2000 on]";
+    "Plain numbers are of s, ms or us (microseconds), also before 2000 [default: ms, from 2000 on]";
 
 const REFUSED_HELP: &str =
     "Make the file OUT of the rows that are no taps, with their numbers and reasons, and go on; it must
 not be there";
 
-/// `encode [--columns NAMES [--validators DEVICES] [--only COLUMN=VALUE]... [--separator S] [--unit
-/// UNIT] [--refused OUT]] [FILE]`
+/// `encode [--columns NAMES | --from EXPORT [OPTION...]] [FILE]`
 pub(crate) fn encode_command<'a>(alloc: Global, is_whole: bool) -> Result<Command<'a>, AllocError>
     ensures { is_whole ≡ false → IfOk result
         (λ command. app_of command ≡ leaf (codes "encode") encode_rules) }
 {
     let rows = [
         Row::One(Takes::Value("columns", "NAMES", COLUMNS_HELP), Need::Never),
+        Row::One(Takes::Value("from", "EXPORT", FROM_HELP), Need::Never),
         Row::One(
             Takes::Value("validators", "DEVICES", VALIDATORS_HELP),
             Need::Never,
@@ -74,6 +83,12 @@ pub(crate) fn encode_command<'a>(alloc: Global, is_whole: bool) -> Result<Comman
             Takes::Values("only", "COLUMN=VALUE", ONLY_HELP),
             Need::Never,
         ),
+        Row::One(
+            Takes::Values("drop", "COLUMN=VALUE", DROP_HELP),
+            Need::Never,
+        ),
+        Row::One(Takes::Value("count", "COLUMN", COUNT_HELP), Need::Never),
+        Row::One(Takes::Flag("token-hash", HASH_HELP), Need::Never),
         Row::One(
             Takes::Value("separator", "SEPARATOR", SEPARATOR_HELP),
             Need::Never,
