@@ -66,7 +66,7 @@ after_by word text None none = after_is_none word text none
 after_by word text (Some rest) is = after_is word text rest.now is
 
 -- ---- numbers
-own : IsNumeralModel (λ ds. all_ascii_digits ds ≡ true) (digits_value 10)
+pub own : IsNumeralModel (λ ds. all_ascii_digits ds ≡ true) (digits_value 10)
 own = numerals_by_value _ tells_all_ascii_digits
 
 number_if_some : (b : Bool) (v n : ℕ) → number_if b v ≡ Some n → (b ≡ true) × (v ≡ n)
@@ -125,7 +125,7 @@ number_narrow digits =
     (λ low. let small : v < 2 ^ 64 = grind (arith, nat_tests) in grind (arith, nat_tests))
 
 -- ---- digits at the front
-decimal_digits : (n : ℕ) → n < 10 ^ 64 → all_ascii_digits (decimal n) ≡ true
+pub decimal_digits : (n : ℕ) → n < 10 ^ 64 → all_ascii_digits (decimal n) ≡ true
 decimal_digits n small = own.from (decimal n) (decimal_is_IsNumeral_wide n small).0.1
 
 -- digits, up to a byte that is none, are determined by the text

@@ -1,16 +1,35 @@
 //! Numbers, written as they are: without a sign, and without zeros in front.
 
-ghost use Rattle.std.specs.Prelude.{◌≡◌, ◌<◌, ◌≤◌, ◌^◌, ℕ, length, MatchOption};
+ghost use Rattle.std.specs.Prelude.{◌≡◌, ◌<◌, ◌≤◌, ◌^◌, ℕ, false, length, MatchOption};
 ghost use Rattle.std.specs.Fmt.{decimal};
+ghost use Rattle.std.specs.Str.{all_ascii_digits};
 ghost use Rattle.line_forms.specs.FormLaws.{number_law, wide_32, wide_64};
 ghost use Rattle.line_forms.specs.Numbers.{BeginsWithNoDigit, IsNumber, digits_in, number_at};
 ghost use Rattle.line_forms.specs.Numbers.{number_in};
-ghost use Rattle.line_forms.specs.inside.Narrow.{below};
+ghost use Rattle.line_forms.specs.inside.Narrow.{IsValueOf, below};
 
 use crate::form::FormOf;
 use itoa::Buffer;
 
-fn parsed(digits: &[u8]) -> Option<u64>
+/// So many digits write less than 2^64.
+const FEW_DIGITS: usize = 19;
+
+/// The value of so few digits, or `None` if one of these bytes is no digit.
+fn value_of(digits: &[u8]) -> Option<u64>
+    requires { length digits.now ≤ 19 }
+    ensures { MatchOption result (all_ascii_digits digits.now ≡ false) (IsValueOf digits.now) }
+{
+    let mut number: u64 = 0;
+    for byte in digits {
+        if !byte.is_ascii_digit() {
+            return None;
+        }
+        number = number * 10 + u64::from(*byte - b'0');
+    }
+    Some(number)
+}
+
+fn parsed_wide(digits: &[u8]) -> Option<u64>
     ensures { MatchOption result
         ((number : ℕ) → number < 2 ^ 64 → ¬ (digits.now ≡ decimal number))
         (λ number. IsNumber (2 ^ 64) number digits.now) }
@@ -25,6 +44,18 @@ fn parsed(digits: &[u8]) -> Option<u64>
     } else {
         None
     }
+}
+
+/// Most numbers have few digits, and are not written again to be compared.
+fn parsed(digits: &[u8]) -> Option<u64>
+    ensures { MatchOption result
+        ((number : ℕ) → number < 2 ^ 64 → ¬ (digits.now ≡ decimal number))
+        (λ number. IsNumber (2 ^ 64) number digits.now) }
+{
+    if digits.is_empty() || digits.len() > FEW_DIGITS || (digits[0] == b'0' && digits.len() > 1) {
+        return parsed_wide(digits);
+    }
+    value_of(digits)
 }
 
 /// The number of at most 64 bits that the digits write, if it is written so.

@@ -5,10 +5,11 @@ use crate::progress::Progress;
 use frame::Streams;
 use program_manners::{Opened, open_file};
 use std::fmt::Display;
+use std::fs::File;
 use std::io;
 use std::io::{BufReader, Write};
 use world::{
-    Fault, Inputs, LoadFault, Loaded, MakeFault, Staged, System, Trace, World, WriteFault,
+    Fault, Inputs, LoadFault, Loaded, MakeFault, NewFile, System, Trace, World, WriteFault,
 };
 
 const READ_BYTES: usize = 65_536;
@@ -83,6 +84,8 @@ impl<W, E> Streams for Framed<'_, W, E> {
 }
 
 impl<W: Write, E: Write> World for Framed<'_, W, E> {
+    type File = NewFile<File>;
+
     fn write(&mut self, piece: &[u8]) -> Result<(), WriteFault> {
         match self.system.write(piece) {
             Ok(()) => {
@@ -117,11 +120,19 @@ impl<W: Write, E: Write> World for Framed<'_, W, E> {
         self.system.report_line(line)
     }
 
-    fn stage(&mut self, name: &str, started: &str, bytes: &[u8]) -> Result<Staged, MakeFault> {
-        self.system.stage(name, started, bytes)
+    fn begin(&mut self, name: &str, is_new: bool) -> Result<NewFile<File>, MakeFault> {
+        self.system.begin(name, is_new)
     }
 
-    fn publish(&mut self, file: Staged) -> Result<(), MakeFault> {
-        self.system.publish(file)
+    fn finish(&mut self, name: &str, file: NewFile<File>) -> Result<(), MakeFault> {
+        self.system.finish(name, file)
+    }
+
+    fn fail(&mut self, name: &str, file: NewFile<File>) -> MakeFault {
+        self.system.fail(name, file)
+    }
+
+    fn discard(&mut self, file: NewFile<File>) {
+        self.system.discard(file);
     }
 }

@@ -5,6 +5,7 @@ use std::fs;
 use std::io::IsTerminal;
 use std::os::unix::fs::MetadataExt;
 use tool_words::{SortingWords, Task, read};
+use world::folder_of;
 
 /// An upload is not written to a terminal.
 const TO_TERMINAL: &str =
@@ -12,14 +13,6 @@ const TO_TERMINAL: &str =
 
 /// The ends are not made in place of the taps, or of an upload that is read.
 const ENDS_IN_PLACE: &str = "error: --ends names OUT or an upload";
-
-pub(crate) fn folder_of(name: &str) -> &str {
-    match name.rsplit_once('/') {
-        None => ".",
-        Some((folder, _)) if folder.is_empty() => "/",
-        Some((folder, _)) => folder,
-    }
-}
 
 fn name_in_folder(name: &str) -> &str {
     match name.rsplit_once('/') {

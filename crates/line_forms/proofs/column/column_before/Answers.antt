@@ -1,4 +1,4 @@
-use Rattle.std.proofs.Common.{◌≡◌, ◌≤◌, ℕ, Bool, true, false, cond, ltb, length, Some, None}
+use Rattle.std.proofs.Common.{◌≡◌, cond, ltb, length, Some, None}
 use Rattle.std.proofs.Common.{refl, sym, ◌∙◌, arith, rules, tests}
 use Rattle.std.proofs.lemmas.Iterator.{YieldsList-from_slice}
 use Rattle.std.proofs.lemmas.Iterator.Search.{position_from_yields_List}

@@ -1,0 +1,316 @@
+-- The numbers that are kept follow the states, ride by ride.
+use Rattle.std.proofs.Common.{◌≡◌, ℕ, suc, ◌+◌, ◌-◌, ◌<◌, ◌≤◌, Bool, true, false, cond, List, []}
+use Rattle.std.proofs.Common.{◌∷◌, length, map, min, take, nat_lt, is_some, Option, Some, None}
+use Rattle.std.proofs.Common.{option_map, refl, sym, ap, ◌∙◌, inl, inr, arith, IfSome}
+use Rattle.std.proofs.lemmas.Bool.{cases_Bool}
+use Rattle.std.proofs.lemmas.List.{length-map}
+use Rattle.tariffs.specs.Fares.{Fares}
+use Rattle.tariffs.specs.Terms.{AreBoundedTerms}
+use Rattle.tariffs.specs.declared.mode.Mode.{Mode}
+use Rattle.tariffs.specs.declared.terms.Terms.{Terms}
+use Rattle.account_rule.specs.TokenRules.{rules_of, token_class}
+use Rattle.account_rule.specs.Taps.{LiveTap, live_at}
+use Rattle.account_rule.specs.Windows.{charge, is_paid}
+use Rattle.account_rule.proofs.LimitLemmas.{charge-min}
+use Rattle.fare_caps.specs.CapMeanings.{cap_rules, capped_rules_of, said_of, terms_at}
+use Rattle.fare_caps.specs.CapStates.{CapStates, after_ride, at_ride, charge_at, no_rides}
+use Rattle.fare_caps.specs.CapStates.{ride_charge, with_charge}
+use Rattle.fare_caps.specs.Caps.{CapRules, CappedRules, counted, each_window, left, no_window}
+use Rattle.fare_caps.specs.Caps.{opened, opened_until, window_cap}
+use Rattle.fare_caps.specs.Charges.{cap_cents, cap_paid, least_from, lesser, lowered}
+use Rattle.fare_caps.specs.Represents.{HasRoom, IsFurther, cap_windows}
+use Rattle.fare_caps.specs.declared.cap.Cap.{Cap}
+use Rattle.fare_caps.specs.declared.cap.RideCap.{RideCap}
+use Rattle.fare_caps.specs.declared.cap_charge.CapCharge.{CapCharge}
+use Rattle.fare_caps.specs.declared.cap_charge.CapLeft.{CapLeft}
+use Rattle.fare_caps.specs.declared.cap_window.CapWindow.{CapWindow}
+use Rattle.fare_caps.specs.declared.further.Further.{Further}
+use Rattle.fare_caps.specs.declared.further.RideCaps.{RideCaps}
+use Rattle.fare_caps.specs.inside.Further.{charge_of, counted_all, counted_by, least_of, left_by}
+use Rattle.fare_caps.specs.inside.Further.{opened_all, opened_by, said_at, said_by}
+use Rattle.fare_caps.proofs.LoweredLemmas.{IsAtMost, charge-few, charge-within, lesser-here}
+use Rattle.fare_caps.proofs.LoweredLemmas.{lesser-keeps, lesser-none, lowered-le, lowered-paid}
+use Rattle.fare_caps.proofs.LoweredLemmas.{most-le, paid-below}
+
+-- what the caps of a table say of a ride of a token
+abbrev pub said_to : Fares → List ℕ → List Cap → ℕ → Mode → RideCaps
+said_to fares token caps moment mode =
+    said_by caps moment mode.position (token_class fares token moment)
+
+-- ---- each of at most three caps
+
+-- a change of a window by what a cap says of the ride is one by the cap's rules
+abbrev Alike : Fares → List ℕ → ℕ → Mode → (CapRules → CapWindow → CapWindow)
+    → (Option RideCap → CapWindow → CapWindow) → Type 0
+Alike fares token moment mode change by =
+    (cap : Cap) (window : CapWindow)
+    → by (Some (said_of (terms_at cap moment) mode.position (token_class fares token moment))) window
+    ≡ change (cap_rules fares token cap) window
+
+three : (fares : Fares) (token : List ℕ) (moment : ℕ) (mode : Mode)
+    (change : CapRules → CapWindow → CapWindow) (by : Option RideCap → CapWindow → CapWindow)
+    (caps : List Cap) (a b c : CapWindow) → length caps ≤ 3
+    → Alike fares token moment mode change by
+    → take (length caps) (by (said_to fares token caps moment mode).first a
+    ∷ by (said_to fares token caps moment mode).second b
+    ∷ by (said_to fares token caps moment mode).third c ∷ [])
+    ≡ each_window change (map (cap_rules fares token) caps)
+    (take (length caps) (a ∷ b ∷ c ∷ []))
+unfolding each_window
+three fares token moment mode change by [] a b c few alike = refl
+three fares token moment mode change by (x ∷ []) a b c few alike =
+    λ i. alike x a i ∷ []
+three fares token moment mode change by (x ∷ y ∷ []) a b c few alike =
+    λ i. alike x a i ∷ alike y b i ∷ []
+three fares token moment mode change by (x ∷ y ∷ z ∷ []) a b c few alike =
+    λ i. alike x a i ∷ alike y b i ∷ alike z c i ∷ []
+three fares token moment mode change by (x ∷ y ∷ z ∷ u ∷ more) a b c few alike =
+    absurd (omega (arith, few))
+
+left-alike : (fares : Fares) (token : List ℕ) (moment : ℕ) (mode : Mode) (cap : Cap)
+    (window : CapWindow)
+    → left_by (Some (said_of (terms_at cap moment) mode.position (token_class fares token moment)))
+    window
+    ≡ left (live_at moment mode) (cap_rules fares token cap) window
+unfolding left cap_rules live_at
+left-alike fares token moment mode cap window = refl
+
+least-three : (fares : Fares) (token : List ℕ) (moment : ℕ) (mode : Mode) (caps : List Cap)
+    (further : Further) → length caps ≤ 3
+    → least_of (said_to fares token caps moment mode) further
+    ≡ least_from 0 None (live_at moment mode) (map (cap_rules fares token) caps)
+    (take (length caps) (cap_windows further))
+unfolding least_of least_from
+least-three fares token moment mode [] further few = refl
+least-three fares token moment mode (x ∷ []) further few =
+    lesser-none _ 2 ∙ lesser-none _ 1
+    ∙ ap (lesser None 0) (left-alike fares token moment mode x further.first)
+least-three fares token moment mode (x ∷ y ∷ []) further few =
+    lesser-none _ 2
+    ∙ (λ i. lesser (lesser None 0 (left-alike fares token moment mode x further.first i)) 1
+    (left-alike fares token moment mode y further.second i))
+least-three fares token moment mode (x ∷ y ∷ z ∷ []) further few =
+    λ i. lesser (lesser (lesser None 0
+    (left-alike fares token moment mode x further.first i)) 1
+    (left-alike fares token moment mode y further.second i)) 2
+    (left-alike fares token moment mode z further.third i)
+least-three fares token moment mode (x ∷ y ∷ z ∷ u ∷ more) further few = absurd (omega (arith, few))
+
+-- ---- windows that are opened
+opened-alike : (fares : Fares) (token : List ℕ) (moment : ℕ) (mode : Mode)
+    → Alike fares token moment mode (opened (live_at moment mode)) (opened_by fares.zone moment)
+unfolding opened cap_rules live_at
+opened-alike fares token moment mode = λ cap window. refl
+
+room-until : (moment until : ℕ) (window : CapWindow) → window.cents ≤ 100_000_000
+    → (opened_until moment until window).cents ≤ 100_000_000
+unfolding opened_until
+room-until moment until window low = elim (nat_lt moment window.until) as (λ v.
+    (cond v window (record { start = moment; until = until; cents = 0 })).cents ≤ 100_000_000)
+    [ true ↦ low | false ↦ omega arith ]
+
+room-opened : (fares : Fares) (moment : ℕ) (cap : Option RideCap) (window : CapWindow)
+    → window.cents ≤ 100_000_000 → (opened_by fares.zone moment cap window).cents ≤ 100_000_000
+room-opened fares moment None window low = low
+room-opened fares moment (Some cap) window low = room-until moment _ window low
+
+pub room-all : (fares : Fares) (moment until : ℕ) (caps : RideCaps) (further : Further)
+    → HasRoom further → HasRoom (opened_all fares.zone moment until caps further)
+unfolding opened_all
+room-all fares moment until caps further room = record {
+  paid = elim (nat_lt moment further.window.until) as (λ v.
+      cond v further.paid 0 ≤ cond v further.rides 0)
+      [ true ↦ room.paid | false ↦ omega arith ];
+  rides = elim (nat_lt moment further.window.until) as (λ v. cond v further.rides 0 ≤ 60_000)
+      [ true ↦ room.rides | false ↦ omega arith ];
+  window = room-until moment until further.window room.window;
+  first = room-opened fares moment caps.first further.first room.first;
+  second = room-opened fares moment caps.second further.second room.second;
+  third = room-opened fares moment caps.third further.third room.third;
+}
+
+cond-min : (b : Bool) (kept rides : ℕ) → kept ≡ min rides 60_000
+    → cond b kept 0 ≡ min (cond b rides 0) 60_000
+cond-min true kept rides is = is
+cond-min false kept rides is = omega arith
+
+pub opens : (fares : Fares) (token : List ℕ) (caps : List Cap) (moment : ℕ) (mode : Mode)
+    (further : Further) (states : CapStates) → length caps ≤ 3
+    → IsFurther (length caps) further states
+    → IsFurther (length caps)
+    (opened_all fares.zone moment ((rules_of fares token).until moment)
+    (said_to fares token caps moment mode) further)
+    (at_ride (capped_rules_of fares caps token) (live_at moment mode) states)
+unfolding opened_all at_ride capped_rules_of opened window_cap live_at
+opens fares token caps moment mode further states few is = record {
+  rides = rw (← is.window) (cond-min (nat_lt moment further.window.until) _ _ is.rides);
+  paid = rw (← is.window, is.paid) refl;
+  window = rw is.window refl;
+  caps = three fares token moment mode (opened (live_at moment mode))
+      (opened_by fares.zone moment) caps further.first further.second further.third few
+      (opened-alike fares token moment mode)
+      ∙ ap (each_window (opened (live_at moment mode)) (map (cap_rules fares token) caps)) is.caps;
+  room = room-all fares moment _ _ further is.room;
+}
+
+-- ---- the charge
+pub charges : (fares : Fares) (token : List ℕ) (caps : List Cap) (moment : ℕ) (mode : Mode)
+    (further : Further) (states : CapStates) → length caps ≤ 3
+    → IsFurther (length caps) further states
+    → AreBoundedTerms ((rules_of fares token).terms (live_at moment mode))
+    → charge_of ((rules_of fares token).terms (live_at moment mode))
+    (said_to fares token caps moment mode) further
+    ≡ charge_at (capped_rules_of fares caps token) (live_at moment mode) states
+unfolding charge_of charge_at capped_rules_of
+charges fares token caps moment mode further states few is bounds =
+    rw (
+      least-three fares token moment mode caps further few,
+      is.caps,
+      is.rides,
+      is.window,
+      charge-min ((rules_of fares token).terms (live_at moment mode)) states.rides
+          states.window.cents bounds.rides_high,
+    ) refl
+
+-- ---- the ride is counted
+counted-alike : (fares : Fares) (token : List ℕ) (moment : ℕ) (mode : Mode) (cents : ℕ)
+    → Alike fares token moment mode (counted (live_at moment mode) cents) (counted_by cents)
+unfolding counted cap_rules live_at
+counted-alike fares token moment mode cents = λ cap window. refl
+
+-- the ceiling of the cap is within its bound, if there is one
+abbrev pub IsLow : Option RideCap → Type 0
+IsLow cap = IfSome cap (λ c. c.ceiling ≤ 100_000_000)
+
+-- what is left bounds what is paid
+abbrev Leaves : Option CapLeft → Option ℕ → Type 0
+Leaves least None = Unit {0}
+Leaves least (Some cents) = IsAtMost least cents
+
+room-counted : (least : Option CapLeft) (cents : ℕ) (cap : Option RideCap) (window : CapWindow)
+    → ((left : ℕ) → IsAtMost least left → cents ≤ left)
+    → IsLow cap → Leaves least (left_by cap window) → window.cents ≤ 100_000_000
+    → (counted_by cents cap window).cents ≤ 100_000_000
+room-counted least cents None window most low leaves room = room
+room-counted least cents (Some cap) window most low leaves room =
+    elim cap.counts as (λ v. Leaves least (cond v (Some (cap.ceiling - window.cents)) None)
+    → window.cents + cond v cents 0 ≤ 100_000_000) [
+      | true ↦ λ leaves. omega (arith, most (cap.ceiling - window.cents) leaves, low, room)
+      | false ↦ λ _. omega (arith, room)
+    ] leaves
+
+leaves-here : (least : Option CapLeft) (index : ℕ) (left : Option ℕ)
+    → Leaves (lesser least index left) left
+leaves-here least index None = tt
+leaves-here least index (Some cents) = lesser-here least index cents
+
+leaves-keeps : (least : Option CapLeft) (index : ℕ) (left other : Option ℕ) → Leaves least other
+    → Leaves (lesser least index left) other
+leaves-keeps least index left None leaves = tt
+leaves-keeps least index left (Some cents) leaves = lesser-keeps least index left cents leaves
+
+pub charge-room : (terms : Terms) (caps : RideCaps) (further : Further)
+    → AreBoundedTerms terms → HasRoom further
+    → IsLow caps.first → IsLow caps.second → IsLow caps.third
+    → HasRoom (counted_all (charge_of terms caps further) caps further)
+unfolding counted_all charge_of least_of
+charge-room terms caps further bounds room low low-2 low-3 =
+    let one = charge terms further.rides further.window.cents in
+    let first = left_by caps.first further.first in
+    let second = left_by caps.second further.second in
+    let third = left_by caps.third further.third in
+    let least = lesser (lesser (lesser None 0 first) 1 second) 2 third in
+    let cents = cap_cents (lowered least one) in
+    let most : (left : ℕ) → IsAtMost least left → cents ≤ left =
+    λ left at. most-le least left one at in
+    record {
+      paid = elim (cases_Bool (is_some (cap_paid (lowered least one)))) [
+        | inl paid ↦ rw paid (omega (
+          arith,
+          room.paid,
+          bounds.rides_high,
+          paid-below terms further.rides further.window.cents (lowered-paid least one paid),
+        ))
+        | inr free ↦ rw free (omega (arith, room.paid, room.rides))
+      ];
+      rides = omega arith;
+      window = omega (
+        arith,
+        lowered-le least one,
+        charge-within terms further.rides further.window.cents bounds room.window,
+      );
+      first = room-counted least cents caps.first further.first most low
+          (leaves-keeps _ 2 third first (leaves-keeps _ 1 second first (leaves-here None 0 first)))
+          room.first;
+      second = room-counted least cents caps.second further.second most low-2
+          (leaves-keeps _ 2 third second (leaves-here _ 1 second)) room.second;
+      third = room-counted least cents caps.third further.third most low-3
+          (leaves-here _ 2 third) room.third;
+    }
+
+pub charge-cents : (terms : Terms) (caps : RideCaps) (further : Further) → AreBoundedTerms terms
+    → cap_cents (charge_of terms caps further) ≤ 100_000
+unfolding charge_of
+charge-cents terms caps further bounds =
+    omega (
+      arith,
+      lowered-le (least_of caps further) (charge terms further.rides further.window.cents),
+      charge-few terms further.rides further.window.cents bounds,
+    )
+
+pub counts : (fares : Fares) (token : List ℕ) (caps : List Cap) (moment : ℕ) (mode : Mode)
+    (charge : CapCharge) (further : Further) (states : CapStates) → length caps ≤ 3
+    → IsFurther (length caps) further states
+    → HasRoom (counted_all charge (said_to fares token caps moment mode) further)
+    → IsFurther (length caps)
+    (counted_all charge (said_to fares token caps moment mode) further)
+    (with_charge (capped_rules_of fares caps token) (live_at moment mode) charge states)
+unfolding counted_all with_charge capped_rules_of counted window_cap
+counts fares token caps moment mode charge further states few is room = record {
+  rides = omega (arith, is.rides);
+  paid = rw is.paid refl;
+  window = rw is.window refl;
+  caps = three fares token moment mode (counted (live_at moment mode) (cap_cents charge))
+      (counted_by (cap_cents charge)) caps further.first further.second further.third few
+      (counted-alike fares token moment mode (cap_cents charge))
+      ∙ ap (each_window (counted (live_at moment mode) (cap_cents charge))
+      (map (cap_rules fares token) caps)) is.caps;
+  room = room;
+}
+
+-- ---- one ride
+pub record IsRide (fares : Fares) (token : List ℕ) (caps : List Cap) (moment : ℕ) (mode : Mode)
+    (states : CapStates) (charge : CapCharge) (after : Further) : Type 0 where
+  pub charge : charge
+      ≡ ride_charge (capped_rules_of fares caps token) states (live_at moment mode)
+  pub state : IsFurther (length caps) after
+      (after_ride (capped_rules_of fares caps token) states (live_at moment mode))
+
+pub rides : (fares : Fares) (token : List ℕ) (caps : List Cap) (moment : ℕ) (mode : Mode)
+    (further after : Further) (states : CapStates) (charge : CapCharge) → length caps ≤ 3
+    → IsFurther (length caps) further states
+    → AreBoundedTerms ((rules_of fares token).terms (live_at moment mode))
+    → IsLow (said_to fares token caps moment mode).first
+    → IsLow (said_to fares token caps moment mode).second
+    → IsLow (said_to fares token caps moment mode).third
+    → charge ≡ charge_of ((rules_of fares token).terms (live_at moment mode))
+    (said_to fares token caps moment mode)
+    (opened_all fares.zone moment ((rules_of fares token).until moment)
+    (said_to fares token caps moment mode) further)
+    → after ≡ counted_all charge (said_to fares token caps moment mode)
+    (opened_all fares.zone moment ((rules_of fares token).until moment)
+    (said_to fares token caps moment mode) further)
+    → IsRide fares token caps moment mode states charge after
+unfolding ride_charge after_ride
+rides fares token caps moment mode further after states charge few is bounds low low-2 low-3 costs
+    counted =
+    let said = said_to fares token caps moment mode in
+    let open = opened_all fares.zone moment ((rules_of fares token).until moment) said further in
+    let opened = opens fares token caps moment mode further states few is in
+    let same = charges fares token caps moment mode open _ few opened bounds in
+    let room = charge-room ((rules_of fares token).terms (live_at moment mode)) said open bounds
+    opened.room low low-2 low-3 in record {
+      charge = costs ∙ same;
+      state = rw (counted, ← same, costs)
+          (counts fares token caps moment mode _ open _ few opened room);
+    }

@@ -1,0 +1,75 @@
+-- The reason of each tap of a token under caps, and the reply, after the taps before it.
+use Rattle.std.specs.Prelude.{ℕ, List, [], ◌∷◌, ◌++◌, Option, Some, None, option_map}
+use Rattle.tariffs.specs.declared.mode.Mode.{Mode}
+use Rattle.account_rule.specs.declared.reason.Reason.{Reason}
+use Rattle.account_rule.specs.declared.reason.Reason.TheVariants as reason
+use Rattle.account_rule.specs.declared.reply.Answer.TheVariants as answer
+use Rattle.account_rule.specs.declared.reply.Reply.{Reply}
+use Rattle.account_rule.specs.declared.tap.TapIn.{TapIn}
+use Rattle.account_rule.specs.declared.window.WindowView.{WindowView}
+use Rattle.account_rule.specs.Reasons as rule
+use Rattle.account_rule.specs.Replies.{reply_with, ride_reply}
+use Rattle.account_rule.specs.Taps.{live_at}
+use Rattle.account_rule.specs.Windows.{last_window}
+use Rattle.fare_caps.specs.Caps.{CappedRules}
+use Rattle.fare_caps.specs.CapStates.{CapStates, ride_charge, states}
+use Rattle.fare_caps.specs.Charges.{cap_paid}
+use Rattle.fare_caps.specs.declared.cap_charge.CapCharge.TheVariants.{ByWindow}
+use Rattle.fare_caps.specs.declared.capped_reason.CappedReason.{CappedReason}
+use Rattle.fare_caps.specs.declared.capped_reason.CappedReason.TheVariants.{Ride, Stale, Transfer}
+use Rattle.fare_caps.specs.declared.capped_reason.CappedReason.TheVariants.{Unknown}
+
+-- a ride of this window on the mode (a ride has one)
+abbrev pub ride_on : CappedRules → CapStates → ℕ → ℕ → ℕ → Option Mode → CappedReason
+ride_on capped states start until moment None = Unknown
+ride_on capped states start until moment (Some mode) =
+    Ride start until (ride_charge capped states (live_at moment mode))
+
+-- The reason of a tap under caps, by the reason without them: caps change no transfer, no ride and
+-- no window, but what decides the cents of a ride.
+abbrev pub under_caps : CappedRules → CapStates → TapIn → Reason → CappedReason
+under_caps capped states tap reason.Unknown = Unknown
+under_caps capped states tap (reason.Stale latest) = Stale latest
+under_caps capped states tap (reason.Transfer moment mode) = Transfer moment mode
+under_caps capped states tap (reason.Ride start until charge) =
+    ride_on capped states start until tap.moment tap.mode
+
+-- why a tap after the earlier ones of its token is answered as it is
+unfoldable pub capped_reason : CappedRules → List TapIn → TapIn → CappedReason
+capped_reason capped earlier tap =
+    under_caps capped (states capped earlier) tap (rule.reason capped.rules earlier tap)
+
+-- the reply that follows from the reason
+abbrev pub replied_by : CappedReason → Reply
+replied_by Unknown = reply_with answer.Unknown 0
+replied_by (Stale latest) = reply_with answer.Stale 0
+replied_by (Transfer moment mode) = reply_with answer.Transfer 0
+replied_by (Ride start until charge) = ride_reply (cap_paid charge)
+
+-- the reply to a tap after the earlier ones of its token
+unfoldable pub capped_reply : CappedRules → List TapIn → TapIn → Reply
+capped_reply capped earlier tap = replied_by (capped_reason capped earlier tap)
+
+-- the replies to the taps that follow the earlier ones
+unfoldable pub capped_replies_after : CappedRules → List TapIn → List TapIn → List Reply
+capped_replies_after capped earlier [] = []
+capped_replies_after capped earlier (tap ∷ taps) =
+    capped_reply capped earlier tap ∷ capped_replies_after capped (earlier ++ tap ∷ []) taps
+
+-- the reply to each tap after those before it
+unfoldable pub capped_replies : CappedRules → List TapIn → List Reply
+capped_replies capped taps = capped_replies_after capped [] taps
+
+-- the last window of `window`, with what its rides cost under the caps
+unfoldable pub capped_window : CappedRules → List TapIn → Option WindowView
+capped_window capped taps = option_map (λ (view : WindowView). record view {
+  paid = (states capped taps).paid;
+  cents = (states capped taps).window.cents;
+}) (last_window capped.rules taps)
+
+-- the reason without caps, as one under caps
+abbrev pub uncapped : Reason → CappedReason
+uncapped reason.Unknown = Unknown
+uncapped (reason.Stale latest) = Stale latest
+uncapped (reason.Transfer moment mode) = Transfer moment mode
+uncapped (reason.Ride start until charge) = Ride start until (ByWindow charge)

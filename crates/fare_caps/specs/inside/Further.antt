@@ -1,0 +1,80 @@
+-- What private functions make of the numbers that are kept, by what the caps say of one ride.
+use Rattle.std.specs.Prelude.{◌≡◌, ℕ, ◌+◌, ◌-◌, ◌≤◌, if◌then◌else◌, All, List, [], ◌∷◌, is_some, min}
+use Rattle.std.specs.Prelude.{nat_lt, Option, Some, None, option_map, slice_get}
+use Rattle.tariffs.specs.ClockView.{ClockView}
+use Rattle.tariffs.specs.Until.{window_end_in}
+use Rattle.tariffs.specs.declared.terms.Terms.{Terms}
+use Rattle.account_rule.specs.Windows.{charge}
+use Rattle.fare_caps.specs.CapMeanings.{said_of, terms_at}
+use Rattle.fare_caps.specs.Caps.{opened_until}
+use Rattle.fare_caps.specs.Charges.{cap_cents, cap_paid, lesser, lowered}
+use Rattle.fare_caps.specs.declared.cap.Cap.{Cap}
+use Rattle.fare_caps.specs.declared.cap.RideCap.{RideCap}
+use Rattle.fare_caps.specs.declared.cap_charge.CapCharge.{CapCharge}
+use Rattle.fare_caps.specs.declared.cap_charge.CapLeft.{CapLeft}
+use Rattle.fare_caps.specs.declared.cap_window.CapWindow.{CapWindow}
+use Rattle.fare_caps.specs.declared.further.Further.{Further}
+use Rattle.fare_caps.specs.declared.further.RideCaps.{RideCaps}
+
+-- what the cap at the index says of the ride
+abbrev pub said_at : List Cap → ℕ → ℕ → ℕ → ℕ → Option RideCap
+said_at caps moment mode class index =
+    option_map (λ cap. said_of (terms_at cap moment) mode class) (slice_get caps index)
+
+-- what all caps say of the ride
+abbrev pub said_by : List Cap → ℕ → ℕ → ℕ → RideCaps
+said_by caps moment mode class = record {
+  first = said_at caps moment mode class 0;
+  second = said_at caps moment mode class 1;
+  third = said_at caps moment mode class 2;
+}
+
+-- the window of the ride
+abbrev pub opened_by : ClockView → ℕ → Option RideCap → CapWindow → CapWindow
+opened_by clock moment None window = window
+opened_by clock moment (Some cap) window =
+    opened_until moment (window_end_in clock cap.span moment) window
+
+-- what the cap leaves
+abbrev pub left_by : Option RideCap → CapWindow → Option ℕ
+left_by None window = None
+left_by (Some cap) window = if cap.counts then Some (cap.ceiling - window.cents) else None
+
+-- the window with the cents of the ride
+abbrev pub counted_by : ℕ → Option RideCap → CapWindow → CapWindow
+counted_by cents None window = window
+counted_by cents (Some cap) window =
+    record window { cents = window.cents + (if cap.counts then cents else 0) }
+
+-- the windows of the ride, `window` until the moment that is named if the ride opens it
+unfoldable pub opened_all : ClockView → ℕ → ℕ → RideCaps → Further → Further
+opened_all clock moment until caps further = record {
+  window = opened_until moment until further.window;
+  first = opened_by clock moment caps.first further.first;
+  second = opened_by clock moment caps.second further.second;
+  third = opened_by clock moment caps.third further.third;
+  rides = if nat_lt moment further.window.until then further.rides else 0;
+  paid = if nat_lt moment further.window.until then further.paid else 0;
+}
+
+-- the least that the caps leave
+unfoldable pub least_of : RideCaps → Further → Option CapLeft
+least_of caps further =
+    lesser (lesser (lesser None 0 (left_by caps.first further.first)) 1
+    (left_by caps.second further.second)) 2 (left_by caps.third further.third)
+
+-- what decides the cents of the ride
+unfoldable pub charge_of : Terms → RideCaps → Further → CapCharge
+charge_of terms caps further =
+    lowered (least_of caps further) (charge terms further.rides further.window.cents)
+
+-- the numbers with the ride
+unfoldable pub counted_all : CapCharge → RideCaps → Further → Further
+counted_all charge caps further = record {
+  window = record further.window { cents = further.window.cents + cap_cents charge };
+  first = counted_by (cap_cents charge) caps.first further.first;
+  second = counted_by (cap_cents charge) caps.second further.second;
+  third = counted_by (cap_cents charge) caps.third further.third;
+  rides = min (further.rides + 1) 60_000;
+  paid = further.paid + (if is_some (cap_paid charge) then 1 else 0);
+}

@@ -1,0 +1,164 @@
+//! The account of one token under caps: its state, and its step.
+
+ghost use Rattle.std.specs.Prelude.{◌≡◌, ℕ, ◌<◌, ◌≤◌, List, [], ◌∷◌, ◌++◌, length};
+ghost use Rattle.std.specs.Option.{ForSome};
+ghost use Rattle.account_rule.specs.declared.tap.TapIn.{TapIn};
+ghost use Rattle.fare_caps.specs.Caps.{CappedRules};
+ghost use Rattle.fare_caps.specs.CapMeanings.{capped_rules_of};
+ghost use Rattle.fare_caps.specs.CappedReplies.{capped_reason, capped_reply, capped_window};
+ghost use Rattle.fare_caps.specs.CappedReplies.{replied_by, uncapped};
+ghost use Rattle.fare_caps.specs.Represents.{Represents, RepresentsSome};
+
+use crate::cap_charge::CapCharge;
+use crate::cap_table::CapTable;
+use crate::capped_reason::CappedReason;
+use crate::further::Further;
+use account_rule::{Account, Reason, Reply, TapIn, WindowView};
+use tariffs::{Clock, FareTable};
+
+/// The account of one token under one fare table and its caps. Without caps it costs what
+/// `Account` costs, and answers as that does.
+#[derive(Clone, Copy, Debug, PartialEq, Eq)]
+pub struct CappedAccount {
+    account: Account,
+    /// Says nothing if the table has no caps.
+    further: Further,
+}
+
+impl CappedAccount {
+    /// An account that has seen no tap.
+    pub fn fresh() -> Self
+        ensures holds { (capped : CappedRules) → length capped.caps ≤ 3
+            → Represents capped result [] }
+        ensures some { (capped : CappedRules) → length capped.caps ≤ 3
+            → RepresentsSome capped result }
+    {
+        CappedAccount {
+            account: Account::fresh(),
+            further: Further::none(),
+        }
+    }
+
+    /// Charges one more tap of the token, and returns the rule's reply. Takes no memory. All calls
+    /// on an account have one table, its caps and one token.
+    #[inline(always)]
+    pub fn step(
+        &mut self,
+        table: &FareTable,
+        caps: &CapTable,
+        clock: &Clock,
+        token: &[u8],
+        tap: TapIn,
+    ) -> Reply
+        requires clock { clock.now ≡ table.now.zone }
+        requires token { length token.now ≡ 16 }
+        requires mode { ForSome tap.mode (λ mode. mode.position < length table.now.meaning.modes) }
+        requires early { tap.moment < 4_102_444_800_000 }
+        requires holds { RepresentsSome (capped_rules_of table.now caps.now token.now) self.old }
+
+        // For every list of taps that the account represents.
+        ensures reply { (taps : List TapIn)
+            → Represents (capped_rules_of table.now caps.now token.now) self.old taps
+            → result ≡ capped_reply (capped_rules_of table.now caps.now token.now) taps tap }
+        ensures holds { (taps : List TapIn)
+            → Represents (capped_rules_of table.now caps.now token.now) self.old taps
+            → Represents (capped_rules_of table.now caps.now token.now) self.new (taps ++ tap ∷ []) }
+        ensures some { RepresentsSome (capped_rules_of table.now caps.now token.now) self.new }
+        ensures few { result.cents ≤ 100_000 }
+    {
+        if caps.len() == 0 {
+            return self.account.step(table, clock, token, tap);
+        }
+        self.explain_step(table, caps, clock, token, tap).reply()
+    }
+
+    /// As `step`, but returns the reason, from which the reply follows. Takes no memory.
+    pub fn explain_step(
+        &mut self,
+        table: &FareTable,
+        caps: &CapTable,
+        clock: &Clock,
+        token: &[u8],
+        tap: TapIn,
+    ) -> CappedReason
+        requires clock { clock.now ≡ table.now.zone }
+        requires token { length token.now ≡ 16 }
+        requires mode { ForSome tap.mode (λ mode. mode.position < length table.now.meaning.modes) }
+        requires early { tap.moment < 4_102_444_800_000 }
+        requires holds { RepresentsSome (capped_rules_of table.now caps.now token.now) self.old }
+
+        ensures reason { (taps : List TapIn)
+            → Represents (capped_rules_of table.now caps.now token.now) self.old taps
+            → result ≡ capped_reason (capped_rules_of table.now caps.now token.now) taps tap }
+        ensures holds { (taps : List TapIn)
+            → Represents (capped_rules_of table.now caps.now token.now) self.old taps
+            → Represents (capped_rules_of table.now caps.now token.now) self.new (taps ++ tap ∷ []) }
+        ensures some { RepresentsSome (capped_rules_of table.now caps.now token.now) self.new }
+        ensures few { (replied_by result).cents ≤ 100_000 }
+    {
+        let reason = self.account.explain_step(table, clock, token, tap);
+        if caps.len() == 0 {
+            return uncapped(reason);
+        }
+        match reason {
+            Reason::Ride {
+                start,
+                until,
+                charge: _,
+            } => {
+                let Some(mode) = tap.mode else {
+                    return CappedReason::Unknown;
+                };
+                let tariff = table.at(tap.moment);
+                let class = tariff.class_of(token);
+                let charge = self
+                    .further
+                    .charge_ride(tariff, caps, clock, class, mode, tap.moment);
+                CappedReason::Ride {
+                    start,
+                    until,
+                    charge,
+                }
+            }
+            _ => uncapped(reason),
+        }
+    }
+
+    /// The last window of `window`, or `None` before the first ride.
+    pub fn window(&self, caps: &CapTable) -> Option<WindowView>
+        ensures window { (capped : CappedRules) (taps : List TapIn)
+            → length capped.caps ≡ length caps.now → Represents capped self.now taps
+            → result ≡ capped_window capped taps }
+    {
+        let view = self.account.window()?;
+        if caps.len() == 0 {
+            return Some(view);
+        }
+        Some(WindowView {
+            start: view.start,
+            until: view.until,
+            paid: u32::from(self.further.paid),
+            cents: self.further.window.cents,
+        })
+    }
+}
+
+/// The same reason, if there are no caps.
+fn uncapped(reason: Reason) -> CappedReason
+    ensures { result ≡ uncapped reason }
+{
+    match reason {
+        Reason::Unknown => CappedReason::Unknown,
+        Reason::Stale { latest } => CappedReason::Stale { latest },
+        Reason::Transfer { moment, mode } => CappedReason::Transfer { moment, mode },
+        Reason::Ride {
+            start,
+            until,
+            charge,
+        } => CappedReason::Ride {
+            start,
+            until,
+            charge: CapCharge::ByWindow { charge },
+        },
+    }
+}

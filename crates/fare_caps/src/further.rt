@@ -1,0 +1,180 @@
+//! What an account stores beside the numbers of `account_rule` if its table has caps.
+
+ghost use Rattle.std.specs.Prelude.{◌≡◌, ◌<◌, ◌≤◌, IfSome, is_some, length};
+ghost use Rattle.tariffs.specs.Fares.{ride_terms};
+ghost use Rattle.tariffs.specs.Terms.{AreBoundedTerms};
+ghost use Rattle.tariffs.specs.Until.{window_end_in};
+ghost use Rattle.tariffs.specs.WindowSpan.{IsBoundedSpan};
+ghost use Rattle.account_rule.specs.Windows as rule;
+ghost use Rattle.fare_caps.specs.Caps.{no_window};
+ghost use Rattle.fare_caps.specs.Charges.{cap_cents, cap_paid};
+ghost use Rattle.fare_caps.specs.Represents.{HasRoom};
+ghost use Rattle.fare_caps.specs.inside.Further as spec;
+
+use crate::cap::RideCap;
+use crate::cap_charge::{CapCharge, CapLeft, lesser, lowered};
+use crate::cap_table::CapTable;
+use crate::cap_window::CapWindow;
+use account_rule::Charge;
+use tariffs::{Clock, Mode, Tariff, Terms, WindowSpan};
+
+/// The highest ride limit of a table's classes. Rides are counted up to it.
+const MAX_RIDES: u16 = 60_000;
+
+/// The numbers of the last window of `window`, and the last windows of the caps.
+#[derive(Clone, Copy, Debug, PartialEq, Eq)]
+pub(crate) struct Further {
+    pub(crate) window: CapWindow,
+    pub(crate) first: CapWindow,
+    pub(crate) second: CapWindow,
+    pub(crate) third: CapWindow,
+    /// Counted up to `MAX_RIDES` and no further.
+    pub(crate) rides: u16,
+    pub(crate) paid: u16,
+}
+
+/// What the caps say of one ride.
+#[derive(Clone, Copy)]
+struct RideCaps {
+    first: Option<RideCap>,
+    second: Option<RideCap>,
+    third: Option<RideCap>,
+}
+
+impl Further {
+    pub(crate) fn none() -> Self
+        ensures { result ≡ record { window = no_window; first = no_window; second = no_window;
+            third = no_window; rides = 0; paid = 0 } }
+    {
+        Further {
+            window: CapWindow::none(),
+            first: CapWindow::none(),
+            second: CapWindow::none(),
+            third: CapWindow::none(),
+            rides: 0,
+            paid: 0,
+        }
+    }
+
+    /// Charges a ride of the class on the mode.
+    pub(crate) fn charge_ride(
+        &mut self,
+        tariff: &Tariff,
+        caps: &CapTable,
+        clock: &Clock,
+        class: u32,
+        mode: Mode,
+        moment: u64,
+    ) -> CapCharge
+        requires class { class < length tariff.now.meaning.classes }
+        requires mode { mode.position < length tariff.now.meaning.modes }
+        requires early { moment < 4_102_444_800_000 }
+        requires room { HasRoom self.old }
+        ensures bounds { AreBoundedTerms (ride_terms tariff.now.meaning class mode.position) }
+        ensures charge { result
+            ≡ spec.charge_of (ride_terms tariff.now.meaning class mode.position)
+            (spec.said_by caps.now moment mode.position class)
+            (spec.opened_all clock.now moment
+            (window_end_in clock.now tariff.now.meaning.window moment)
+            (spec.said_by caps.now moment mode.position class) self.old) }
+        ensures state { self.new ≡ spec.counted_all result
+            (spec.said_by caps.now moment mode.position class)
+            (spec.opened_all clock.now moment
+            (window_end_in clock.now tariff.now.meaning.window moment)
+            (spec.said_by caps.now moment mode.position class) self.old) }
+        ensures few { cap_cents result ≤ 100_000 }
+    {
+        let said = RideCaps {
+            first: caps.of_ride(0, moment, mode, class),
+            second: caps.of_ride(1, moment, mode, class),
+            third: caps.of_ride(2, moment, mode, class),
+        };
+        self.open(said, tariff.window_span(), clock, moment);
+        let charge = self.charge(said, tariff.ride_terms(class, mode));
+        self.count(said, charge);
+        charge
+    }
+
+    #[tactic(auto, unfolding(crate::specs::inside::Further::opened_all))]
+    fn open(&mut self, caps: RideCaps, span: WindowSpan, clock: &Clock, moment: u64)
+        requires span { IsBoundedSpan span }
+        requires first { IfSome caps.first (λ cap. IsBoundedSpan cap.span) }
+        requires second { IfSome caps.second (λ cap. IsBoundedSpan cap.span) }
+        requires third { IfSome caps.third (λ cap. IsBoundedSpan cap.span) }
+        requires early { moment < 4_102_444_800_000 }
+        ensures { self.new ≡ spec.opened_all clock.now moment
+            (window_end_in clock.now span moment) caps self.old }
+    {
+        if moment >= self.window.until {
+            self.rides = 0;
+            self.paid = 0;
+        }
+        self.window = self.window.opened(span, clock, moment);
+        self.first = self.first.opened_by(caps.first, clock, moment);
+        self.second = self.second.opened_by(caps.second, clock, moment);
+        self.third = self.third.opened_by(caps.third, clock, moment);
+    }
+
+    #[tactic(auto, unfolding(crate::specs::inside::Further::least_of))]
+    fn least(&self, caps: RideCaps) -> Option<CapLeft>
+        ensures { result ≡ spec.least_of caps self.now }
+    {
+        let least = lesser(None, 0, self.first.left_by(caps.first));
+        let least = lesser(least, 1, self.second.left_by(caps.second));
+        lesser(least, 2, self.third.left_by(caps.third))
+    }
+
+    #[tactic(auto, unfolding(crate::specs::inside::Further::charge_of))]
+    fn charge(&self, caps: RideCaps, terms: Terms) -> CapCharge
+        requires bounds { AreBoundedTerms terms }
+        requires room { self.now.window.cents ≤ 100_000_000 }
+        ensures { result ≡ spec.charge_of terms caps self.now }
+    {
+        lowered(
+            self.least(caps),
+            charge(terms, u32::from(self.rides), self.window.cents),
+        )
+    }
+
+    #[tactic(auto, unfolding(crate::specs::inside::Further::counted_all))]
+    fn count(&mut self, caps: RideCaps, charge: CapCharge)
+        requires room { HasRoom self.old }
+        requires few { cap_cents charge ≤ 100_000 }
+        ensures { self.new ≡ spec.counted_all charge caps self.old }
+    {
+        let cents = charge.cents();
+        self.window.cents += cents;
+        self.first = self.first.counted_by(caps.first, cents);
+        self.second = self.second.counted_by(caps.second, cents);
+        self.third = self.third.counted_by(caps.third, cents);
+        if charge.paid().is_some() {
+            self.paid += 1;
+        }
+        if self.rides < MAX_RIDES {
+            self.rides += 1;
+        }
+    }
+}
+
+#[tactic(auto, unfolding(account_rule::specs::Windows::charge))]
+fn charge(terms: Terms, rides: u32, cents: u32) -> Charge
+    requires bounds { AreBoundedTerms terms }
+    requires low { cents ≤ 100_000_000 }
+    ensures { result ≡ rule.charge terms rides cents }
+{
+    if rides >= terms.rides {
+        Charge::RideLimitReached
+    } else if cents >= terms.ceiling {
+        Charge::CeilingReached { position: rides }
+    } else if cents + terms.fare <= terms.ceiling {
+        Charge::Full {
+            position: rides,
+            cents: terms.fare,
+        }
+    } else {
+        Charge::CeilingCut {
+            position: rides,
+            cents: terms.ceiling - cents,
+        }
+    }
+}

@@ -1,0 +1,20 @@
+//! Caps beside a fare table's `window`: what each tap of a token costs if further caps count it, each
+//! with windows, modes and ceilings of its own. The rides, the transfers and the windows of `window`
+//! are those of `account_rule`. [`CappedAccount`] stores a few numbers in place of a token's taps.
+#![tactic(auto)]
+
+mod cap;
+mod cap_charge;
+mod cap_table;
+mod cap_window;
+mod capped_account;
+mod capped_reason;
+mod further;
+pub mod laws;
+
+pub use cap::{Cap, CapTerms, DatedTerms};
+pub use cap_charge::CapCharge;
+pub use cap_table::CapTable;
+pub use cap_window::CapWindow;
+pub use capped_account::CappedAccount;
+pub use capped_reason::CappedReason;
