@@ -47,7 +47,7 @@ IsWanting choice head wanted.Count =
     IsSomeAnd choice.columns.now.count (λ name. HasNoColumn head name.now)
 
 -- the text has a head and these rows, the head lacks no column of the choice, and each row is read
--- as the reading at its place
+-- as the reading at its position
 pub record IsRead (choice : Choice) (text : List ℕ) (head : List (List ℕ))
     (rows : List (List (List ℕ))) (readings : List Reading) : Type 0 where
   pub records : HasRecords choice.columns.now.separator text (head ∷ rows)

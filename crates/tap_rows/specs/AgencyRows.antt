@@ -27,7 +27,7 @@ pub record IsColumn (head : List (List ℕ)) (name : List ℕ) (position : ℕ) 
   pub named : field_at head position ≡ Some name
   pub once : (other : ℕ) → field_at head other ≡ Some name → other ≡ position
 
--- the position of the first of the names that is this one; that behind the last if none is
+-- the position of the first of the names that is this one; that after the last if none is
 abbrev pub position_in : List (List ℕ) → List ℕ → ℕ
 position_in [] name = 0
 position_in (first ∷ head) name = if bytes_eq first name then 0 else position_in head name + 1

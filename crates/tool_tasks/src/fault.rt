@@ -221,9 +221,10 @@ pub(crate) fn say_noted<E: Write>(err: &mut Complaints<E>, fault: &Fault<'_>, no
     ensures { IsFaultNoted fault.now (E.contents err.old.writer) (E.contents err.new.writer)
         err.new.failed }
 {
-    if !fault.is_quiet() {
-        err.report_line(Noted(fault, note));
+    if fault.is_quiet() {
+        return;
     }
+    err.report_line(Noted(fault, note));
 }
 
 /// Lets all that was written go out.

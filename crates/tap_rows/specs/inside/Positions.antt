@@ -24,7 +24,7 @@ IsPositionOf head None None = Unit {0}
 IsPositionOf head (Some name) (Some position) = IsColumn head name.now position
 IsPositionOf head name position = ⊥
 
--- the places are those of the choice's columns in this head
+-- the positions are those of the choice's columns in this head
 pub record ArePositions (choice : Choice) (head : List (List ℕ)) (positions : Positions)
     : Type 0 where
   pub width : length head ≡ positions.width
@@ -66,7 +66,7 @@ IsTestsFault is_only conditions head fault.Write = ⊥
 IsTestsFault is_only conditions head fault.RefusedWrite = ⊥
 IsTestsFault is_only conditions head fault.NoMemory = Unit {0}
 
--- why the places were not found
+-- why the positions were not found
 abbrev pub IsHeadFault : Choice → List (List ℕ) → AgencyFault → Type 0
 IsHeadFault choice head (fault.Column wanted) = IsWanting choice head wanted
 IsHeadFault choice head (fault.Row number reason) = ⊥

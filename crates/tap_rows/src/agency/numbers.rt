@@ -68,13 +68,16 @@ pub(crate) fn thousandths_in(fraction: &[u8]) -> u64
     digit_at(fraction, 1) * 100 + digit_at(fraction, 2) * 10 + digit_at(fraction, 3)
 }
 
+fn is_zero(byte: u8) -> bool
+    ensures { result ≡ is_zero byte }
+{
+    byte == b'0'
+}
+
 fn are_zeros(text: &[u8]) -> bool
     ensures { result ≡ list_all is_zero text.now }
 {
-    match text {
-        [] => true,
-        [first, rest @ ..] => *first == b'0' && are_zeros(rest),
-    }
+    text.iter().all(|byte| is_zero(*byte))
 }
 
 fn is_zero_fraction(text: &[u8]) -> bool
