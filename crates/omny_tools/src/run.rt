@@ -45,9 +45,6 @@ fn texts_of<'r>(rt: &'r HostRuntime, manner: Manner, shows: Shows) -> Texts<'r> 
     if let Manner::Rows(separator) = manner {
         return Texts::of_rows(rt, separator);
     }
-    if shows.counts {
-        return Texts::shown(rt);
-    }
     if shows.text {
         return Texts::of_others(rt);
     }
@@ -84,7 +81,12 @@ pub(crate) fn run<R: Threads + Sync, E: Write>(
     };
     let mut source = texts_of(rt, manner, shows);
     let mut sink = FilesMade::new(rt);
-    let mut framed = Framed::new(rt, framed_progress, io::writer(rt), rt.stderr());
+    let counts = if shows.counts {
+        Progress::new(rt)
+    } else {
+        Progress::beside_text(rt)
+    };
+    let mut framed = Framed::new(rt, counts, framed_progress, io::writer(rt), rt.stderr());
     main_over(
         threads,
         rt.alloc(),

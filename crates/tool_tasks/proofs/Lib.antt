@@ -1,10 +1,12 @@
-pub mod DecodedTables
+mod Informing
+mod Loading
 pub mod Decoding
 pub mod Encoded
 pub mod EncodedRows
 pub mod Faults
 pub mod FilesMade
-pub mod ValidPrefixes
+mod Making
 pub mod MergedUploads
 pub mod Opened
 pub mod Sorting
+pub mod ValidPrefixes

@@ -1,6 +1,7 @@
 -- Why a subcommand is given up, and the line that says so, without its line feed.
 use Rattle.std.specs.Prelude.{◌≡◌, ⊤, ℕ, Bool, true, false, List, [], ◌++◌, Option, None, Some}
 use Rattle.std.specs.Prelude.{MatchBool, codes, decimal, if◌then◌else◌}
+use Rattle.std.specs.Io.KnownBytes.{Appends}
 use Rattle.report_texts.specs.declared.wrong.Wrong.{Wrong}
 use Rattle.report_texts.specs.declared.wrong.Wrong.TheVariants as wrong
 use Rattle.program_manners.specs.LineWritten.{LineWritten}
@@ -86,6 +87,10 @@ abbrev pub IsFaultNoted : Fault → Option (List ℕ) → Option (List ℕ) → 
 IsFaultNoted fault said said' failed = (note : List ℕ)
     × MatchBool (is_quiet fault) (said' ≡ said)
     (LineWritten said said' failed (fault_text fault ++ note))
+
+-- these lines were reported, unless a write of one failed
+abbrev pub AreReported : Option (List ℕ) → Option (List ℕ) → Bool → List ℕ → Type 0
+AreReported said said' failed lines = failed ≡ false → Appends said said' lines
 
 -- The source refused the file of one of these words, which the fault names, for its reason; or
 -- an allocation failed.

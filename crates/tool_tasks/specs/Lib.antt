@@ -4,6 +4,8 @@ pub mod Encode
 pub mod EncodeRows
 pub mod Fault
 pub mod ValidPrefix
+pub mod Informs
+pub mod Loads
 pub mod Layout
 pub mod MergeSorted
 pub mod Names

@@ -241,20 +241,3 @@ pub fn finish<'a, W: Write>(out: &mut Output<W>) -> Result<(), Fault<'a>>
         Err(end) => Err(Fault::of_write(Some(end))),
     }
 }
-
-/// Lets all that was written go out. Gives what was given before, or why it did not go out.
-pub(crate) fn finish_after<'a, W: Write>(
-    before: Result<bool, Fault<'a>>,
-    out: &mut Output<W>,
-) -> Result<bool, Fault<'a>>
-    ensures kept { Keeps (W.contents out.old.writer) (W.contents out.new.writer) }
-    ensures same { IfOk result (λ success. before.entry ≡ Ok success) }
-    ensures flushed { OnOk result (out.new.is_flushed ≡ true) }
-    ensures fault { IfErr result (λ fault. (fault ≡ failed_as out.new.end)
-        ⊎ ((before.entry ≡ Err fault) × (out.new.end ≡ out.old.end))) }
-{
-    match finish(out) {
-        Ok(()) => before,
-        Err(unwritten) => Err(unwritten),
-    }
-}
