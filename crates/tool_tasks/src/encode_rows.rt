@@ -199,7 +199,10 @@ fn fault_of<'a>(
     ensures { IsRowsFault words.now word.entry.now end refused_end fault result }
 {
     match fault {
-        AgencyFault::Column(wanted) => Fault::Rows(word, WrongRows::Column(name_of(&words.columns, wanted))),
+        AgencyFault::Column(wanted) => Fault::Rows(
+            word,
+            WrongRows::Column(name_of(&words.columns, wanted)),
+        ),
         AgencyFault::Row { number, reason } => Fault::Rows(word, WrongRows::Row(number, reason)),
         AgencyFault::Unread => Fault::Unread(word),
         AgencyFault::Changed => Fault::SomeChanged,

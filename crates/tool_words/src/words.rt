@@ -52,10 +52,7 @@ fn table_rows_task<'a>(matches: &ArgMatches<'a>) -> Task<'a>
     if has_value(matches, "unit") {
         return Task::UsageError(UsageError::NoColumnsForUnit);
     }
-    if has_value(matches, "drop")
-        || has_value(matches, "count")
-        || flag_in(matches, "token-hash")
-    {
+    if has_value(matches, "drop") || has_value(matches, "count") || flag_in(matches, "token-hash") {
         return Task::UsageError(UsageError::NoColumnsForOthers);
     }
     Task::Encode(encoded_file(matches))
