@@ -1,7 +1,7 @@
 -- The moment of a tap, as the field of an agency's row gives it: by a plain number, or by the date
 -- and the clock of RFC 3339 with an offset. What is less than a millisecond is dropped.
-use Rattle.std.specs.Prelude.{◌==◌, ◌&&◌, ◌||◌, ◌+◌, ◌*◌, ◌/◌, ◌^◌, ◌++◌, ℕ, ℤ, pos, negsuc, Bool, not}
-use Rattle.std.specs.Prelude.{Err, List, None, Ok, Option, Result, Some, codes, drop}
+use Rattle.std.specs.Prelude.{◌==◌, ◌&&◌, ◌||◌, ◌+◌, ◌*◌, ◌/◌, ◌^◌, ◌++◌, ℕ, ℤ, pos, Bool, not}
+use Rattle.std.specs.Prelude.{negsuc, Err, List, None, Ok, Option, Result, Some, codes, drop}
 use Rattle.std.specs.Prelude.{if◌then◌else◌, length, min, nat_le, nat_lt, option_map, slice_index}
 use Rattle.std.specs.Prelude.{take}
 use Rattle.std.specs.Str.{bytes_eq}
@@ -90,8 +90,8 @@ plain_ms counted text =
     else None
 
 -- ---- the moment
--- the earliest moment that is read: if nobody says what a plain number counts, 2000-01-01T00:00Z, so
--- that no seconds are taken for milliseconds
+-- the earliest moment that is read: if nobody says what a plain number counts, 2000-01-01T00:00Z,
+-- so that no seconds are taken for milliseconds
 abbrev pub earliest_ms : Unit → ℕ
 earliest_ms unit.Unsaid = 946_684_800_000
 earliest_ms unit.Seconds = 0

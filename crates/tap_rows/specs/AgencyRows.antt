@@ -126,8 +126,8 @@ kept_reading choice layout row =
     (moment_in choice.columns.now.unit (field row layout.moment))
     else read.Refused why.Riders
 
--- what a row is read as, if the columns are here: a tap that is kept, a row that is not, or one that
--- is not a tap
+-- what a row is read as, if the columns are here: a tap that is kept, a row that is not, or one
+-- that is not a tap
 abbrev pub reading_by : Choice → HeadLayout → List (List ℕ) → Reading
 reading_by choice layout row =
     if length row == layout.width

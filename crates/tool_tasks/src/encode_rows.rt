@@ -114,8 +114,8 @@ fn devices_in<'a, S: Source>(
 ) -> Result<Option<DeviceTable>, Fault<'a>>
     ensures table { IfOk result (λ table. HasDevices words.now (S.loaded source.old)
         (S.loaded source.new) (option_map devices_of table)) }
-    ensures stops { IfErr result (FailsDevices (word_in words.now.devices) words.now.columns.separator
-        (S.loaded source.old) (S.loaded source.new) (S.refused source.new)) }
+    ensures stops { IfErr result (FailsDevices (word_in words.now.devices)
+        words.now.columns.separator (S.loaded source.old) (S.loaded source.new) (S.refused source.new)) }
 {
     match words.devices {
         Some(word) => match load_devices(alloc, seed, words.columns.separator, word, source) {

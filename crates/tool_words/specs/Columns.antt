@@ -10,9 +10,9 @@ use Rattle.tap_rows.specs.declared.agency.choice.Separator.{Separator}
 use Rattle.tap_rows.specs.declared.agency.choice.Unit.{Unit}
 use Rattle.tap_rows.specs.declared.agency.choice.Unit.TheVariants as units
 
--- how a kind of export is read: its columns of tokens, validators and moments, whether a token is the
--- hash of its field, the column and the value of the rows that are kept, and of those that are left
--- out, and the column of riders
+-- how a kind of export is read: its columns of tokens, validators and moments, whether a token is
+-- the hash of its field, the column and the value of the rows that are kept, and of those that are
+-- left out, and the column of riders
 pub record Export : Type 0 where
   pub token : Text
   pub validator : Text

@@ -272,7 +272,8 @@ fn with_one<'a>(
 
 fn count_in<'a>(matches: &ArgMatches<'a>, count: Option<&'a str>) -> Option<&'a str>
     ensures { text_in result
-        ≡ option_or (first_of (codes "count") (rows_of (found_of matches.now))) (text_in count.entry) }
+        ≡ option_or (first_of (codes "count") (rows_of (found_of matches.now)))
+        (text_in count.entry) }
 {
     match value_in(matches, "count") {
         Some(column) => Some(column),
