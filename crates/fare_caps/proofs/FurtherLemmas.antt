@@ -4,21 +4,25 @@ use Rattle.std.proofs.Common.{◌∷◌, length, map, min, take, nat_lt, is_some
 use Rattle.std.proofs.Common.{option_map, refl, sym, ap, ◌∙◌, inl, inr, arith, IfSome}
 use Rattle.std.proofs.lemmas.Bool.{cases_Bool}
 use Rattle.std.proofs.lemmas.List.{length-map}
+use Rattle.tariffs.specs.ClockView.{ClockView}
 use Rattle.tariffs.specs.Fares.{Fares}
 use Rattle.tariffs.specs.Terms.{AreBoundedTerms}
+use Rattle.tariffs.specs.Until.{window_end_in}
 use Rattle.tariffs.specs.declared.mode.Mode.{Mode}
 use Rattle.tariffs.specs.declared.terms.Terms.{Terms}
-use Rattle.account_rule.specs.TokenRules.{rules_of, token_class}
-use Rattle.account_rule.specs.Taps.{LiveTap, live_at}
+use Rattle.account_rule.specs.Blocks.{blocks_by}
+use Rattle.account_rule.specs.TokenRules.{TokenRules, rules_of, token_class}
+use Rattle.account_rule.specs.Taps.{LiveTap, live, live_after, live_at}
+use Rattle.account_rule.specs.Trips as taken
 use Rattle.account_rule.specs.Windows.{charge, is_paid}
 use Rattle.account_rule.proofs.LimitLemmas.{charge-min}
 use Rattle.fare_caps.specs.CapMeanings.{cap_rules, capped_rules_of, said_of, terms_at}
 use Rattle.fare_caps.specs.CapStates.{CapStates, after_ride, at_ride, charge_at, no_rides}
-use Rattle.fare_caps.specs.CapStates.{ride_charge, with_charge}
+use Rattle.fare_caps.specs.CapStates.{after_rides, ride_charge, states, with_charge}
 use Rattle.fare_caps.specs.Caps.{CapRules, CappedRules, counted, each_window, left, no_window}
 use Rattle.fare_caps.specs.Caps.{opened, opened_until, window_cap}
 use Rattle.fare_caps.specs.Charges.{cap_cents, cap_paid, least_from, lesser, lowered}
-use Rattle.fare_caps.specs.Represents.{HasRoom, IsFurther, cap_windows}
+use Rattle.fare_caps.specs.Represents.{HasRoom, IsFurther, KeepsStates, cap_windows}
 use Rattle.fare_caps.specs.declared.cap.Cap.{Cap}
 use Rattle.fare_caps.specs.declared.cap.RideCap.{RideCap}
 use Rattle.fare_caps.specs.declared.cap_charge.CapCharge.{CapCharge}
@@ -44,7 +48,8 @@ abbrev Alike : Fares → List ℕ → ℕ → Mode → (CapRules → CapWindow �
     → (Option RideCap → CapWindow → CapWindow) → Type 0
 Alike fares token moment mode change by =
     (cap : Cap) (window : CapWindow)
-    → by (Some (said_of (terms_at cap moment) mode.position (token_class fares token moment))) window
+    → by (Some (said_of (terms_at cap moment) mode.position (token_class fares token moment)))
+    window
     ≡ change (cap_rules fares token cap) window
 
 three : (fares : Fares) (token : List ℕ) (moment : ℕ) (mode : Mode)
@@ -109,24 +114,25 @@ room-until moment until window low = elim (nat_lt moment window.until) as (λ v.
     (cond v window (record { start = moment; until = until; cents = 0 })).cents ≤ 100_000_000)
     [ true ↦ low | false ↦ omega arith ]
 
-room-opened : (fares : Fares) (moment : ℕ) (cap : Option RideCap) (window : CapWindow)
-    → window.cents ≤ 100_000_000 → (opened_by fares.zone moment cap window).cents ≤ 100_000_000
-room-opened fares moment None window low = low
-room-opened fares moment (Some cap) window low = room-until moment _ window low
+room-opened : (clock : ClockView) (moment : ℕ) (cap : Option RideCap) (window : CapWindow)
+    → window.cents ≤ 100_000_000 → (opened_by clock moment cap window).cents ≤ 100_000_000
+room-opened clock moment None window low = low
+room-opened clock moment (Some cap) window low =
+    room-until moment (window_end_in clock cap.span moment) window low
 
-pub room-all : (fares : Fares) (moment until : ℕ) (caps : RideCaps) (further : Further)
-    → HasRoom further → HasRoom (opened_all fares.zone moment until caps further)
+pub room-all : (clock : ClockView) (moment until : ℕ) (caps : RideCaps) (further : Further)
+    → HasRoom further → HasRoom (opened_all clock moment until caps further)
 unfolding opened_all
-room-all fares moment until caps further room = record {
+room-all clock moment until caps further room = record {
   paid = elim (nat_lt moment further.window.until) as (λ v.
       cond v further.paid 0 ≤ cond v further.rides 0)
       [ true ↦ room.paid | false ↦ omega arith ];
   rides = elim (nat_lt moment further.window.until) as (λ v. cond v further.rides 0 ≤ 60_000)
       [ true ↦ room.rides | false ↦ omega arith ];
   window = room-until moment until further.window room.window;
-  first = room-opened fares moment caps.first further.first room.first;
-  second = room-opened fares moment caps.second further.second room.second;
-  third = room-opened fares moment caps.third further.third room.third;
+  first = room-opened clock moment caps.first further.first room.first;
+  second = room-opened clock moment caps.second further.second room.second;
+  third = room-opened clock moment caps.third further.third room.third;
 }
 
 cond-min : (b : Bool) (kept rides : ℕ) → kept ≡ min rides 60_000
@@ -150,7 +156,8 @@ opens fares token caps moment mode further states few is = record {
       (opened_by fares.zone moment) caps further.first further.second further.third few
       (opened-alike fares token moment mode)
       ∙ ap (each_window (opened (live_at moment mode)) (map (cap_rules fares token) caps)) is.caps;
-  room = room-all fares moment _ _ further is.room;
+  room = room-all fares.zone moment ((rules_of fares token).until moment)
+      (said_to fares token caps moment mode) further is.room;
 }
 
 -- ---- the charge
@@ -281,7 +288,7 @@ counts fares token caps moment mode charge further states few is room = record {
 -- ---- one ride
 pub record IsRide (fares : Fares) (token : List ℕ) (caps : List Cap) (moment : ℕ) (mode : Mode)
     (states : CapStates) (charge : CapCharge) (after : Further) : Type 0 where
-  pub charge : charge
+  pub costs : charge
       ≡ ride_charge (capped_rules_of fares caps token) states (live_at moment mode)
   pub state : IsFurther (length caps) after
       (after_ride (capped_rules_of fares caps token) states (live_at moment mode))
@@ -290,9 +297,7 @@ pub rides : (fares : Fares) (token : List ℕ) (caps : List Cap) (moment : ℕ) 
     (further after : Further) (states : CapStates) (charge : CapCharge) → length caps ≤ 3
     → IsFurther (length caps) further states
     → AreBoundedTerms ((rules_of fares token).terms (live_at moment mode))
-    → IsLow (said_to fares token caps moment mode).first
-    → IsLow (said_to fares token caps moment mode).second
-    → IsLow (said_to fares token caps moment mode).third
+    → HasRoom after
     → charge ≡ charge_of ((rules_of fares token).terms (live_at moment mode))
     (said_to fares token caps moment mode)
     (opened_all fares.zone moment ((rules_of fares token).until moment)
@@ -302,15 +307,73 @@ pub rides : (fares : Fares) (token : List ℕ) (caps : List Cap) (moment : ℕ) 
     (said_to fares token caps moment mode) further)
     → IsRide fares token caps moment mode states charge after
 unfolding ride_charge after_ride
-rides fares token caps moment mode further after states charge few is bounds low low-2 low-3 costs
-    counted =
-    let said = said_to fares token caps moment mode in
-    let open = opened_all fares.zone moment ((rules_of fares token).until moment) said further in
-    let opened = opens fares token caps moment mode further states few is in
-    let same = charges fares token caps moment mode open _ few opened bounds in
-    let room = charge-room ((rules_of fares token).terms (live_at moment mode)) said open bounds
-    opened.room low low-2 low-3 in record {
-      charge = costs ∙ same;
-      state = rw (counted, ← same, costs)
-          (counts fares token caps moment mode _ open _ few opened room);
+rides fares token caps moment mode further after states charge few is bounds room costs counted =
+    let inside = opened_all fares.zone moment ((rules_of fares token).until moment)
+    (said_to fares token caps moment mode) further in
+    let now = opens fares token caps moment mode further states few is in
+    let same = costs ∙ charges fares token caps moment mode inside _ few now bounds in
+    record {
+      costs = same;
+      state = rw (← same, counted)
+          (counts fares token caps moment mode charge inside _ few now (rw counted at room));
     }
+
+-- ---- the first ride
+-- what is kept before the first ride
+abbrev pub nothing : Further
+nothing = record {
+  window = no_window;
+  first = no_window;
+  second = no_window;
+  third = no_window;
+  rides = 0;
+  paid = 0;
+}
+
+none-three : (caps : List CapRules) → length caps ≤ 3
+    → take (length caps) (no_window ∷ no_window ∷ no_window ∷ []) ≡ map (λ cap. no_window) caps
+none-three [] few = refl
+none-three (x ∷ []) few = refl
+none-three (x ∷ y ∷ []) few = refl
+none-three (x ∷ y ∷ z ∷ []) few = refl
+none-three (x ∷ y ∷ z ∷ u ∷ more) few = absurd (omega (arith, few))
+
+room-nothing : HasRoom nothing
+unfolding no_window
+room-nothing = record {
+  paid = omega arith;
+  rides = omega arith;
+  window = omega arith;
+  first = omega arith;
+  second = omega arith;
+  third = omega arith;
+}
+
+further-nothing : (rules : TokenRules) (caps : List CapRules) → length caps ≤ 3
+    → IsFurther (length caps) nothing (no_rides (record { rules = rules; caps = caps }))
+unfolding no_rides
+further-nothing rules caps few = record {
+  rides = omega arith;
+  paid = refl;
+  window = refl;
+  caps = none-three caps few;
+  room = room-nothing;
+}
+
+pub keeps-nothing : (rules : TokenRules) (caps : List CapRules) → length caps ≤ 3
+    → KeepsStates caps nothing (states (record { rules = rules; caps = caps }) [])
+unfolding states after_rides taken.rides taken.trips live live_after blocks_by
+keeps-nothing rules [] few = tt
+keeps-nothing rules (cap ∷ caps) few = further-nothing rules (cap ∷ caps) few
+
+-- what is kept if there are caps
+pub keeps-some : (caps : List CapRules) (further : Further) (states : CapStates)
+    → (length caps ≡ 0 → ⊥) → KeepsStates caps further states
+    → IsFurther (length caps) further states
+keeps-some [] further states some keeps = absurd (some refl)
+keeps-some (cap ∷ caps) further states some keeps = keeps
+
+pub keeps-is : (caps : List CapRules) (further : Further) (states : CapStates)
+    → IsFurther (length caps) further states → KeepsStates caps further states
+keeps-is [] further states is = tt
+keeps-is (cap ∷ caps) further states is = is

@@ -1,5 +1,10 @@
+pub mod BillLemmas
+pub mod CeilingLemmas
+pub mod ExplainLemmas
 pub mod FoldLemmas
 pub mod FurtherLemmas
 pub mod LoweredLemmas
 pub mod NoCapsLemmas
+pub mod OneMoreLemmas
 pub mod RideLemmas
+pub mod SeenLemmas

@@ -1,8 +1,10 @@
 -- With no cap beside `window`, the states are the numbers of its last window.
 use Rattle.std.proofs.Common.{◌≡◌, ℕ, suc, ◌+◌, ◌-◌, Bool, true, false, cond, List, [], ◌∷◌, ◌++◌}
-use Rattle.std.proofs.Common.{Option, Some, None, refl, sym, ap, ◌∙◌, length, nat_lt, is_some, arith}
+use Rattle.std.proofs.Common.{Option, Some, None, refl, sym, ap, ◌∙◌, length, nat_lt, is_some}
+use Rattle.std.proofs.Common.{arith}
 use Rattle.std.proofs.Common.{append-nil, append_assoc, map, option_map}
 use Rattle.std.specs.List.{last_or}
+use Rattle.std.proofs.lemmas.Bool.{le-ltb}
 use Rattle.tariffs.specs.declared.mode.Mode.{Mode}
 use Rattle.account_rule.specs.declared.reason.Charge.{Charge}
 use Rattle.account_rule.specs.declared.reason.Charge.TheVariants.{CeilingCut, CeilingReached, Full}
@@ -24,7 +26,10 @@ use Rattle.account_rule.proofs.BlockLemmas.{length-push}
 use Rattle.account_rule.proofs.LimitLemmas.{cents-push, last_charge-push, paid-push}
 use Rattle.account_rule.proofs.ReasonLemmas.{reply-follows}
 use Rattle.account_rule.proofs.WindowLemmas.{after_ride as after_window}
-use Rattle.fare_caps.specs.Caps.{CappedRules, counted, each_window, no_window, opened, opened_until}
+use Rattle.fare_caps.specs.Represents.{KeepsStates}
+use Rattle.fare_caps.specs.declared.further.Further.{Further}
+use Rattle.fare_caps.specs.Caps.{CapRules, CappedRules, counted, each_window, no_window, opened}
+use Rattle.fare_caps.specs.Caps.{opened_until}
 use Rattle.fare_caps.specs.Caps.{window_cap}
 use Rattle.fare_caps.specs.CapStates.{CapStates, after_ride, at_ride, charge_at, no_rides}
 use Rattle.fare_caps.specs.CapStates.{ride_charge, states, with_charge}
@@ -98,7 +103,9 @@ at_ride-block : (rules : TokenRules) (block : List LiveTap) (ride : LiveTap)
     ≡ cond (is_within rules.until block ride) (of_block rules block)
     (numbers rules ride.moment (rules.until ride.moment) [])
 unfolding at_ride of_block opened opened_until window_cap each_window is_within
-at_ride-block rules [] ride = rw (none-paid rules, none-cost rules) refl
+at_ride-block rules [] ride =
+    let past : nat_lt ride.moment 0 ≡ false = le-ltb ride.moment 0 (omega arith) in
+    rw (past, none-paid rules, none-cost rules) refl
 at_ride-block rules (first ∷ block) ride =
     elim (nat_lt ride.moment (rules.until first.moment)) as (λ v. record {
       rides = cond v (length (first ∷ block)) 0;
@@ -157,7 +164,7 @@ unfolding charge_at least_from
 charge-none rules ride states = by-window _
 
 -- the reason of a ride of these states
-abbrev ride_in : TokenRules → LiveTap → CapStates → Reason
+abbrev pub ride_in : TokenRules → LiveTap → CapStates → Reason
 ride_in rules ride states = reason.Ride states.window.start states.window.until
     (charge (rules.terms ride) states.rides states.window.cents)
 
@@ -166,7 +173,7 @@ ride_by-some : (start until : ℕ) (found : Option Charge) (one : Charge) → fo
 ride_by-some start until found one is = ap (rule.ride_by start until) is
 
 -- the reason of a ride of a window is that of its states
-ride-block : (rules : TokenRules) (block : List LiveTap) (ride : LiveTap)
+pub ride-block : (rules : TokenRules) (block : List LiveTap) (ride : LiveTap)
     → rule.ride_of rules (after_window rules block ride)
     ≡ ride_in rules ride (at_ride (without_caps rules) ride (of_block rules block))
 unfolding rule.ride_of of_block is_within
@@ -186,7 +193,7 @@ ride-block rules (first ∷ block) ride =
           (last_charge-push rules.terms [] ride)
     ])
 
-free-same : (capped : CappedRules) (states : CapStates) (tap : TapIn) (one : Reason)
+pub free-same : (capped : CappedRules) (states : CapStates) (tap : TapIn) (one : Reason)
     → is_of_ride one ≡ false → under_caps capped states tap one ≡ uncapped one
 free-same capped states tap reason.Unknown free = refl
 free-same capped states tap (reason.Stale latest) free = refl
@@ -263,9 +270,35 @@ unfolding capped_window last_window
 window-none rules taps =
     rw (states-block rules taps) (shown-block rules (last_block (windows rules taps)))
 
+-- with a list of caps that is empty
+pub window-empty : (rules : TokenRules) (caps : List CapRules) (taps : List TapIn)
+    → length caps ≡ 0
+    → capped_window (record { rules = rules; caps = caps }) taps ≡ last_window rules taps
+window-empty rules [] taps none = window-none rules taps
+window-empty rules (cap ∷ caps) taps none = absurd (omega (arith, none))
+
+pub reason-empty : (rules : TokenRules) (caps : List CapRules) (taps : List TapIn) (tap : TapIn)
+    → length caps ≡ 0
+    → capped_reason (record { rules = rules; caps = caps }) taps tap
+    ≡ uncapped (rule.reason rules taps tap)
+reason-empty rules [] taps tap none = reason-none rules taps tap
+reason-empty rules (cap ∷ caps) taps tap none = absurd (omega (arith, none))
+
+pub reply-empty : (rules : TokenRules) (caps : List CapRules) (taps : List TapIn) (tap : TapIn)
+    → length caps ≡ 0
+    → capped_reply (record { rules = rules; caps = caps }) taps tap ≡ reply rules taps tap
+reply-empty rules [] taps tap none = reply-none rules taps tap
+reply-empty rules (cap ∷ caps) taps tap none = absurd (omega (arith, none))
+
+pub keeps-empty : (caps : List CapRules) (further : Further) (states : CapStates)
+    → length caps ≡ 0 → KeepsStates caps further states
+keeps-empty [] further states none = tt
+keeps-empty (cap ∷ caps) further states none = absurd (omega (arith, none))
+
 later-after : (capped : CappedRules) (earlier taps later : List TapIn)
     → capped_replies_after capped earlier (taps ++ later)
-    ≡ capped_replies_after capped earlier taps ++ capped_replies_after capped (earlier ++ taps) later
+    ≡ capped_replies_after capped earlier taps ++ capped_replies_after capped (earlier ++ taps)
+    later
 unfolding capped_replies_after
 later-after capped earlier [] later = rw (append-nil earlier) refl
 later-after capped earlier (tap ∷ taps) later =

@@ -1,5 +1,6 @@
 -- What one more tap makes of the rides, by why it is answered as it is.
-use Rattle.std.proofs.Common.{◌≡◌, ℕ, Bool, true, false, cond, List, [], ◌∷◌, ◌++◌, Option, Some, None}
+use Rattle.std.proofs.Common.{◌≡◌, ℕ, Bool, true, false, cond, List, [], ◌∷◌, ◌++◌, Option, Some}
+use Rattle.std.proofs.Common.{None}
 use Rattle.std.proofs.Common.{refl, sym, ap, ◌∙◌, append-nil, ⊎_elim}
 use Rattle.std.proofs.lemmas.Bool.{cases_Bool}
 use Rattle.std.specs.Option.{option_to_list}
@@ -32,7 +33,8 @@ pub data Tapped (rules : TokenRules) (taps : List TapIn) (tap : TapIn) : Type 0 
       → rides rules (taps ++ tap ∷ []) ≡ rides rules taps → Tapped rules taps tap
   is_ride : (mode : Mode) → tap.mode ≡ Some mode
       → reason rules taps tap
-      ≡ ride_of rules (after_window rules (last_block (windows rules taps)) (live_at tap.moment mode))
+      ≡ ride_of rules
+      (after_window rules (last_block (windows rules taps)) (live_at tap.moment mode))
       → rides rules (taps ++ tap ∷ []) ≡ rides rules taps ++ live_at tap.moment mode ∷ []
       → Tapped rules taps tap
 

@@ -1,6 +1,6 @@
 -- What decides the charge of a ride: the last windows of `window` and of all caps, after the rides
 -- before it.
-use Rattle.std.specs.Prelude.{ℕ, ◌+◌, Bool, if◌then◌else◌, List, [], ◌∷◌, is_some, map, nat_lt, None}
+use Rattle.std.specs.Prelude.{ℕ, ◌+◌, if◌then◌else◌, List, [], ◌∷◌, is_some, map, nat_lt, None}
 use Rattle.account_rule.specs.declared.tap.TapIn.{TapIn}
 use Rattle.account_rule.specs.Taps.{LiveTap}
 use Rattle.account_rule.specs.Trips.{rides}

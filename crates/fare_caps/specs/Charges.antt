@@ -1,5 +1,6 @@
 -- What a ride costs: today's charge by `window`, lowered to the least that a further cap leaves.
-use Rattle.std.specs.Prelude.{ℕ, suc, ◌==◌, if◌then◌else◌, List, [], ◌∷◌, nat_lt, Option, Some, None}
+use Rattle.std.specs.Prelude.{ℕ, suc, ◌==◌, if◌then◌else◌, List, [], ◌∷◌, nat_lt, Option, Some}
+use Rattle.std.specs.Prelude.{None}
 use Rattle.account_rule.specs.declared.reason.Charge.{Charge}
 use Rattle.account_rule.specs.declared.reason.Charge.TheVariants.{CeilingCut, CeilingReached, Full}
 use Rattle.account_rule.specs.declared.reason.Charge.TheVariants.{RideLimitReached}
@@ -26,8 +27,8 @@ least_from index least ride (cap ∷ caps) [] = least
 least_from index least ride (cap ∷ caps) (window ∷ windows) =
     least_from (suc index) (lesser least index (left ride cap window)) ride caps windows
 
--- a charge of cents by `window`, lowered to what a cap leaves if that is less: if it leaves nothing,
--- the ride is free, whatever its fare
+-- a charge of cents by `window`, lowered to what a cap leaves if that is less. If it leaves nothing
+-- the ride is free, whatever its fare.
 abbrev pub lowered_by : Charge → ℕ → ℕ → Option CapLeft → CapCharge
 lowered_by charge position cents None = ByWindow charge
 lowered_by charge position cents (Some least) =

@@ -1,11 +1,14 @@
 -- What holds of every list of taps under caps.
-use Rattle.std.specs.Prelude.{◌≡◌, List, [], ◌++◌}
+use Rattle.std.specs.Prelude.{◌≡◌, ℕ, ◌≤◌, true, List, [], ◌∷◌, ◌++◌, All, sum_by}
+use Rattle.account_rule.specs.Taps.{LiveTap}
 use Rattle.account_rule.specs.declared.tap.TapIn.{TapIn}
 use Rattle.account_rule.specs.Replies.{replies}
 use Rattle.account_rule.specs.TokenRules.{TokenRules}
 use Rattle.account_rule.specs.Windows.{last_window}
 use Rattle.fare_caps.specs.CappedReplies.{capped_replies, capped_replies_after, capped_window}
-use Rattle.fare_caps.specs.Caps.{CappedRules}
+use Rattle.fare_caps.specs.Caps.{CapRules, CappedRules}
+use Rattle.fare_caps.specs.CapWindows.{Charged, all_caps, cents_for, charged, counted_in}
+use Rattle.fare_caps.specs.CapWindows.{windows_of}
 
 -- the rules with no cap beside `window`
 abbrev pub without_caps : TokenRules → CappedRules
@@ -29,3 +32,49 @@ LaterTapsChangeNothing =
     (capped : CappedRules) (taps later : List TapIn)
     → capped_replies capped (taps ++ later)
     ≡ capped_replies capped taps ++ capped_replies_after capped taps later
+
+-- the cap's ceiling for the ride, if it counts the ride, is not above this
+abbrev pub HasCeiling : CapRules → ℕ → Charged → Type 0
+HasCeiling cap ceiling one = cap.counts one.ride ≡ true → cap.ceiling one.ride ≤ ceiling
+
+-- no window of the cap counts more than the highest ceiling of the rides that it counts
+abbrev pub KeepsCeiling : List Charged → CapRules → Type 0
+KeepsCeiling rides cap =
+    (ceiling : ℕ) → All (λ window.
+    All (HasCeiling cap ceiling) window → counted_in cap window ≤ ceiling) (windows_of cap rides)
+
+-- so it is of all caps, `window` among them
+abbrev pub CapsKeepTheirCeilings : Type 0
+CapsKeepTheirCeilings =
+    (capped : CappedRules) (taps : List TapIn)
+    → All (KeepsCeiling (charged capped taps)) (all_caps capped)
+
+-- the windows of any cap add up to what it counts of all rides
+abbrev pub WindowsAddUp : Type 0
+WindowsAddUp =
+    (capped : CappedRules) (taps : List TapIn) (cap : CapRules)
+    → sum_by (counted_in cap) (windows_of cap (charged capped taps))
+    ≡ sum_by (cents_for cap) (charged capped taps)
+
+-- and the rides add up to all replies
+abbrev pub RidesAreTheBill : Type 0
+RidesAreTheBill =
+    (capped : CappedRules) (taps : List TapIn)
+    → sum_by (λ (one : Charged). one.cents) (charged capped taps)
+    ≡ sum_by (λ reply. reply.cents) (capped_replies capped taps)
+
+-- the cap counts rides on all modes
+abbrev pub CountsAll : CapRules → Type 0
+CountsAll cap = (ride : LiveTap) → cap.counts ride ≡ true
+
+-- the rules with one more cap
+abbrev pub with_cap : CappedRules → CapRules → CappedRules
+with_cap capped more = record capped { caps = more ∷ capped.caps }
+
+-- if all caps count all modes, one more of them makes no list of taps dearer
+abbrev pub OneMoreCapIsNeverDearer : Type 0
+OneMoreCapIsNeverDearer =
+    (capped : CappedRules) (more : CapRules) (taps : List TapIn)
+    → All CountsAll (more ∷ capped.caps)
+    → sum_by (λ reply. reply.cents) (capped_replies (with_cap capped more) taps)
+    ≤ sum_by (λ reply. reply.cents) (capped_replies capped taps)

@@ -1,5 +1,6 @@
 pub mod CapMeanings
 pub mod CapStates
+pub mod CapWindows
 pub mod CappedReplies
 pub mod Caps
 pub mod Charges

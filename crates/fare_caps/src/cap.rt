@@ -32,7 +32,7 @@ pub struct CapTerms {
     pub span: WindowSpan,
     /// Whether it counts rides on a mode, by the index of the mode.
     pub counts: [bool; MAX_MODES],
-    /// The ceilings in cents by the indices of classes, at most 100,000,000: so are those that lack.
+    /// The ceilings in cents by the index of the class, at most 100,000,000. So is one that lacks.
     pub ceilings: Vec<u32>,
 }
 
@@ -54,6 +54,7 @@ impl Cap {
         self.terms_at(moment).of_ride(mode, class)
     }
 
+    #[tactic(auto, unfolding(crate::specs::CapMeanings::terms_from))]
     fn terms_at(&self, moment: u64) -> &CapTerms
         requires bounds { IsBoundedCap self.now }
         ensures terms { result.now ≡ terms_at self.now moment }

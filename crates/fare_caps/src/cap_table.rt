@@ -46,7 +46,13 @@ impl CapTable {
         self.caps.len()
     }
 
-    pub(crate) fn of_ride(&self, index: usize, moment: u64, mode: Mode, class: u32) -> Option<RideCap>
+    pub(crate) fn of_ride(
+        &self,
+        index: usize,
+        moment: u64,
+        mode: Mode,
+        class: u32,
+    ) -> Option<RideCap>
         ensures said { result ≡ option_map
             (λ cap. said_of (terms_at cap moment) mode.position class)
             (slice_get self.now index) }

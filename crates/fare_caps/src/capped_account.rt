@@ -8,13 +8,14 @@ ghost use Rattle.fare_caps.specs.CapMeanings.{capped_rules_of};
 ghost use Rattle.fare_caps.specs.CappedReplies.{capped_reason, capped_reply, capped_window};
 ghost use Rattle.fare_caps.specs.CappedReplies.{replied_by, uncapped};
 ghost use Rattle.fare_caps.specs.Represents.{Represents, RepresentsSome};
+ghost use Rattle.fare_caps.specs.inside.Seen.{ride_seen};
 
 use crate::cap_charge::CapCharge;
 use crate::cap_table::CapTable;
 use crate::capped_reason::CappedReason;
 use crate::further::Further;
 use account_rule::{Account, Reason, Reply, TapIn, WindowView};
-use tariffs::{Clock, FareTable};
+use tariffs::{Clock, FareTable, Mode};
 
 /// The account of one token under one fare table and its caps. Without caps it costs what
 /// `Account` costs, and answers as that does.
@@ -62,7 +63,8 @@ impl CappedAccount {
             → result ≡ capped_reply (capped_rules_of table.now caps.now token.now) taps tap }
         ensures holds { (taps : List TapIn)
             → Represents (capped_rules_of table.now caps.now token.now) self.old taps
-            → Represents (capped_rules_of table.now caps.now token.now) self.new (taps ++ tap ∷ []) }
+            → Represents (capped_rules_of table.now caps.now token.now) self.new
+            (taps ++ tap ∷ []) }
         ensures some { RepresentsSome (capped_rules_of table.now caps.now token.now) self.new }
         ensures few { result.cents ≤ 100_000 }
     {
@@ -92,7 +94,8 @@ impl CappedAccount {
             → result ≡ capped_reason (capped_rules_of table.now caps.now token.now) taps tap }
         ensures holds { (taps : List TapIn)
             → Represents (capped_rules_of table.now caps.now token.now) self.old taps
-            → Represents (capped_rules_of table.now caps.now token.now) self.new (taps ++ tap ∷ []) }
+            → Represents (capped_rules_of table.now caps.now token.now) self.new
+            (taps ++ tap ∷ []) }
         ensures some { RepresentsSome (capped_rules_of table.now caps.now token.now) self.new }
         ensures few { (replied_by result).cents ≤ 100_000 }
     {
@@ -100,27 +103,17 @@ impl CappedAccount {
         if caps.len() == 0 {
             return uncapped(reason);
         }
-        match reason {
-            Reason::Ride {
-                start,
-                until,
-                charge: _,
-            } => {
-                let Some(mode) = tap.mode else {
-                    return CappedReason::Unknown;
-                };
-                let tariff = table.at(tap.moment);
-                let class = tariff.class_of(token);
-                let charge = self
-                    .further
-                    .charge_ride(tariff, caps, clock, class, mode, tap.moment);
-                CappedReason::Ride {
-                    start,
-                    until,
-                    charge,
-                }
-            }
-            _ => uncapped(reason),
+        let Some(ride) = ride_seen(reason, tap.mode) else {
+            return uncapped(reason);
+        };
+        let tariff = table.at(tap.moment);
+        let class = tariff.class_of(token);
+        CappedReason::Ride {
+            start: ride.start,
+            until: ride.until,
+            charge: self
+                .further
+                .charge_ride(tariff, caps, clock, class, ride.mode, tap.moment),
         }
     }
 
@@ -130,7 +123,9 @@ impl CappedAccount {
             → length capped.caps ≡ length caps.now → Represents capped self.now taps
             → result ≡ capped_window capped taps }
     {
-        let view = self.account.window()?;
+        let Some(view) = self.account.window() else {
+            return None;
+        };
         if caps.len() == 0 {
             return Some(view);
         }
@@ -140,6 +135,32 @@ impl CappedAccount {
             paid: u32::from(self.further.paid),
             cents: self.further.window.cents,
         })
+    }
+}
+
+#[derive(Clone, Copy)]
+struct RideSeen {
+    start: u64,
+    until: u64,
+    mode: Mode,
+}
+
+/// The ride whose reason this is, at a validator of the mode.
+fn ride_seen(reason: Reason, mode: Option<Mode>) -> Option<RideSeen>
+    ensures { result ≡ ride_seen reason mode }
+{
+    match reason {
+        Reason::Unknown => None,
+        Reason::Stale { latest: _ } => None,
+        Reason::Transfer { moment: _, mode: _ } => None,
+        Reason::Ride {
+            start,
+            until,
+            charge: _,
+        } => {
+            let mode = mode?;
+            Some(RideSeen { start, until, mode })
+        }
     }
 }
 

@@ -43,8 +43,14 @@ struct RideCaps {
 
 impl Further {
     pub(crate) fn none() -> Self
-        ensures { result ≡ record { window = no_window; first = no_window; second = no_window;
-            third = no_window; rides = 0; paid = 0 } }
+        ensures { result ≡ record {
+          window = no_window;
+          first = no_window;
+          second = no_window;
+          third = no_window;
+          rides = 0;
+          paid = 0;
+        } }
     {
         Further {
             window: CapWindow::none(),
@@ -83,6 +89,7 @@ impl Further {
             (window_end_in clock.now tariff.now.meaning.window moment)
             (spec.said_by caps.now moment mode.position class) self.old) }
         ensures few { cap_cents result ≤ 100_000 }
+        ensures room { HasRoom self.new }
     {
         let said = RideCaps {
             first: caps.of_ride(0, moment, mode, class),

@@ -8,8 +8,6 @@ mod books;
 #[cfg(test)]
 mod callers;
 #[cfg(test)]
-mod caps;
-#[cfg(test)]
 mod damaged;
 #[cfg(test)]
 mod draws;

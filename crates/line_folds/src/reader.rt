@@ -1,8 +1,11 @@
 //! Reads a text line by line, and refuses a line of more than 1,024 bytes.
 
-ghost use Rattle.std.specs.Prelude.{IfSome, List, ℕ};
+ghost use Rattle.std.specs.Prelude.{◌≡◌, [], IfOk, IfSome, List, OnOk, ℕ};
 ghost use Rattle.line_folds.specs.Folds.{IsNextLine};
+ghost use Rattle.line_folds.specs.inside.Fronts.{HasTaken, IsFirstLine};
 
+use memchr::memchr;
+use std::alloc::AllocError;
 use std::io::{BufRead, ErrorKind};
 
 const MAX_LINE_BYTES: usize = 1_024;
@@ -22,16 +25,51 @@ pub enum ReadFault {
     NoMemory,
 }
 
+/// Appends the next line if the reader has it at hand, and says whether it has.
+fn take_line<R: BufRead>(from: &mut R, line: &mut Vec<u8>) -> Result<bool, AllocError>
+    requires { line.old.items ≡ [] }
+    ensures { IfOk result (λ taken. IfSome (R.remaining from.old) (λ text.
+        HasTaken text line.new.items (R.remaining from.new) taken)) }
+{
+    let front = match from.fill_buf() {
+        Ok(front) => front,
+        Err(_) => return Ok(false),
+    };
+    let Some(end) = memchr(b'\n', front) else {
+        return Ok(false);
+    };
+    line.extend_from_slice(&front[..end + 1])?;
+    from.consume(end + 1);
+    Ok(true)
+}
+
+/// Appends the next line, of any length, with its line feed. At the end there is none.
+fn append_line<R: BufRead>(from: &mut R, line: &mut Vec<u8>) -> Result<(), ReadFault>
+    requires { line.old.items ≡ [] }
+    ensures { OnOk result (IsFirstLine (R.remaining from.old) line.new.items
+        (R.remaining from.new)) }
+{
+    match take_line(from, line) {
+        Ok(true) => return Ok(()),
+        Ok(false) => {}
+        Err(AllocError) => return Err(ReadFault::NoMemory),
+    }
+    match from.read_until(b'\n', line) {
+        Ok(_) => Ok(()),
+        Err(error) if error.kind() == ErrorKind::OutOfMemory => Err(ReadFault::NoMemory),
+        Err(_) => Err(ReadFault::Unread),
+    }
+}
+
 /// Reads the next line, of any length, with its line feed, in place of what the room has.
 pub fn next_line<R: BufRead>(from: &mut R, line: &mut Vec<u8>) -> Result<NextLine, ReadFault>
     ensures { IfSome (R.remaining from.old) (λ text.
         IsNextLine text line.new.items (R.remaining from.new) result) }
 {
     line.clear();
-    match from.read_until(b'\n', line) {
-        Ok(_) => {}
-        Err(error) if error.kind() == ErrorKind::OutOfMemory => return Err(ReadFault::NoMemory),
-        Err(_) => return Err(ReadFault::Unread),
+    match append_line(from, line) {
+        Ok(()) => {}
+        Err(why) => return Err(why),
     }
     if line.is_empty() {
         return Ok(NextLine::End);

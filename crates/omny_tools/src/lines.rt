@@ -1,5 +1,6 @@
 //! Reports and ledgers of others, whose lines are short.
 
+use memchr::memchr_iter;
 use std::io;
 use std::io::{ErrorKind, Read};
 
@@ -24,12 +25,18 @@ impl<R: Read + Drop> Lines<R> {
         }
     }
 
-    /// Reads the byte if it may come next.
-    fn takes(&mut self, byte: u8) -> bool {
-        self.length = match byte {
-            b'\n' => 0,
-            _ => self.length.saturating_add(1),
-        };
+    /// Reads these bytes, if no line of them is too long.
+    fn takes(&mut self, bytes: &[u8]) -> bool {
+        let mut start = 0;
+        for end in memchr_iter(b'\n', bytes) {
+            if self.length.saturating_add(end.saturating_sub(start)) >= LINE_BYTES {
+                return false;
+            }
+            self.length = 0;
+            start = end.saturating_add(1);
+        }
+        let rest = bytes.len().saturating_sub(start);
+        self.length = self.length.saturating_add(rest);
         self.length < LINE_BYTES
     }
 }
@@ -39,12 +46,9 @@ impl<R: Read + Drop> Read for Lines<R> {
         let count = self.from.read(buf)?;
         if self.are_short
             && let Some(bytes) = buf.get(..count)
+            && !self.takes(bytes)
         {
-            for byte in bytes {
-                if !self.takes(*byte) {
-                    return Err(io::Error::from(ErrorKind::InvalidData));
-                }
-            }
+            return Err(io::Error::from(ErrorKind::InvalidData));
         }
         Ok(count)
     }

@@ -1,5 +1,5 @@
 -- What private functions make of the numbers that are kept, by what the caps say of one ride.
-use Rattle.std.specs.Prelude.{◌≡◌, ℕ, ◌+◌, ◌-◌, ◌≤◌, if◌then◌else◌, All, List, [], ◌∷◌, is_some, min}
+use Rattle.std.specs.Prelude.{ℕ, ◌+◌, ◌-◌, if◌then◌else◌, List, is_some, min}
 use Rattle.std.specs.Prelude.{nat_lt, Option, Some, None, option_map, slice_get}
 use Rattle.tariffs.specs.ClockView.{ClockView}
 use Rattle.tariffs.specs.Until.{window_end_in}

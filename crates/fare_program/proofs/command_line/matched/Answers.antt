@@ -42,7 +42,7 @@ returns-clause-kinds c =
     (c.try_get_matches_from.ensures.kinds (ap is_simple_and_free same ∙ is_free))
 
 -- whether no rule but that of index `k` passes
-is_only : (Rule → Bool) → ℕ → List Rule → Bool
+abbrev is_only : (Rule → Bool) → ℕ → List Rule → Bool
 is_only p k [] = true
 is_only p zero (r ∷ rs) = list_all (λ x. not (p x)) rs
 is_only p (suc k) (r ∷ rs) = if p r then false else is_only p k rs
@@ -56,11 +56,13 @@ only p zero (r ∷ rs) (suc j) e ok lt is =
 only p (suc k) (r ∷ rs) zero e ok lt is =
     let bad : false ≡ true = rw is at ok in
     cc
-only p (suc k) (r ∷ rs) (suc j) e ok lt is = go (p r) ok
+only p (suc k) (r ∷ rs) (suc j) e ok lt is =
+    go (p r) ok (λ rest. only p k rs j e rest (omega arith) is)
   where
-    go : (b : Bool) → (if b then false else is_only p k rs) ≡ true → suc j ≡ suc k
-    go true no = absurd (true≢false (sym no))
-    go false rest = ap suc (only p k rs j e rest (omega arith) is)
+    go : (b : Bool) → (if b then false else is_only p k rs) ≡ true
+        → (is_only p k rs ≡ true → j ≡ k) → suc j ≡ suc k
+    go true bad later = absurd (true≢false (sym bad))
+    go false rest later = ap suc (later rest)
 
 only_workers : (j : ℕ) (e : Rule) → j < length program.top.rules
     → bytes_eq (slice_index_or program.top.rules j e).id (codes "workers") ≡ true → j ≡ 5

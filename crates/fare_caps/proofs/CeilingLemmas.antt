@@ -1,0 +1,353 @@
+-- No window of a cap exceeds its ceiling, and the windows add up.
+use Rattle.std.proofs.Common.{◌≡◌, ℕ, ◌+◌, ◌-◌, ◌≤◌, Bool, true, false, cond, List, [], ◌∷◌, ◌++◌}
+use Rattle.std.proofs.Common.{Option, Some, None, refl, sym, ap, ◌∙◌, subst, arith, nat_lt, map}
+use Rattle.std.proofs.Common.{All, inl, inr, sum_by, suc}
+use Rattle.std.proofs.lemmas.Bool.{cases_Bool, le-ltb}
+use Rattle.std.proofs.lemmas.List.Elements.{All-cons, All-head, All-nil, All-tail}
+use Rattle.std.proofs.lemmas.List.Sums.{sum_by-cons, sum_by_push}
+use Rattle.account_rule.specs.declared.reason.Charge.{Charge}
+use Rattle.account_rule.specs.declared.tap.TapIn.{TapIn}
+use Rattle.account_rule.specs.Blocks.{blocks_by, blocks_from}
+use Rattle.account_rule.specs.Taps.{LiveTap}
+use Rattle.account_rule.specs.Trips.{rides}
+use Rattle.account_rule.specs.Windows.{charge, charged_by}
+use Rattle.account_rule.proofs.LimitLemmas.{charged as charged_or_free}
+use Rattle.fare_caps.specs.Caps.{CapRules, CappedRules, counted, each_window, left, no_window}
+use Rattle.fare_caps.specs.Caps.{opened, opened_until, window_cap}
+use Rattle.fare_caps.specs.CapStates.{CapStates, after_ride, at_ride, charge_at, no_rides}
+use Rattle.fare_caps.specs.CapStates.{ride_charge, with_charge}
+use Rattle.fare_caps.specs.CapWindows.{Charged, all_caps, cents_for, charged, charged_after}
+use Rattle.fare_caps.specs.CapWindows.{counted_in, is_in, windows_of}
+use Rattle.fare_caps.specs.Charges.{cap_cents, least_from, lesser, lowered}
+use Rattle.fare_caps.specs.Laws.{HasCeiling, KeepsCeiling}
+use Rattle.fare_caps.specs.declared.cap_charge.CapLeft.{CapLeft}
+use Rattle.fare_caps.specs.declared.cap_window.CapWindow.{CapWindow}
+use Rattle.fare_caps.proofs.LoweredLemmas.{IsAtMost, lesser-here, lesser-keeps, lowered-le, most-le}
+
+-- ---- each ride costs what a cap leaves at most
+
+-- the ride, in the cap's window
+abbrev in_window : CapRules → CapWindow → Charged → CapWindow
+in_window cap window one = opened one.ride cap window
+
+-- each of the rides costs at most what the cap leaves, if it counts the ride
+abbrev Fits : CapRules → CapWindow → List Charged → Type 0
+Fits cap window [] = Unit {0}
+Fits cap window (one ∷ more) =
+    (cap.counts one.ride ≡ true
+    → one.cents ≤ cap.ceiling one.ride - (in_window cap window one).cents)
+    × Fits cap (counted one.ride one.cents cap (in_window cap window one)) more
+
+abbrev AllFit : List CapRules → List CapWindow → List Charged → Type 0
+AllFit [] windows rides = Unit {0}
+AllFit (cap ∷ caps) [] rides = Unit {0}
+AllFit (cap ∷ caps) (window ∷ windows) rides = Fits cap window rides × AllFit caps windows rides
+
+-- the same of one ride
+abbrev AllLeave : ℕ → LiveTap → List CapRules → List CapWindow → Type 0
+AllLeave cents ride [] windows = Unit {0}
+AllLeave cents ride (cap ∷ caps) [] = Unit {0}
+AllLeave cents ride (cap ∷ caps) (window ∷ windows) =
+    (cap.counts ride ≡ true → cents ≤ cap.ceiling ride - window.cents)
+    × AllLeave cents ride caps windows
+
+least-keeps : (index cents : ℕ) (least : Option CapLeft) (ride : LiveTap) (caps : List CapRules)
+    (windows : List CapWindow) → IsAtMost least cents
+    → IsAtMost (least_from index least ride caps windows) cents
+unfolding least_from
+least-keeps index cents least ride [] windows most = most
+least-keeps index cents least ride (cap ∷ caps) [] most = most
+least-keeps index cents least ride (cap ∷ caps) (window ∷ windows) most =
+    least-keeps (suc index) cents (lesser least index (left ride cap window)) ride caps windows
+    (lesser-keeps least index (left ride cap window) cents most)
+
+least-here : (index : ℕ) (least : Option CapLeft) (ride : LiveTap) (cap : CapRules)
+    (window : CapWindow) → cap.counts ride ≡ true
+    → IsAtMost (lesser least index (left ride cap window)) (cap.ceiling ride - window.cents)
+unfolding left
+least-here index least ride cap window counts = rw counts (lesser-here least index _)
+
+all-leave : (one : Charge) (index : ℕ) (least : Option CapLeft) (ride : LiveTap)
+    (caps : List CapRules) (windows : List CapWindow)
+    → AllLeave (cap_cents (lowered (least_from index least ride caps windows) one)) ride caps
+    windows
+unfolding least_from
+all-leave one index least ride [] windows = tt
+all-leave one index least ride (cap ∷ caps) [] = tt
+all-leave one index least ride (cap ∷ caps) (window ∷ windows) = (
+  λ counts. most-le _ (cap.ceiling ride - window.cents) one
+      (least-keeps (suc index) (cap.ceiling ride - window.cents) _ ride caps windows
+      (least-here index least ride cap window counts)),
+  all-leave one (suc index) (lesser least index (left ride cap window)) ride caps windows,
+)
+
+-- one ride and those after it
+all-fit : (ride : LiveTap) (cents : ℕ) (caps : List CapRules) (windows : List CapWindow)
+    (more : List Charged)
+    → AllLeave cents ride caps (each_window (opened ride) caps windows)
+    → AllFit caps (each_window (counted ride cents) caps (each_window (opened ride) caps windows))
+    more
+    → AllFit caps windows (record { ride = ride; cents = cents } ∷ more)
+unfolding each_window
+all-fit ride cents [] windows more leave fit = tt
+all-fit ride cents (cap ∷ caps) [] more leave fit = tt
+all-fit ride cents (cap ∷ caps) (window ∷ windows) more leave fit =
+    ((leave.0, fit.0), all-fit ride cents caps windows more leave.1 fit.1)
+
+within-window : (capped : CappedRules) (ride : LiveTap) (states : CapStates)
+    → cap_cents (charge_at capped ride states)
+    ≤ (capped.rules.terms ride).ceiling - states.window.cents
+unfolding charge_at
+within-window capped ride states =
+    let terms = capped.rules.terms ride in
+    elim (charged_or_free terms states.rides states.window.cents) [
+      | inl free ↦ omega (
+        arith,
+        free.cost,
+        lowered-le (least_from 0 None ride capped.caps states.caps)
+            (charge terms states.rides states.window.cents),
+      )
+      | inr paid ↦ omega (
+        arith,
+        paid.cost,
+        lowered-le (least_from 0 None ride capped.caps states.caps)
+            (charge terms states.rides states.window.cents),
+      )
+    ]
+
+leave-at : (capped : CappedRules) (ride : LiveTap) (states : CapStates)
+    → AllLeave (cap_cents (charge_at capped ride states)) ride capped.caps states.caps
+unfolding charge_at
+leave-at capped ride states = all-leave _ 0 None ride capped.caps states.caps
+
+pub rides-fit : (capped : CappedRules) (states : CapStates) (rides : List LiveTap)
+    → Fits (window_cap capped.rules) states.window (charged_after capped states rides)
+    × AllFit capped.caps states.caps (charged_after capped states rides)
+unfolding charged_after ride_charge after_ride with_charge at_ride window_cap
+rides-fit capped states [] = (tt, none capped.caps states.caps)
+  where
+    none : (caps : List CapRules) (windows : List CapWindow) → AllFit caps windows []
+    none [] windows = tt
+    none (cap ∷ caps) [] = tt
+    none (cap ∷ caps) (window ∷ windows) = (tt, none caps windows)
+rides-fit capped states (ride ∷ more) =
+    let inside = at_ride capped ride states in
+    let one = charge_at capped ride inside in
+    let rest = rides-fit capped (with_charge capped ride one inside) more in (
+      (λ counts. within-window capped ride inside, rest.0),
+      all-fit ride (cap_cents one) capped.caps states.caps _ (leave-at capped ride inside) rest.1,
+    )
+
+-- ---- the windows of one cap
+
+-- what a window says
+unfoldable said : CapRules → List Charged → CapWindow
+said cap [] = no_window
+said cap (first ∷ window) = record {
+  start = first.ride.moment;
+  until = cap.until first.ride.moment;
+  cents = counted_in cap (first ∷ window);
+}
+
+counted-push : (cap : CapRules) (window : List Charged) (one : Charged)
+    → counted_in cap (window ++ one ∷ []) ≡ counted_in cap window + cents_for cap one
+unfolding counted_in
+counted-push cap window one = sum_by_push (cents_for cap) window one
+
+counted-one : (cap : CapRules) (one : Charged) → counted_in cap (one ∷ []) ≡ cents_for cap one
+unfolding counted_in
+counted-one cap one =
+    sum_by-cons (cents_for cap) one [] ∙ omega arith
+
+-- a ride in a window, or in one of its own
+abbrev with_one : CapRules → List Charged → Charged → List Charged
+with_one cap window one = cond (is_in cap window one) (window ++ one ∷ []) (one ∷ [])
+
+-- a window of these numbers
+abbrev window_with : ℕ → ℕ → ℕ → CapWindow
+window_with start until cents = record { start = start; until = until; cents = cents }
+
+-- the window with one more ride
+abbrev counted_here : CapRules → Charged → CapWindow → CapWindow
+counted_here cap one window =
+    window_with window.start window.until (window.cents + cents_for cap one)
+
+said-one : (cap : CapRules) (first : Charged) (window : List Charged) (one : Charged)
+    → counted one.ride one.cents cap (in_window cap (said cap (first ∷ window)) one)
+    ≡ said cap (with_one cap (first ∷ window) one)
+unfolding said counted opened opened_until is_in
+said-one cap first window one =
+    elim (nat_lt one.ride.moment (cap.until first.ride.moment)) as (λ v.
+    counted_here cap one (cond v (window_with first.ride.moment (cap.until first.ride.moment)
+    (counted_in cap (first ∷ window))) (window_with one.ride.moment (cap.until one.ride.moment) 0))
+    ≡ said cap (cond v (first ∷ (window ++ one ∷ [])) (one ∷ []))) [
+      | true ↦ ap (window_with first.ride.moment (cap.until first.ride.moment))
+          (sym (counted-push cap (first ∷ window) one))
+      | false ↦ ap (window_with one.ride.moment (cap.until one.ride.moment))
+          (omega (arith, counted-one cap one))
+    ]
+
+-- the window is within a ceiling that no ceiling of its rides is above
+abbrev IsWithin : CapRules → ℕ → List Charged → Type 0
+IsWithin cap ceiling window =
+    All (HasCeiling cap ceiling) window → counted_in cap window ≤ ceiling
+
+All-front : {A : Type 0} (P : A → Type 0) (xs ys : List A) → All P (xs ++ ys) → All P xs
+All-front P [] ys all = All-nil P
+All-front P (x ∷ xs) ys all =
+    All-cons P x xs (All-head P x (xs ++ ys) all)
+    (All-front P xs ys (All-tail P x (xs ++ ys) all))
+
+All-last : {A : Type 0} (P : A → Type 0) (xs : List A) (y : A) → All P (xs ++ y ∷ []) → P y
+All-last P [] y all = All-head P y [] all
+All-last P (x ∷ xs) y all = All-last P xs y (All-tail P x (xs ++ y ∷ []) all)
+
+within-push : (cap : CapRules) (ceiling : ℕ) (window : List Charged) (one : Charged)
+    → (cap.counts one.ride ≡ true → one.cents ≤ cap.ceiling one.ride - counted_in cap window)
+    → IsWithin cap ceiling window → IsWithin cap ceiling (window ++ one ∷ [])
+within-push cap ceiling window one leaves within all =
+    let low = within (All-front (HasCeiling cap ceiling) window (one ∷ []) all) in
+    elim (cases_Bool (cap.counts one.ride)) [
+      | inl counts ↦
+          let high : cap.ceiling one.ride ≤ ceiling =
+          All-last (HasCeiling cap ceiling) window one all counts in
+          rw (counted-push cap window one, counts)
+          (omega (arith, leaves counts, low, high))
+      | inr not ↦ rw (counted-push cap window one, not) (omega (arith, low))
+    ]
+
+-- what the window of a ride has counted before it
+in-joins : (cap : CapRules) (first : Charged) (window : List Charged) (one : Charged)
+    → is_in cap (first ∷ window) one ≡ true
+    → (in_window cap (said cap (first ∷ window)) one).cents ≡ counted_in cap (first ∷ window)
+unfolding said opened opened_until is_in
+in-joins cap first window one joins = rw joins refl
+
+in-apart : (cap : CapRules) (first : Charged) (window : List Charged) (one : Charged)
+    → is_in cap (first ∷ window) one ≡ false
+    → (in_window cap (said cap (first ∷ window)) one).cents ≡ 0
+unfolding said opened opened_until is_in
+in-apart cap first window one apart = rw apart refl
+
+within-none : (cap : CapRules) (ceiling : ℕ) → IsWithin cap ceiling []
+unfolding counted_in
+within-none cap ceiling = λ all. omega arith
+
+none-counted : (cap : CapRules) → counted_in cap [] ≡ 0
+unfolding counted_in
+none-counted cap = refl
+
+within-one : (cap : CapRules) (ceiling : ℕ) (one : Charged)
+    → (cap.counts one.ride ≡ true → one.cents ≤ cap.ceiling one.ride)
+    → IsWithin cap ceiling (one ∷ [])
+within-one cap ceiling one leaves =
+    within-push cap ceiling [] one
+    (λ counts. omega (arith, leaves counts, none-counted cap)) (within-none cap ceiling)
+
+blocks-within : (cap : CapRules) (ceiling : ℕ) (first : Charged) (window rides : List Charged)
+    → Fits cap (said cap (first ∷ window)) rides → IsWithin cap ceiling (first ∷ window)
+    → All (IsWithin cap ceiling) (blocks_from (is_in cap) (first ∷ window) rides)
+unfolding blocks_from
+blocks-within cap ceiling first window [] fits within =
+    All-cons (IsWithin cap ceiling) (first ∷ window) [] within (All-nil (IsWithin cap ceiling))
+blocks-within cap ceiling first window (one ∷ more) fits within =
+    elim (cases_Bool (is_in cap (first ∷ window) one)) [
+      | inl joins ↦
+          let same : counted one.ride one.cents cap (in_window cap (said cap (first ∷ window)) one)
+          ≡ said cap (first ∷ (window ++ one ∷ [])) =
+          said-one cap first window one
+          ∙ ap (λ b. said cap (cond b (first ∷ (window ++ one ∷ [])) (one ∷ []))) joins in
+          rw joins (blocks-within cap ceiling first (window ++ one ∷ []) more
+          (subst (λ w. Fits cap w more) same fits.1)
+          (within-push cap ceiling (first ∷ window) one
+          (λ counts. omega (arith, fits.0 counts, in-joins cap first window one joins)) within))
+      | inr apart ↦
+          let same : counted one.ride one.cents cap (in_window cap (said cap (first ∷ window)) one)
+          ≡ said cap (one ∷ []) =
+          said-one cap first window one
+          ∙ ap (λ b. said cap (cond b (first ∷ (window ++ one ∷ [])) (one ∷ []))) apart in
+          rw apart (All-cons (IsWithin cap ceiling) (first ∷ window) _ within
+          (blocks-within cap ceiling one [] more
+          (subst (λ w. Fits cap w more) same fits.1)
+          (within-one cap ceiling one
+          (λ counts. omega (arith, fits.0 counts, in-apart cap first window one apart)))))
+    ]
+
+fresh-window : (cap : CapRules) (one : Charged)
+    → in_window cap no_window one
+    ≡ record { start = one.ride.moment; until = cap.until one.ride.moment; cents = 0 }
+unfolding opened opened_until no_window
+fresh-window cap one =
+    let past : nat_lt one.ride.moment 0 ≡ false = le-ltb one.ride.moment 0 (omega arith) in
+    rw past refl
+
+fresh-said : (cap : CapRules) (one : Charged)
+    → counted one.ride one.cents cap (in_window cap no_window one) ≡ said cap (one ∷ [])
+unfolding counted said
+fresh-said cap one =
+    rw (fresh-window cap one)
+    (ap (window_with one.ride.moment (cap.until one.ride.moment))
+    (omega (arith, counted-one cap one)))
+
+windows-within : (cap : CapRules) (rides : List Charged) → Fits cap no_window rides
+    → KeepsCeiling rides cap
+unfolding windows_of blocks_by
+windows-within cap [] fits = λ ceiling. All-nil (IsWithin cap ceiling)
+windows-within cap (one ∷ more) fits =
+    λ ceiling. blocks-within cap ceiling one [] more
+    (subst (λ w. Fits cap w more) (fresh-said cap one) fits.1)
+    (within-one cap ceiling one
+    (λ counts. omega
+    (arith, fits.0 counts, ap (λ (w : CapWindow). w.cents) (fresh-window cap one))))
+
+each-within : (caps : List CapRules) (rides : List Charged)
+    → AllFit caps (map (λ cap. no_window) caps) rides → All (KeepsCeiling rides) caps
+each-within [] rides fit = All-nil (KeepsCeiling rides)
+each-within (cap ∷ caps) rides fit =
+    All-cons (KeepsCeiling rides) cap caps (windows-within cap rides fit.0)
+    (each-within caps rides fit.1)
+
+pub keep-ceilings : (capped : CappedRules) (taps : List TapIn)
+    → All (KeepsCeiling (charged capped taps)) (all_caps capped)
+unfolding charged no_rides
+keep-ceilings capped taps =
+    let fit = rides-fit capped (no_rides capped) (rides capped.rules taps) in
+    All-cons (KeepsCeiling (charged capped taps)) (window_cap capped.rules) capped.caps
+    (windows-within (window_cap capped.rules) (charged capped taps) fit.0)
+    (each-within capped.caps (charged capped taps) fit.1)
+
+-- ---- sums
+blocks-sum : (cap : CapRules) (window rides : List Charged)
+    → sum_by (counted_in cap) (blocks_from (is_in cap) window rides)
+    ≡ counted_in cap window + sum_by (cents_for cap) rides
+unfolding blocks_from
+blocks-sum cap window [] =
+    sum_by-cons (counted_in cap) window []
+blocks-sum cap window (one ∷ more) =
+    elim (cases_Bool (is_in cap window one)) [
+      | inl joins ↦ rw joins (omega (
+        arith,
+        blocks-sum cap (window ++ one ∷ []) more,
+        counted-push cap window one,
+        sum_by-cons (cents_for cap) one more,
+      ))
+      | inr apart ↦ rw apart (omega (
+        arith,
+        sum_by-cons (counted_in cap) window (blocks_from (is_in cap) (one ∷ []) more),
+        blocks-sum cap (one ∷ []) more,
+        counted-one cap one,
+        sum_by-cons (cents_for cap) one more,
+      ))
+    ]
+
+pub windows-sum : (cap : CapRules) (rides : List Charged)
+    → sum_by (counted_in cap) (windows_of cap rides) ≡ sum_by (cents_for cap) rides
+unfolding windows_of blocks_by
+windows-sum cap [] = refl
+windows-sum cap (one ∷ more) =
+    omega (
+      arith,
+      blocks-sum cap (one ∷ []) more,
+      counted-one cap one,
+      sum_by-cons (cents_for cap) one more,
+    )
