@@ -8,7 +8,7 @@ use crate::placed::FilesByName;
 use crate::progress::{Progress, Watching};
 use crate::texts::Texts;
 use jiff::Timestamp;
-use program_manners::Complaints;
+use program_manners::{Complaints, Output};
 use std::hash::RandomState;
 use std::io;
 use std::io::Write;
@@ -75,7 +75,11 @@ pub(crate) fn run<R: Threads + Sync, E: Write>(
         return 1;
     };
     let written = Recorded::new(Watching::new(io::writer(rt), progress));
-    let Ok(mut out) = collect(rt, written) else {
+    let Ok(written) = collect(rt, written) else {
+        say(err, &Fault::NoMemory);
+        return 1;
+    };
+    let Ok(framed_out) = collect(rt, io::writer(rt)) else {
         say(err, &Fault::NoMemory);
         return 1;
     };
@@ -86,7 +90,7 @@ pub(crate) fn run<R: Threads + Sync, E: Write>(
     } else {
         Progress::beside_text(rt)
     };
-    let mut framed = Framed::new(rt, counts, framed_progress, io::writer(rt), rt.stderr());
+    let mut framed = Framed::new(rt, counts, framed_progress, framed_out, rt.stderr());
     main_over(
         threads,
         rt.alloc(),
@@ -96,7 +100,7 @@ pub(crate) fn run<R: Threads + Sync, E: Write>(
         &mut source,
         &FilesByName::new(rt),
         &mut sink,
-        &mut out,
+        &mut Output::new(written),
         err,
         &mut framed,
     )

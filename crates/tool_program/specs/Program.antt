@@ -77,9 +77,9 @@ IsFramed known placed (corrections ledgers) old new status =
 IsFramed known placed (decode words) old new status = Ends (IsTapTableOf words) words old new status
 IsFramed known placed (valid_prefix request) old new status =
     EndsMaking (HasValidPrefix request) (request.upload ∷ request.out ∷ []) old new status
-IsFramed known placed (sort request) old new status = EndsMaking (λ loads answer files end.
-    MatchBool request.is_merge (MergesOrRefuses request (map placed request.uploads) loads answer files end)
-    (Sorts request loads answer files end)) (names_of request) old new status
+IsFramed known placed (sort request) old new status = MatchBool request.is_merge
+    (EndsMaking (MergesOrRefuses request (map placed request.uploads)) (names_of request) old new status)
+    (EndsMaking (Sorts request) (names_of request) old new status)
 IsFramed known placed shows old new status = EndsInforming old new status ⊎ (new ≡ old)
 IsFramed known placed request old new status = new ≡ old
 
@@ -106,7 +106,7 @@ IsDone shows run Silent = ⊤
 abbrev pub IsPartlyDone : Request → Run → Type 0
 IsPartlyDone (encode_rows word request) run =
     EncodesSo outcomes.SomeRefused word request run × (run.is_flushed ≡ true)
-IsPartlyDone (sort request) run = MatchBool request.is_merge ⊥ ⊤
+IsPartlyDone (sort request) run = IsIdle run ⊤
 IsPartlyDone request run = ⊥
 
 -- a fault was reported, of which this holds

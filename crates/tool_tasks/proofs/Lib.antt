@@ -1,11 +1,12 @@
 mod Informing
+pub mod KnownBytes
 mod Loading
 pub mod Decoding
 pub mod Encoded
 pub mod EncodedRows
 pub mod Faults
 pub mod FilesMade
-mod Making
+pub mod Making
 pub mod MergedUploads
 pub mod Opened
 pub mod Sorting

@@ -17,7 +17,7 @@
 //! | `decode` | `decode` |
 //! | `placed` | files that are read at any offset |
 //! | `sort` | `sort` of uploads that are loaded |
-//! | `merge_sorted` | `sort --merge` |
+//! | `merge_sorted`, `known` | `sort --merge`, and the file that it makes |
 //! | `bounds` | `bounds` |
 //! | `uploads` | `uploads`: what each upload has |
 //! | `upload_tokens` | `uploads --tokens` |
@@ -36,6 +36,7 @@ mod encode;
 mod encode_rows;
 mod fault;
 mod informs;
+mod known;
 mod layout;
 mod loads;
 mod look;

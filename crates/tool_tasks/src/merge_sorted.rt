@@ -1,18 +1,18 @@
 //! `sort --merge`, of files that are in canonical order already.
-ghost use Rattle.std.specs.Prelude.{◌≡◌, ◌++◌, [], ℕ, List, IfErr, IfOk, IfSome, Option, Some, codes, map};
+ghost use Rattle.std.specs.Prelude.{◌≡◌, ◌≤◌, ◌++◌, [], ℕ, List, IfErr, IfOk, IfSome, Option, Some, codes, map};
 ghost use Rattle.frame.specs.Making.{EndsMaking, IsDoneMaking, IsHaltedMaking};
 ghost use Rattle.tap_views.specs.declared.upload_end.UploadEnd.TheVariants.{Posted as APosted};
 ghost use Rattle.sorted_taps.specs.Checked.{IsMergeFault};
 ghost use Rattle.sorted_taps.specs.Written.{IsMergedFile};
 ghost use Rattle.world.specs.Run.{with_flushed, with_said};
-ghost use Rattle.frame.specs.Stops.{IsNamed, Leaves};
 ghost use Rattle.tool_tasks.specs.Fault.{fault_text};
 ghost use Rattle.tool_tasks.specs.MergeSorted.{IsRightFileFault, MergesOrRefuses};
 ghost use Rattle.tool_tasks.specs.Sort.{names_of};
-ghost use Rattle.tool_tasks.specs.inside.Sort.{IsFileFault};
+ghost use Rattle.tool_tasks.specs.inside.Sort.{HaltsMaking, IsFileFault};
 ghost use Rattle.tool_words.specs.Tasks.{sorting_of};
 
 use crate::fault::Fault;
+use crate::known::Known;
 use crate::names::word_at;
 use crate::placed::{PlacedFiles, open_placed};
 use crate::sort::{Written, fault_of, lines_of, make_both};
@@ -97,9 +97,9 @@ fn merge_all<'a, D: PlacedFiles, W: Write>(
 fn refuse<W: World>(alloc: Global, fault: Fault<'_>, world: &mut W) -> Result<u8, Stop>
     ensures done { IfOk result (λ status. (status ≡ 1) × (W.run world.new
         ≡ with_flushed (with_said (W.run world.old) (fault_text fault.entry ++ codes "\n")))) }
-    ensures halted { IfErr result (λ why. (said : List ℕ) × (rest : List ℕ)
-        × (fault_text fault.entry ++ codes "\n" ≡ said ++ rest) × IsNamed [] why
-        × Leaves [] why (with_said (W.run world.old) said) (W.run world.new)) }
+    ensures halted { IfErr result (λ why. (names : List (List ℕ))
+        → HaltsMaking names [] (fault_text fault.entry ++ codes "\n") why (W.run world.old)
+        (W.run world.new)) }
 {
     let Ok(line) = format!(in alloc; "{fault}\n") else {
         return Err(Stop::NoMemory);
@@ -126,11 +126,13 @@ fn merge<D: PlacedFiles, W: World>(
         (map (D.bytes_under disk.now) (sorting_of words.now).uploads))
         (names_of (sorting_of words.now)) (W.run world.old) (W.run world.new)) }
 {
-    let mut file = match world.begin(words.out, false) {
-        Ok(file) => file,
+    let mut known = match world.begin(words.out, false) {
+        Ok(file) => Known::new(file),
         Err(why) => return Err(Stop::Unmade(0, why)),
     };
-    match merge_all(alloc, &words.uploads, disk, &mut file) {
+    let merged = merge_all(alloc, &words.uploads, disk, &mut known);
+    let file = known.into_file();
+    match merged {
         Ok(ends) => match lines_of(alloc, &ends) {
             Ok(lines) => {
                 let written = Written {
@@ -167,7 +169,8 @@ pub fn merge_sorted_over<D: PlacedFiles, W: World>(
     disk: &D,
     world: &mut W,
 ) -> u8
-    ensures { EndsMaking (MergesOrRefuses (sorting_of words.now)
+    ensures status { result ≤ 1 }
+    ensures ends { EndsMaking (MergesOrRefuses (sorting_of words.now)
         (map (D.bytes_under disk.now) (sorting_of words.now).uploads))
         (names_of (sorting_of words.now)) (W.run world.old) (W.run world.new) result }
 {

@@ -1,5 +1,6 @@
 //! `sort` of uploads that are loaded.
-ghost use Rattle.std.specs.Prelude.{◌≡◌, ◌++◌, ◌∷◌, [], ℕ, List, IfErr, IfOk, OnOk, Some};
+ghost use Rattle.std.specs.Prelude.{◌≡◌, ◌⊎◌, ◌++◌, ◌∷◌, [], ℕ, List, IfErr, IfOk};
+ghost use Rattle.std.specs.Prelude.{OnOk, Some};
 ghost use Rattle.std.specs.Prelude.{if◌then◌else◌, map, option_map, string_bytes};
 ghost use Rattle.frame.specs.Making.{EndsMaking, IsDoneMaking, IsHaltedMaking, did_making};
 ghost use Rattle.report_texts.specs.Report.{upload_lines};
@@ -109,14 +110,10 @@ fn is_posted(end: UploadEnd) -> bool
     end.is_posted()
 }
 
-fn status_of(ends: &[UploadEnd]) -> u8
-    ensures { result ≡ (if are_posted ends.now then 0 else 3) }
+fn are_posted(ends: &[UploadEnd]) -> bool
+    ensures { result ≡ are_posted ends.now }
 {
-    if ends.iter().all(|end| is_posted(*end)) {
-        0
-    } else {
-        3
-    }
+    ends.iter().all(|end| is_posted(*end))
 }
 
 /// Makes a file of these bytes, whose word has this number.
@@ -142,8 +139,9 @@ fn make<W: World>(name: &str, number: usize, bytes: &[u8], world: &mut W) -> Res
 fn make_ends<W: World>(words: &SortingWords<'_>, lines: &str, world: &mut W) -> Result<(), Stop>
     ensures made { OnOk result (W.run world.new ≡ with_files (W.run world.old)
         (ends_files (sorting_of words.now).ends lines.now)) }
-    ensures halted { IfErr result (λ why. HaltsMaking (names_of (sorting_of words.now)) [] [] why
-        (W.run world.old) (W.run world.new)) }
+    ensures unmade { IfErr result (λ why. (name : List ℕ)
+        × ((sorting_of words.now).ends ≡ Some name)
+        × HaltsMade name 1 why (W.run world.old) (W.run world.new)) }
 {
     match words.ends {
         Some(name) => make(name, 1, lines.as_bytes(), world),
@@ -190,11 +188,7 @@ pub(crate) fn make_both<W: World>(
     }
 }
 
-fn written_of(
-    alloc: Global,
-    uploads: &[&str],
-    ends: &[UploadEnd],
-) -> Result<Written, AllocError>
+fn written_of(alloc: Global, uploads: &[&str], ends: &[UploadEnd]) -> Result<Written, AllocError>
     ensures lines { IfOk result (λ written.
         string_bytes written.lines ≡ upload_lines 0 ends.now) }
     ensures note { IfOk result (λ written. string_bytes written.note
@@ -205,7 +199,7 @@ fn written_of(
     Ok(Written {
         lines: lines_of(alloc, ends)?,
         note: note_of(alloc, uploads, ends)?,
-        status: status_of(ends),
+        status: if are_posted(ends) { 0 } else { 3 },
     })
 }
 
@@ -278,13 +272,15 @@ pub(crate) fn fault_of<'a>(why: Stop, words: &SortingWords<'a>) -> Fault<'a> {
 /// Makes the file of the valid taps of the uploads that the words name, `-` being standard input,
 /// in canonical order, and before it that of the upload ends, if it has a name. The status is 0, or
 /// 3 if an upload has a layout fault, or 1 after a fault. Each fault is reported.
+#[tactic(auto, using(crate::proofs::Making::sort_status))]
 pub fn sort_over<R: Threads + Sync, W: World + Counted>(
     threads: &R,
     alloc: Global,
     words: &SortingWords<'_>,
     world: &mut W,
 ) -> u8
-    ensures { EndsMaking (Sorts (sorting_of words.now)) (names_of (sorting_of words.now))
+    ensures status { (result ≡ 0) ⊎ ((result ≡ 1) ⊎ (result ≡ 3)) }
+    ensures ends { EndsMaking (Sorts (sorting_of words.now)) (names_of (sorting_of words.now))
         (W.run world.old) (W.run world.new) result }
 {
     match sort(threads, alloc, words, world) {

@@ -45,10 +45,10 @@ pub record HaltsMaking (names : List (List ℕ)) (files : List Named) (note : Li
     (old new : Run) : Type 0 where
   pub made : List Named
   pub others : List Named
-  pub files : files ≡ made ++ others
+  pub is_files : files ≡ made ++ others
   pub said : List ℕ
   pub rest : List ℕ
-  pub note : note ≡ said ++ rest
+  pub is_note : note ≡ said ++ rest
   pub named : IsNamed names why
   pub all : Leaves names why (did_making old [] (record { text = []; note = said }) made) new
 
