@@ -4,7 +4,6 @@
 use std::fs;
 use std::io::IsTerminal;
 use std::os::unix::fs::MetadataExt;
-use tap_rows::Separator;
 use tool_words::{SortingWords, Task, read};
 use world::folder_of;
 
@@ -63,14 +62,6 @@ pub(crate) enum Manner {
     Other,
 }
 
-fn byte_of(separator: Separator) -> u8 {
-    match separator {
-        Separator::Comma => b',',
-        Separator::Semicolon => b';',
-        Separator::Tab => b'\t',
-    }
-}
-
 pub(crate) fn manner_of(rt: &HostRuntime, words: &[String]) -> Manner {
     let Ok(task) = read(rt.alloc(), words) else {
         return Manner::Other;
@@ -80,7 +71,7 @@ pub(crate) fn manner_of(rt: &HostRuntime, words: &[String]) -> Manner {
             Manner::Refused(TO_TERMINAL)
         }
         Task::Sort(words) if has_ends_in_place(rt, words) => Manner::Refused(ENDS_IN_PLACE),
-        Task::EncodeRows(_, words) => Manner::Rows(byte_of(words.separator)),
+        Task::EncodeRows(_, words) => Manner::Rows(words.columns.separator.byte),
         _ => Manner::Other,
     }
 }

@@ -12,7 +12,7 @@ use Rattle.tool_tasks.specs.Corrections.{IsCorrected}
 use Rattle.tool_tasks.specs.Decode.{IsTapTableOf}
 use Rattle.tool_tasks.specs.Encode.{EncodesTable, AbortsEncode}
 use Rattle.tool_tasks.specs.EncodeRows.{EncodesWith, AbortsRows}
-use Rattle.tool_tasks.specs.Fault.{IsFaultReported}
+use Rattle.tool_tasks.specs.Fault.{IsFaultNoted, IsFaultReported}
 use Rattle.tool_tasks.specs.Informs.{EndsInforming}
 use Rattle.tool_tasks.specs.ValidPrefix.{HasValidPrefix}
 use Rattle.tool_tasks.specs.MergeSorted.{MergesOrRefuses}
@@ -113,13 +113,17 @@ IsPartlyDone request run = ⊥
 abbrev pub Faults : Run → (Fault → Type 0) → Type 0
 Faults run Why = (fault : Fault) × IsFaultReported fault run.said run.said' run.unsaid × Why fault
 
+-- the same, with a note after the line of the fault
+abbrev pub FaultsNoted : Run → (Fault → Type 0) → Type 0
+FaultsNoted run Why = (fault : Fault) × IsFaultNoted fault run.said run.said' run.unsaid × Why fault
+
 -- With status 1 the right fault was reported, or the text has the layout fault of an upload, or no
 -- row is a tap.
 abbrev pub IsAborted : Request → Run → Type 0 → Type 0
 IsAborted (encode word) run Silent = Faults run (λ fault. IfKept run
     (AbortsEncode word run.loaded run.loaded' run.refused run.end fault run.out run.out'))
 IsAborted (encode_rows word request) run Silent = EncodesSo outcomes.NoTap word request run
-    ⊎ Faults run (λ fault. (words : RowsWords)
+    ⊎ FaultsNoted run (λ fault. (words : RowsWords)
     × (rows_words_of words ≡ request) × IfKept run (AbortsRows words word run.loaded run.loaded'
     run.refused run.made run.made' run.unstarted run.unmade run.end fault run.out run.out'))
 IsAborted (decode words) run Silent = IsIdle run Silent

@@ -77,6 +77,12 @@ abbrev pub IsFaultReported : Fault → Option (List ℕ) → Option (List ℕ) �
 IsFaultReported fault said said' failed = MatchBool (is_quiet fault) (said' ≡ said)
     (LineWritten said said' failed (fault_text fault))
 
+-- the same, with a note after the text of the fault
+abbrev pub IsFaultNoted : Fault → Option (List ℕ) → Option (List ℕ) → Bool → Type 0
+IsFaultNoted fault said said' failed = (note : List ℕ)
+    × MatchBool (is_quiet fault) (said' ≡ said)
+    (LineWritten said said' failed (fault_text fault ++ note))
+
 -- The source refused the file of one of these words, which the fault names, for its reason; or
 -- an allocation failed.
 abbrev pub IsRefusal : Option (Option (List ℕ) × LoadFault) → List (List ℕ) → Fault → Type 0

@@ -42,7 +42,7 @@ left out and refused, and the first and the last moment. The header is row 1.
 
 With --columns a plain number is a moment in milliseconds. Moments before 2000
 are refused, since they may be seconds: --unit s reads plain numbers as
-seconds, --unit ms as milliseconds of any year.
+seconds, --unit ms as milliseconds of any year, --unit us as microseconds.
 
 With --validators the column of validators has the names of devices. DEVICES is
 CSV with the header device,validator and a row for each device, which gives it
@@ -52,24 +52,32 @@ const ENCODE_HELP: &str = "The tap table [default: standard input, as -]";
 
 const COLUMNS_HELP: &str = "As token=NAME,validator=NAME,moment=NAME";
 
-const ONLY_HELP: &str = "Keep only rows with this value; of several, each";
+const FROM_HELP: &str = "In place of --columns: littlepay or tides";
+
+const ONLY_HELP: &str = "Keep only rows with this value, or one of several";
+
+const DROP_HELP: &str = "Leave out rows with this value";
+
+const COUNT_HELP: &str = "Refuse a row unless it has 1 rider in this column";
+
+const HASH_HELP: &str = "The token is the SHA-256 of its field, cut in half";
 
 const VALIDATORS_HELP: &str = "A file with the validator of each device";
 
-const SEPARATOR_HELP: &str = "Between two fields: , or ; or tab [default: ,]";
+const SEPARATOR_HELP: &str = "The byte between two fields, or tab [default: ,]";
 
-const UNIT_HELP: &str = "Plain numbers are seconds (s) or ms, of any year";
+const UNIT_HELP: &str = "Plain numbers are s, ms or us, of any year";
 
 const REFUSED_HELP: &str = "Make OUT of the rows that are no taps, and go on";
 
-/// `encode [--columns NAMES [--validators DEVICES] [--only COLUMN=VALUE]... [--separator S] [--unit
-/// UNIT] [--refused OUT]] [FILE]`
+/// `encode [--columns NAMES | --from EXPORT [OPTION...]] [FILE]`
 pub(crate) fn encode_command<'a>(alloc: Global, is_whole: bool) -> Result<Command<'a>, AllocError>
     ensures { is_whole ≡ false → IfOk result
         (λ command. app_of command ≡ leaf (codes "encode") encode_rules) }
 {
     let rows = [
         Row::One(Takes::Value("columns", "NAMES", COLUMNS_HELP), Need::Never),
+        Row::One(Takes::Value("from", "EXPORT", FROM_HELP), Need::Never),
         Row::One(
             Takes::Value("validators", "DEVICES", VALIDATORS_HELP),
             Need::Never,
@@ -78,6 +86,12 @@ pub(crate) fn encode_command<'a>(alloc: Global, is_whole: bool) -> Result<Comman
             Takes::Values("only", "COLUMN=VALUE", ONLY_HELP),
             Need::Never,
         ),
+        Row::One(
+            Takes::Values("drop", "COLUMN=VALUE", DROP_HELP),
+            Need::Never,
+        ),
+        Row::One(Takes::Value("count", "COLUMN", COUNT_HELP), Need::Never),
+        Row::One(Takes::Flag("token-hash", HASH_HELP), Need::Never),
         Row::One(
             Takes::Value("separator", "SEPARATOR", SEPARATOR_HELP),
             Need::Never,
