@@ -22,9 +22,9 @@ use std::io::Write;
 use std::marker::Sync;
 use std::thread::Threads;
 use tool_tasks::{
-    Counted, Escaped, Fault, PlacedFiles, Sink, Source, bounds_over, corrections_over,
-    decode_over, encode_over, encode_rows_over, look_over, merge_sorted_over, say, sort_over,
-    table_over, uploads_over, valid_prefix_over,
+    Counted, Escaped, Fault, PlacedFiles, Sink, Source, bounds_over, corrections_over, decode_over,
+    encode_over, encode_rows_over, look_over, merge_sorted_over, say, sort_over, table_over,
+    uploads_over, valid_prefix_over,
 };
 use tool_words::{Task, UsageError, read};
 use world::World;

@@ -15,7 +15,7 @@ use Rattle.world.specs.Run.{Load, Run, with_load}
 use Rattle.tool_tasks.specs.Decode.{Decoded, IsTapTableOf, are_whole, layout_line, layout_lines}
 use Rattle.tool_tasks.specs.Decode.{loads_of, rows_of, tap_table_of, words_of}
 use Rattle.tap_views.specs.declared.fault.LayoutFault.{LayoutFault}
-use Rattle.tool_tasks.specs.Loads.{LoadsAt}
+use Rattle.tool_tasks.specs.inside.Loads.{LoadsAt}
 use Rattle.tool_tasks.specs.Names.{file_named}
 use Rattle.tool_tasks.specs.declared.decode.DecodeStage.{DecodeStage}
 use Rattle.tool_tasks.specs.declared.decode.DecodeStage.TheVariants.{Head, Rows}
