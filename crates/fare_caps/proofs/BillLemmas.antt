@@ -22,6 +22,7 @@ use Rattle.fare_caps.specs.CappedReplies.{capped_reply, replied_by, under_caps}
 use Rattle.fare_caps.specs.Charges.{cap_cents, cap_paid}
 use Rattle.fare_caps.specs.declared.cap_charge.CapCharge.{CapCharge}
 use Rattle.fare_caps.specs.declared.cap_charge.CapCharge.TheVariants.{ByWindow, CapCut, CapReached}
+use Rattle.fare_caps.proofs.FoldLemmas.{by_pushes}
 use Rattle.fare_caps.proofs.NoCapsLemmas.{later-nothing, ride-block}
 use Rattle.fare_caps.proofs.RideLemmas.{is_free, is_of_ride, is_ride, tapped}
 
@@ -64,15 +65,6 @@ reply-cents (ByWindow (CeilingReached position)) = refl
 reply-cents (ByWindow RideLimitReached) = refl
 reply-cents (CapCut position cents cap) = refl
 reply-cents (CapReached position cap) = refl
-
--- a fact of the empty list that one more tap keeps
-push_all : (P : List TapIn → Type 0) → P []
-    → ((taps : List TapIn) (tap : TapIn) → P taps → P (taps ++ tap ∷ []))
-    → (earlier taps : List TapIn) → P earlier → P (earlier ++ taps)
-push_all P none more earlier [] all = rw (append-nil earlier) all
-push_all P none more earlier (tap ∷ taps) all =
-    rw (← append_assoc earlier (tap ∷ []) taps)
-    (push_all P none more (earlier ++ tap ∷ []) taps (more earlier tap all))
 
 abbrev IsBill : CappedRules → List TapIn → Type 0
 IsBill capped taps =
@@ -117,4 +109,4 @@ one-bill capped taps tap bill =
 
 pub rides-bill : (capped : CappedRules) (taps : List TapIn) → IsBill capped taps
 rides-bill capped taps =
-    push_all (IsBill capped) (no-bill capped) (one-bill capped) [] taps (no-bill capped)
+    by_pushes (IsBill capped) (no-bill capped) (one-bill capped) [] taps (no-bill capped)

@@ -5,6 +5,7 @@ use Rattle.std.proofs.Common.{All, inl, inr, sum_by, suc}
 use Rattle.std.proofs.lemmas.Bool.{cases_Bool, le-ltb}
 use Rattle.std.proofs.lemmas.List.Elements.{All-cons, All-head, All-nil, All-tail}
 use Rattle.std.proofs.lemmas.List.Sums.{sum_by-cons, sum_by_push}
+use Rattle.tap_views.proofs.Lists.{All-back, All-front}
 use Rattle.account_rule.specs.declared.reason.Charge.{Charge}
 use Rattle.account_rule.specs.declared.tap.TapIn.{TapIn}
 use Rattle.account_rule.specs.Blocks.{blocks_by, blocks_from}
@@ -192,16 +193,6 @@ abbrev IsWithin : CapRules → ℕ → List Charged → Type 0
 IsWithin cap ceiling window =
     All (HasCeiling cap ceiling) window → counted_in cap window ≤ ceiling
 
-All-front : {A : Type 0} (P : A → Type 0) (xs ys : List A) → All P (xs ++ ys) → All P xs
-All-front P [] ys all = All-nil P
-All-front P (x ∷ xs) ys all =
-    All-cons P x xs (All-head P x (xs ++ ys) all)
-    (All-front P xs ys (All-tail P x (xs ++ ys) all))
-
-All-last : {A : Type 0} (P : A → Type 0) (xs : List A) (y : A) → All P (xs ++ y ∷ []) → P y
-All-last P [] y all = All-head P y [] all
-All-last P (x ∷ xs) y all = All-last P xs y (All-tail P x (xs ++ y ∷ []) all)
-
 within-push : (cap : CapRules) (ceiling : ℕ) (window : List Charged) (one : Charged)
     → (cap.counts one.ride ≡ true → one.cents ≤ cap.ceiling one.ride - counted_in cap window)
     → IsWithin cap ceiling window → IsWithin cap ceiling (window ++ one ∷ [])
@@ -210,7 +201,8 @@ within-push cap ceiling window one leaves within all =
     elim (cases_Bool (cap.counts one.ride)) [
       | inl counts ↦
           let high : cap.ceiling one.ride ≤ ceiling =
-          All-last (HasCeiling cap ceiling) window one all counts in
+          All-head (HasCeiling cap ceiling) one []
+          (All-back (HasCeiling cap ceiling) window (one ∷ []) all) counts in
           rw (counted-push cap window one, counts)
           (omega (arith, leaves counts, low, high))
       | inr not ↦ rw (counted-push cap window one, not) (omega (arith, low))

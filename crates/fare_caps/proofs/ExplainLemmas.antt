@@ -18,7 +18,7 @@ use Rattle.account_rule.specs.TokenRules.{rules_of, token_class}
 use Rattle.account_rule.specs.Taps.{live_at}
 use Rattle.fare_caps.specs.CapMeanings.{cap_rules, capped_rules_of}
 use Rattle.fare_caps.specs.CapStates.{CapStates, after_ride, ride_charge, states}
-use Rattle.fare_caps.specs.CappedReplies.{capped_reason, capped_reply, uncapped}
+use Rattle.fare_caps.specs.CappedReplies.{capped_reason, capped_reply}
 use Rattle.fare_caps.specs.Caps.{CapRules, CappedRules}
 use Rattle.fare_caps.specs.Represents.{HasRoom, IsFurther, KeepsStates, Represents}
 use Rattle.fare_caps.specs.declared.cap.Cap.{Cap}
@@ -29,7 +29,7 @@ use Rattle.fare_caps.specs.declared.capped_reason.CappedReason.{CappedReason}
 use Rattle.fare_caps.specs.declared.capped_reason.CappedReason.TheVariants.{Ride}
 use Rattle.fare_caps.specs.declared.further.Further.{Further}
 use Rattle.fare_caps.specs.inside.Further.{charge_of, counted_all, opened_all, said_by}
-use Rattle.fare_caps.specs.inside.Seen.{ride_seen}
+use Rattle.fare_caps.specs.inside.Seen.{ride_seen, uncapped}
 use Rattle.fare_caps.proofs.FurtherLemmas.{keeps-is, keeps-some, rides, said_to}
 use Rattle.fare_caps.proofs.NoCapsLemmas.{keeps-empty, reason-empty, reply-empty}
 use Rattle.fare_caps.proofs.SeenLemmas.{no-ride, ride}

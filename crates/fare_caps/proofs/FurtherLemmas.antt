@@ -32,7 +32,7 @@ use Rattle.fare_caps.specs.declared.further.Further.{Further}
 use Rattle.fare_caps.specs.declared.further.RideCaps.{RideCaps}
 use Rattle.fare_caps.specs.inside.Further.{charge_of, counted_all, counted_by, least_of, left_by}
 use Rattle.fare_caps.specs.inside.Further.{opened_all, opened_by, said_at, said_by}
-use Rattle.fare_caps.proofs.LoweredLemmas.{IsAtMost, charge-few, charge-within, lesser-here}
+use Rattle.fare_caps.proofs.LoweredLemmas.{IsAtMost, lowered-few, charge-within, lesser-here}
 use Rattle.fare_caps.proofs.LoweredLemmas.{lesser-keeps, lesser-none, lowered-le, lowered-paid}
 use Rattle.fare_caps.proofs.LoweredLemmas.{most-le, paid-below}
 
@@ -259,11 +259,7 @@ pub charge-cents : (terms : Terms) (caps : RideCaps) (further : Further) → Are
     → cap_cents (charge_of terms caps further) ≤ 100_000
 unfolding charge_of
 charge-cents terms caps further bounds =
-    omega (
-      arith,
-      lowered-le (least_of caps further) (charge terms further.rides further.window.cents),
-      charge-few terms further.rides further.window.cents bounds,
-    )
+    lowered-few (least_of caps further) terms further.rides further.window.cents bounds
 
 pub counts : (fares : Fares) (token : List ℕ) (caps : List Cap) (moment : ℕ) (mode : Mode)
     (charge : CapCharge) (further : Further) (states : CapStates) → length caps ≤ 3

@@ -104,11 +104,12 @@ most-le None cents one most = absurd most
 most-le (Some least) cents one most = omega (arith, most, least-le least one)
 
 -- ---- within the terms
-pub charge-few : (terms : Terms) (rides cents : ℕ) → AreBoundedTerms terms
-    → charged_by (charge terms rides cents) ≤ 100_000
-charge-few terms rides cents bounds = elim (charged terms rides cents) [
-  | inl free ↦ omega (arith, free.cost)
-  | inr paid ↦ omega (arith, paid.cost, bounds.fare)
+pub lowered-few : (least : Option CapLeft) (terms : Terms) (rides cents : ℕ) → AreBoundedTerms terms
+    → cap_cents (lowered least (charge terms rides cents)) ≤ 100_000
+lowered-few least terms rides cents bounds = elim (charged terms rides cents) [
+  | inl free ↦ omega (arith, free.cost, lowered-le least (charge terms rides cents))
+  | inr paid ↦ omega
+      (arith, paid.cost, bounds.fare, lowered-le least (charge terms rides cents))
 ]
 
 pub charge-within : (terms : Terms) (rides cents : ℕ) → AreBoundedTerms terms

@@ -35,7 +35,8 @@ use Rattle.fare_caps.specs.CapStates.{CapStates, after_ride, at_ride, charge_at,
 use Rattle.fare_caps.specs.CapStates.{ride_charge, states, with_charge}
 use Rattle.fare_caps.specs.CappedReplies.{capped_reason, capped_replies, capped_replies_after}
 use Rattle.fare_caps.specs.CappedReplies.{capped_reply, capped_window, replied_by, ride_on}
-use Rattle.fare_caps.specs.CappedReplies.{uncapped, under_caps}
+use Rattle.fare_caps.specs.CappedReplies.{under_caps}
+use Rattle.fare_caps.specs.inside.Seen.{uncapped}
 use Rattle.fare_caps.specs.Charges.{cap_cents, cap_paid, least_from, lowered}
 use Rattle.fare_caps.specs.Laws.{without_caps}
 use Rattle.fare_caps.specs.declared.cap_charge.CapCharge.{CapCharge}

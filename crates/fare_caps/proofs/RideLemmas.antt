@@ -39,20 +39,23 @@ pub data Tapped (rules : TokenRules) (taps : List TapIn) (tap : TapIn) : Type 0 
       → Tapped rules taps tap
 
 -- a tap that is not live is no ride
-rides-same : (rules : TokenRules) (taps : List TapIn) (tap : TapIn) → live_tap taps tap ≡ None
-    → rides rules (taps ++ tap ∷ []) ≡ rides rules taps
+not-live : (rules : TokenRules) (taps : List TapIn) (tap : TapIn)
+    → is_of_ride (reason rules taps tap) ≡ false → live_tap taps tap ≡ None
+    → Tapped rules taps tap
 unfolding rides trips
-rides-same rules taps tap none = rw (live-push taps tap, none, append-nil) refl
+not-live rules taps tap free none =
+    is_free free (rw (live-push taps tap, none, append-nil) refl)
 
 no-ride : (trip : Option TripEnd) → is_of_ride (given_by trip) ≡ false
 unfolding given_by
 no-ride None = refl
 no-ride (Some trip) = refl
 
-reason_ride : (rules : TokenRules) (earlier taps : List TapIn) → ends_in_transfer rules taps ≡ false
-    → live_reason rules earlier taps ≡ ride_of rules (last_block (windows rules taps))
+ride-in : (rules : TokenRules) (earlier taps : List TapIn) (window : List LiveTap)
+    → ends_in_transfer rules taps ≡ false → last_block (windows rules taps) ≡ window
+    → live_reason rules earlier taps ≡ ride_of rules window
 unfolding live_reason
-reason_ride rules earlier taps ends = rw ends refl
+ride-in rules earlier taps window ends is = rw (ends, is) refl
 
 live-tapped : (rules : TokenRules) (taps : List TapIn) (tap : TapIn) (mode : Mode)
     → tap.mode ≡ Some mode → is_later taps tap.moment ≡ true
@@ -67,20 +70,19 @@ live-tapped rules taps tap mode known later shown = ⊎_elim
     (λ (ends : ends_in_transfer rules (taps ++ tap ∷ []) ≡ false).
     is_ride mode known
     (reason_live rules taps tap mode known later
-    ∙ reason_ride rules taps (taps ++ tap ∷ []) ends
-    ∙ ap (ride_of rules) (last_window-ride rules taps tap _ shown ends))
+    ∙ ride-in rules taps (taps ++ tap ∷ []) _ ends (last_window-ride rules taps tap _ shown ends))
     (rides-push rules taps tap _ shown ∙ rw ends refl))
     (cases_Bool (ends_in_transfer rules (taps ++ tap ∷ [])))
 
 pub tapped : (rules : TokenRules) (taps : List TapIn) (tap : TapIn) → Tapped rules taps tap
 tapped rules taps tap = elim tap.mode as (λ mode. tap.mode ≡ mode → Tapped rules taps tap) [
-  | None ↦ λ none. is_free (ap is_of_ride (reason_unknown rules taps tap none))
-      (rides-same rules taps tap (not_known taps tap none))
+  | None ↦ λ none. not-live rules taps tap (ap is_of_ride (reason_unknown rules taps tap none))
+      (not_known taps tap none)
   | Some mode ↦ λ known. ⊎_elim
       (λ (later : is_later taps tap.moment ≡ true).
       live-tapped rules taps tap mode known later (is_live taps tap mode known later))
       (λ (stale : is_later taps tap.moment ≡ false).
-      is_free (ap is_of_ride (reason_stale rules taps tap mode known stale))
-      (rides-same rules taps tap (not_later taps tap stale)))
+      not-live rules taps tap (ap is_of_ride (reason_stale rules taps tap mode known stale))
+      (not_later taps tap stale))
       (cases_Bool (is_later taps tap.moment))
 ] refl

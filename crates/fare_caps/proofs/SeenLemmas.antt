@@ -18,10 +18,10 @@ use Rattle.fare_caps.specs.Caps.{CapRules, CappedRules}
 use Rattle.fare_caps.specs.CapStates.{CapStates, after_ride, at_ride, no_rides, ride_charge}
 use Rattle.fare_caps.specs.CapStates.{states}
 use Rattle.fare_caps.specs.Laws.{without_caps}
-use Rattle.fare_caps.specs.CappedReplies.{capped_reason, capped_window, uncapped, under_caps}
+use Rattle.fare_caps.specs.CappedReplies.{capped_reason, capped_window, under_caps}
 use Rattle.fare_caps.specs.declared.capped_account.RideSeen.{RideSeen}
 use Rattle.fare_caps.specs.declared.capped_reason.CappedReason.TheVariants as capped
-use Rattle.fare_caps.specs.inside.Seen.{ride_seen}
+use Rattle.fare_caps.specs.inside.Seen.{ride_seen, uncapped}
 use Rattle.fare_caps.proofs.FoldLemmas.{after_rides-push}
 use Rattle.fare_caps.proofs.NoCapsLemmas.{free-same, of_block, ride-block, ride_in}
 use Rattle.fare_caps.proofs.RideLemmas.{is_free, is_of_ride, is_ride, tapped}

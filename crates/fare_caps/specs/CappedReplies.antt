@@ -14,7 +14,6 @@ use Rattle.account_rule.specs.Windows.{last_window}
 use Rattle.fare_caps.specs.Caps.{CappedRules}
 use Rattle.fare_caps.specs.CapStates.{CapStates, ride_charge, states}
 use Rattle.fare_caps.specs.Charges.{cap_paid}
-use Rattle.fare_caps.specs.declared.cap_charge.CapCharge.TheVariants.{ByWindow}
 use Rattle.fare_caps.specs.declared.capped_reason.CappedReason.{CappedReason}
 use Rattle.fare_caps.specs.declared.capped_reason.CappedReason.TheVariants.{Ride, Stale, Transfer}
 use Rattle.fare_caps.specs.declared.capped_reason.CappedReason.TheVariants.{Unknown}
@@ -66,10 +65,3 @@ capped_window capped taps = option_map (λ (view : WindowView). record view {
   paid = (states capped taps).paid;
   cents = (states capped taps).window.cents;
 }) (last_window capped.rules taps)
-
--- the reason without caps, as one under caps
-abbrev pub uncapped : Reason → CappedReason
-uncapped reason.Unknown = Unknown
-uncapped (reason.Stale latest) = Stale latest
-uncapped (reason.Transfer moment mode) = Transfer moment mode
-uncapped (reason.Ride start until charge) = Ride start until (ByWindow charge)

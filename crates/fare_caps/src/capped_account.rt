@@ -6,9 +6,9 @@ ghost use Rattle.account_rule.specs.declared.tap.TapIn.{TapIn};
 ghost use Rattle.fare_caps.specs.Caps.{CappedRules};
 ghost use Rattle.fare_caps.specs.CapMeanings.{capped_rules_of};
 ghost use Rattle.fare_caps.specs.CappedReplies.{capped_reason, capped_reply, capped_window};
-ghost use Rattle.fare_caps.specs.CappedReplies.{replied_by, uncapped};
+ghost use Rattle.fare_caps.specs.CappedReplies.{replied_by};
 ghost use Rattle.fare_caps.specs.Represents.{Represents, RepresentsSome};
-ghost use Rattle.fare_caps.specs.inside.Seen.{ride_seen};
+ghost use Rattle.fare_caps.specs.inside.Seen.{ride_seen, uncapped};
 
 use crate::cap_charge::CapCharge;
 use crate::cap_table::CapTable;

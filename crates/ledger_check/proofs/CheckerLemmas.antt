@@ -1,319 +1,283 @@
--- What a check of a text in pieces finds, by what its parts found.
-use Rattle.std.proofs.Common.{◌≡◌, ◌≢◌, ℕ, ◌+◌, ◌<◌, ◌≤◌, Bool, true, false, cond, List, [], ◌∷◌}
-use Rattle.std.proofs.Common.{◌++◌, length, Option, Some, None, is_some, codes, refl, sym, ap}
-use Rattle.std.proofs.Common.{subst, ◌∙◌, arith, append_assoc, append-nil, length-append, inl, inr}
-use Rattle.std.proofs.Common.{⊎_elim, map}
-use Rattle.std.proofs.lemmas.Bool.{cases_lt}
+-- The first wrong line of a text, and what a check up to it knows.
+use Rattle.std.proofs.Common.{◌≡◌, ℕ, ◌+◌, ◌^◌, ◌<◌, ◌≤◌, Bool, true, false, List, [], ◌∷◌, ◌++◌}
+use Rattle.std.proofs.Common.{length, map, Option, Some, None, refl, sym, ap, subst, ◌∙◌, arith, inl, inr}
+use Rattle.std.proofs.Common.{append_assoc, append-nil, length-append, if◌then◌else◌, string_bytes}
+use Rattle.std.proofs.Common.{is_some}
+use Rattle.std.proofs.lemmas.Bool.{true≢false}
+use Rattle.std.proofs.lemmas.Slice.Eq.{bytes_eq-Decides}
+use Rattle.std.specs.Str.{bytes_eq}
 use Rattle.tariffs.specs.Fares.{Fares}
 use Rattle.histories.specs.declared.entry.Entry.{Entry}
-use Rattle.fare_texts.specs.LedgerLines.{head_text, line_head, entry_fields}
-use Rattle.ledger_check.specs.Ledger.{IsNext}
-use Rattle.ledger_check.specs.Lines.{IsLine, Lacks, lines_of}
+use Rattle.fare_texts.specs.LedgerLines.{head_text}
+use Rattle.ledger_check.specs.Balances.{IsBalance}
+use Rattle.ledger_check.specs.Ledger.{IsLedgerOf, IsNext}
+use Rattle.ledger_check.specs.Lines.{lines_of}
 use Rattle.ledger_check.specs.Orders.{early_line, tap_of_entry}
-use Rattle.ledger_check.specs.Replays.{HasRead, IsWrongAfter}
-use Rattle.ledger_check.specs.Verdicts.{HasFed, HasTaken, IsFed, IsFirstWrong, IsTrueOf, IsVerdict}
-use Rattle.ledger_check.specs.inside.Verdicts.{IsTaken, number_after}
+use Rattle.ledger_check.specs.Verdicts.{IsFirstWrong, IsTrueOf, IsVerdict, IsWrongAfter, is_legal}
+use Rattle.ledger_check.specs.FullChecks.{AreTaken, IsJudged, TakenLine, decreases_after}
+use Rattle.ledger_check.specs.FullChecks.{lines_from, one_wrong, remark_for, run_of, taps_from}
+use Rattle.ledger_check.specs.FullChecks.{taps_with, with_first, wrong_count}
+use Rattle.ledger_check.specs.FullCheckStates.{HasFed, IsFed, IsRightSoFar}
+use Rattle.ledger_check.specs.inside.FullChecks.{IsCalled, next_taken}
+use Rattle.ledger_check.specs.declared.balance.Balance.{Balance}
 use Rattle.ledger_check.specs.declared.checker.Checker.{Checker}
-use Rattle.ledger_check.specs.declared.checker.LinesSoFar.{LinesSoFar}
 use Rattle.ledger_check.specs.declared.checker.Verdict.{Verdict}
-use Rattle.ledger_check.specs.declared.checker.Verdict.TheVariants.{Legal, NoLine}
-use Rattle.ledger_check.specs.declared.replay.Replay.{Replay}
-use Rattle.ledger_check.proofs.LineLemmas.{lacks-append, lacks-end, lacks-last, lines-line}
-use Rattle.ledger_check.proofs.LineLemmas.{lines-open, lines-part}
-use Rattle.ledger_check.proofs.ReplayLemmas.{wrong, wrong_long}
+use Rattle.ledger_check.specs.declared.checker.Verdict.TheVariants.{Legal, Wants as Asks, NoLine as Refuses}
+use Rattle.ledger_check.specs.declared.walk.CountedTap.{CountedTap}
+use Rattle.ledger_check.specs.declared.walk.LineFinding.{LineFinding}
+use Rattle.ledger_check.specs.declared.walk.Remark.{Remark}
+use Rattle.ledger_check.specs.declared.walk.Remark.TheVariants.{Nothing, NoLine, Wants}
+use Rattle.tap_views.specs.declared.encoder.TapFields.{TapFields}
+use Rattle.ledger_check.proofs.EndLemmas.{cut_lines, cut_taken, whole_lines}
+use Rattle.ledger_check.proofs.EntryLists.{next-parts}
+use Rattle.ledger_check.proofs.FullCheckLaw.{Right, all_right, legal_step, next_wanted, right}
+use Rattle.ledger_check.proofs.FullCheckLemmas.{kept_long, long_taken}
+use Rattle.ledger_check.proofs.LineLemmas.{lines-open}
+use Rattle.ledger_check.proofs.RunLemmas.{State}
 
-apart : true ≡ false → ⊥
-apart is = cc
+-- ---- the first wrong line
+unfallen_if : (is_decrease same : Bool) → remark_for is_decrease same ≡ Wants → is_decrease ≡ false
+unfallen_if true same is = let bad : ◌≡◌ {A = Remark} NoLine Wants = is in absurd cc
+unfallen_if false same is = refl
 
--- before the head line nothing was read
-pub no_head : (fares : Fares) (so_far : LinesSoFar) (lines : List (List ℕ))
-    → so_far.has_head ≡ false → HasTaken fares so_far lines
-    → (lines ≡ []) × HasRead fares so_far.replay []
-no_head fares so_far [] none taken = (refl, taken.1)
-no_head fares so_far (l ∷ lines) none taken = absurd (apart (sym taken.0 ∙ none))
+-- a ledger can have the wanted line in its place
+wanted_next : (fares : Fares) (run entries : List Entry) (line : List ℕ) (tap : Option CountedTap)
+    (remark : Remark) (wanted : List ℕ) → IsJudged fares run line tap remark wanted
+    → remark ≡ Wants → State run entries → length wanted ≤ 255 → length entries < 2 ^ 62
+    → (entry : Entry) × IsNext fares entries entry wanted
+wanted_next fares run entries line None remark wanted judged is state short few =
+    let bad : ◌≡◌ {A = Remark} Wants NoLine = sym is ∙ judged.1 in absurd cc
+wanted_next fares run entries line (Some tap) remark wanted judged is state short few = (
+  tap.entry,
+  next_wanted fares run entries line tap remark wanted judged state
+      (unfallen_if (decreases_after run tap.entry.token) (bytes_eq line wanted)
+      (sym judged.is_remark ∙ is)) short few,
+)
 
--- behind the head line stand the lines that were read
-pub record Headed (fares : Fares) (so_far : LinesSoFar) (lines : List (List ℕ)) : Type 0 where
-  pub rest : List (List ℕ)
-  pub is : lines ≡ head_text ∷ rest
-  pub read : HasRead fares so_far.replay rest
+-- a line with a remark, after right lines
+module _ (fares : Fares) (last : TakenLine) (earlier : List TakenLine) (next : TakenLine)
+    (more : List (List ℕ)) (is_right : Right fares (last ∷ earlier))
+    (are : AreTaken fares (next ∷ (last ∷ earlier)))
+    (wrong : one_wrong next.finding.remark ≡ 0 → ⊥) where
+  no_ledger : IsWrongAfter fares is_right.lines next.line
+  no_ledger others nexts =
+      let parts = next-parts fares [] others is_right.lines next.line [] nexts in
+      let before = all_right fares (last ∷ earlier) are.0 parts.entries is_right.lines
+      is_right.split parts.are in
+      wrong (legal_step fares (run_of (last ∷ earlier)) parts.entries next.line next.finding.tap
+      next.finding.remark next.wanted parts.entry are.1 before.legal.state parts.is).none
 
-pub headed : (fares : Fares) (so_far : LinesSoFar) (lines : List (List ℕ)) → so_far.has_head ≡ true
-    → HasTaken fares so_far lines
-    → Headed fares so_far lines
-headed fares so_far [] some taken = absurd (apart (sym some ∙ taken.0))
-headed fares so_far (l ∷ lines) some taken =
-    record { rest = lines; is = ap (λ (x : List ℕ). x ∷ lines) taken.1; read = taken.2 }
+  abbrev first_at : (number : ℕ) → number ≡ length (last ∷ earlier) + 1
+      → IsFirstWrong fares (lines_from (next ∷ (last ∷ earlier)) ++ more) number
+  first_at number counted = record {
+    before = is_right.lines;
+    line = next.line;
+    after = more;
+    split = append_assoc (lines_from (last ∷ earlier)) (next.line ∷ []) more
+        ∙ ap (λ (ls : List (List ℕ)). ls ++ next.line ∷ more) is_right.split;
+    entries = is_right.entries;
+    are = is_right.legal.are;
+    counted = omega (arith, counted, is_right.legal.counted);
+    wrong = no_ledger;
+  }
 
-abbrev pub first_wrong : (fares : Fares) (replay : Replay) (rest : List (List ℕ)) (line : List ℕ)
-    (more : List (List ℕ)) (number : ℕ)
-    → HasRead fares replay rest → number ≡ replay.lines + 2 → IsWrongAfter fares rest line
-    → IsFirstWrong fares (head_text ∷ (rest ++ line ∷ more)) number
-first_wrong fares replay rest line more number read counted wrong = record {
-  before = rest;
-  line = line;
-  after = more;
-  split = refl;
-  entries = read.entries;
-  are = read.are;
-  counted = counted ∙ ap (λ n. n + 2) read.counted;
-  wrong = wrong;
-}
+abbrev pub IsFound : Fares → List (List ℕ) → Verdict → Type 0
+IsFound fares lines verdict = IsTrueOf fares lines verdict × (is_legal verdict ≡ false)
 
--- a line that is neither the head line nor can follow what was read
-pub no_line_true : (fares : Fares) (so_far : LinesSoFar) (lines : List (List ℕ)) (line : List ℕ)
-    (more : List (List ℕ)) → HasTaken fares so_far lines
-    → line ≢ head_text
-    → ((rest : List (List ℕ)) → HasRead fares so_far.replay rest → IsWrongAfter fares rest line)
-    → IsTrueOf fares (lines ++ line ∷ more) (NoLine (number_after so_far))
-no_line_true fares so_far [] line more taken other wrong =
-    inl (
-      ap (λ (b : Bool). cond b (so_far.replay.lines + 2) 1) taken.0,
-      λ others is. other (same_head line head_text more others is),
+wrong_head : (line : List ℕ) (remark : Remark) (b : Bool) → bytes_eq line head_text ≡ b
+    → remark ≡ (if b then Nothing else NoLine) → (one_wrong remark ≡ 0 → ⊥)
+    → (line ≡ head_text → ⊥) × (remark ≡ NoLine)
+wrong_head line remark true same is wrong = absurd (wrong (ap one_wrong is))
+wrong_head line remark false same is wrong = (
+  λ head. let bad : true ≡ false = sym ((bytes_eq-Decides line head_text).1 head) ∙ same in absurd cc,
+  is,
+)
+
+pub first_wrong : (fares : Fares) (taken : List TakenLine) (next : TakenLine)
+    (more : List (List ℕ)) (verdict : Verdict)
+    → AreTaken fares (next ∷ taken) → wrong_count taken ≡ 0 → length taken ≤ 2 ^ 62
+    → (one_wrong next.finding.remark ≡ 0 → ⊥)
+    → IsCalled next.finding.remark (length taken + 1) next.wanted verdict
+    → IsFound fares (lines_from (next ∷ taken) ++ more) verdict
+first_wrong fares taken next more (Legal entries early) are none few wrong called = absurd called
+first_wrong fares [] next more (Asks at text) are none few wrong called =
+    let head = wrong_head next.line next.finding.remark _ refl are.1.1 wrong in
+    let bad : ◌≡◌ {A = Remark} Wants NoLine = sym called.0 ∙ head.1 in absurd cc
+first_wrong fares [] next more (Refuses at) are none few wrong called =
+    let head = wrong_head next.line next.finding.remark _ refl are.1.1 wrong in
+    (inl (called, λ others is. head.0 (first_line next.line head_text more others is)), refl)
+  where
+    first_line : (a b : List ℕ) (xs ys : List (List ℕ)) → a ∷ xs ≡ b ∷ ys → a ≡ b
+    first_line a b xs ys is = cc
+first_wrong fares (last ∷ earlier) next more (Asks at text) are none few wrong called =
+    let before = right fares (last ∷ earlier) are.0 none (omega arith) few in
+    let counted : length (last ∷ earlier) ≡ length before.entries + 1 = before.legal.counted in
+    let wanted = wanted_next fares (run_of (last ∷ earlier)) before.entries next.line
+    next.finding.tap next.finding.remark next.wanted are.1 called.0 before.legal.state called.3
+    (omega (arith, counted, few)) in (
+      record {
+        first = first_at fares last earlier next more before are wrong at called.1;
+        is = (
+          before.entries,
+          wanted.0,
+          before.legal.are,
+          subst (λ (l : List ℕ). IsNext fares before.entries wanted.0 l) (sym called.2) wanted.1,
+        );
+      },
+      refl,
     )
-  where
-    same_head : (a b : List ℕ) (xs ys : List (List ℕ)) → a ∷ xs ≡ b ∷ ys → a ≡ b
-    same_head a b xs ys is = cc
-no_line_true fares so_far (l ∷ lines) line more taken other wrong =
-    inr (subst
-    (λ (head : List ℕ). IsFirstWrong fares (head ∷ (lines ++ line ∷ more)) (number_after so_far))
-    (sym taken.1)
-    (first_wrong fares so_far.replay lines line more (number_after so_far) taken.2
-    (ap (λ (b : Bool). cond b (so_far.replay.lines + 2) 1) taken.0) (wrong lines taken.2)))
+first_wrong fares (last ∷ earlier) next more (Refuses at) are none few wrong called =
+    let before = right fares (last ∷ earlier) are.0 none (omega arith) few in
+    (inr (first_at fares last earlier next more before are wrong at called), refl)
 
--- the head line's length
-head_short : length head_text ≤ 255
-head_short = omega arith
+abbrev no_line : LineFinding
+no_line = record { tap = None; remark = NoLine; has_form = false }
 
-pub long_true : (fares : Fares) (so_far : LinesSoFar) (lines : List (List ℕ)) (line : List ℕ)
-    (more : List (List ℕ)) → HasTaken fares so_far lines
-    → 255 < length line → IsTrueOf fares (lines ++ line ∷ more) (NoLine (number_after so_far))
-long_true fares so_far lines line more taken long =
-    no_line_true fares so_far lines line more taken
-    (λ is. let same : length line ≤ 255 =
-    subst (λ (l : List ℕ). length l ≤ 255) (sym is) head_short in absurd (omega arith))
-    (λ rest read. wrong_long fares so_far.replay rest line read long)
+no_line_wrong : one_wrong NoLine ≡ 0 → ⊥
+no_line_wrong is = absurd (omega (arith, is))
 
--- a ledger's line ends with a newline
-pub next_ends : (fares : Fares) (earlier : List Entry) (entry : Entry) (line : List ℕ)
-    → IsNext fares earlier entry line → Lacks 10 line → ⊥
-next_ends fares earlier entry line is lacks =
-    let shown = is.shown in
-    let one = lacks-end 10 (line_head entry.token _) _ (subst (Lacks 10) shown.shown lacks) in
-    let two = lacks-end 10 shown.moment _ one in
-    let three = lacks-end 10 (entry_fields fares entry) _ two in
-    let four = lacks-end 10 shown.reason_fields (10 ∷ []) three in
-    four.0 refl
+-- ---- what a check knows
+module _ (fares : Fares) (checker : Checker) (balance : Balance) (text : List ℕ)
+    (valid : List TapFields) (is : IsRightSoFar fares checker balance text valid) where
+  abbrev lines : ℕ
+  lines = checker.fed.so_far.sums.lines
 
--- a line without a line feed is not the head
-pub head_ends : (line : List ℕ) → Lacks 10 line → line ≢ head_text
-head_ends line lacks is =
-    lacks-last 10
-    (codes
-    "token,line,moment,validator,mode,answer,cents,window_start,window_end,ride,reason,points_at")
-    line is lacks
+  counted : lines ≡ length is.taken
+  counted = is.fed.lines.sums.lines
 
-pub started_true : (fares : Fares) (so_far : LinesSoFar) (lines : List (List ℕ)) (started : List ℕ)
-    (more : List (List ℕ)) → HasTaken fares so_far lines
-    → Lacks 10 started → IsTrueOf fares (lines ++ started ∷ more) (NoLine (number_after so_far))
-started_true fares so_far lines started more taken lacks =
-    no_line_true fares so_far lines started more taken (head_ends started lacks)
-    (λ rest read. wrong fares so_far.replay rest started read
-    (λ entry is. next_ends fares read.entries entry started is lacks))
+  -- a line that has not ended is too long
+  pub too_long : 255 < length checker.fed.started.items
+      → ((more : List ℕ) → IsVerdict fares (text ++ more) (Refuses (lines + 1)))
+      × (is_legal (Refuses (lines + 1)) ≡ false)
+  too_long long = (
+    λ more.
+        let started = is.fed.started in
+        let longer = kept_long checker.fed.started.items started is.fed.kept long in
+        let opens = lines-open started more is.fed.lacks (omega (arith, longer)) in
+        let line = started ++ opens.rest in
+        let next : TakenLine = record { line = line; finding = no_line; wanted = [] } in
+        let size : 255 < length line = omega (arith, longer, length-append started opens.rest) in
+        subst (λ (ls : List (List ℕ)). IsTrueOf fares ls (Refuses (lines + 1)))
+        (append_assoc (lines_from is.taken) (line ∷ []) opens.after
+        ∙ sym (is.fed.split more ∙ ap (λ (ls : List (List ℕ)). lines_from is.taken ++ ls) opens.is))
+        (first_wrong fares is.taken next opens.after (Refuses (lines + 1))
+        (is.fed.lines.are, long_taken fares is.taken line no_line [] size refl refl) is.none
+        is.fed.lines.sums.few no_line_wrong (ap (λ n. n + 1) counted)).0,
+    refl,
+  )
 
--- a piece without a newline
-pub cut_more : (fares : Fares) (checker : Checker) (text piece : List ℕ)
-    (fed : HasFed fares checker text) (more : List ℕ)
-    → lines_of ((text ++ piece) ++ more)
-    ≡ fed.lines ++ lines_of ((checker.started.items ++ piece) ++ more)
-cut_more fares checker text piece fed more =
-    ap lines_of (append_assoc text piece more) ∙ fed.split (piece ++ more)
-    ∙ ap (λ (t : List ℕ). fed.lines ++ lines_of t)
-    (sym (append_assoc checker.started.items piece more))
+  -- the text ends in a line, or has none
+  pub ended_in_line : ((0 < lines) × (checker.fed.started.items ≡ []) → ⊥)
+      → IsVerdict fares text (Refuses (lines + 1))
+  ended_in_line not_whole =
+      let next : TakenLine = record { line = is.fed.started; finding = no_line; wanted = [] } in
+      let are : AreTaken fares (next ∷ is.taken) = (
+        is.fed.lines.are,
+        cut_taken fares is.taken is.fed.started no_line is.fed.lacks refl refl,
+      ) in
+      of_lines (lines_of text) (cut_lines fares checker.fed text is.taken is.fed not_whole)
+      (first_wrong fares is.taken next [] (Refuses (lines + 1)) are is.none
+      is.fed.lines.sums.few no_line_wrong (ap (λ n. n + 1) counted)).0
+    where
+      of_lines : (all : List (List ℕ)) → with_first all ≡ lines_from is.taken ++ is.fed.started ∷ []
+          → IsTrueOf fares ((lines_from is.taken ++ is.fed.started ∷ []) ++ []) (Refuses (lines + 1))
+          → IsTrueOf fares all (Refuses (lines + 1))
+      of_lines [] whole found =
+          inl (none_taken is.taken counted whole, λ others none. absurd cc)
+        where
+          none_taken : (taken : List TakenLine) → lines ≡ length taken
+              → [] ∷ [] ≡ lines_from taken ++ is.fed.started ∷ [] → lines + 1 ≡ 1
+          none_taken [] none same = omega (arith, none)
+          none_taken (t ∷ ts) some same = absurd (omega (
+            arith,
+            ap (λ (ls : List (List ℕ)). length ls) same,
+            length-append (lines_from ts ++ t.line ∷ []) (is.fed.started ∷ []),
+            length-append (lines_from ts) (t.line ∷ []),
+          ))
+      of_lines (line ∷ all) whole found =
+          subst (λ (ls : List (List ℕ)). IsTrueOf fares ls (Refuses (lines + 1)))
+          (append-nil (lines_from is.taken ++ is.fed.started ∷ []) ∙ sym whole) found
 
-abbrev pub kept : (fares : Fares) (checker after : Checker) (text piece : List ℕ)
-    → HasFed fares checker text → Lacks 10 piece
-    → after.so_far ≡ checker.so_far → after.started.items ≡ checker.started.items ++ piece
-    → length after.started.items ≤ 255
-    → HasFed fares after (text ++ piece)
-kept fares checker after text piece fed lacks same started short = record {
-  lines = fed.lines;
-  taken = subst (λ (r : LinesSoFar). HasTaken fares r fed.lines) (sym same) fed.taken;
-  split = λ more. cut_more fares checker text piece fed more
-      ∙ ap (λ (p : List ℕ). fed.lines ++ lines_of (p ++ more)) (sym started);
-  lacks = subst (Lacks 10) (sym started)
-      (lacks-append 10 checker.started.items piece fed.lacks lacks);
-  short = short;
-}
+  module _ (some : 0 < lines) (ended : checker.fed.started.items ≡ []) where
+    whole : lines_of text ≡ lines_from is.taken
+    whole = whole_lines fares checker.fed text is.taken is.fed ended
 
-pub too_long : (fares : Fares) (checker : Checker) (text piece whole : List ℕ)
-    → HasFed fares checker text → Lacks 10 piece
-    → whole ≡ checker.started.items ++ piece → 255 < length whole
-    → (more : List ℕ) → IsVerdict fares ((text ++ piece) ++ more)
-    (NoLine (number_after checker.so_far))
-too_long fares checker text piece whole fed lacks started long more =
-    let joined = checker.started.items ++ piece in
-    let size : 255 < length joined = subst (λ (p : List ℕ). 255 < length p) started long in
-    let opens = lines-open joined more (lacks-append 10 checker.started.items piece fed.lacks lacks)
-    (omega arith) in
-    let line = joined ++ opens.rest in
-    subst (λ (ls : List (List ℕ)). IsTrueOf fares ls (NoLine (number_after checker.so_far)))
-    (sym (cut_more fares checker text piece fed more
-    ∙ ap (λ (ls : List (List ℕ)). fed.lines ++ ls) opens.is))
-    (long_true fares checker.so_far fed.lines line opens.after fed.taken
-    (omega (arith, length-append joined opens.rest)))
+    pub ended_complete : (number : ℕ) (early : Option ℕ) → number + 1 ≡ lines
+        → early ≡ early_line (taps_from is.taken) → IsVerdict fares text (Legal number early)
+    ended_complete number early size order =
+        let found = right fares is.taken is.fed.lines.are is.none (omega (arith, counted, some))
+        is.fed.lines.sums.few in
+        record {
+          others = found.lines;
+          split = whole ∙ found.split;
+          entries = found.entries;
+          are = found.legal.are;
+          counted = omega (arith, size, counted, found.legal.counted);
+          order = λ of nexts. order ∙ ap early_line
+              (all_right fares is.taken is.fed.lines.are of found.lines found.split nexts).legal.taps;
+        }
 
--- a piece that ends a line
-line_cut : (fares : Fares) (checker : Checker) (text line : List ℕ)
-    (fed : HasFed fares checker text) → IsLine line → (more : List ℕ)
-    → lines_of ((text ++ line) ++ more)
-    ≡ fed.lines ++ (checker.started.items ++ line) ∷ lines_of more
-line_cut fares checker text line fed is more =
-    let started = checker.started.items in
-    let whole : started ++ line ≡ (started ++ is.front) ++ 10 ∷ [] =
-    ap (λ (l : List ℕ). started ++ l) is.shown ∙ sym (append_assoc started is.front (10 ∷ [])) in
-    let split : (started ++ line) ++ more ≡ (started ++ is.front) ++ 10 ∷ more =
-    ap (λ (l : List ℕ). l ++ more) whole ∙ append_assoc (started ++ is.front) (10 ∷ []) more in
-    cut_more fares checker text line fed more
-    ∙ ap (λ (t : List ℕ). fed.lines ++ lines_of t) split
-    ∙ ap (λ (ls : List (List ℕ)). fed.lines ++ ls)
-    (lines-line (started ++ is.front) more (lacks-append 10 started is.front fed.lacks is.lacks))
-    ∙ ap (λ (l : List ℕ). fed.lines ++ l ∷ lines_of more) (sym whole)
+    pub all_subtracted : (entries : List Entry) → IsLedgerOf fares entries text
+        → IsBalance balance valid (map tap_of_entry entries)
+    all_subtracted entries of = subst (λ (ts : List TapFields). IsBalance balance valid ts)
+        (all_right fares is.taken is.fed.lines.are entries of.lines (sym whole ∙ of.split)
+        of.are).legal.taps is.subtracted
 
-pub took_cut : (fares : Fares) (checker after : Checker) (text line whole : List ℕ)
-    → (fed : HasFed fares checker text) → IsLine line
-    → whole ≡ checker.started.items ++ line → after.started.items ≡ [] → (more : List ℕ)
-    → lines_of ((text ++ line) ++ more)
-    ≡ (fed.lines ++ whole ∷ []) ++ lines_of (after.started.items ++ more)
-took_cut fares checker after text line whole fed is joined empty more =
-    line_cut fares checker text line fed is more
-    ∙ ap (λ (l : List ℕ). fed.lines ++ l ∷ lines_of more) (sym joined)
-    ∙ sym (append_assoc fed.lines (whole ∷ []) (lines_of more))
-    ∙ ap (λ (p : List ℕ). (fed.lines ++ whole ∷ []) ++ lines_of (p ++ more)) (sym empty)
+-- ---- pieces
+abbrev pub kept_right : (fares : Fares) (checker after : Checker) (balance : Balance)
+    (text rest : List ℕ) (valid : List TapFields)
+    (is : IsRightSoFar fares checker balance text valid)
+    → HasFed fares after.fed (text ++ rest) is.taken
+    → IsRightSoFar fares after balance (text ++ rest) valid
+kept_right fares checker after balance text rest valid is fed =
+    record { taken = is.taken; fed = fed; none = is.none; subtracted = is.subtracted }
 
-pub none_short : (started : List ℕ) → started ≡ [] → length started ≤ 255
-none_short started empty = subst (λ (p : List ℕ). length p ≤ 255) (sym empty) (omega arith)
+module _ (fares : Fares) (checker after : Checker) (balance left : Balance) (text line : List ℕ)
+    (valid : List TapFields) (is : IsRightSoFar fares checker balance text valid)
+    (whole : List ℕ) (finding : LineFinding)
+    (fed : HasFed fares after.fed (text ++ line)
+    (next_taken whole finding after.fed.so_far ∷ is.taken)) where
+  pub right_more : one_wrong finding.remark ≡ 0
+      → IsBalance left valid (taps_with (taps_from is.taken) finding.tap)
+      → IsRightSoFar fares after left (text ++ line) valid
+  right_more none subtracted = record {
+    taken = next_taken whole finding after.fed.so_far ∷ is.taken;
+    fed = fed;
+    none = omega (arith, none, is.none);
+    subtracted = subtracted;
+  }
 
-pub none_lacks : (started : List ℕ) → started ≡ [] → Lacks 10 started
-none_lacks started empty = subst (Lacks 10) (sym empty) tt
+  pub found_wrong : (one_wrong finding.remark ≡ 0 → ⊥) → (verdict : Verdict)
+      → IsCalled finding.remark after.fed.so_far.sums.lines
+      (string_bytes after.fed.so_far.walk.wanted) verdict
+      → IsFed fares after left (text ++ line) valid (Some verdict)
+  found_wrong wrong verdict called =
+      let next = next_taken whole finding after.fed.so_far in
+      let counted : after.fed.so_far.sums.lines ≡ length is.taken + 1 =
+      let n = fed.lines.sums.lines in omega (arith, n) in
+      let found = λ (more : List (List ℕ)). first_wrong fares is.taken next more verdict
+      fed.lines.are is.none is.fed.lines.sums.few wrong
+      (subst (λ (n : ℕ). IsCalled finding.remark n next.wanted verdict) counted called) in (
+        λ more. subst (λ (ls : List (List ℕ)). IsTrueOf fares ls verdict)
+            (sym (fed.split more)) (found (lines_of (fed.started ++ more))).0,
+        (found []).1,
+      )
 
-abbrev pub took_whole : (fares : Fares) (checker after : Checker) (text line whole : List ℕ)
-    → (fed : HasFed fares checker text) → IsLine line
-    → whole ≡ checker.started.items ++ line → after.started.items ≡ []
-    → HasTaken fares after.so_far (fed.lines ++ whole ∷ [])
-    → HasFed fares after (text ++ line)
-took_whole fares checker after text line whole fed is joined empty taken = record {
-  lines = fed.lines ++ whole ∷ [];
-  taken = taken;
-  split = took_cut fares checker after text line whole fed is joined empty;
-  lacks = none_lacks after.started.items empty;
-  short = none_short after.started.items empty;
-}
+-- a verdict after a piece is one after all that begins with it
+pub fed_more : (fares : Fares) (checker after : Checker) (balance left : Balance)
+    (text front rest : List ℕ) (valid : List TapFields) (reported : Option Verdict)
+    → is_some reported ≡ true → IsFed fares checker balance (text ++ front) valid reported
+    → IsFed fares after left (text ++ (front ++ rest)) valid reported
+fed_more fares checker after balance left text front rest valid None is fed = absurd (true≢false (sym is))
+fed_more fares checker after balance left text front rest valid (Some verdict) is fed = (
+  λ more. subst (λ (t : List ℕ). IsVerdict fares t verdict)
+      (sym (append_assoc (text ++ front) rest more)
+      ∙ ap (λ (t : List ℕ). t ++ more) (append_assoc text front rest)) (fed.0 (rest ++ more)),
+  fed.1,
+)
 
-pub took_line : (fares : Fares) (checker after : Checker) (text line whole : List ℕ)
-    (reported : Option Verdict) → (fed : HasFed fares checker text) → IsLine line
-    → whole ≡ checker.started.items ++ line → after.started.items ≡ []
-    → IsTaken fares after.so_far fed.lines whole reported
-    → IsFed fares after (text ++ line) reported
-took_line fares checker after text line whole None fed is joined empty taken =
-    took_whole fares checker after text line whole fed is joined empty taken
-took_line fares checker after text line whole (Some verdict) fed is joined empty taken = λ more.
-    subst (λ (ls : List (List ℕ)). IsTrueOf fares ls verdict)
-    (sym (line_cut fares checker text line fed is more
-    ∙ ap (λ (l : List ℕ). fed.lines ++ l ∷ lines_of more) (sym joined)))
-    (taken (lines_of more))
-
--- the text ends
-whole_cut : (fares : Fares) (checker : Checker) (text : List ℕ) (fed : HasFed fares checker text)
-    → lines_of text ≡ fed.lines ++ lines_of checker.started.items
-whole_cut fares checker text fed =
-    ap lines_of (sym (append-nil text)) ∙ fed.split []
-    ∙ ap (λ (p : List ℕ). fed.lines ++ lines_of p) (append-nil checker.started.items)
-
-pub ended_in_line : (fares : Fares) (checker : Checker) (text : List ℕ) → HasFed fares checker text
-    → 0 < length checker.started.items
-    → IsVerdict fares text (NoLine (number_after checker.so_far))
-ended_in_line fares checker text fed some =
-    let started = checker.started.items in
-    subst (λ (ls : List (List ℕ)). IsTrueOf fares ls (NoLine (number_after checker.so_far)))
-    (sym (whole_cut fares checker text fed
-    ∙ ap (λ (ls : List (List ℕ)). fed.lines ++ ls) (lines-part started fed.lacks some)))
-    (started_true fares checker.so_far fed.lines started [] fed.taken fed.lacks)
-
-pub ended_at_line : (fares : Fares) (checker : Checker) (text : List ℕ)
-    (fed : HasFed fares checker text) → checker.started.items ≡ [] → lines_of text ≡ fed.lines
-unfolding lines_of
-ended_at_line fares checker text fed empty =
-    whole_cut fares checker text fed ∙ ap (λ (p : List ℕ). fed.lines ++ lines_of p) empty
-    ∙ append-nil fed.lines
-
-pub ended_headless : (fares : Fares) (checker : Checker) (text : List ℕ) → HasFed fares checker text
-    → checker.started.items ≡ []
-    → checker.so_far.has_head ≡ false → IsVerdict fares text (NoLine (number_after checker.so_far))
-ended_headless fares checker text fed empty none =
-    let first = no_head fares checker.so_far fed.lines none fed.taken in
-    inl (
-      ap (λ (b : Bool). cond b (checker.so_far.replay.lines + 2) 1) none,
-      λ others is.
-          nothing others (sym (ended_at_line fares checker text fed empty ∙ first.0) ∙ is),
-    )
-  where
-    nothing : (others : List (List ℕ)) → [] ≡ head_text ∷ others → ⊥
-    nothing others is = cc
-
-pub ended_complete : (fares : Fares) (checker : Checker) (text : List ℕ) → HasFed fares checker text
-    → checker.started.items ≡ []
-    → checker.so_far.has_head ≡ true → IsVerdict fares text
-    (Legal checker.so_far.replay.lines checker.so_far.replay.order.early)
-ended_complete fares checker text fed empty some =
-    let head = headed fares checker.so_far fed.lines some fed.taken in
-    record {
-      others = head.rest;
-      split = ended_at_line fares checker text fed empty ∙ head.is;
-      entries = head.read.entries;
-      are = head.read.are;
-      counted = head.read.counted;
-      order = λ of are. head.read.order.early
-          ∙ ap (λ (es : List Entry). early_line (map tap_of_entry es))
-          (sym (head.read.only of are));
-    }
-
--- a piece after a piece
-pub fed_on : (fares : Fares) (after : Checker) (text consumed piece : List ℕ)
-    (reported : Option Verdict) → IsFed fares after ((text ++ consumed) ++ piece) reported
-    → IsFed fares after (text ++ (consumed ++ piece)) reported
-fed_on fares after text consumed piece reported fed =
-    subst (λ (t : List ℕ). IsFed fares after t reported) (append_assoc text consumed piece) fed
-
-pub remark_early : (fares : Fares) (after : Checker) (text consumed line trailing : List ℕ)
-    (reported : Option Verdict) → is_some reported ≡ true
-    → IsFed fares after ((text ++ consumed) ++ line) reported
-    → IsFed fares after (text ++ (consumed ++ (line ++ trailing))) reported
-remark_early fares after text consumed line trailing None some fed = absurd (apart (sym some))
-remark_early fares after text consumed line trailing (Some verdict) some fed =
-    λ more. subst (λ (t : List ℕ). IsVerdict fares t verdict) (joined more) (fed (trailing ++ more))
-  where
-    joined : (more : List ℕ)
-        → ((text ++ consumed) ++ line) ++ (trailing ++ more)
-        ≡ (text ++ (consumed ++ (line ++ trailing))) ++ more
-    joined more = simp append_assoc
-
-pub fed_none : (fares : Fares) (after : Checker) (text : List ℕ) (reported : Option Verdict)
-    → is_some reported ≡ false → IsFed fares after text reported
-    → HasFed fares after text
-fed_none fares after text None none fed = fed
-fed_none fares after text (Some verdict) none fed = absurd (apart none)
-
--- a text of no bytes is empty
-pub empty_list : (text : List ℕ) → length text ≤ 0 → text ≡ []
-empty_list [] none = refl
-empty_list (b ∷ text) none = absurd (omega arith)
-
-pub ended_unheaded : (fares : Fares) (checker : Checker) (text : List ℕ) → HasFed fares checker text
-    → checker.so_far.has_head ≡ false → IsVerdict fares text (NoLine (number_after checker.so_far))
-ended_unheaded fares checker text fed none =
-    ⊎_elim
-    (λ (some : 0 < length checker.started.items). ended_in_line fares checker text fed some)
-    (λ (empty : length checker.started.items ≤ 0). ended_headless fares checker text fed
-    (empty_list checker.started.items empty) none)
-    (cases_lt 0 (length checker.started.items))
+pub fed_none : (fares : Fares) (checker : Checker) (balance : Balance) (text : List ℕ)
+    (valid : List TapFields) (reported : Option Verdict) → is_some reported ≡ false
+    → IsFed fares checker balance text valid reported → IsRightSoFar fares checker balance text valid
+fed_none fares checker balance text valid None is fed = fed
+fed_none fares checker balance text valid (Some verdict) is fed = absurd (true≢false is)

@@ -13,17 +13,18 @@ use Rattle.fare_texts.specs.LedgerLines.{head_text}
 use Rattle.ledger_check.specs.Lines.{Lacks, lines_of}
 use Rattle.ledger_check.specs.FullChecks.{IsTaken, TakenLine, lines_from, no_line_text, taps_from}
 use Rattle.ledger_check.specs.FullChecks.{taps_with, remark_lines, remark_text, with_first}
-use Rattle.ledger_check.specs.FullCheckStates.{AreSums, HasFullyChecked}
+use Rattle.ledger_check.specs.FullCheckStates.{AreSums, HasFed, HasFullyChecked}
 use Rattle.ledger_check.specs.inside.FullChecks.{HasEnded}
 use Rattle.ledger_check.specs.declared.full_check.FullCheck.{FullCheck}
 use Rattle.ledger_check.specs.declared.full_check_sums.FullCheckSums.{FullCheckSums}
+use Rattle.ledger_check.specs.declared.lines_fed.LinesFed.{LinesFed}
 use Rattle.ledger_check.specs.declared.walk.LineFinding.{LineFinding}
 use Rattle.ledger_check.specs.declared.walk.CountedTap.{CountedTap}
 use Rattle.ledger_check.specs.declared.walk.Remark.{Remark}
 use Rattle.ledger_check.specs.declared.walk.Remark.TheVariants.{Nothing, NoLine}
-use Rattle.ledger_check.proofs.CheckerLemmas.{head_ends}
+use Rattle.ledger_check.proofs.LineEnds.{head_ends}
 use Rattle.ledger_check.proofs.LineLemmas.{lines-part}
-use Rattle.ledger_check.proofs.FullCheckLemmas.{cut_line, kept_none, none_kept}
+use Rattle.ledger_check.proofs.FullCheckLemmas.{cut_line, kept_none, names_none, none_kept}
 
 no_lines : lines_of [] ≡ []
 unfolding lines_of
@@ -44,31 +45,34 @@ lines_some : (taken : List TakenLine) → 0 < length taken → 0 < length (lines
 lines_some [] some = absurd (omega (arith, some))
 lines_some (next ∷ taken) some = omega (arith, length-append (lines_from taken) (next.line ∷ []))
 
--- the text ends behind a line
+pub whole_lines : (fares : Fares) (fed : LinesFed) (text : List ℕ) (taken : List TakenLine)
+    → HasFed fares fed text taken → fed.started.items ≡ [] → lines_of text ≡ lines_from taken
+whole_lines fares fed text taken is none =
+    lines_at_end (lines_from taken) text is.started is.split
+    ∙ ap (λ (b : List ℕ). lines_from taken ++ lines_of b)
+    (kept_none fed.started.items is.started is.kept none)
+    ∙ ap (λ (ls : List (List ℕ)). lines_from taken ++ ls) no_lines
+    ∙ append-nil (lines_from taken)
+
+-- the text ends after a line
 pub ended_whole : (fares : Fares) (full_check : FullCheck) (subtracts : Bool) (full : FullBalance)
     (text written : List ℕ) (valid : List TapFields) (reported : List ℕ)
     → HasFullyChecked fares full_check subtracts full text written valid
-    → 0 < full_check.so_far.sums.lines
-    → full_check.started.items ≡ []
-    → HasEnded fares subtracts full text written valid full_check.so_far.sums reported reported
+    → 0 < full_check.fed.so_far.sums.lines
+    → full_check.fed.started.items ≡ []
+    → HasEnded fares subtracts full text written valid full_check.fed.so_far.sums reported reported
 ended_whole fares full_check subtracts full text written valid reported is some none =
-    let started : is.started ≡ [] = kept_none full_check.started.items is.started is.kept none in
-    let counted : full_check.so_far.sums.lines ≡ length is.taken = is.lines.sums.lines in
-    let lines : lines_of text ≡ lines_from is.taken =
-    lines_at_end (lines_from is.taken) text is.started is.split
-    ∙ ap (λ (b : List ℕ). lines_from is.taken ++ lines_of b) started
-    ∙ ap (λ (ls : List (List ℕ)). lines_from is.taken ++ ls) no_lines
-    ∙ append-nil (lines_from is.taken) in
+    let counted : full_check.fed.so_far.sums.lines ≡ length is.taken = is.fed.lines.sums.lines in
     record {
       taken = is.taken;
       full_check = record {
-        split = ap with_first lines
+        split = ap with_first (whole_lines fares full_check.fed text is.taken is.fed none)
             ∙ with_first_some (lines_from is.taken)
             (lines_some is.taken (omega (arith, some, counted)));
-        are = is.lines.are;
-        few = is.lines.sums.few;
+        are = is.fed.lines.are;
+        few = is.fed.lines.sums.few;
       };
-      sums_are = is.lines.sums;
+      sums_are = is.fed.lines.sums;
       more = [];
       grown = sym (append-nil reported);
       all = append-nil written ∙ is.reported;
@@ -76,20 +80,16 @@ ended_whole fares full_check subtracts full text written valid reported is some 
     }
 
 -- the text's end cuts a line, or the text has none
-cut_taken : (fares : Fares) (taken : List TakenLine) (line : List ℕ) (finding : LineFinding)
+pub cut_taken : (fares : Fares) (taken : List TakenLine) (line : List ℕ) (finding : LineFinding)
     → Lacks 10 line → finding.tap ≡ None → finding.remark ≡ NoLine
     → IsTaken fares taken (record { line = line; finding = finding; wanted = [] })
-cut_taken fares [] line finding lacks none reported = (
-  none,
-  reported ∙ ap (λ (b : Bool). if b then Nothing else NoLine)
-      (sym (by_test (bytes_eq line head_text) refl)),
-)
+cut_taken fares taken line finding lacks none reported =
+    names_none fares taken line finding [] (by_test (bytes_eq line head_text) refl)
+    (cut_line line lacks) none reported
   where
     by_test : (b : Bool) → bytes_eq line head_text ≡ b → bytes_eq line head_text ≡ false
     by_test true same = absurd (head_ends line lacks ((bytes_eq-Decides line head_text).0 same))
     by_test false other = other
-cut_taken fares (before ∷ earlier) line finding lacks none reported =
-    rw none (cut_line line lacks, reported)
 
 lines_cut : (taken : List TakenLine) (text started : List ℕ)
     → lines_of text ≡ lines_from taken ++ lines_of started → Lacks 10 started
@@ -104,34 +104,41 @@ lines_cut taken text (byte ∷ started) lines lacks not_whole =
     ap with_first all ∙ with_first_some (lines_from taken ++ (byte ∷ started) ∷ [])
     (omega (arith, length-append (lines_from taken) ((byte ∷ started) ∷ [])))
 
+-- the lines, of which the last has not ended
+pub cut_lines : (fares : Fares) (fed : LinesFed) (text : List ℕ) (taken : List TakenLine)
+    (is : HasFed fares fed text taken)
+    → ((0 < fed.so_far.sums.lines) × (fed.started.items ≡ []) → ⊥)
+    → with_first (lines_of text) ≡ lines_from taken ++ is.started ∷ []
+cut_lines fares fed text taken is not_whole =
+    let counted : fed.so_far.sums.lines ≡ length taken = is.lines.sums.lines in
+    lines_cut taken text is.started (lines_at_end (lines_from taken) text is.started is.split)
+    is.lacks (λ whole. not_whole (
+      subst (λ (n : ℕ). 0 < n) (sym counted) whole.0,
+      none_kept fed.started.items is.started is.kept whole.1,
+    ))
+
 pub ended_cut : (fares : Fares) (full_check : FullCheck) (subtracts : Bool) (full : FullBalance)
     (text written : List ℕ) (valid : List TapFields) (finding : LineFinding) (sums : FullCheckSums)
     (reported reported' : List ℕ)
     → (is : HasFullyChecked fares full_check subtracts full text written valid)
-    → ((0 < full_check.so_far.sums.lines) × (full_check.started.items ≡ []) → ⊥)
+    → ((0 < full_check.fed.so_far.sums.lines) × (full_check.fed.started.items ≡ []) → ⊥)
     → finding.tap ≡ None → finding.remark ≡ NoLine
     → ((taken : List TakenLine) (next : TakenLine) → next.finding ≡ finding
-    → AreSums full_check.so_far.sums taken → AreSums sums (next ∷ taken))
+    → AreSums full_check.fed.so_far.sums taken → AreSums sums (next ∷ taken))
     → reported' ≡ reported ++ no_line_text sums.lines
     → HasEnded fares subtracts full text written valid sums reported reported'
 ended_cut fares full_check subtracts full text written valid finding sums reported reported' is
     not_whole
     none
     no_line grows grown =
-    let next : TakenLine = record { line = is.started; finding = finding; wanted = [] } in
-    let counted : full_check.so_far.sums.lines ≡ length is.taken = is.lines.sums.lines in
-    let all = grows is.taken next refl is.lines.sums in
+    let next : TakenLine = record { line = is.fed.started; finding = finding; wanted = [] } in
+    let all = grows is.taken next refl is.fed.lines.sums in
     let number : sums.lines ≡ length is.taken + 1 = let n = all.lines in omega (arith, n) in
     record {
       taken = next ∷ is.taken;
       full_check = record {
-        split = lines_cut is.taken text is.started
-            (lines_at_end (lines_from is.taken) text is.started is.split) is.lacks
-            (λ whole. not_whole (
-              subst (λ (n : ℕ). 0 < n) (sym counted) whole.0,
-              none_kept full_check.started.items is.started is.kept whole.1,
-            ));
-        are = (is.lines.are, cut_taken fares is.taken is.started finding is.lacks none no_line);
+        split = cut_lines fares full_check.fed text is.taken is.fed not_whole;
+        are = (is.fed.lines.are, cut_taken fares is.taken is.fed.started finding is.fed.lacks none no_line);
         few = all.few;
       };
       sums_are = all;

@@ -1,5 +1,5 @@
 -- A line names one tap.
-use Rattle.std.proofs.Common.{◌≡◌, ℕ, ◌+◌, ◌/◌, ◌%◌, ◌^◌, ◌<◌, pos, List, ◌∷◌, ◌++◌, get_or, Ok}
+use Rattle.std.proofs.Common.{◌≡◌, ℕ, ◌+◌, ◌/◌, ◌%◌, ◌^◌, ◌<◌, ◌≤◌, length, append_assoc, pos, List, ◌∷◌, ◌++◌, get_or, Ok}
 use Rattle.std.proofs.Common.{refl, sym, ap, subst, ◌∙◌, arith, decimal, inl, inr, []}
 use Rattle.std.proofs.lemmas.Fmt.{decimal_injective}
 use Rattle.hex.specs.Hex.{decode_sized, encode_lower}
@@ -8,6 +8,10 @@ use Rattle.jiff_core.specs.declared.civil.date.Date.{Date}
 use Rattle.jiff_core.specs.Date.{epoch_day}
 use Rattle.jiff_core.proofs.DateLemmas.{epoch_day_same}
 use Rattle.jiff_fmt.specs.Text.{date_text}
+use Rattle.account_rule.specs.declared.reason.Reason.{Reason}
+use Rattle.tariffs.specs.Fares.{Fares}
+use Rattle.histories.specs.declared.entry.Entry.{Entry}
+use Rattle.fare_texts.specs.LedgerLines.{IsLedgerLine, entry_fields, line_head}
 use Rattle.fare_texts.specs.Moments.{IsMomentText, clock_text}
 use Rattle.fare_texts.proofs.Years.{year_of}
 use Rattle.tap_views.specs.Token.{Fits, bytes_of}
@@ -16,7 +20,7 @@ use Rattle.tap_views.proofs.TokenLemmas.{bytes_of-injective}
 use Rattle.tap_views.proofs.TokenBytes.{token_bytes, token_length}
 use Rattle.ledger_check.specs.FullChecks.{EndsField, IsLineOfTap}
 use Rattle.ledger_check.specs.inside.Fronts.{HasFront}
-use Rattle.ledger_check.proofs.FieldLemmas.{date_bytes, date_shown, decimal_lacks, moment_lacks}
+use Rattle.ledger_check.proofs.FieldLemmas.{date_bytes, date_shown, decimal_lacks, first_fields, moment_lacks}
 use Rattle.ledger_check.proofs.FieldLemmas.{moment_parts, token_lacks}
 use Rattle.std.proofs.lemmas.List.{append_cancel_right}
 use Rattle.ledger_check.specs.Lines.{Lacks}
@@ -90,6 +94,40 @@ tap_front line token validator moment rest is =
       ends_field = is.ends_field;
       shown = is.shown;
     }
+
+-- the line of a token's entry names its tap
+pub line_tap : (fares : Fares) (token : Token) (number : ℕ) (entry : Entry) (why : Reason)
+    (line : List ℕ) → IsLedgerLine fares token number entry why line → number < 2 ^ 64
+    → Fits token → entry.validator < 2 ^ 32 → entry.moment < 4_102_444_800_000
+    → length line ≤ 255
+    → (rest : List ℕ) × IsLineOfTap line token entry.validator entry.moment rest
+line_tap fares token number entry why line shown count fits small early short =
+    let fields = first_fields fares token number entry why line shown in (
+      44 ∷ fields.rest,
+      record {
+        fits = fits;
+        small = small;
+        early = early;
+        number = decimal number;
+        one_field = decimal_lacks number count;
+        moment_text = fields.moment;
+        is = fields.is;
+        shown = fields.shown;
+        ends_field = inl (fields.rest, refl);
+        front = line_head token number
+            ++ (shown.moment ++ (entry_fields fares entry ++ shown.reason_fields));
+        ends = shown.shown ∙ ends (line_head token number) shown.moment
+            (entry_fields fares entry) shown.reason_fields;
+        short = short;
+      },
+    )
+  where
+    ends : (a b c d : List ℕ)
+        → a ++ (b ++ (c ++ (d ++ 10 ∷ []))) ≡ (a ++ (b ++ (c ++ d))) ++ 10 ∷ []
+    ends a b c d = sym (append_assoc a (b ++ (c ++ d)) (10 ∷ [])
+        ∙ ap (λ (t : List ℕ). a ++ t)
+        (append_assoc b (c ++ d) (10 ∷ [])
+        ∙ ap (λ (t : List ℕ). b ++ t) (append_assoc c d (10 ∷ []))))
 
 -- tokens with the same text are one token, and so with moments
 pub token_exact : (a b : Token) → Fits a → Fits b

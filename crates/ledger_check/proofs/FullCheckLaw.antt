@@ -1,7 +1,7 @@
 -- A recount finds no line wrong exactly if the text is a ledger.
 use Rattle.std.proofs.Common.{◌≡◌, ◌≢◌, ℕ, ◌+◌, ◌^◌, ◌<◌, ◌≤◌, inl, Bool, true, false, List, []}
 use Rattle.std.proofs.Common.{◌∷◌, ◌++◌, length, map, All, Option, None, Some, refl, sym, ap, subst}
-use Rattle.std.proofs.Common.{◌∙◌, arith, append_assoc, length-append, if◌then◌else◌}
+use Rattle.std.proofs.Common.{◌∙◌, arith, length-append, if◌then◌else◌}
 use Rattle.std.proofs.lemmas.List.{map-append}
 use Rattle.std.proofs.lemmas.Slice.Eq.{bytes_eq-Decides}
 use Rattle.std.specs.Str.{bytes_eq}
@@ -10,7 +10,7 @@ use Rattle.histories.specs.Entry.{own}
 use Rattle.histories.specs.declared.entry.Entry.{Entry}
 use Rattle.tap_views.specs.declared.encoder.TapFields.{TapFields}
 use Rattle.tap_views.specs.declared.token.Token.{Token}
-use Rattle.fare_texts.specs.LedgerLines.{head_text, IsLedgerLineAfter, line_head, entry_fields}
+use Rattle.fare_texts.specs.LedgerLines.{head_text, IsLedgerLineAfter}
 use Rattle.fare_texts.specs.Explainers.{next_entry}
 use Rattle.ledger_check.specs.Ledger.{AreNext, IsNext, IsNextLine, token_number}
 use Rattle.ledger_check.specs.Lines.{lines_of}
@@ -24,8 +24,7 @@ use Rattle.ledger_check.specs.declared.walk.CountedTap.{CountedTap}
 use Rattle.ledger_check.specs.declared.walk.Remark.{Remark}
 use Rattle.ledger_check.specs.declared.walk.Remark.TheVariants.{Nothing, NoLine}
 use Rattle.ledger_check.proofs.EntryLists.{next-parts, next-push, none_left}
-use Rattle.ledger_check.proofs.FieldLemmas.{decimal_lacks, first_fields}
-use Rattle.ledger_check.proofs.FrontLemmas.{tap_same_of_line}
+use Rattle.ledger_check.proofs.FrontLemmas.{line_tap, tap_same_of_line}
 use Rattle.ledger_check.proofs.RunLemmas.{State, nondecreasing, ruled_replied, state_push, unfallen}
 use Rattle.ledger_check.proofs.SameLines.{next_same}
 use Rattle.ledger_check.proofs.TokenOrder.{own-few}
@@ -71,6 +70,24 @@ ruled_of fares run entries line tap remark wanted is state up =
           is.shown;
     }
 
+-- a tap whose token does not fall can have its line next
+pub next_wanted : (fares : Fares) (run entries : List Entry) (line : List ℕ) (tap : CountedTap)
+    (remark : Remark) (wanted : List ℕ) → IsCounted fares run line tap remark wanted
+    → State run entries → decreases_after run tap.entry.token ≡ false → length wanted ≤ 255
+    → length entries < 2 ^ 62 → IsNext fares entries tap.entry wanted
+next_wanted fares run entries line tap remark wanted is state up short few =
+    let entry = tap.entry in
+    let all = ruled_of fares run entries line tap remark wanted is state up in
+    record {
+      postable = record
+          { token = is.of_tap.fits; validator = is.of_tap.small; moment = is.of_tap.early };
+      nondecreasing = (unfallen run entries entry.token state is.of_tap.fits up).up_to;
+      replied = ruled_replied fares entries entry all.ruled;
+      shown = all.shown;
+      short = short;
+      few = few;
+    }
+
 right_step : (fares : Fares) (run entries : List Entry) (line : List ℕ) (tap : Option CountedTap)
     (remark : Remark) (wanted : List ℕ)
     → IsJudged fares run line tap remark wanted → one_wrong remark ≡ 0 → State run entries
@@ -82,20 +99,12 @@ right_step fares run entries line (Some tap) remark wanted is none state few =
     let entry = tap.entry in
     let is_right = remark_right (decreases_after run entry.token) (bytes_eq line wanted)
     (ap one_wrong (sym is.is_remark) ∙ none) in
-    let all = ruled_of fares run entries line tap remark wanted is state is_right.0 in
     let line_is : line ≡ wanted = (bytes_eq-Decides line wanted).0 is_right.1 in (
       entry,
       record {
-        next = record {
-          postable = record
-              { token = is.of_tap.fits; validator = is.of_tap.small; moment = is.of_tap.early };
-          nondecreasing = (unfallen run entries entry.token state is.of_tap.fits is_right.0).up_to;
-          replied = ruled_replied fares entries entry all.ruled;
-          shown = subst (λ (l : List ℕ). IsNextLine fares (own entry.token entries) entry l)
-              (sym line_is) all.shown;
-          short = is.of_tap.short;
-          few = few;
-        };
+        next = subst (λ (l : List ℕ). IsNext fares entries entry l) (sym line_is)
+            (next_wanted fares run entries line tap remark wanted is state is_right.0
+            (subst (λ (l : List ℕ). length l ≤ 255) line_is is.of_tap.short) few);
         state = state_push run entries entry state is.of_tap.fits is_right.0;
         taps = λ taps. refl;
       },
@@ -186,37 +195,10 @@ pub next_line_tap : (fares : Fares) (earlier : List Entry) (entry : Entry) (line
     → IsNext fares earlier entry line
     → (rest : List ℕ) × IsLineOfTap line entry.token entry.validator entry.moment rest
 next_line_tap fares earlier entry line is =
-    let shown = is.shown in
     let few : length earlier < 2 ^ 62 = is.few in
-    let fields = first_fields fares entry.token _ entry _ line shown in
-    let front = line_head entry.token
-    (length (own entry.token earlier) + 1)
-    ++ (shown.moment ++ (entry_fields fares entry ++ shown.reason_fields)) in (
-      44 ∷ fields.rest,
-      record {
-        fits = is.postable.token;
-        small = is.postable.validator;
-        early = is.postable.moment;
-        number = _;
-        one_field = decimal_lacks (length (own entry.token earlier) + 1)
-            (omega (arith, own-few entry.token earlier));
-        moment_text = fields.moment;
-        is = fields.is;
-        shown = fields.shown;
-        ends_field = inl (fields.rest, refl);
-        front = front;
-        ends = shown.shown ∙ ends (line_head entry.token (length (own entry.token earlier) + 1))
-            shown.moment (entry_fields fares entry) shown.reason_fields;
-        short = is.short;
-      },
-    )
-  where
-    ends : (a b c d : List ℕ)
-        → a ++ (b ++ (c ++ (d ++ 10 ∷ []))) ≡ (a ++ (b ++ (c ++ d))) ++ 10 ∷ []
-    ends a b c d = sym (append_assoc a (b ++ (c ++ d)) (10 ∷ [])
-        ∙ ap (λ (t : List ℕ). a ++ t)
-        (append_assoc b (c ++ d) (10 ∷ [])
-        ∙ ap (λ (t : List ℕ). b ++ t) (append_assoc c d (10 ∷ []))))
+    line_tap fares entry.token (length (own entry.token earlier) + 1) entry _ line is.shown
+    (omega (arith, few, own-few entry.token earlier)) is.postable.token is.postable.validator
+    is.postable.moment is.short
 
 -- the line of a ledger's entry is right
 pub record StepRight (fares : Fares) (run entries : List Entry) (line : List ℕ)
@@ -224,7 +206,7 @@ pub record StepRight (fares : Fares) (run entries : List Entry) (line : List ℕ
   pub none : one_wrong remark ≡ 0
   pub step : Step fares run entries line tap entry
 
-legal_step : (fares : Fares) (run entries : List Entry) (line : List ℕ) (tap : Option CountedTap)
+pub legal_step : (fares : Fares) (run entries : List Entry) (line : List ℕ) (tap : Option CountedTap)
     (remark : Remark) (wanted : List ℕ) (entry : Entry)
     → IsJudged fares run line tap remark wanted → State run entries
     → IsNext fares entries entry line
@@ -278,7 +260,7 @@ pub record AllRight (fares : Fares) (taken : List TakenLine) (entries : List Ent
   pub none : wrong_count taken ≡ 0
   pub legal : Legal fares taken entries lines
 
-abbrev AllRightOf : Fares → List TakenLine → Type 0
+abbrev pub AllRightOf : Fares → List TakenLine → Type 0
 AllRightOf fares taken =
     (entries : List Entry) (lines : List (List ℕ)) → lines_from taken ≡ head_text ∷ lines
     → AreNext fares [] entries lines

@@ -1,4 +1,4 @@
--- What a recount of a text in pieces knows, by what its parts found.
+-- What a check of a text in pieces knows, by what its parts found.
 use Rattle.std.proofs.Common.{◌≡◌, ℕ, ◌+◌, ◌<◌, ◌≤◌, inl, inr, Bool, true, false, List, [], ◌∷◌}
 use Rattle.std.proofs.Common.{◌++◌, length, Option, None, Some, refl, sym, ap, subst, ◌∙◌, arith}
 use Rattle.std.proofs.Common.{append_assoc, append-nil, length-append, string_bytes, if◌then◌else◌}
@@ -7,19 +7,16 @@ use Rattle.std.specs.Str.{bytes_eq}
 use Rattle.tariffs.specs.Fares.{Fares}
 use Rattle.histories.specs.Entry.{own}
 use Rattle.histories.specs.declared.entry.Entry.{Entry}
-use Rattle.ledger_check.specs.declared.full_balance.FullBalance.{FullBalance}
-use Rattle.tap_views.specs.declared.encoder.TapFields.{TapFields}
 use Rattle.tap_views.specs.declared.token.Token.{Token}
 use Rattle.fare_texts.specs.LedgerLines.{head_text}
 use Rattle.ledger_check.specs.Lines.{IsLine, Lacks, lines_of}
 use Rattle.ledger_check.specs.FullChecks.{IsJudged, IsLineOfTap, IsTaken, TakenLine, lines_from}
-use Rattle.ledger_check.specs.FullChecks.{run_of, run_with, remark_text}
-use Rattle.ledger_check.specs.FullCheckStates.{AreSums, HasFullyChecked, HasRunExplainer}
-use Rattle.ledger_check.specs.FullCheckStates.{HasTakenLines}
-use Rattle.ledger_check.specs.FullCheckStates.{IsKept}
-use Rattle.ledger_check.specs.inside.FullChecks.{HasFound, HasJudged, IsFirstFinding, TookLine}
-use Rattle.ledger_check.specs.declared.full_check.LinesTaken.{LinesTaken}
-use Rattle.ledger_check.specs.declared.full_check.FullCheck.{FullCheck}
+use Rattle.ledger_check.specs.FullChecks.{run_of, run_with}
+use Rattle.ledger_check.specs.FullCheckStates.{AreSums, HasFed, HasRunExplainer}
+use Rattle.ledger_check.specs.FullCheckStates.{HasTakenLines, IsKept}
+use Rattle.ledger_check.specs.inside.FullChecks.{HasFound, HasJudged, IsFirstFinding, next_taken}
+use Rattle.ledger_check.specs.declared.lines_fed.LinesFed.{LinesFed}
+use Rattle.ledger_check.specs.declared.lines_fed.LinesTaken.{LinesTaken}
 use Rattle.ledger_check.specs.declared.walk.CountedTap.{CountedTap}
 use Rattle.ledger_check.specs.declared.walk.LineFinding.{LineFinding}
 use Rattle.ledger_check.specs.declared.walk.Remark.TheVariants.{Nothing, NoLine}
@@ -81,13 +78,36 @@ judged_taken : (fares : Fares) (taken : List TakenLine) (line : List ℕ) (findi
 judged_taken fares [] line finding wanted some is = absurd (omega (arith, some))
 judged_taken fares (before ∷ earlier) line finding wanted some is = is
 
-kept_long : (kept whole : List ℕ) → IsKept kept whole → 255 < length kept → 255 < length whole
+pub kept_long : (kept whole : List ℕ) → IsKept kept whole → 255 < length kept → 255 < length whole
 kept_long kept whole (inl same) long = subst (λ (l : List ℕ). 255 < length l) same long
 kept_long kept whole (inr (left, right)) long = right
 
 kept_short : (kept whole : List ℕ) → IsKept kept whole → length kept ≤ 255 → kept ≡ whole
 kept_short kept whole (inl same) short = same
 kept_short kept whole (inr (left, right)) short = absurd (omega (arith, left, short))
+
+-- a line that names no tap, and is not the header line
+pub names_none : (fares : Fares) (taken : List TakenLine) (line : List ℕ) (finding : LineFinding)
+    (wanted : List ℕ) → bytes_eq line head_text ≡ false
+    → ((token : Token) (validator moment : ℕ) (rest : List ℕ)
+    → IsLineOfTap line token validator moment rest → ⊥)
+    → finding.tap ≡ None → finding.remark ≡ NoLine
+    → IsTaken fares taken (record { line = line; finding = finding; wanted = wanted })
+names_none fares [] line finding wanted other names none reported = (
+  none,
+  reported ∙ sym (ap (λ (b : Bool). if b then Nothing else NoLine) other),
+)
+names_none fares (before ∷ earlier) line finding wanted other names none reported =
+    rw none (names, reported)
+
+-- so is one that is longer than a ledger's line
+pub long_taken : (fares : Fares) (taken : List TakenLine) (line : List ℕ) (finding : LineFinding)
+    (wanted : List ℕ) → 255 < length line → finding.tap ≡ None → finding.remark ≡ NoLine
+    → IsTaken fares taken (record { line = line; finding = finding; wanted = wanted })
+long_taken fares taken line finding wanted long none reported =
+    names_none fares taken line finding wanted (long_head line long)
+    (λ token validator moment rest is. let short : length line ≤ 255 = is.short in
+    omega (arith, long, short)) none reported
 
 pub kept_line : (kept : List ℕ) → length kept ≤ 255
     → (found : (whole : List ℕ) × IsLine whole × IsKept kept whole) → IsLine kept
@@ -96,27 +116,17 @@ kept_line kept short (whole, line, same) =
 
 pub found_long : (fares : Fares) (so_far : LinesTaken) (taken : List TakenLine)
     (kept whole : List ℕ) (finding : LineFinding)
-    → HasTakenLines fares so_far taken → 0 < so_far.sums.lines → IsKept kept whole
-    → 255 < length kept
+    → HasTakenLines fares so_far taken → IsKept kept whole → 255 < length kept
     → finding.tap ≡ None → finding.remark ≡ NoLine → HasFound fares taken whole so_far.walk finding
-found_long fares so_far taken kept whole finding lines some same long none reported =
-    let counted : so_far.sums.lines ≡ length taken = lines.sums.lines in
-    let wanted = string_bytes so_far.walk.wanted in
-    let longer = kept_long kept whole same long in
-    record {
-      is = judged_taken fares taken whole finding wanted (omega (arith, some, counted))
-          (subst (λ (t : Option CountedTap). IsJudged fares (run_of taken) whole t finding.remark
-          wanted) (sym none) (
-            λ token validator moment rest is. let short : length whole ≤ 255 = is.short in
-                omega (arith, longer, short),
-            reported,
-          ));
-      explainer = subst
-          (λ (t : Option CountedTap). HasRunExplainer fares so_far.walk.explainer
-          (run_with (run_of taken) t)) (sym none)
-          (subst (λ (r : List Entry). HasRunExplainer fares so_far.walk.explainer r) lines.is_run
-          lines.explainer);
-    }
+found_long fares so_far taken kept whole finding lines same long none reported = record {
+  is = long_taken fares taken whole finding (string_bytes so_far.walk.wanted)
+      (kept_long kept whole same long) none reported;
+  explainer = subst
+      (λ (t : Option CountedTap). HasRunExplainer fares so_far.walk.explainer
+      (run_with (run_of taken) t)) (sym none)
+      (subst (λ (r : List Entry). HasRunExplainer fares so_far.walk.explainer r) lines.is_run
+      lines.explainer);
+}
 
 pub found_judged : (fares : Fares) (so_far : LinesTaken) (after : Walk) (taken : List TakenLine)
     (kept whole : List ℕ) (finding : LineFinding)
@@ -151,10 +161,8 @@ few_with run (Some tap) n few =
 pub lines_more : (fares : Fares) (so_far after : LinesTaken) (taken : List TakenLine)
     (line : List ℕ) (finding : LineFinding)
     → (lines : HasTakenLines fares so_far taken) → HasFound fares taken line after.walk finding
-    → AreSums after.sums
-    (record { line = line; finding = finding; wanted = string_bytes after.walk.wanted } ∷ taken)
-    → HasTakenLines fares after
-    (record { line = line; finding = finding; wanted = string_bytes after.walk.wanted } ∷ taken)
+    → AreSums after.sums (next_taken line finding after ∷ taken)
+    → HasTakenLines fares after (next_taken line finding after ∷ taken)
 lines_more fares so_far after taken line finding lines found sums = record {
   are = (lines.are, found.is);
   sums = sums;
@@ -186,24 +194,17 @@ split_part lines text started piece split more =
     ap lines_of (append_assoc text piece more) ∙ split (piece ++ more)
     ∙ ap (λ (t : List ℕ). lines ++ lines_of t) (sym (append_assoc started piece more))
 
-pub kept_piece : (fares : Fares) (full_check after : FullCheck) (subtracts : Bool)
-    (full : FullBalance)
-    (text piece written : List ℕ) (valid : List TapFields)
-    → (is : HasFullyChecked fares full_check subtracts full text written valid) → Lacks 10 piece
-    → after.so_far ≡ full_check.so_far
-    → IsKept after.started.items (is.started ++ piece)
-    → HasFullyChecked fares after subtracts full (text ++ piece) (written ++ []) valid
-kept_piece fares full_check after subtracts full text piece written valid is lacks same kept =
-    record {
-      taken = is.taken;
-      lines = subst (λ (s : LinesTaken). HasTakenLines fares s is.taken) (sym same) is.lines;
-      started = is.started ++ piece;
-      kept = kept;
-      lacks = lacks-append 10 is.started piece is.lacks lacks;
-      split = split_part (lines_from is.taken) text is.started piece is.split;
-      reported = append-nil written ∙ is.reported;
-      subtracted = is.subtracted;
-    }
+pub kept_piece : (fares : Fares) (fed after : LinesFed) (text piece : List ℕ)
+    (taken : List TakenLine) → (is : HasFed fares fed text taken) → Lacks 10 piece
+    → after.so_far ≡ fed.so_far → IsKept after.started.items (is.started ++ piece)
+    → HasFed fares after (text ++ piece) taken
+kept_piece fares fed after text piece taken is lacks same kept = record {
+  lines = subst (λ (s : LinesTaken). HasTakenLines fares s taken) (sym same) is.lines;
+  started = is.started ++ piece;
+  kept = kept;
+  lacks = lacks-append 10 is.started piece is.lacks lacks;
+  split = split_part (lines_from taken) text is.started piece is.split;
+}
 
 -- a piece that ends a line
 pub split_line_at : (lines : List (List ℕ)) (text started line : List ℕ)
@@ -233,38 +234,20 @@ line_ends started line lacks is = record {
       ∙ sym (append_assoc started is.front (10 ∷ []));
 }
 
--- the next line was taken, and nothing is begun behind it
-pub took_line_of : (fares : Fares) (full_check after : FullCheck) (subtracts : Bool)
-    (full full' : FullBalance) (text line written : List ℕ) (valid : List TapFields)
-    (reported reported' : List ℕ)
-    → (is : HasFullyChecked fares full_check subtracts full text written valid) → IsLine line
-    → after.started.items ≡ []
-    → TookLine fares is.taken (is.started ++ line) after.so_far subtracts full full' reported
-    reported'
-    → (more : List ℕ) × (reported' ≡ reported ++ more)
-    × HasFullyChecked fares after subtracts full' (text ++ line) (written ++ more) valid
-took_line_of fares full_check after subtracts full full' text line written valid reported reported'
-    is
-    ends none
-    took = (
-      remark_text (length is.taken + 1) took.next.finding.remark took.next.wanted,
-      took.written,
-      record {
-        taken = took.next ∷ is.taken;
-        lines = took.lines;
-        started = [];
-        kept = inl none;
-        lacks = tt;
-        split = λ more. split_line_at (lines_from is.taken) text is.started line is.split is.lacks
-            ends
-            more
-            ∙ ap (λ (l : List ℕ). (lines_from is.taken ++ l ∷ []) ++ lines_of more) (sym took.is);
-        reported = ap
-            (λ (t : List ℕ). t ++ remark_text (length is.taken + 1) took.next.finding.remark
-            took.next.wanted) is.reported;
-        subtracted = λ subtract. took.subtracted valid subtract (is.subtracted subtract);
-      },
-    )
+-- the next line was taken, and nothing is started after it
+pub took_line_of : (fares : Fares) (fed after : LinesFed) (text line : List ℕ)
+    (taken : List TakenLine) (next : TakenLine)
+    → (is : HasFed fares fed text taken) → IsLine line → after.started.items ≡ []
+    → next.line ≡ is.started ++ line → HasTakenLines fares after.so_far (next ∷ taken)
+    → HasFed fares after (text ++ line) (next ∷ taken)
+took_line_of fares fed after text line taken next is ends none same took = record {
+  lines = took;
+  started = [];
+  kept = inl none;
+  lacks = tt;
+  split = λ more. split_line_at (lines_from taken) text is.started line is.split is.lacks ends more
+      ∙ ap (λ (l : List ℕ). (lines_from taken ++ l ∷ []) ++ lines_of more) (sym same);
+}
 
 -- a line without its newline names no tap
 pub cut_line : (line : List ℕ) → Lacks 10 line

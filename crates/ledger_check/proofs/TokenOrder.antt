@@ -61,11 +61,3 @@ own-few token (e ∷ entries) =
     (λ (same : is_of token e ≡ true). rw same (omega (arith, own-few token entries)))
     (λ (apart : is_of token e ≡ false). rw apart (omega (arith, own-few token entries)))
     (cases_Bool (is_of token e))
-
--- a token that has an entry is not above all
-pub own-some : (token : Token) (entries : List Entry) (limit : ℕ) → 0 < length (own token entries)
-    → All (λ entry. token_number entry.token ≤ limit) entries → limit < token_number token → ⊥
-own-some token entries limit some up_to above =
-    let none : length (own token entries) ≡ 0 =
-    ap (λ (es : List Entry). length es) (own-above token entries limit up_to above) in
-    omega arith

@@ -1,7 +1,10 @@
 -- A walk's explainer, and the entries of the last token.
-use Rattle.std.proofs.Common.{◌≡◌, ◌+◌, ◌<◌, Bool, true, false, cond, List, [], ◌∷◌, ◌++◌, filter}
+use Rattle.std.proofs.Common.{◌≡◌, ℕ, ◌+◌, ◌^◌, ◌<◌, ◌≤◌, Bool, true, false, cond, List, [], ◌∷◌}
+use Rattle.std.proofs.Common.{◌++◌, filter, inl, length}
 use Rattle.std.proofs.Common.{All, Some, refl, sym, ap, subst, ◌∙◌, arith, length-append}
 use Rattle.std.specs.Prelude.{nat_lt}
+use Rattle.std.specs.Str.{bytes_eq}
+use Rattle.std.proofs.lemmas.Slice.Eq.{bytes_eq-Decides}
 use Rattle.std.proofs.lemmas.Bool.{lt-ltb}
 use Rattle.std.proofs.lemmas.Bool.Decides.{nat_tests}
 use Rattle.std.proofs.lemmas.List.Elements.{All-push, All-tail}
@@ -12,10 +15,19 @@ use Rattle.histories.proofs.OwnEntries.{own_all}
 use Rattle.tap_views.proofs.TokenLemmas.{same_token}
 use Rattle.tap_views.specs.Token.{Fits, token_eq}
 use Rattle.tap_views.specs.declared.token.Token.{Token}
-use Rattle.fare_texts.specs.Explainers.{HasExplained}
+use Rattle.fare_texts.specs.Explainers.{HasExplained, next_entry}
+use Rattle.fare_texts.specs.LedgerLines.{IsLedgerLineAfter}
 use Rattle.fare_texts.specs.declared.explainer.Explainer.{Explainer}
 use Rattle.ledger_check.specs.Ledger.{token_number}
-use Rattle.ledger_check.specs.FullChecks.{decreases_after}
+use Rattle.ledger_check.specs.FullChecks.{AreCents, IsCounted, IsLineOfTap, decreases_after}
+use Rattle.ledger_check.specs.FullChecks.{remark_for}
+use Rattle.ledger_check.specs.inside.FullChecks.{IsNextTap}
+use Rattle.ledger_check.specs.declared.tap.Tap.{Tap}
+use Rattle.ledger_check.specs.declared.walk.NextTap.{NextTap}
+use Rattle.ledger_check.specs.declared.walk.Remark.{Remark}
+use Rattle.ledger_check.specs.declared.walk.Remark.TheVariants.{Nothing}
+use Rattle.ledger_check.proofs.FrontLemmas.{line_tap}
+use Rattle.ledger_check.proofs.TokenOrder.{own-few}
 use Rattle.ledger_check.specs.FullCheckStates.{HasRunExplainer, RepresentsRun}
 use Rattle.ledger_check.proofs.RunLemmas.{decreases_is, own-of}
 
@@ -90,3 +102,55 @@ holds_more fares explainer run token entry fits same of explained =
           (All-push (λ (e : Entry). e.token ≡ token) (own token run) entry (own-of token run) of);
       some = omega (arith, size);
     }
+
+-- a line that names a tap is compared with the line that the tap makes
+pub judged : (fares : Fares) (run : List Entry) (line wanted rest : List ℕ) (tap : Tap)
+    (next : NextTap) (cents : ℕ) (remark : Remark) → IsNextTap fares run tap wanted next
+    → IsLineOfTap line tap.token tap.validator tap.moment rest
+    → AreCents remark rest (record { entry = next.entry; cents = cents })
+    → remark ≡ remark_for next.is_decrease (bytes_eq line wanted)
+    → IsCounted fares run line (record { entry = next.entry; cents = cents }) remark wanted
+    × HasRunExplainer fares (Some next.explainer) (own next.entry.token run ++ next.entry ∷ [])
+judged fares run line wanted rest tap next cents remark took of cents_are compared =
+    let entry = next.entry in
+    let is : next_entry fares tap.token (own tap.token run) tap.validator tap.moment ≡ entry =
+    sym took.ruled in (
+      record {
+        rest = rest;
+        of_tap = subst (λ (e : Entry). IsLineOfTap line e.token e.validator e.moment rest) is of;
+        ruled = subst
+            (λ (e : Entry). entry ≡ next_entry fares e.token (own e.token run) e.validator e.moment)
+            is took.ruled;
+        shown = subst
+            (λ (e : Entry). IsLedgerLineAfter fares e.token (own e.token run) entry wanted) is
+            took.shown;
+        cents = cents_are;
+        is_remark = compared
+            ∙ ap (λ (b : Bool). remark_for b (bytes_eq line wanted)) took.decreasing
+            ∙ ap (λ (e : Entry). remark_for (decreases_after run e.token) (bytes_eq line wanted))
+            is;
+      },
+      subst (λ (e : Entry). HasRunExplainer fares (Some next.explainer)
+          (own e.token run ++ entry ∷ [])) is took.explainer,
+    )
+
+-- a line that is the one that its tap makes
+pub judged_right : (fares : Fares) (run : List Entry) (line wanted : List ℕ) (tap : Tap)
+    (next : NextTap) → IsNextTap fares run tap wanted next → line ≡ wanted
+    → next.is_decrease ≡ false → length run < 2 ^ 63 → Fits tap.token → tap.validator < 2 ^ 32
+    → tap.moment < 4_102_444_800_000 → length line ≤ 255
+    → IsCounted fares run line (record { entry = next.entry; cents = next.entry.cents }) Nothing
+    wanted × HasRunExplainer fares (Some next.explainer)
+    (own next.entry.token run ++ next.entry ∷ [])
+judged_right fares run line wanted tap next took same up few fits small early short =
+    let of = line_tap fares tap.token (length (own tap.token run) + 1) next.entry _ line
+    (subst (λ (l : List ℕ). IsLedgerLineAfter fares tap.token (own tap.token run) next.entry l)
+    (sym same) took.shown)
+    (omega (arith, few, own-few tap.token run)) fits
+    (subst (λ (e : Entry). e.validator < 2 ^ 32) (sym took.ruled) small)
+    (subst (λ (e : Entry). e.moment < 4_102_444_800_000) (sym took.ruled) early) short in
+    judged fares run line wanted of.0 tap next next.entry.cents Nothing took
+    (subst (λ (e : Entry). IsLineOfTap line tap.token e.validator e.moment of.0) took.ruled of.1)
+    (inl (refl, refl))
+    (sym (ap (λ (b : Bool). remark_for b (bytes_eq line wanted)) up
+    ∙ ap (remark_for false) ((bytes_eq-Decides line wanted).1 same)))

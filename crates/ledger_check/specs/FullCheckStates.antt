@@ -1,7 +1,6 @@
--- What a full check knows of the lines that it has read.
+-- What a check knows of the lines that it has read.
 use Rattle.std.specs.Prelude.{◌≡◌, ◌⊎◌, ℕ, ◌+◌, ◌^◌, ◌<◌, ◌≤◌, Bool, true, List, [], ◌∷◌, ◌++◌}
-use Rattle.std.specs.Prelude.{length}
-use Rattle.std.specs.Prelude.{All, Option, None, Some}
+use Rattle.std.specs.Prelude.{All, Option, None, Some, false, length}
 use Rattle.tariffs.specs.Fares.{Fares}
 use Rattle.histories.specs.declared.entry.Entry.{Entry}
 use Rattle.ledger_check.specs.FullBalances.{IsFullBalance}
@@ -15,8 +14,14 @@ use Rattle.ledger_check.specs.Orders.{IsOrderOf}
 use Rattle.ledger_check.specs.FullChecks.{AreTaken, TakenLine, cents_from, last_wrong_token}
 use Rattle.ledger_check.specs.FullChecks.{lines_from, run_of, taps_from, token_count, remark_lines}
 use Rattle.ledger_check.specs.FullChecks.{wanted_cents_from, wrong_count}
+use Rattle.ledger_check.specs.Balances.{IsBalance}
+use Rattle.ledger_check.specs.Verdicts.{IsVerdict, is_legal}
+use Rattle.ledger_check.specs.declared.balance.Balance.{Balance}
+use Rattle.ledger_check.specs.declared.checker.Checker.{Checker}
+use Rattle.ledger_check.specs.declared.checker.Verdict.{Verdict}
 use Rattle.ledger_check.specs.declared.full_check.FullCheck.{FullCheck}
-use Rattle.ledger_check.specs.declared.full_check.LinesTaken.{LinesTaken}
+use Rattle.ledger_check.specs.declared.lines_fed.LinesFed.{LinesFed}
+use Rattle.ledger_check.specs.declared.lines_fed.LinesTaken.{LinesTaken}
 use Rattle.ledger_check.specs.declared.full_check_sums.FullCheckSums.{FullCheckSums}
 
 -- the explainer represents the entries, which are its token's, and has taken some
@@ -56,16 +61,35 @@ pub record HasTakenLines (fares : Fares) (so_far : LinesTaken) (taken : List Tak
 abbrev pub IsKept : List ℕ → List ℕ → Type 0
 IsKept kept text = (kept ≡ text) ⊎ ((255 < length kept) × (255 < length text))
 
--- The full check has read this text: these whole lines, and some of the next one. It has reported
--- what is written of them, and subtracted their taps from the balance, if it is to.
-pub record HasFullyChecked (fares : Fares) (full_check : FullCheck) (subtracts : Bool) (full : FullBalance)
-    (text written : List ℕ) (valid : List TapFields) : Type 0 where
-  pub taken : List TakenLine
-  pub lines : HasTakenLines fares full_check.so_far taken
+-- this text was read: these whole lines, and some of the next one
+pub record HasFed (fares : Fares) (fed : LinesFed) (text : List ℕ) (taken : List TakenLine)
+    : Type 0 where
+  pub lines : HasTakenLines fares fed.so_far taken
   pub started : List ℕ
-  pub kept : IsKept full_check.started.items started
+  pub kept : IsKept fed.started.items started
   pub lacks : Lacks 10 started
   pub split : (more : List ℕ)
       → lines_of (text ++ more) ≡ lines_from taken ++ lines_of (started ++ more)
+
+-- The full check has read this text. It has reported what is written of its lines, and subtracted
+-- their taps from the balance, if it is to.
+pub record HasFullyChecked (fares : Fares) (full_check : FullCheck) (subtracts : Bool)
+    (full : FullBalance) (text written : List ℕ) (valid : List TapFields) : Type 0 where
+  pub taken : List TakenLine
+  pub fed : HasFed fares full_check.fed text taken
   pub reported : written ≡ remark_lines taken
   pub subtracted : subtracts ≡ true → IsFullBalance full valid (taps_from taken)
+
+-- the checker has read this text and found no wrong line, and the taps of its lines were subtracted
+pub record IsRightSoFar (fares : Fares) (checker : Checker) (balance : Balance) (text : List ℕ)
+    (valid : List TapFields) : Type 0 where
+  pub taken : List TakenLine
+  pub fed : HasFed fares checker.fed text taken
+  pub none : wrong_count taken ≡ 0
+  pub subtracted : IsBalance balance valid (taps_from taken)
+
+-- the text was read and no wrong line found, or the verdict is true of the text, whatever follows
+abbrev pub IsFed : Fares → Checker → Balance → List ℕ → List TapFields → Option Verdict → Type 0
+IsFed fares checker balance text valid None = IsRightSoFar fares checker balance text valid
+IsFed fares checker balance text valid (Some verdict) =
+    ((more : List ℕ) → IsVerdict fares (text ++ more) verdict) × (is_legal verdict ≡ false)

@@ -58,10 +58,10 @@ pub record IsCentsField (rest : List ℕ) (cents : ℕ) : Type 0 where
   pub small : cents < 2 ^ 32
   pub shown : rest ≡ 44 ∷ (mode ++ 44 ∷ (answer ++ 44 ∷ (decimal cents ++ 44 ∷ trailing)))
 
--- the cents that the line asks for, or 0 if its cents are not a number
-abbrev pub AreCents : List ℕ → ℕ → Type 0
-AreCents rest cents =
-    IsCentsField rest cents ⊎ ((cents ≡ 0) × ((other : ℕ) → ¬ (IsCentsField rest other)))
+-- the cents that the line asks for: its entry's if it is right, or 0 if its cents are not a number
+abbrev pub AreCents : Remark → List ℕ → CountedTap → Type 0
+AreCents remark rest tap = ((remark ≡ Nothing) × (tap.cents ≡ tap.entry.cents))
+    ⊎ (IsCentsField rest tap.cents ⊎ ((tap.cents ≡ 0) × ((other : ℕ) → ¬ (IsCentsField rest other))))
 
 -- A line as a full check takes it: what is found of it, and the line that its tap should have, if
 -- it names one.
@@ -101,7 +101,7 @@ pub record IsCounted (fares : Fares) (run : List Entry) (line : List ℕ) (tap :
   pub ruled : tap.entry ≡ next_entry fares tap.entry.token (own tap.entry.token run)
       tap.entry.validator tap.entry.moment
   pub shown : IsLedgerLineAfter fares tap.entry.token (own tap.entry.token run) tap.entry wanted
-  pub cents : AreCents rest tap.cents
+  pub cents : AreCents remark rest tap
   pub is_remark : remark ≡ remark_for (decreases_after run tap.entry.token) (bytes_eq line wanted)
 
 -- a line that names no tap is not a ledger line

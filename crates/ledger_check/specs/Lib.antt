@@ -8,8 +8,6 @@ pub mod Orders
 pub mod Positions
 pub mod FullCheckStates
 pub mod FullChecks
-pub mod Replays
-pub mod Subtracted
 pub mod Taps
 pub mod Verdicts
 pub mod inside

@@ -1,17 +1,25 @@
 -- What a check finds of a ledger's text.
-use Rattle.std.specs.Prelude.{◌≡◌, ◌↔◌, ℕ, ◌+◌, ◌≤◌, Bool, true, false, List, [], ◌∷◌, ◌++◌, length}
+use Rattle.std.specs.Prelude.{◌≡◌, ◌↔◌, ℕ, ◌+◌, Bool, true, false, List, [], ◌∷◌, ◌++◌, length}
 use Rattle.std.specs.Prelude.{Option, Some, None, IsTrue, map, string_bytes, ◌⊎◌}
 use Rattle.tariffs.specs.Fares.{Fares}
 use Rattle.histories.specs.declared.entry.Entry.{Entry}
 use Rattle.fare_texts.specs.LedgerLines.{head_text}
-use Rattle.ledger_check.specs.Ledger.{AreNext, IsLedger}
-use Rattle.ledger_check.specs.Lines.{Lacks, lines_of}
+use Rattle.ledger_check.specs.Ledger.{AreNext, IsLedger, IsNext}
+use Rattle.ledger_check.specs.Lines.{lines_of}
 use Rattle.ledger_check.specs.Orders.{early_line, tap_of_entry}
-use Rattle.ledger_check.specs.Replays.{HasRead, IsWanted, IsWrongAfter}
-use Rattle.ledger_check.specs.declared.checker.Checker.{Checker}
-use Rattle.ledger_check.specs.declared.checker.LinesSoFar.{LinesSoFar}
 use Rattle.ledger_check.specs.declared.checker.Verdict.{Verdict}
 use Rattle.ledger_check.specs.declared.checker.Verdict.TheVariants.{Legal, Wants, NoLine}
+
+-- no ledger has this line after these
+abbrev pub IsWrongAfter : Fares → List (List ℕ) → List ℕ → Type 0
+IsWrongAfter fares lines line =
+    (others : List Entry) → AreNext fares [] others (lines ++ line ∷ []) → ⊥
+
+-- a ledger has these lines, and then this one
+abbrev pub IsWanted : Fares → List (List ℕ) → List ℕ → Type 0
+IsWanted fares lines line =
+    (entries : List Entry) × (entry : Entry) × AreNext fares [] entries lines
+    × IsNext fares entries entry line
 
 -- the lines begin with those of a prefix of a ledger, and the next one, which has this number,
 -- is in no ledger there
@@ -75,24 +83,3 @@ abbrev pub VerdictsDecide : Type 0
 VerdictsDecide =
     (fares : Fares) (text : List ℕ) (verdict : Verdict) → IsVerdict fares text verdict
     → IsTrue (is_legal verdict) ↔ IsLedger fares text
-
--- these lines were read, the header line first
-abbrev pub HasTaken : Fares → LinesSoFar → List (List ℕ) → Type 0
-HasTaken fares so_far [] = (so_far.has_head ≡ false) × HasRead fares so_far.replay []
-HasTaken fares so_far (line ∷ lines) =
-    (so_far.has_head ≡ true) × (line ≡ head_text) × HasRead fares so_far.replay lines
-
--- the checker has read this text and found no wrong line: these whole lines, and some of the next
--- one
-pub record HasFed (fares : Fares) (checker : Checker) (text : List ℕ) : Type 0 where
-  pub lines : List (List ℕ)
-  pub taken : HasTaken fares checker.so_far lines
-  pub split : (more : List ℕ)
-      → lines_of (text ++ more) ≡ lines ++ lines_of (checker.started.items ++ more)
-  pub lacks : Lacks 10 checker.started.items
-  pub short : length checker.started.items ≤ 255
-
--- the text was read and no wrong line found, or the verdict is true of the text, whatever follows
-abbrev pub IsFed : Fares → Checker → List ℕ → Option Verdict → Type 0
-IsFed fares after text None = HasFed fares after text
-IsFed fares after text (Some verdict) = (more : List ℕ) → IsVerdict fares (text ++ more) verdict

@@ -2,6 +2,4 @@
 pub mod Fronts
 pub mod Positions
 pub mod FullChecks
-pub mod Replays
 pub mod Taps
-pub mod Verdicts

@@ -1,19 +1,17 @@
 //! The columns of a traced ledger's line.
 
-ghost use Rattle.std.specs.Prelude.{◌≡◌, ◌^◌, ◌&&◌, ◌||◌, ◌==◌, ◌<◌, List, IfSome};
+ghost use Rattle.std.specs.Prelude.{◌≡◌, ◌&&◌, ◌||◌, ◌==◌, ◌<◌, List, IfSome};
 ghost use Rattle.std.specs.Prelude.{length, nat_le, nat_lt, option_map, true};
 ghost use Rattle.std.specs.List.{list_all};
-ghost use Rattle.line_forms.specs.Numbers.{number_in};
 ghost use Rattle.ledger_check.specs.Columns.{class_in, columns_in, cut_line, cut_of};
 ghost use Rattle.ledger_check.specs.Columns.{has_ledger_head, has_plain_head, has_traced_head};
 ghost use Rattle.ledger_check.specs.Columns.{is_class_name, is_name_byte, last_field, number_line};
 ghost use Rattle.ledger_check.specs.Columns.{traced_head, upload_in};
 
-use crate::exact::exact_number;
-use crate::replay::MAX_LINE_BYTES;
+use crate::lines_fed::MAX_LINE_BYTES;
 use fare_texts::head_line;
 use line_forms::forms::line_of;
-use line_forms::number::Number64;
+use line_forms::number::{Number64, number_32_of};
 use memchr::memrchr;
 
 /// The most bytes of a traced ledger's line, with its line feed.
@@ -90,12 +88,6 @@ fn number_line(text: &[u8]) -> Option<u64>
     line_of(&Number64, text)
 }
 
-fn small_number(digits: &[u8]) -> Option<u32>
-    ensures { result ≡ number_in (2 ^ 32) digits.now }
-{
-    exact_number(digits)
-}
-
 fn are_fields_and_class(fields: &[u8], class: &[u8]) -> bool
     ensures short { result ≡ true → length fields.now < 255 }
     ensures both { result ≡ (nat_lt (length fields.now) 255 && is_class_name class.now) }
@@ -138,7 +130,7 @@ fn upload_in(text: &[u8], position: u64) -> Option<CutLine<'_>>
     ensures short { IfSome result (λ cut. length cut.fields.now < 255) }
 {
     let (front, digits) = last_field(text)?;
-    let upload = small_number(digits)?;
+    let upload = number_32_of(digits)?;
     class_in(front, upload, position)
 }
 

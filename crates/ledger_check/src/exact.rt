@@ -94,7 +94,7 @@ fn exact_token(digits: &[u8]) -> Option<Token>
     }
 }
 
-pub(crate) fn exact_number(digits: &[u8]) -> Option<u32>
+fn exact_number(digits: &[u8]) -> Option<u32>
     ensures { MatchOption result
         ((number : ℕ) → number < 2 ^ 32 → ¬ (digits.now ≡ decimal number))
         (λ number. (number < 2 ^ 32) × (digits.now ≡ decimal number)) }

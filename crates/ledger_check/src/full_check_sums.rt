@@ -44,7 +44,7 @@ fn sum(a: u64, b: u64) -> Result<u64, AllocError>
     }
 }
 
-fn one_wrong(remark: Remark) -> u64
+pub(crate) fn one_wrong(remark: Remark) -> u64
     ensures { result ≡ one_wrong remark }
 {
     match remark {

@@ -117,7 +117,7 @@ pub fn read_moment(text: &[u8]) -> Option<u64>
     }
 }
 
-pub(crate) fn read_any_moment(text: &[u8]) -> Option<u64>
+fn read_any_moment(text: &[u8]) -> Option<u64>
     ensures found { (moment : ℕ) → moment < 253_402_207_200_000 → IsMomentText moment text.now
         → result ≡ Some moment }
 {

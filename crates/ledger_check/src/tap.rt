@@ -1,20 +1,15 @@
 //! The tap that a ledger's line names.
 
-ghost use Rattle.std.specs.Prelude.{◌≡◌, ◌<◌, ◌^◌, ℕ, List, IfSome, IsSomeAnd};
-ghost use Rattle.std.specs.Prelude.{Some};
+ghost use Rattle.std.specs.Prelude.{◌≡◌, ◌<◌, ◌^◌, ℕ, IfSome, Some};
 ghost use Rattle.std.specs.Fmt.{decimal};
 ghost use Rattle.hex.specs.Hex.{encode_lower};
-ghost use Rattle.account_rule.specs.declared.reason.Reason.{Reason};
-ghost use Rattle.tariffs.specs.Fares.{Fares};
 ghost use Rattle.tap_views.specs.Token.{Fits, bytes_of};
-ghost use Rattle.histories.specs.declared.entry.Entry.{Entry};
 ghost use Rattle.tap_views.specs.declared.token.Token.{Token};
-ghost use Rattle.fare_texts.specs.LedgerLines.{IsLedgerLine};
-ghost use Rattle.ledger_check.specs.Ledger.{IsPostable};
-ghost use Rattle.ledger_check.specs.inside.Taps.{IsEntryOfTap, tap_fields};
+ghost use Rattle.ledger_check.specs.inside.Taps.{tap_fields};
 
 use crate::bytes::field;
 use crate::moment::read_moment;
+use line_forms::number::number_32_of;
 use tap_views::{TapFields, Token};
 
 /// What a line says of a tap.
@@ -62,13 +57,11 @@ pub fn read_small_number(digits: &[u8]) -> Option<u32>
     }
 }
 
+/// The tap that a line names at a first look: one that is written otherwise may be read, too.
 pub(crate) fn read_tap(line: &[u8]) -> Option<Tap>
     ensures fits { IfSome result (λ tap. Fits tap.token) }
     ensures moment { IfSome result (λ tap. tap.moment < 4_102_444_800_000) }
     ensures validator { IfSome result (λ tap. tap.validator < 2 ^ 32) }
-    ensures found { (fares : Fares) (number : ℕ) (entry : Entry) (why : Reason) → number < 2 ^ 64
-        → IsPostable entry → IsLedgerLine fares entry.token number entry why line.now
-        → IsSomeAnd result (λ tap. IsEntryOfTap tap entry) }
 {
     let (digits, rest) = field(line)?;
     let token = read_token(digits)?;
@@ -76,7 +69,7 @@ pub(crate) fn read_tap(line: &[u8]) -> Option<Tap>
     let (text, rest) = field(rest)?;
     let moment = read_moment(text)?;
     let (digits, _rest) = field(rest)?;
-    let validator = read_small_number(digits)?;
+    let validator = number_32_of(digits)?;
     Some(Tap {
         token,
         validator,

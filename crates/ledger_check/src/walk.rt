@@ -1,7 +1,7 @@
 //! A walk over a ledger's lines that goes on after a wrong one.
 
 ghost use Rattle.std.specs.Prelude.{◌≡◌, ◌<◌, ◌≤◌, ◌^◌, ◌++◌, [], ℕ, List, IfOk, OnOk, length};
-ghost use Rattle.std.specs.Prelude.{string_bytes};
+ghost use Rattle.std.specs.Prelude.{MatchOption, string_bytes};
 ghost use Rattle.tariffs.specs.Fares.{Fares};
 ghost use Rattle.histories.specs.Entry.{own};
 ghost use Rattle.histories.specs.declared.entry.Entry.{Entry as AnEntry};
@@ -12,13 +12,14 @@ ghost use Rattle.ledger_check.specs.FullChecks.{decreases_after, remark_for, rem
 ghost use Rattle.ledger_check.specs.FullChecks.{wants_text};
 ghost use Rattle.ledger_check.specs.FullCheckStates.{HasRunExplainer};
 ghost use Rattle.ledger_check.specs.Lines.{IsLine};
-ghost use Rattle.ledger_check.specs.inside.FullChecks.{HasJudged, TookTap};
+ghost use Rattle.ledger_check.specs.inside.FullChecks.{HasJudged, IsNextTap, right_finding};
 
 use crate::bytes::same_bytes;
 use crate::exact::{exact_cents, exact_tap};
-use crate::tap::Tap;
+use crate::tap::{Tap, read_tap};
 use fare_texts::{Explainer, write_line};
 use histories::Entry;
+use ledger_fields::row_fields;
 use std::alloc::{AllocError, Global};
 use std::cmp::Ordering;
 use tap_views::{NoMemory, TapFields, Token};
@@ -56,11 +57,29 @@ pub(crate) enum Remark {
     NoLine,
 }
 
-/// What a full check finds of a line.
+/// What a check finds of a line.
 #[derive(Clone, Copy)]
 pub(crate) struct LineFinding {
     pub(crate) tap: Option<CountedTap>,
     pub(crate) remark: Remark,
+    /// Whether it has the form of a ledger's line, which decides only how it is called if wrong.
+    pub(crate) has_form: bool,
+}
+
+/// A line that names no tap.
+pub(crate) const NO_LINE: LineFinding = LineFinding {
+    tap: None,
+    remark: Remark::NoLine,
+    has_form: false,
+};
+
+/// What a tap makes after the taps before it.
+#[derive(Clone, Copy)]
+struct NextTap {
+    explainer: Explainer,
+    entry: Entry,
+    /// Whether its token is less than that of the tap before.
+    is_decrease: bool,
 }
 
 fn remark_for(is_decrease: bool, same: bool) -> Remark
@@ -124,6 +143,34 @@ fn explainer_after(last: &Option<Explainer>, token: Token) -> (Explainer, bool)
     }
 }
 
+fn write_next_tap(
+    last: &Option<Explainer>,
+    table: &FareTable,
+    clock: &Clock,
+    tap: Tap,
+    wanted: &mut String,
+) -> Result<NextTap, AllocError>
+    requires clock { clock.now ≡ table.now.zone }
+    requires fits { Fits tap.token }
+    requires early { tap.moment < 4_102_444_800_000 }
+    requires run { (run : List AnEntry) × HasRunExplainer table.now last.now run
+        × (length run < 2 ^ 63) }
+
+    // For all entries that the explainer represents.
+    ensures { IfOk result (λ next. (run : List AnEntry) → HasRunExplainer table.now last.now run
+        → IsNextTap table.now run tap (string_bytes wanted.new) next) }
+{
+    let (mut explainer, is_decrease) = explainer_after(last, tap.token);
+    let (entry, reason) = explainer.post_next(table, clock, tap.validator, tap.moment);
+    wanted.clear();
+    write_line(wanted, table, tap.token, explainer.number, &entry, &reason)?;
+    Ok(NextTap {
+        explainer,
+        entry,
+        is_decrease,
+    })
+}
+
 /// The explainer of the last tap's token, and the line that this tap should have.
 #[derive(Drop)]
 pub(crate) struct Walk {
@@ -144,36 +191,66 @@ impl Walk {
         }
     }
 
-    fn take_tap(
+    /// Most lines are right, and are not read again.
+    fn right_tap(
         &mut self,
         table: &FareTable,
         clock: &Clock,
-        tap: Tap,
-    ) -> Result<(Entry, bool), AllocError>
+        line: &[u8],
+    ) -> Result<Option<CountedTap>, AllocError>
         requires clock { clock.now ≡ table.now.zone }
-        requires fits { Fits tap.token }
-        requires early { tap.moment < 4_102_444_800_000 }
+        requires line { IsLine line.now }
+        requires short { length line.now ≤ 255 }
         requires run { (run : List AnEntry) × HasRunExplainer table.now self.old.explainer run
             × (length run < 2 ^ 63) }
-
-        // For all entries that it represents.
-        ensures { IfOk result (λ took. (run : List AnEntry)
-            → HasRunExplainer table.now self.old.explainer run
-            → TookTap table.now run tap self.new took.0 took.1) }
+        ensures { IfOk result (λ found. MatchOption found (self.new.explainer ≡ self.old.explainer)
+            (λ tap. (run : List AnEntry) → HasRunExplainer table.now self.old.explainer run
+            → length run < 2 ^ 63 → HasJudged table.now run line.now self.new (right_finding tap))) }
     {
-        let (mut explainer, is_decrease) = explainer_after(&self.explainer, tap.token);
-        let (entry, reason) = explainer.post_next(table, clock, tap.validator, tap.moment);
-        self.wanted.clear();
-        write_line(
-            &mut self.wanted,
-            table,
-            tap.token,
-            explainer.number,
-            &entry,
-            &reason,
-        )?;
-        self.explainer = Some(explainer);
-        Ok((entry, is_decrease))
+        let Some(tap) = read_tap(line) else {
+            return Ok(None);
+        };
+        let next = write_next_tap(&self.explainer, table, clock, tap, &mut self.wanted)?;
+        if next.is_decrease || !same_bytes(line, self.wanted.as_bytes()) {
+            return Ok(None);
+        }
+        self.explainer = Some(next.explainer);
+        Ok(Some(CountedTap {
+            entry: next.entry,
+            cents: next.entry.cents,
+        }))
+    }
+
+    fn judge_exactly(
+        &mut self,
+        table: &FareTable,
+        clock: &Clock,
+        line: &[u8],
+    ) -> Result<LineFinding, AllocError>
+        requires clock { clock.now ≡ table.now.zone }
+        requires line { IsLine line.now }
+        requires short { length line.now ≤ 255 }
+        requires run { (run : List AnEntry) × HasRunExplainer table.now self.old.explainer run
+            × (length run < 2 ^ 63) }
+        ensures { IfOk result (λ finding. (run : List AnEntry)
+            → HasRunExplainer table.now self.old.explainer run
+            → HasJudged table.now run line.now self.new finding) }
+    {
+        let Some((tap, rest)) = exact_tap(line, &mut self.again)? else {
+            return Ok(NO_LINE);
+        };
+        let next = write_next_tap(&self.explainer, table, clock, tap, &mut self.wanted)?;
+        self.explainer = Some(next.explainer);
+        let cents = exact_cents(rest).unwrap_or(0);
+        let is_same = same_bytes(line, self.wanted.as_bytes());
+        Ok(LineFinding {
+            tap: Some(CountedTap {
+                entry: next.entry,
+                cents,
+            }),
+            remark: remark_for(next.is_decrease, is_same),
+            has_form: row_fields(line).is_some(),
+        })
     }
 
     pub(crate) fn judge(
@@ -187,23 +264,18 @@ impl Walk {
         requires short { length line.now ≤ 255 }
         requires run { (run : List AnEntry) × HasRunExplainer table.now self.old.explainer run
             × (length run < 2 ^ 63) }
-
         ensures { IfOk result (λ finding. (run : List AnEntry)
-            → HasRunExplainer table.now self.old.explainer run
+            → HasRunExplainer table.now self.old.explainer run → length run < 2 ^ 63
             → HasJudged table.now run line.now self.new finding) }
     {
-        let Some((tap, rest)) = exact_tap(line, &mut self.again)? else {
+        if let Some(tap) = self.right_tap(table, clock, line)? {
             return Ok(LineFinding {
-                tap: None,
-                remark: Remark::NoLine,
+                tap: Some(tap),
+                remark: Remark::Nothing,
+                has_form: true,
             });
-        };
-        let (entry, is_decrease) = self.take_tap(table, clock, tap)?;
-        let cents = exact_cents(rest).unwrap_or(0);
-        let is_same = same_bytes(line, self.wanted.as_bytes());
-        Ok(LineFinding {
-            tap: Some(CountedTap { entry, cents }),
-            remark: remark_for(is_decrease, is_same),
-        })
+        }
+        let finding = self.judge_exactly(table, clock, line)?;
+        Ok(finding)
     }
 }

@@ -15,8 +15,8 @@ use Rattle.world.specs.declared.faults.WriteFault.{WriteFault}
 use Rattle.frame.specs.Failing.{HasStarted}
 use Rattle.tariffs.specs.Fares.{Fares}
 use Rattle.ledger_check.specs.Lines.{lines_of}
-use Rattle.ledger_check.specs.Subtracted.{HasSubtracted, IfUndecided}
-use Rattle.ledger_check.specs.Verdicts.{HasFed, IsFed, IsVerdict}
+use Rattle.ledger_check.specs.FullCheckStates.{IsFed, IsRightSoFar}
+use Rattle.ledger_check.specs.Verdicts.{IsVerdict}
 use Rattle.ledger_check.specs.declared.balance.Balance.{Balance}
 use Rattle.ledger_check.specs.declared.checker.Checker.{Checker}
 use Rattle.ledger_check.specs.declared.checker.Verdict.{Verdict}
@@ -79,20 +79,16 @@ pub first_fed : (fares : Fares) (subtracts : Bool) (valid : List TapFields)
     (checker after : Checker)
     (balance left : Balance) (before verdict : Option Verdict) (text piece written : List ℕ)
     → before ≡ None
-    → (HasFed fares checker text → IsFed fares after (text ++ piece) verdict)
-    → (HasSubtracted fares checker balance text valid
-    → IfUndecided verdict (HasSubtracted fares after left (text ++ piece) valid))
+    → (IsRightSoFar fares checker balance text valid
+    → IsFed fares after left (text ++ piece) valid verdict)
     → HasChecked fares subtracts valid (First checker balance before) text written
     → HasChecked fares subtracts valid (First after left verdict) (text ++ piece) written
 first_fed fares subtracts valid checker after balance left (Some old) verdict text piece written
-    none
-    fed subtracted has = absurd cc
+    none fed has = absurd cc
 first_fed fares subtracts valid checker after balance left None None text piece written none fed
-    subtracted
-    has = (subtracted has.0, has.1)
+    has = (fed has.0, has.1)
 first_fed fares subtracts valid checker after balance left None (Some verdict) text piece written
-    none
-    fed subtracted has = (fed has.0.fed, subtracted has.0, has.1)
+    none fed has = let found = fed has.0 in (found.0, found.1, has.1)
 
 pub decided_ends : (audit : Audit) (valid : List TapFields) (file written more : List ℕ)
     → HasAudited audit valid file written → is_decided audit.check ≡ true
@@ -123,9 +119,9 @@ remarked audit valid file written more has = by_check audit.check refl has.taken
           ap is_all same,
           checked.taken,
           record {
-            are = checked.lines.are;
-            rest = lines_of (checked.started ++ left.0);
-            split = ap lines_of left.1 ∙ checked.split left.0;
+            are = checked.fed.lines.are;
+            rest = lines_of (checked.fed.started ++ left.0);
+            split = ap lines_of left.1 ∙ checked.fed.split left.0;
           },
           checked.reported,
         ))

@@ -14,7 +14,7 @@ use Rattle.tap_views.specs.declared.token.Token.{Token}
 use Rattle.ledger_check.specs.Ledger.{AreNext, IsLedger, IsLedgerOf, IsNext, token_number}
 use Rattle.ledger_check.specs.Lines.{IsLine, Lacks, lines_of}
 use Rattle.ledger_check.proofs.EntryLists.{next-parts, none_left}
-use Rattle.ledger_check.proofs.CheckerLemmas.{head_ends, next_ends}
+use Rattle.ledger_check.proofs.LineEnds.{head_ends, next_ends}
 use Rattle.ledger_check.proofs.FullCheckLemmas.{split_line_at, split_part}
 use Rattle.ledger_check.proofs.LineLemmas.{lacks-append, lines-open, lines-part}
 use Rattle.report_check.specs.LedgerSums.{AreAfterHead, AreSummed, HasSummed, IsSummed}

@@ -22,9 +22,9 @@ use std::io::Write;
 use std::marker::Sync;
 use std::thread::Threads;
 use tool_tasks::{
-    Counted, Escaped, Fault, PlacedFiles, Sink, Source, bounds_over, corrections_over,
-    decode_over, encode_over, encode_rows_over, look_over, merge_sorted_over, say, sort_over,
-    table_over, uploads_over, valid_prefix_over,
+    Counted, Escaped, Fault, PlacedFiles, Sink, Source, bounds_over, corrections_over, decode_over,
+    encode_over, encode_rows_over, look_over, merge_sorted_over, say, sort_over, table_over,
+    uploads_over, valid_prefix_over,
 };
 use tool_words::{Task, UsageError, read};
 use world::World;
@@ -128,9 +128,9 @@ fn task_over<
 }
 
 /// The whole program: reads the words, of which the first is the program's name, and does what they
-/// ask for. What uploads and texts have comes from the source, and files that are merged are read
-/// at any offset. Files are made in the sink, text goes to `out`, and mistakes, faults and warnings
-/// to `err`. `corrections` and what only informs read and write in `world`. `seed` is random, so that no file can choose names of devices that are found slowly.
+/// ask for. `encode` and `merge` read from the source, make files in the sink and write to `out` and
+/// `err`, and all else reads, writes and makes files in `world`. Files that are merged are read at
+/// any offset. `seed` is random, so that no file can choose names of devices that are found slowly.
 /// `table` prints the changes of clocks after `moment`, unless the words name another one. Gives
 /// the status: 0 if all is well, 1 after a fault or if no row is a tap, 2 if the words are no
 /// command line, 3 if an upload has a layout fault or rows were refused, and yet all is written.
@@ -155,8 +155,8 @@ pub fn main_over<
     err: &mut Complaints<E>,
     world: &mut X,
 ) -> u8
-    // `corrections` is run by the frame in its world, and ends as it says. Only being out of memory,
-    // while the words are read, may come before it. Anything else does nothing in that world.
+    // What is run over the world ends as it says. Only being out of memory, while the words are read,
+    // may come before it. Anything else does nothing in the world.
     ensures framed { Parses (map string_bytes words.now)
         → IsFramed X.bytes_under (D.bytes_under files.now) (request_by (map string_bytes words.now))
         (X.run world.old) (X.run world.new) result

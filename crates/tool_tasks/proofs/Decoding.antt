@@ -1,21 +1,27 @@
 -- One upload more is decoded, or all are.
-use Rattle.std.proofs.Common.{◌≡◌, ◌≤◌, ◌∙◌, ◌+◌, ℕ, Bool, true, false, List, [], ◌∷◌, ◌++◌, None, Option}
-use Rattle.std.proofs.Common.{Some, ap, append-nil, append_assoc, arith, flat_map, if◌then◌else◌}
+use Rattle.std.proofs.Common.{◌≡◌, ◌<◌, ◌≤◌, ◌∙◌, ◌+◌, ℕ, Bool, Bor, true, false, List, [], ◌∷◌, ◌++◌}
+use Rattle.std.proofs.Common.{None, Option, Some, suc, zero, ap, append-nil, append_assoc, arith, flat_map, if◌then◌else◌}
 use Rattle.std.proofs.Common.{inl, inr, length, map, refl, subst, sym}
 use Rattle.std.specs.Prelude.{◌&&◌, is_none, slice_get}
+use Rattle.std.specs.Io.KnownBytes.{Appends}
 use Rattle.std.proofs.lemmas.List.{map-append}
 use Rattle.std.proofs.lemmas.List.Concat.{flat_map-append}
 use Rattle.frame.specs.Ends.{Answer, Ends, IsStarted, did}
+use Rattle.frame.specs.Stops.{IsNamed, Leaves}
+use Rattle.frame.specs.declared.stop.Stop.{Stop}
+use Rattle.tap_rows.specs.Decoded.{IsDecoded}
 use Rattle.tap_rows.specs.TapTables.{head}
 use Rattle.world.specs.Run.{Load, Run, with_load}
 use Rattle.tool_tasks.specs.Decode.{Decoded, IsTapTableOf, are_whole, layout_line, layout_lines}
 use Rattle.tool_tasks.specs.Decode.{loads_of, rows_of, tap_table_of, words_of}
+use Rattle.tap_views.specs.declared.fault.LayoutFault.{LayoutFault}
+use Rattle.tool_tasks.specs.inside.Loads.{LoadsAt}
 use Rattle.tool_tasks.specs.Names.{file_named}
 use Rattle.tool_tasks.specs.declared.decode.DecodeStage.{DecodeStage}
 use Rattle.tool_tasks.specs.declared.decode.DecodeStage.TheVariants.{Head, Rows}
 use Rattle.tool_tasks.specs.declared.decode.Decoding.{Decoding}
 use Rattle.tool_tasks.specs.inside.Decode.{HasDecoded, pending_at, text_at}
-use Rattle.tool_tasks.specs.inside.Decoded.{starts}
+use Rattle.tool_tasks.specs.inside.Decoded.{started, starts}
 
 next_at : (decoded : List Decoded) (rest : List (List ℕ))
     → slice_get (words_of decoded ++ rest) (length decoded) ≡ slice_get rest 0
@@ -175,6 +181,128 @@ loaded_more task loads a one later given next stage =
     (given.text ∙ ap (λ (s : DecodeStage). text_at s given.decoded) stage))
     (sym (note_push a.note given.decoded one
     (given.note ∙ ap (λ (s : DecodeStage). a.note ++ pending_at s) stage)))
+
+-- ---- for the calls of the task
+abbrev texts : List (Bor (List ℕ)) → List (List ℕ)
+texts words = map (λ w. w.now) words
+
+pub looked : (words shown : List (Bor (List ℕ))) (n : ℕ) (word : Option (List ℕ))
+    → word ≡ slice_get (map (λ w. w.now) shown) n → shown ≡ words
+    → slice_get (map (λ w. w.now) words) n ≡ word
+looked words shown n word is same =
+    sym (is ∙ ap (λ (ws : List (Bor (List ℕ))). slice_get (texts ws) n) same)
+
+pub within : (words : List (Bor (List ℕ))) (n : ℕ) (word : List ℕ)
+    → slice_get (map (λ w. w.now) words) n ≡ Some word → n < length words
+within [] n word is = absurd (let t : None ≡ Some word = is in cc)
+within (first ∷ words) zero word is = omega arith
+within (first ∷ words) (suc n) word is = let e = within words n word is in omega (arith, e)
+
+pub and_true : (b : Bool) → b ≡ (b && true)
+and_true true = refl
+and_true false = refl
+
+pub and_false : (b : Bool) → false ≡ (b && false)
+and_false true = refl
+and_false false = refl
+
+-- the next upload was not loaded
+pub load_stops : (task : Decoding) (shown : List (Bor (List ℕ))) (start old mid new : Run)
+    (loads : List Load) (a : Answer) (why : Stop) → HasDecoded task loads a
+    → old ≡ did start loads a → mid ≡ old → shown ≡ task.words.items
+    → Leaves (map (λ w. w.now) shown) why mid new × IsNamed (map (λ w. w.now) shown) why
+    → (x : List Load) × Leaves (map (λ w. w.now) task.words.items) why (did start x a) new
+    × IsStarted (IsTapTableOf (map (λ w. w.now) task.words.items)) x a
+    × IsNamed (map (λ w. w.now) task.words.items) why
+load_stops task shown start old mid new loads a why given was same words stops = (
+  loads,
+  subst (λ (ws : List (Bor (List ℕ))). Leaves (texts ws) why (did start loads a) new) words
+      (subst (λ (r : Run). Leaves (texts shown) why r new) (same ∙ was) stops.0),
+  started task loads a given,
+  subst (λ (ws : List (Bor (List ℕ))). IsNamed (texts ws) why) words stops.1,
+)
+
+-- the word under which it was loaded
+word_is : (words shown : List (Bor (List ℕ))) (n : ℕ) (mid new : Run) (bytes word : List ℕ)
+    (l : LoadsAt (texts shown) n mid new bytes) → shown ≡ words
+    → slice_get (texts words) n ≡ Some word → l.word ≡ word
+word_is words shown n mid new bytes word l same is =
+    let t : Some l.word ≡ Some word =
+    sym l.is_word ∙ ap (λ (ws : List (Bor (List ℕ))). slice_get (texts ws) n) same ∙ is in cc
+
+loaded_at : (words shown : List (Bor (List ℕ))) (n : ℕ) (start old mid new : Run)
+    (loads : List Load) (a : Answer) (bytes word : List ℕ) → old ≡ did start loads a → mid ≡ old
+    → LoadsAt (texts shown) n mid new bytes → shown ≡ words
+    → slice_get (texts words) n ≡ Some word
+    → new ≡ did start (loads ++ record { name = file_named word; bytes = bytes } ∷ []) a
+loaded_at words shown n start old mid new loads a bytes word was same l shows is =
+    did_load start mid new loads a (file_named word) bytes (same ∙ was)
+    (l.loaded ∙ ap (λ (w : List ℕ). with_load mid (file_named w) bytes)
+    (word_is words shown n mid new bytes word l shows is))
+
+-- the rows of the next upload are the piece
+pub rows_given : (task after : Decoding) (shown : List (Bor (List ℕ))) (start old mid new : Run)
+    (loads : List Load) (a : Answer) (word bytes read before piece : List ℕ)
+    (found fault : Option (ℕ × LayoutFault)) → HasDecoded task loads a → task.stage ≡ Rows
+    → old ≡ did start loads a → mid ≡ old → shown ≡ task.words.items
+    → slice_get (map (λ w. w.now) task.words.items) task.done ≡ Some word
+    → LoadsAt (map (λ w. w.now) shown) task.done mid new bytes → read ≡ bytes
+    → ((text : List ℕ) × IsDecoded read text found × Appends (Some before) (Some piece) text)
+    → before ≡ [] → found ≡ fault → after.words ≡ task.words → after.done ≡ task.done + 1
+    → after.succeeded ≡ (task.succeeded && is_none fault)
+    → ((d : List Decoded) → text_at after.stage d ≡ tap_table_of d)
+    → pending_at after.stage ≡ layout_line word fault → (after.stage ≡ Head → ⊥)
+    → (x : List Load) × (new ≡ did start x a)
+    × HasDecoded after x (record { text = a.text ++ piece; note = a.note })
+rows_given task after shown start old mid new loads a word bytes read before piece found fault given
+    stage was same shows is l reads (text, decoded, appends) none founds words done succeeded texts_are
+    pending other =
+    let one : Decoded = record {
+      word = word;
+      upload = bytes;
+      rows = text;
+      fault = fault;
+      is_decoded = subst (λ (b : List ℕ). IsDecoded b text fault) reads
+          (subst (λ (f : Option (ℕ × LayoutFault)). IsDecoded read text f) founds decoded);
+    } in
+    let next = next_word task loads a word given is in
+    let piece_is : piece ≡ text = appends ∙ ap (λ (b : List ℕ). b ++ text) none in (
+      loads ++ record { name = file_named word; bytes = bytes } ∷ [],
+      loaded_at task.words.items shown task.done start old mid new loads a bytes word was same l shows
+          is,
+      subst (λ (t : List ℕ). HasDecoded after
+          (loads ++ record { name = file_named word; bytes = bytes } ∷ [])
+          (record { text = a.text ++ t; note = a.note })) (sym piece_is)
+          (decoded_more task after loads a one next.0 given next.1 stage words done succeeded
+          (texts_are (given.decoded ++ one ∷ [])) pending (λ h. absurd (other h))),
+    )
+
+-- an allocation failed for the rows of the next upload
+pub rows_stop : (task : Decoding) (shown : List (Bor (List ℕ))) (start old mid new : Run)
+    (loads : List Load) (a : Answer) (word bytes read text : List ℕ)
+    (fault : Option (ℕ × LayoutFault)) → HasDecoded task loads a → task.stage ≡ Rows
+    → old ≡ did start loads a → mid ≡ old → shown ≡ task.words.items
+    → slice_get (map (λ w. w.now) task.words.items) task.done ≡ Some word
+    → LoadsAt (map (λ w. w.now) shown) task.done mid new bytes → read ≡ bytes
+    → IsDecoded read text fault
+    → (x : List Load) × (new ≡ did start x a)
+    × IsStarted (IsTapTableOf (map (λ w. w.now) task.words.items)) x a × Unit {0}
+rows_stop task shown start old mid new loads a word bytes read text fault given stage was same shows is
+    l reads decoded =
+    let one : Decoded = record {
+      word = word;
+      upload = bytes;
+      rows = text;
+      fault = fault;
+      is_decoded = subst (λ (b : List ℕ). IsDecoded b text fault) reads decoded;
+    } in
+    let next = next_word task loads a word given is in (
+      loads ++ record { name = file_named word; bytes = bytes } ∷ [],
+      loaded_at task.words.items shown task.done start old mid new loads a bytes word was same l shows
+          is,
+      loaded_more task loads a one next.0 given next.1 stage,
+      tt,
+    )
 
 -- the status
 pub ends_bound : (words names : List (List ℕ)) (old new : Run) (status : ℕ)

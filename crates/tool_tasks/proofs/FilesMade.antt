@@ -2,7 +2,8 @@
 use Rattle.std.proofs.Common.{◌≡◌, ◌∙◌, ℕ, List, [], ◌++◌, Option, None, Some}
 use Rattle.std.proofs.Common.{ap, subst}
 use Rattle.std.specs.Io.KnownBytes.{Appends}
-use Rattle.tool_tasks.specs.Sink.{HasBytes, IsEmptyFile, Made, MakesOne}
+use Rattle.tool_tasks.specs.Sink.{IsEmptyFile, Made, MakesOne}
+use Rattle.tool_tasks.specs.inside.Sink.{HasBytes}
 
 -- what was written to a file that was empty are its bytes
 pub has_bytes : (made : Option (List Made)) (empty written : Option (List ℕ)) (file : List ℕ)

@@ -22,6 +22,7 @@ use Rattle.world.specs.Writes.{IsUnmade}
 use Rattle.world.specs.declared.faults.LoadFault.{LoadFault}
 use Rattle.world.specs.declared.faults.MakeFault.{MakeFault}
 use Rattle.world.specs.declared.faults.WriteFault.{WriteFault}
+use Rattle.world.proofs.Laws.{no_loads}
 use Rattle.tool_words.specs.Request.{SortRequest}
 use Rattle.tool_tasks.proofs.Loading.{unread_leaves, word_got}
 use Rattle.tool_tasks.specs.Names.{file_named}
@@ -32,9 +33,6 @@ use Rattle.tool_tasks.specs.inside.Sort.{with_files}
 -- ---- nothing was given or made
 did_loads : (old : Run) (loads : List Load) → with_loads old loads ≡ did_making old loads no_answer []
 did_loads old loads = rw (append-nil old.written, append-nil old.said, append-nil old.made) refl
-
-pub no_loads : (old : Run) → old ≡ with_loads old []
-no_loads old = rw (append-nil old.loads) refl
 
 -- it was stopped after these loads
 pub halts_loaded : (Right : List Load → Answer → List Named → ℕ → Type 0) (names : List (List ℕ))
@@ -60,7 +58,7 @@ pub halts_at_once : (Right : List Load → Answer → List Named → ℕ → Typ
     (old new : Run) (why : Stop) → IsNamed names why → Leaves names why old new
     → IsHaltedMaking Right names old new why
 halts_at_once Right names old new why named leaves = halts_loaded Right names old new why [] named
-    (subst (λ r. Leaves names why r new) (no_loads old) leaves)
+    (subst (λ r. Leaves names why r new) (sym (no_loads old)) leaves)
 
 -- it was stopped after a part of these files and of this note
 pub halts_in : (Right : List Load → Answer → List Named → ℕ → Type 0) (names : List (List ℕ))
@@ -99,7 +97,7 @@ halts_none names files note why old new named leaves = record {
   rest = note;
   is_note = refl;
   named = named;
-  all = subst (λ r. Leaves names why r new) (no_loads old ∙ did_loads old []) leaves;
+  all = subst (λ r. Leaves names why r new) (sym (no_loads old) ∙ did_loads old []) leaves;
 }
 
 -- only this was said

@@ -5,7 +5,6 @@ pub mod EncodeRows
 pub mod Fault
 pub mod ValidPrefix
 pub mod Informs
-pub mod Loads
 pub mod Layout
 pub mod MergeSorted
 pub mod Names

@@ -28,11 +28,6 @@ abbrev pub IsEmptyFile : Option (List Made) → Option (List ℕ) → Type 0
 IsEmptyFile None written = ⊤
 IsEmptyFile (Some before) written = written ≡ Some []
 
--- These are the bytes of a file, if the sink keeps the files that it makes.
-abbrev pub HasBytes : Option (List Made) → Option (List ℕ) → List ℕ → Type 0
-HasBytes None written bytes = ⊤
-HasBytes (Some before) written bytes = written ≡ Some bytes
-
 -- The last file that could not be made was to have this name. Of a sink that does not keep it
 -- nothing is known.
 abbrev pub IsNotMade : Option (List ℕ) → List ℕ → Type 0

@@ -5,6 +5,8 @@ pub mod Decode
 pub mod Decoded
 pub mod EncodeRows
 pub mod Fault
-pub mod ValidPrefix
 pub mod Informs
+pub mod Loads
+pub mod Sink
 pub mod Sort
+pub mod ValidPrefix

@@ -1,5 +1,6 @@
 //! `decode`.
-ghost use Rattle.std.specs.Prelude.{◌≡◌, ◌≤◌, ◌++◌, [], ℕ, List, OnOk, codes, if◌then◌else◌, map};
+ghost use Rattle.std.specs.Prelude.{◌≡◌, ◌<◌, ◌≤◌, ◌+◌, ◌++◌, [], ℕ, List, OnOk, codes, if◌then◌else◌};
+ghost use Rattle.std.specs.Prelude.{length, map};
 ghost use Rattle.frame.specs.Ends.{Answer, Ends, did};
 ghost use Rattle.frame.specs.Tasks.{Goes};
 ghost use Rattle.world.specs.Run.{Load, Run};
@@ -32,6 +33,18 @@ fn status_of(succeeded: bool) -> u8
     ensures { result ≡ (if succeeded then 0 else 1) }
 {
     if succeeded { 0 } else { 1 }
+}
+
+/// The number of the next word.
+fn next_of(number: usize, words: &[&str]) -> usize
+    requires { number < length words.now }
+    ensures { result ≡ number + 1 }
+{
+    if number < words.len() {
+        number + 1
+    } else {
+        number
+    }
 }
 
 fn note_layout(
@@ -76,27 +89,30 @@ impl<'a> Decoding<'a> {
             result }
     {
         let number = self.done;
-        let Some(word) = word_at(&self.words, number) else {
-            files.end_count();
-            return Ok(Step::End(status_of(self.succeeded)));
-        };
-        files.show_count(number, self.words.len());
-        let upload = match load_at(files, &self.words, number) {
-            Ok(upload) => upload,
-            Err(why) => return Err(why),
-        };
-        match tap_rows::decode(alloc, &upload, piece) {
-            Ok(None) => {
-                self.done = number + 1;
-                Ok(Step::More(For::Text))
+        match word_at(&self.words, number) {
+            None => {
+                files.end_count();
+                Ok(Step::End(status_of(self.succeeded)))
             }
-            Ok(Some((offset, fault))) => {
-                self.done = number + 1;
-                self.succeeded = false;
-                self.stage = DecodeStage::Note(word, offset, fault);
-                Ok(Step::More(For::Text))
+            Some(word) => {
+                files.show_count(number, self.words.len());
+                match load_at(files, &self.words, number) {
+                    Err(why) => Err(why),
+                    Ok(upload) => match tap_rows::decode(alloc, &upload, piece) {
+                        Ok(None) => {
+                            self.done = next_of(number, &self.words);
+                            Ok(Step::More(For::Text))
+                        }
+                        Ok(Some((offset, fault))) => {
+                            self.done = next_of(number, &self.words);
+                            self.succeeded = false;
+                            self.stage = DecodeStage::Note(word, offset, fault);
+                            Ok(Step::More(For::Text))
+                        }
+                        Err(_) => Err(Stop::NoMemory),
+                    },
+                }
             }
-            Err(_) => Err(Stop::NoMemory),
         }
     }
 }
@@ -154,8 +170,8 @@ impl<'a, I: Counted> Task<I> for Decoding<'a> {
 /// and the next upload follows. The status is 0 if all is written and no upload has a fault, else 1.
 pub fn decode_over<W: World + Counted>(alloc: Global, words: Vec<&str>, world: &mut W) -> u8
     ensures status { result ≤ 1 }
-    ensures ends { Ends (IsTapTableOf (map (λ w. w.now) words.items)) (map (λ w. w.now) words.items)
-        (W.run world.old) (W.run world.new) result }
+    ensures ends { Ends (IsTapTableOf (map (λ w. w.now) words.entry.items))
+        (map (λ w. w.now) words.entry.items) (W.run world.old) (W.run world.new) result }
 {
     let mut task = Decoding {
         words,

@@ -3,7 +3,7 @@ ghost use Rattle.std.specs.Prelude.{◌≡◌, ◌<◌, IfErr, IfOk, length, map
 ghost use Rattle.frame.specs.Stops.{IsNamed, Leaves};
 ghost use Rattle.world.specs.Loads.{IsRefused};
 ghost use Rattle.world.specs.Run.{with_load};
-ghost use Rattle.tool_tasks.specs.Loads.{LoadsAt};
+ghost use Rattle.tool_tasks.specs.inside.Loads.{LoadsAt};
 ghost use Rattle.tool_tasks.specs.Names.{file_named};
 
 use crate::names::file_of;

@@ -1,5 +1,6 @@
 //! `sort --merge`, of files that are in canonical order already.
-ghost use Rattle.std.specs.Prelude.{◌≡◌, ◌≤◌, ◌++◌, [], ℕ, List, IfErr, IfOk, IfSome, Option, Some, codes, map};
+ghost use Rattle.std.specs.Prelude.{◌≡◌, ◌≤◌, ◌++◌, [], ℕ, List, IfErr, IfOk, IfSome, Option, Some, codes};
+ghost use Rattle.std.specs.Prelude.{map, string_bytes};
 ghost use Rattle.frame.specs.Making.{EndsMaking, IsDoneMaking, IsHaltedMaking};
 ghost use Rattle.tap_views.specs.declared.upload_end.UploadEnd.TheVariants.{Posted as APosted};
 ghost use Rattle.sorted_taps.specs.Checked.{IsMergeFault};
@@ -93,6 +94,12 @@ fn merge_all<'a, D: PlacedFiles, W: Write>(
     }
 }
 
+fn line_of(alloc: Global, fault: Fault<'_>) -> Result<String, AllocError>
+    ensures { IfOk result (λ line. string_bytes line ≡ fault_text fault.entry ++ codes "\n") }
+{
+    format!(in alloc; "{fault}\n")
+}
+
 /// The fault of an upload is noted.
 fn refuse<W: World>(alloc: Global, fault: Fault<'_>, world: &mut W) -> Result<u8, Stop>
     ensures done { IfOk result (λ status. (status ≡ 1) × (W.run world.new
@@ -101,8 +108,9 @@ fn refuse<W: World>(alloc: Global, fault: Fault<'_>, world: &mut W) -> Result<u8
         → HaltsMaking names [] (fault_text fault.entry ++ codes "\n") why (W.run world.old)
         (W.run world.new)) }
 {
-    let Ok(line) = format!(in alloc; "{fault}\n") else {
-        return Err(Stop::NoMemory);
+    let line = match line_of(alloc, fault) {
+        Ok(line) => line,
+        Err(AllocError) => return Err(Stop::NoMemory),
     };
     world.say(line.as_bytes());
     match world.flush() {
@@ -113,6 +121,7 @@ fn refuse<W: World>(alloc: Global, fault: Fault<'_>, world: &mut W) -> Result<u8
 
 /// Makes the file of the uploads' taps, and before it that of their ends; or notes the fault of an
 /// upload.
+#[tactic(auto, using(crate::proofs::KnownBytes::is_known))]
 fn merge<D: PlacedFiles, W: World>(
     alloc: Global,
     words: &SortingWords<'_>,

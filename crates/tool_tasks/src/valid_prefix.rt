@@ -2,14 +2,14 @@
 ghost use Rattle.std.specs.Prelude.{◌≡◌, ◌≤◌, ◌∷◌, [], ℕ, List, IfErr, IfOk, OnOk};
 ghost use Rattle.std.specs.Prelude.{if◌then◌else◌, is_none};
 ghost use Rattle.frame.specs.Making.{EndsMaking, IsDoneMaking, IsHaltedMaking};
-ghost use Rattle.frame.specs.Stops.{IsNamed, Leaves};
-ghost use Rattle.world.specs.Run.{with_flushed, with_made, with_written};
+ghost use Rattle.world.specs.Run.{Run, with_flushed, with_load, with_made, with_written};
 ghost use Rattle.tool_words.specs.Tasks.{valid_prefix_of};
+ghost use Rattle.tool_tasks.specs.Names.{file_named};
 ghost use Rattle.tool_tasks.specs.ValidPrefix.{HasValidPrefix};
-ghost use Rattle.tool_tasks.specs.inside.ValidPrefix.{HaltsMaking};
+ghost use Rattle.tool_tasks.specs.inside.ValidPrefix.{HaltsMaking, IsUnmadeAt};
 
 use crate::fault::Fault;
-use crate::loads::load_at;
+use crate::loads::load_word;
 use crate::stops::fault_of;
 use crate::upload_tokens::{add_tokens, no_tokens, tokens_text};
 use crate::uploads::upload_text;
@@ -64,6 +64,19 @@ fn status_of(facts: &Facts) -> u8
 }
 
 /// The line of a new file that was begun and not made is that of a write.
+fn unfinished<'a>(why: MakeFault) -> Halt<'a>
+    ensures { result.why ≡ Stop.Unmade 1 why }
+{
+    let line = match why {
+        MakeFault::NoMemory => Fault::NoMemory,
+        MakeFault::Exists | MakeFault::Unmade => Fault::Write,
+    };
+    Halt {
+        why: Stop::Unmade(1, why),
+        line,
+    }
+}
+
 fn make<'a, W: World>(
     words: &ValidPrefixWords<'a>,
     bytes: &[u8],
@@ -71,35 +84,28 @@ fn make<'a, W: World>(
 ) -> Result<(), Halt<'a>>
     ensures made { OnOk result (W.run world.new ≡ with_made (W.run world.old)
         (record { name = words.now.out.now; bytes = bytes.now })) }
-    ensures halted { IfErr result (λ halt. Leaves (words.now.upload.now ∷ words.now.out.now ∷ [])
-        halt.why (W.run world.old) (W.run world.new)
-        × IsNamed (words.now.upload.now ∷ words.now.out.now ∷ []) halt.why) }
+    ensures halted { IfErr result (λ halt. IsUnmadeAt words.now.upload.now words.now.out.now
+        halt.why (W.run world.old) (W.run world.new)) }
 {
-    let mut file = match world.begin(words.out, true) {
-        Ok(file) => file,
-        Err(why) => return Err(Halt::of(Stop::Unmade(1, why), words)),
-    };
-    let why = match write_bytes(bytes, &mut file) {
-        Ok(()) => match world.finish(words.out, file) {
-            Ok(()) => return Ok(()),
-            Err(why) => why,
-        },
-        Err(_) => world.fail(words.out, file),
-    };
-    let line = match why {
-        MakeFault::NoMemory => Fault::NoMemory,
-        _ => Fault::Write,
-    };
-    Err(Halt {
-        why: Stop::Unmade(1, why),
-        line,
-    })
+    match world.begin(words.out, true) {
+        Err(why) => Err(Halt::of(Stop::Unmade(1, why), words)),
+        Ok(file) => {
+            let mut file = file;
+            match write_bytes(bytes, &mut file) {
+                Ok(()) => match world.finish(words.out, file) {
+                    Ok(()) => Ok(()),
+                    Err(why) => Err(unfinished(why)),
+                },
+                Err(_) => Err(unfinished(world.fail(words.out, file))),
+            }
+        }
+    }
 }
 
 /// Writes the lines, makes the file, and flushes the output.
 fn list_and_make<'a, W: World>(
     words: &ValidPrefixWords<'a>,
-    text: &str,
+    text: &[u8],
     bytes: &[u8],
     world: &mut W,
 ) -> Result<(), Halt<'a>>
@@ -110,19 +116,49 @@ fn list_and_make<'a, W: World>(
         (record { name = words.now.out.now; bytes = bytes.now }) halt.why (W.run world.old)
         (W.run world.new)) }
 {
-    if let Err(why) = world.write(text.as_bytes()) {
-        return Err(Halt::of(Stop::Unwritten(why), words));
+    match world.write(text) {
+        Err(why) => Err(Halt::of(Stop::Unwritten(why), words)),
+        Ok(()) => match make(words, bytes, world) {
+            Err(halt) => Err(halt),
+            Ok(()) => match world.flush() {
+                Err(why) => Err(Halt::of(Stop::Unwritten(why), words)),
+                Ok(()) => Ok(()),
+            },
+        },
     }
-    if let Err(halt) = make(words, bytes, world) {
-        return Err(halt);
-    }
-    if let Err(why) = world.flush() {
-        return Err(Halt::of(Stop::Unwritten(why), words));
-    }
-    Ok(())
 }
 
+/// After the upload was loaded.
 fn keep<'a, W: World>(
+    alloc: Global,
+    words: &ValidPrefixWords<'a>,
+    upload: &[u8],
+    world: &mut W,
+) -> Result<u8, Halt<'a>>
+    ensures done { IfOk result (λ status. (start : Run)
+        → W.run world.old ≡ with_load start (file_named words.now.upload.now) upload.now
+        → IsDoneMaking (HasValidPrefix (valid_prefix_of words.now)) start (W.run world.new) status) }
+    ensures bound { IfOk result (λ status. status ≤ 1) }
+    ensures halted { IfErr result (λ halt. (start : Run)
+        → W.run world.old ≡ with_load start (file_named words.now.upload.now) upload.now
+        → IsHaltedMaking (HasValidPrefix (valid_prefix_of words.now))
+        (words.now.upload.now ∷ words.now.out.now ∷ []) start (W.run world.new) halt.why) }
+{
+    let facts = facts_of(upload);
+    let valid = valid_prefix(upload);
+    match lines_of(alloc, words, upload, &facts) {
+        Err(line) => Err(Halt {
+            why: Stop::NoMemory,
+            line,
+        }),
+        Ok(text) => match list_and_make(words, text.as_bytes(), valid, world) {
+            Err(halt) => Err(halt),
+            Ok(()) => Ok(status_of(&facts)),
+        },
+    }
+}
+
+fn load_and_keep<'a, W: World>(
     alloc: Global,
     words: &ValidPrefixWords<'a>,
     world: &mut W,
@@ -134,22 +170,12 @@ fn keep<'a, W: World>(
         (words.now.upload.now ∷ words.now.out.now ∷ []) (W.run world.old) (W.run world.new)
         halt.why) }
 {
-    let upload = match load_at(world, &[words.upload, words.out], 0) {
-        Ok(upload) => upload,
-        Err(why) => return Err(Halt::of(why, words)),
-    };
-    let facts = facts_of(&upload);
-    let valid = valid_prefix(&upload);
-    let text = match lines_of(alloc, words, &upload, &facts) {
-        Ok(text) => text,
-        Err(line) => return Err(Halt {
-            why: Stop::NoMemory,
-            line,
-        }),
-    };
-    match list_and_make(words, text.as_str(), valid, world) {
-        Ok(()) => Ok(status_of(&facts)),
-        Err(halt) => Err(halt),
+    match load_word(world, words.upload) {
+        Err(why) => Err(Halt::of(Stop::Unread(0, why), words)),
+        Ok(upload) => match keep(alloc, words, &upload, world) {
+            Err(halt) => Err(halt),
+            Ok(status) => Ok(status),
+        },
     }
 }
 
@@ -161,7 +187,7 @@ pub fn valid_prefix_over<W: World>(alloc: Global, words: &ValidPrefixWords<'_>, 
     ensures ends { EndsMaking (HasValidPrefix (valid_prefix_of words.now))
         (words.now.upload.now ∷ words.now.out.now ∷ []) (W.run world.old) (W.run world.new) result }
 {
-    match keep(alloc, words, world) {
+    match load_and_keep(alloc, words, world) {
         Ok(status) => status,
         Err(halt) => {
             report(halt.why, halt.line, world);

@@ -1,5 +1,7 @@
 -- Full checks: what private functions alone cite.
-use Rattle.std.specs.Prelude.{◌≡◌, ℕ, ◌+◌, Bool, true, List, [], ◌∷◌, ◌++◌, length}
+use Rattle.std.specs.Prelude.{◌≡◌, ℕ, ◌≤◌, Bool, true, List, [], ◌∷◌, ◌++◌, length, None, Some}
+use Rattle.std.specs.Prelude.{if◌then◌else◌, string_bytes}
+use Rattle.std.specs.Str.{bytes_eq}
 use Rattle.tariffs.specs.Fares.{Fares}
 use Rattle.histories.specs.Entry.{own}
 use Rattle.histories.specs.declared.entry.Entry.{Entry}
@@ -8,28 +10,41 @@ use Rattle.ledger_check.specs.declared.full_balance.FullBalance.{FullBalance}
 use Rattle.tap_views.specs.declared.encoder.TapFields.{TapFields}
 use Rattle.fare_texts.specs.LedgerLines.{IsLedgerLineAfter, head_text}
 use Rattle.fare_texts.specs.Explainers.{next_entry}
-use Rattle.fare_texts.specs.declared.explainer.Explainer.{Explainer}
 use Rattle.ledger_check.specs.FullChecks.{IsJudged, IsFullCheck, IsTaken, TakenLine, decreases_after}
-use Rattle.ledger_check.specs.FullChecks.{run_of, run_with, taps_from, remark_lines, remark_text}
-use Rattle.ledger_check.specs.FullCheckStates.{AreSums, HasRunExplainer, HasTakenLines}
-use Rattle.ledger_check.specs.declared.full_check.LinesTaken.{LinesTaken}
+use Rattle.ledger_check.specs.FullChecks.{run_of, run_with, taps_from, remark_lines}
+use Rattle.ledger_check.specs.FullCheckStates.{AreSums, HasRunExplainer}
+use Rattle.ledger_check.specs.declared.checker.Verdict.{Verdict}
+use Rattle.ledger_check.specs.declared.checker.Verdict.TheVariants.{Legal, Wants as Asks, NoLine as Refuses}
 use Rattle.ledger_check.specs.declared.full_check_sums.FullCheckSums.{FullCheckSums}
+use Rattle.ledger_check.specs.declared.lines_fed.LinesTaken.{LinesTaken}
 use Rattle.ledger_check.specs.declared.tap.Tap.{Tap}
+use Rattle.ledger_check.specs.declared.walk.CountedTap.{CountedTap}
 use Rattle.ledger_check.specs.declared.walk.LineFinding.{LineFinding}
+use Rattle.ledger_check.specs.declared.walk.NextTap.{NextTap}
+use Rattle.ledger_check.specs.declared.walk.Remark.{Remark}
+use Rattle.ledger_check.specs.declared.walk.Remark.TheVariants.{Nothing, NoLine, Wants}
 use Rattle.ledger_check.specs.declared.walk.Walk.{Walk}
-use Rattle.std.specs.Prelude.{None, if◌then◌else◌, string_bytes}
-use Rattle.std.specs.Str.{bytes_eq}
-use Rattle.ledger_check.specs.declared.walk.Remark.TheVariants.{Nothing, NoLine}
 
--- the tap was taken after the entries: its entry, whether its token falls, and its line
-pub record TookTap (fares : Fares) (run : List Entry) (tap : Tap) (walk : Walk) (entry : Entry)
-    (is_decrease : Bool) : Type 0 where
-  pub ruled : entry
+-- what the tap makes after the entries: its entry, whether its token falls, and its line
+pub record IsNextTap (fares : Fares) (run : List Entry) (tap : Tap) (wanted : List ℕ)
+    (next : NextTap) : Type 0 where
+  pub ruled : next.entry
       ≡ next_entry fares tap.token (own tap.token run) tap.validator tap.moment
-  pub shown : IsLedgerLineAfter fares tap.token (own tap.token run) entry
-      (string_bytes walk.wanted)
-  pub decreasing : is_decrease ≡ decreases_after run tap.token
-  pub explainer : HasRunExplainer fares walk.explainer (own tap.token run ++ entry ∷ [])
+  pub shown : IsLedgerLineAfter fares tap.token (own tap.token run) next.entry wanted
+  pub decreasing : next.is_decrease ≡ decreases_after run tap.token
+  pub explainer : HasRunExplainer fares (Some next.explainer)
+      (own tap.token run ++ next.entry ∷ [])
+
+-- what is found of a line that is right
+abbrev pub right_finding : CountedTap → LineFinding
+right_finding tap = record { tap = Some tap; remark = Nothing; has_form = true }
+
+-- how a wrong line of this number is called
+abbrev pub IsCalled : Remark → ℕ → List ℕ → Verdict → Type 0
+IsCalled remark number wanted (Legal entries early) = ⊥
+IsCalled remark number wanted (Asks at text) = (remark ≡ Wants) × (at ≡ number)
+    × (string_bytes text ≡ wanted) × (length wanted ≤ 255)
+IsCalled remark number wanted (Refuses at) = at ≡ number
 
 -- the line was judged after the entries, and the walk is after it
 pub record HasJudged (fares : Fares) (run : List Entry) (line : List ℕ) (walk : Walk)
@@ -49,17 +64,10 @@ pub record HasFound (fares : Fares) (taken : List TakenLine) (line : List ℕ) (
       (record { line = line; finding = finding; wanted = string_bytes walk.wanted })
   pub explainer : HasRunExplainer fares walk.explainer (run_with (run_of taken) finding.tap)
 
--- one line more was taken, its remark was written, and its tap subtracted, if taps are subtracted
-pub record TookLine (fares : Fares) (taken : List TakenLine) (line : List ℕ) (after : LinesTaken)
-    (subtracts : Bool) (full full' : FullBalance) (reported reported' : List ℕ) : Type 0 where
-  pub next : TakenLine
-  pub is : next.line ≡ line
-  pub lines : HasTakenLines fares after (next ∷ taken)
-  pub written : reported' ≡ reported
-      ++ remark_text (length taken + 1) next.finding.remark next.wanted
-  pub subtracted : (valid : List TapFields) → subtracts ≡ true
-      → IsFullBalance full valid (taps_from taken)
-      → IsFullBalance full' valid (taps_from (next ∷ taken))
+-- a line that was taken, and the line that its tap should have
+abbrev pub next_taken : List ℕ → LineFinding → LinesTaken → TakenLine
+next_taken line finding so_far =
+    record { line = line; finding = finding; wanted = string_bytes so_far.walk.wanted }
 
 -- all lines of the text were taken, the last one too, and the remarks were written
 pub record HasEnded (fares : Fares) (subtracts : Bool) (full : FullBalance) (text written : List ℕ)

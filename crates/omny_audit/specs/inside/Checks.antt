@@ -1,8 +1,7 @@
 -- What a check of lines has read: what private functions alone cite.
 use Rattle.std.specs.Prelude.{◌≡◌, ◌++◌, ℕ, Bool, true, false, List, [], None, Some, is_some}
 use Rattle.tariffs.specs.Fares.{Fares}
-use Rattle.ledger_check.specs.FullCheckStates.{HasFullyChecked}
-use Rattle.ledger_check.specs.Subtracted.{HasSubtracted}
+use Rattle.ledger_check.specs.FullCheckStates.{HasFullyChecked, IsRightSoFar}
 use Rattle.ledger_check.specs.Verdicts.{IsVerdict, is_legal}
 use Rattle.tap_views.specs.declared.encoder.TapFields.{TapFields}
 use Rattle.omny_audit.specs.declared.check.Check.{Check}
@@ -22,7 +21,7 @@ is_decided (All full_check full) = false
 -- it is to subtract them; or a line of it is the first wrong one, whatever follows.
 abbrev pub HasChecked : Fares → Bool → List TapFields → Check → List ℕ → List ℕ → Type 0
 HasChecked fares subtracts valid (First checker balance None) text written =
-    HasSubtracted fares checker balance text valid × (written ≡ [])
+    IsRightSoFar fares checker balance text valid × (written ≡ [])
 HasChecked fares subtracts valid (First checker balance (Some verdict)) text written =
     ((more : List ℕ) → IsVerdict fares (text ++ more) verdict) × (is_legal verdict ≡ false)
     × (written ≡ [])

@@ -17,7 +17,7 @@ use Rattle.tool_tasks.specs.inside.Decode.{HasDecoded, pending_at, text_at}
 use Rattle.world.specs.Run.{Load}
 
 -- an upload without bytes
-empty : List ℕ → Decoded
+abbrev empty : List ℕ → Decoded
 empty word = record {
   word = word;
   upload = [];

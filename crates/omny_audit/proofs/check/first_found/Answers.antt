@@ -8,9 +8,13 @@ use Rattle.omny_audit.specs.Findings.{IsFinding}
 use Rattle.omny_audit.proofs.check.first_found.Goals as goal
 
 pub finish-verdict-requires : goal.finish-verdict-requires
-finish-verdict-requires c = record {
-  fed = (c.requires.0, c.requires.2, (rw c.in-None.is at c.requires.4).0.fed);
-}
+finish-verdict-requires c = (
+  c.requires.0,
+  c.args.balance.now,
+  c.requires.2,
+  c.requires.1,
+  (rw c.in-None.is at c.requires.4).0,
+)
 
 pub returns-in_ok-found-in-Some-clause-found : goal.returns-in_ok-found-in-Some-clause-found
 returns-in_ok-found-in-Some-clause-found c = λ fares valid text written has.
@@ -36,9 +40,9 @@ returns-in_ok-found-in-Some-clause-decided c = λ some given.
 pub returns-in_ok-found-in-None-clause-found : goal.returns-in_ok-found-in-None-clause-found
 returns-in_ok-found-in-None-clause-found c = λ fares valid text written has.
     let known = rw c.in-None.is at has in
-    let is = c.finish-verdict.ensures.verdict fares text known.0.fed in
+    let is = c.finish-verdict.ensures.verdict fares c.args.balance.now text valid known.0 in
     let found = c.in_ok-found-in-None.ensures.found fares text valid is
-    (λ legal. c.finish-verdict.ensures.subtracted fares text c.args.balance.now valid known.0
+    (λ legal. c.finish-verdict.ensures.subtracted fares c.args.balance.now text valid known.0
     legal) in (
       found.0,
       found.1,

@@ -3,7 +3,6 @@ use Rattle.std.proofs.Common.{◌≡◌, ◌≤◌, List, [], ◌∷◌, ◌++�
 use Rattle.account_rule.specs.Represents as kept
 use Rattle.account_rule.specs.declared.tap.TapIn.{TapIn}
 use Rattle.fare_caps.specs.CapMeanings.{capped_rules_of}
-use Rattle.fare_caps.specs.CappedReplies.{uncapped}
 use Rattle.fare_caps.specs.Represents.{Represents, RepresentsSome}
 use Rattle.fare_caps.specs.declared.capped_reason.CappedReason.TheVariants.{Ride}
 use Rattle.fare_caps.proofs.BillLemmas.{reply-cents}

@@ -1,50 +1,25 @@
-use Rattle.std.proofs.Common.{◌≡◌, ◌<◌, ◌≤◌, true, false, length, sym, subst, arith, tests, rules}
-use Rattle.std.proofs.lemmas.Bool.{not-false, not-true}
-use Rattle.std.proofs.lemmas.Bool.Decides.{nat_tests}
-use Rattle.std.specs.Prelude.{IsTrue}
-use Rattle.ledger_check.specs.Verdicts.{IsVerdict, is_legal}
-use Rattle.ledger_check.specs.declared.checker.Verdict.{Verdict}
-use Rattle.ledger_check.proofs.SubtractedLemmas.{all_subtracted}
-use Rattle.ledger_check.proofs.CheckerLemmas.{empty_list, ended_in_line, ended_unheaded}
-use Rattle.ledger_check.proofs.CheckerLemmas.{ended_complete}
+use Rattle.std.proofs.Common.{◌≡◌, ◌+◌, ◌<◌, ◌∙◌, sym, true, false, arith}
+use Rattle.std.proofs.lemmas.Bool.{false≢true, true≢false}
+use Rattle.ledger_check.proofs.CheckerLemmas.{all_subtracted, ended_complete, ended_in_line}
 use Rattle.ledger_check.proofs.checker.Checker.finish.Goals as goal
-use Rattle.ledger_check.proofs.checker.Checker.finish.Goals.{then-not-self-via-then-not-self}
-use Rattle.ledger_check.proofs.checker.Checker.finish.Goals.{then-not-self-via-else-not-self+then-not-is_empty}
 
-pub returns-then-not-self-clause-verdict : goal.returns-then-not-self-clause-verdict
-returns-then-not-self-clause-verdict c = λ fares text fed.
-    let checker = c.args.self.now in
-    subst (IsVerdict fares text) (sym c.no_line.ensures)
-    (elim c.then-not-self.branch [
-      | then-not-self-via-then-not-self w ↦
-          let none : checker.so_far.has_head ≡ false =
-          first_of (cc, search (rules, tests), grind (arith, nat_tests)) in
-          ended_unheaded fares checker text fed none
-      | then-not-self-via-else-not-self+then-not-is_empty w ↦
-          let some : 0 < length checker.started.items =
-          grind (arith, nat_tests, checker.started.ok.0) in
-          ended_in_line fares checker text fed some
-    ])
+pub returns-then-is_whole-clause-verdict : goal.returns-then-is_whole-clause-verdict
+returns-then-is_whole-clause-verdict c = λ fares balance text valid is.
+    let whole = c.is_whole.ensures.0 c.if-is_whole.true in
+    let some = whole.0 in
+    ended_complete fares c.args.self.now balance text valid is whole.0 whole.1 _ _
+    (omega (arith, some)) is.fed.lines.sums.order.early
 
-pub returns-clause-verdict : goal.returns-clause-verdict
-returns-clause-verdict c = λ fares text fed.
-    let checker = c.args.self.now in
-    let none : length checker.started.items ≤ 0 = grind (arith, nat_tests, checker.started.ok.0) in
-    let some : checker.so_far.has_head ≡ true =
-    first_of (cc, search (rules, tests), grind (arith, nat_tests)) in
-    ended_complete fares checker text fed (empty_list checker.started.items none) some
+pub returns-then-is_whole-clause-subtracted : goal.returns-then-is_whole-clause-subtracted
+returns-then-is_whole-clause-subtracted c = λ fares balance text valid is legal.
+    let whole = c.is_whole.ensures.0 c.if-is_whole.true in
+    all_subtracted fares c.args.self.now balance text valid is whole.0 whole.1
 
-false_true : false ≡ true → ⊥
-false_true h = cc
+pub returns-else-is_whole-clause-verdict : goal.returns-else-is_whole-clause-verdict
+returns-else-is_whole-clause-verdict c = λ fares balance text valid is.
+    ended_in_line fares c.args.self.now balance text valid is
+    (λ whole. true≢false (sym (c.is_whole.ensures.1 whole) ∙ c.if-is_whole.false))
 
-pub returns-then-not-self-clause-subtracted : goal.returns-then-not-self-clause-subtracted
-returns-then-not-self-clause-subtracted c = λ fares text balance valid subtracted legal.
-    absurd (false_true (subst (λ (v : Verdict). IsTrue (is_legal v)) c.no_line.ensures legal))
-
-pub returns-clause-subtracted : goal.returns-clause-subtracted
-returns-clause-subtracted c = λ fares text balance valid subtracted legal entries is.
-    let checker = c.args.self.now in
-    let none : length checker.started.items ≤ 0 = grind (arith, nat_tests, checker.started.ok.0) in
-    all_subtracted fares checker balance text valid subtracted
-    (empty_list checker.started.items none) entries
-    is
+pub returns-else-is_whole-clause-subtracted : goal.returns-else-is_whole-clause-subtracted
+returns-else-is_whole-clause-subtracted c = λ fares balance text valid is legal.
+    absurd (false≢true legal)

@@ -4,8 +4,8 @@ use Rattle.ledger_check.specs.FullCheckStates.{HasFullyChecked}
 use Rattle.ledger_check.proofs.full_check.FullCheck.feed.Given as goal
 
 -- a front of the piece was read, and this was reported of its lines
-abbrev pub invariant-loop-rest : goal.invariant-loop-rest
-invariant-loop-rest l = record {
+abbrev pub invariant-loop-line : goal.invariant-loop-line
+invariant-loop-line l = record {
   consumed : List ℕ;
   whole : l.piece ≡ consumed ++ l.rest;
   fed : (text written : List ℕ) (valid : List TapFields)
@@ -15,5 +15,5 @@ invariant-loop-rest l = record {
       valid;
 }
 
-abbrev pub decreases-loop-rest : goal.decreases-loop-rest
-decreases-loop-rest l = length l.rest
+abbrev pub decreases-loop-line : goal.decreases-loop-line
+decreases-loop-line l = length l.rest

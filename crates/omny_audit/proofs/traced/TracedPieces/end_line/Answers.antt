@@ -1,7 +1,7 @@
 use Rattle.std.proofs.Common.{◌≡◌, ◌≤◌, ◌++◌, List, ℕ, [], length, inl, sym, ap, subst}
 use Rattle.std.proofs.Common.{arith}
 use Rattle.std.proofs.lemmas.Bool.Decides.{nat_tests}
-use Rattle.ledger_check.proofs.CheckerLemmas.{empty_list}
+use Rattle.ledger_check.proofs.LineEnds.{empty_list}
 use Rattle.omny_audit.specs.inside.Traced.{IsKeptOf}
 use Rattle.omny_audit.proofs.TraceLemmas.{kept_none, took_line}
 use Rattle.omny_audit.proofs.traced.TracedPieces.end_line.Goals as goal

@@ -2,7 +2,7 @@
 use Rattle.std.proofs.Common.{◌≡◌, ◌++◌, [], ℕ, List, refl, sym, ap, subst, ◌∙◌, append_assoc}
 use Rattle.std.proofs.Common.{append-nil, arith, rules, tests}
 use Rattle.std.proofs.lemmas.Bool.Decides.{nat_tests}
-use Rattle.ledger_check.proofs.CheckerLemmas.{empty_list}
+use Rattle.ledger_check.proofs.LineEnds.{empty_list}
 use Rattle.omny_audit.proofs.TraceLemmas.{Traced, traced_none, traced_on, traced_part}
 use Rattle.omny_audit.proofs.traced.TracedPieces.feed.Goals as goal
 

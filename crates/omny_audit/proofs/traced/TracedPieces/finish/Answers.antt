@@ -1,6 +1,6 @@
 use Rattle.std.proofs.Common.{◌<◌, ◌≤◌, List, ℕ, length, sym, subst, arith}
 use Rattle.std.proofs.lemmas.Bool.Decides.{nat_tests}
-use Rattle.ledger_check.proofs.CheckerLemmas.{empty_list}
+use Rattle.ledger_check.proofs.LineEnds.{empty_list}
 use Rattle.omny_audit.specs.inside.Traced.{IsKeptOf}
 use Rattle.omny_audit.proofs.TraceLemmas.{ended_cut, ended_whole}
 use Rattle.omny_audit.proofs.traced.TracedPieces.finish.Goals as goal

@@ -1,6 +1,6 @@
 use Rattle.std.proofs.Common.{◌≤◌, ◌++◌, ◌∙◌, List, ℕ, length, sym, ap, arith}
 use Rattle.std.proofs.lemmas.Bool.Decides.{nat_tests}
-use Rattle.ledger_check.proofs.CheckerLemmas.{empty_list}
+use Rattle.ledger_check.proofs.LineEnds.{empty_list}
 use Rattle.report_check.proofs.SummedLines.{ended, none_after, none_by, none_of, summed_of}
 use Rattle.report_check.proofs.ledger_sums.LedgerSums.end_line.Goals as goal
 

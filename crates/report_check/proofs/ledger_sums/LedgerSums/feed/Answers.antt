@@ -2,7 +2,7 @@
 use Rattle.std.proofs.Common.{◌≡◌, ◌++◌, [], ℕ, List, sym, ap, subst, ◌∙◌, append_assoc, append-nil}
 use Rattle.std.proofs.Common.{arith, refl, rules, tests}
 use Rattle.std.proofs.lemmas.Bool.Decides.{nat_tests}
-use Rattle.ledger_check.proofs.CheckerLemmas.{empty_list}
+use Rattle.ledger_check.proofs.LineEnds.{empty_list}
 use Rattle.report_check.specs.LedgerSums.{HasSummed}
 use Rattle.report_check.proofs.ledger_sums.LedgerSums.feed.Goals as goal
 

@@ -1,6 +1,6 @@
 use Rattle.std.proofs.Common.{◌<◌, ◌≤◌, length, arith}
 use Rattle.std.proofs.lemmas.Bool.Decides.{nat_tests}
-use Rattle.ledger_check.proofs.CheckerLemmas.{empty_list}
+use Rattle.ledger_check.proofs.LineEnds.{empty_list}
 use Rattle.report_check.proofs.SummedLines.{all_added, no_ledger, summed_of}
 use Rattle.report_check.proofs.ledger_sums.LedgerSums.finish.Goals as goal
 
