@@ -115,7 +115,8 @@ Faults run Why = (fault : Fault) × IsFaultReported fault run.said run.said' run
 
 -- the same, with a note after the line of the fault
 abbrev pub FaultsNoted : Run → (Fault → Type 0) → Type 0
-FaultsNoted run Why = (fault : Fault) × IsFaultNoted fault run.said run.said' run.unsaid × Why fault
+FaultsNoted run Why = (fault : Fault) × (note : List ℕ)
+    × IsFaultNoted fault note run.said run.said' run.unsaid × Why fault
 
 -- With status 1 the right fault was reported, or the text has the layout fault of an upload, or no
 -- row is a tap.

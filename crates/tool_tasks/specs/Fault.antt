@@ -77,10 +77,9 @@ abbrev pub IsFaultReported : Fault → Option (List ℕ) → Option (List ℕ) �
 IsFaultReported fault said said' failed = MatchBool (is_quiet fault) (said' ≡ said)
     (LineWritten said said' failed (fault_text fault))
 
--- the same, with a note after the text of the fault
-abbrev pub IsFaultNoted : Fault → Option (List ℕ) → Option (List ℕ) → Bool → Type 0
-IsFaultNoted fault said said' failed = (note : List ℕ)
-    × MatchBool (is_quiet fault) (said' ≡ said)
+-- the same, with this note after the text of the fault
+abbrev pub IsFaultNoted : Fault → List ℕ → Option (List ℕ) → Option (List ℕ) → Bool → Type 0
+IsFaultNoted fault note said said' failed = MatchBool (is_quiet fault) (said' ≡ said)
     (LineWritten said said' failed (fault_text fault ++ note))
 
 -- The source refused the file of one of these words, which the fault names, for its reason; or

@@ -594,7 +594,7 @@ pub fn encode_rows_over<S: Source, K: Sink, W: Write, E: Write>(
         → EncodesWith RowsOutcome.NoTap words.now word.entry.now (S.loaded source.old)
         (S.loaded source.new) (K.made sink.old) (K.made sink.new) (W.contents out.old.writer)
         (W.contents out.new.writer) (E.contents err.old.writer) (E.contents err.new.writer)
-        err.new.failed) ⊎ ((fault : AFault) × IsFaultNoted fault
+        err.new.failed) ⊎ ((fault : AFault) × (note : List ℕ) × IsFaultNoted fault note
         (E.contents err.old.writer) (E.contents err.new.writer) err.new.failed
         × ((kept : List Loaded) → S.loaded source.old ≡ Some kept
         → AbortsRows words.now word.entry.now (S.loaded source.old) (S.loaded source.new)

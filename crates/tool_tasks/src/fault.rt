@@ -218,8 +218,8 @@ impl fmt::Display for Noted<'_> {
 
 /// Writes the line of a fault, with the note after it, unless the reader of the text is gone.
 pub(crate) fn say_noted<E: Write>(err: &mut Complaints<E>, fault: &Fault<'_>, note: &str)
-    ensures { IsFaultNoted fault.now (E.contents err.old.writer) (E.contents err.new.writer)
-        err.new.failed }
+    ensures { IsFaultNoted fault.now note.now (E.contents err.old.writer)
+        (E.contents err.new.writer) err.new.failed }
 {
     if fault.is_quiet() {
         return;

@@ -38,7 +38,8 @@ pub returns-in-EncodeRows-clause-aborted : goal.returns-in-EncodeRows-clause-abo
 returns-in-EncodeRows-clause-aborted g c = λ one. rw c.in-EncodeRows.is (
     elim (c.encode_rows_over.ensures.faults one) [
       | inl empty ↦ inl (λ kept keeps. (c.in-EncodeRows.words, refl, empty kept keeps))
-      | inr stopped ↦ inr (stopped.0, stopped.1, (c.in-EncodeRows.words, refl, stopped.2))
+      | inr stopped ↦ inr (
+          stopped.0, stopped.1, stopped.2, (c.in-EncodeRows.words, refl, stopped.3))
     ]
     )
 
