@@ -10,8 +10,8 @@ returns-in-Err-clause-halted g c = λ names.
     halts_none names [] (fault_text c.args.fault ++ codes "\n") NoMemory
     (g.W.Inputs.run c.args.world.now) (g.W.Inputs.run c.args.world.now) tt refl
 
-pub returns-in-Err-flush-clause-halted : goal.returns-in-Err-flush-clause-halted
-returns-in-Err-flush-clause-halted g c = λ names.
+pub returns-clause-halted : goal.returns-in-Err-flush-clause-halted
+returns-clause-halted g c = λ names.
     let old = g.W.Inputs.run c.args.world.now in
     let note = fault_text c.args.fault ++ codes "\n" in
     halts_flush names [] note c.in-Err-flush.why old (g.W.Inputs.run c.say.new.self)
