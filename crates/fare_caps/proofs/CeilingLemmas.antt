@@ -1,9 +1,9 @@
 -- No window of a cap exceeds its ceiling, and the windows add up.
-use Rattle.std.proofs.Common.{◌≡◌, ℕ, ◌+◌, ◌-◌, ◌≤◌, Bool, true, false, cond, List, [], ◌∷◌, ◌++◌}
-use Rattle.std.proofs.Common.{Option, Some, None, refl, sym, ap, ◌∙◌, subst, arith, nat_lt, map}
+use Rattle.std.proofs.Common.{◌≡◌, ℕ, ◌+◌, ◌-◌, ◌≤◌, true, false, cond, List, [], ◌∷◌, ◌++◌}
+use Rattle.std.proofs.Common.{Option, None, refl, sym, ap, ◌∙◌, subst, arith, nat_lt, map}
 use Rattle.std.proofs.Common.{All, inl, inr, sum_by, suc}
 use Rattle.std.proofs.lemmas.Bool.{cases_Bool, le-ltb}
-use Rattle.std.proofs.lemmas.List.Elements.{All-cons, All-head, All-nil, All-tail}
+use Rattle.std.proofs.lemmas.List.Elements.{All-cons, All-head, All-nil}
 use Rattle.std.proofs.lemmas.List.Sums.{sum_by-cons, sum_by_push}
 use Rattle.tap_views.proofs.Lists.{All-back, All-front}
 use Rattle.account_rule.specs.declared.reason.Charge.{Charge}
@@ -11,7 +11,7 @@ use Rattle.account_rule.specs.declared.tap.TapIn.{TapIn}
 use Rattle.account_rule.specs.Blocks.{blocks_by, blocks_from}
 use Rattle.account_rule.specs.Taps.{LiveTap}
 use Rattle.account_rule.specs.Trips.{rides}
-use Rattle.account_rule.specs.Windows.{charge, charged_by}
+use Rattle.account_rule.specs.Windows.{charge}
 use Rattle.account_rule.proofs.LimitLemmas.{charged as charged_or_free}
 use Rattle.fare_caps.specs.Caps.{CapRules, CappedRules, counted, each_window, left, no_window}
 use Rattle.fare_caps.specs.Caps.{opened, opened_until, window_cap}

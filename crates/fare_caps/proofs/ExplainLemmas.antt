@@ -1,5 +1,5 @@
 -- Each way out of a step under caps is one of the rule's cases.
-use Rattle.std.proofs.Common.{◌≡◌, ℕ, ◌≤◌, List, [], ◌∷◌, ◌++◌, length, map, Some, None, refl, sym}
+use Rattle.std.proofs.Common.{◌≡◌, ℕ, ◌≤◌, List, [], ◌∷◌, ◌++◌, length, map, Some, None, sym}
 use Rattle.std.proofs.Common.{ap}
 use Rattle.std.proofs.Common.{◌∙◌, arith, subst}
 use Rattle.std.proofs.lemmas.List.{length-map}
@@ -17,13 +17,12 @@ use Rattle.account_rule.specs.Replies.{reply}
 use Rattle.account_rule.specs.TokenRules.{rules_of, token_class}
 use Rattle.account_rule.specs.Taps.{live_at}
 use Rattle.fare_caps.specs.CapMeanings.{cap_rules, capped_rules_of}
-use Rattle.fare_caps.specs.CapStates.{CapStates, after_ride, ride_charge, states}
+use Rattle.fare_caps.specs.CapStates.{CapStates, after_ride, states}
 use Rattle.fare_caps.specs.CappedReplies.{capped_reason, capped_reply}
-use Rattle.fare_caps.specs.Caps.{CapRules, CappedRules}
+use Rattle.fare_caps.specs.Caps.{CappedRules}
 use Rattle.fare_caps.specs.Represents.{HasRoom, IsFurther, KeepsStates, Represents}
 use Rattle.fare_caps.specs.declared.cap.Cap.{Cap}
 use Rattle.fare_caps.specs.declared.cap_charge.CapCharge.{CapCharge}
-use Rattle.fare_caps.specs.declared.capped_account.CappedAccount.{CappedAccount}
 use Rattle.fare_caps.specs.declared.capped_account.RideSeen.{RideSeen}
 use Rattle.fare_caps.specs.declared.capped_reason.CappedReason.{CappedReason}
 use Rattle.fare_caps.specs.declared.capped_reason.CappedReason.TheVariants.{Ride}

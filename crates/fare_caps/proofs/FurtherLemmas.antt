@@ -1,9 +1,8 @@
 -- The numbers that are kept follow the states, ride by ride.
-use Rattle.std.proofs.Common.{◌≡◌, ℕ, suc, ◌+◌, ◌-◌, ◌<◌, ◌≤◌, Bool, true, false, cond, List, []}
+use Rattle.std.proofs.Common.{◌≡◌, ℕ, ◌+◌, ◌-◌, ◌≤◌, Bool, true, false, cond, List, []}
 use Rattle.std.proofs.Common.{◌∷◌, length, map, min, take, nat_lt, is_some, Option, Some, None}
-use Rattle.std.proofs.Common.{option_map, refl, sym, ap, ◌∙◌, inl, inr, arith, IfSome}
+use Rattle.std.proofs.Common.{refl, ap, ◌∙◌, inl, inr, arith, IfSome}
 use Rattle.std.proofs.lemmas.Bool.{cases_Bool}
-use Rattle.std.proofs.lemmas.List.{length-map}
 use Rattle.tariffs.specs.ClockView.{ClockView}
 use Rattle.tariffs.specs.Fares.{Fares}
 use Rattle.tariffs.specs.Terms.{AreBoundedTerms}
@@ -12,14 +11,14 @@ use Rattle.tariffs.specs.declared.mode.Mode.{Mode}
 use Rattle.tariffs.specs.declared.terms.Terms.{Terms}
 use Rattle.account_rule.specs.Blocks.{blocks_by}
 use Rattle.account_rule.specs.TokenRules.{TokenRules, rules_of, token_class}
-use Rattle.account_rule.specs.Taps.{LiveTap, live, live_after, live_at}
+use Rattle.account_rule.specs.Taps.{live, live_after, live_at}
 use Rattle.account_rule.specs.Trips as taken
-use Rattle.account_rule.specs.Windows.{charge, is_paid}
+use Rattle.account_rule.specs.Windows.{charge}
 use Rattle.account_rule.proofs.LimitLemmas.{charge-min}
 use Rattle.fare_caps.specs.CapMeanings.{cap_rules, capped_rules_of, said_of, terms_at}
 use Rattle.fare_caps.specs.CapStates.{CapStates, after_ride, at_ride, charge_at, no_rides}
 use Rattle.fare_caps.specs.CapStates.{after_rides, ride_charge, states, with_charge}
-use Rattle.fare_caps.specs.Caps.{CapRules, CappedRules, counted, each_window, left, no_window}
+use Rattle.fare_caps.specs.Caps.{CapRules, counted, each_window, left, no_window}
 use Rattle.fare_caps.specs.Caps.{opened, opened_until, window_cap}
 use Rattle.fare_caps.specs.Charges.{cap_cents, cap_paid, least_from, lesser, lowered}
 use Rattle.fare_caps.specs.Represents.{HasRoom, IsFurther, KeepsStates, cap_windows}
@@ -31,7 +30,7 @@ use Rattle.fare_caps.specs.declared.cap_window.CapWindow.{CapWindow}
 use Rattle.fare_caps.specs.declared.further.Further.{Further}
 use Rattle.fare_caps.specs.declared.further.RideCaps.{RideCaps}
 use Rattle.fare_caps.specs.inside.Further.{charge_of, counted_all, counted_by, least_of, left_by}
-use Rattle.fare_caps.specs.inside.Further.{opened_all, opened_by, said_at, said_by}
+use Rattle.fare_caps.specs.inside.Further.{opened_all, opened_by, said_by}
 use Rattle.fare_caps.proofs.LoweredLemmas.{IsAtMost, lowered-few, charge-within, lesser-here}
 use Rattle.fare_caps.proofs.LoweredLemmas.{lesser-keeps, lesser-none, lowered-le, lowered-paid}
 use Rattle.fare_caps.proofs.LoweredLemmas.{most-le, paid-below}

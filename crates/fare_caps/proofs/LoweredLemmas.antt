@@ -1,9 +1,8 @@
 -- A lowered charge is within the charge by `window` and within what each cap leaves.
-use Rattle.std.proofs.Common.{◌≡◌, ℕ, ◌+◌, ◌-◌, ◌<◌, ◌≤◌, ◌==◌, true, false, cond, Option, Some}
+use Rattle.std.proofs.Common.{◌≡◌, ℕ, ◌+◌, ◌<◌, ◌≤◌, ◌==◌, true, false, cond, Option, Some}
 use Rattle.std.proofs.Common.{None}
-use Rattle.std.proofs.Common.{refl, sym, ap, ◌∙◌, inl, inr, arith, is_some, max, nat_lt, leb}
-use Rattle.std.proofs.Common.{IfSome}
-use Rattle.std.proofs.lemmas.Bool.{cases_Bool, eqb-true, ltb-false, ltb-true}
+use Rattle.std.proofs.Common.{refl, inl, inr, arith, is_some, nat_lt}
+use Rattle.std.proofs.lemmas.Bool.{cases_Bool, ltb-false, ltb-true}
 use Rattle.tariffs.specs.Terms.{AreBoundedTerms}
 use Rattle.tariffs.specs.declared.terms.Terms.{Terms}
 use Rattle.account_rule.specs.Windows.{charge, charged_by, is_paid}
@@ -12,7 +11,6 @@ use Rattle.account_rule.specs.declared.reason.Charge.TheVariants.{CeilingCut, Ce
 use Rattle.account_rule.specs.declared.reason.Charge.TheVariants.{RideLimitReached}
 use Rattle.account_rule.proofs.LimitLemmas.{charged}
 use Rattle.fare_caps.specs.Charges.{cap_cents, cap_paid, lesser, lowered, lowered_by}
-use Rattle.fare_caps.specs.declared.cap_charge.CapCharge.{CapCharge}
 use Rattle.fare_caps.specs.declared.cap_charge.CapCharge.TheVariants.{ByWindow, CapCut, CapReached}
 use Rattle.fare_caps.specs.declared.cap_charge.CapLeft.{CapLeft}
 

@@ -1,9 +1,8 @@
 -- With no cap beside `window`, the states are the numbers of its last window.
-use Rattle.std.proofs.Common.{◌≡◌, ℕ, suc, ◌+◌, ◌-◌, Bool, true, false, cond, List, [], ◌∷◌, ◌++◌}
-use Rattle.std.proofs.Common.{Option, Some, None, refl, sym, ap, ◌∙◌, length, nat_lt, is_some}
+use Rattle.std.proofs.Common.{◌≡◌, ℕ, ◌+◌, true, false, cond, List, [], ◌∷◌, ◌++◌}
+use Rattle.std.proofs.Common.{Option, Some, None, refl, sym, ap, ◌∙◌, length, nat_lt}
 use Rattle.std.proofs.Common.{arith}
-use Rattle.std.proofs.Common.{append-nil, append_assoc, map, option_map}
-use Rattle.std.specs.List.{last_or}
+use Rattle.std.proofs.Common.{append-nil, append_assoc, option_map}
 use Rattle.std.proofs.lemmas.Bool.{le-ltb}
 use Rattle.tariffs.specs.declared.mode.Mode.{Mode}
 use Rattle.account_rule.specs.declared.reason.Charge.{Charge}
@@ -11,17 +10,16 @@ use Rattle.account_rule.specs.declared.reason.Charge.TheVariants.{CeilingCut, Ce
 use Rattle.account_rule.specs.declared.reason.Charge.TheVariants.{RideLimitReached}
 use Rattle.account_rule.specs.declared.reason.Reason.{Reason}
 use Rattle.account_rule.specs.declared.reason.Reason.TheVariants as reason
-use Rattle.account_rule.specs.declared.reply.Reply.{Reply}
 use Rattle.account_rule.specs.declared.tap.TapIn.{TapIn}
 use Rattle.account_rule.specs.declared.window.WindowView.{WindowView}
 use Rattle.account_rule.specs.Blocks.{last_block}
 use Rattle.account_rule.specs.Reasons as rule
 use Rattle.account_rule.specs.Replies.{replies, replies_after, reply}
 use Rattle.account_rule.specs.TokenRules.{TokenRules}
-use Rattle.account_rule.specs.Taps.{LiveTap, is_later, live_at}
-use Rattle.account_rule.specs.Windows.{charge, charged_by, charges, charges_after, is_paid}
+use Rattle.account_rule.specs.Taps.{LiveTap, live_at}
+use Rattle.account_rule.specs.Windows.{charge, charges, charges_after, is_paid}
 use Rattle.account_rule.specs.Windows.{is_within, last_window}
-use Rattle.account_rule.specs.Windows.{paid_by, paid_rides, shown_window, window_cents, windows}
+use Rattle.account_rule.specs.Windows.{paid_rides, shown_window, window_cents, windows}
 use Rattle.account_rule.proofs.BlockLemmas.{length-push}
 use Rattle.account_rule.proofs.LimitLemmas.{cents-push, last_charge-push, paid-push}
 use Rattle.account_rule.proofs.ReasonLemmas.{reply-follows}
@@ -34,16 +32,14 @@ use Rattle.fare_caps.specs.Caps.{window_cap}
 use Rattle.fare_caps.specs.CapStates.{CapStates, after_ride, at_ride, charge_at, no_rides}
 use Rattle.fare_caps.specs.CapStates.{ride_charge, states, with_charge}
 use Rattle.fare_caps.specs.CappedReplies.{capped_reason, capped_replies, capped_replies_after}
-use Rattle.fare_caps.specs.CappedReplies.{capped_reply, capped_window, replied_by, ride_on}
+use Rattle.fare_caps.specs.CappedReplies.{capped_reply, capped_window, replied_by}
 use Rattle.fare_caps.specs.CappedReplies.{under_caps}
 use Rattle.fare_caps.specs.inside.Seen.{uncapped}
-use Rattle.fare_caps.specs.Charges.{cap_cents, cap_paid, least_from, lowered}
+use Rattle.fare_caps.specs.Charges.{least_from, lowered}
 use Rattle.fare_caps.specs.Laws.{without_caps}
-use Rattle.fare_caps.specs.declared.cap_charge.CapCharge.{CapCharge}
 use Rattle.fare_caps.specs.declared.cap_charge.CapCharge.TheVariants.{ByWindow}
-use Rattle.fare_caps.specs.declared.cap_window.CapWindow.{CapWindow}
 use Rattle.fare_caps.proofs.FoldLemmas.{fold-last}
-use Rattle.fare_caps.proofs.RideLemmas.{Tapped, is_of_ride, is_free, is_ride, tapped}
+use Rattle.fare_caps.proofs.RideLemmas.{is_of_ride, is_free, is_ride, tapped}
 
 -- the states of rides that opened a window at a moment
 abbrev numbers : TokenRules → ℕ → ℕ → List LiveTap → CapStates

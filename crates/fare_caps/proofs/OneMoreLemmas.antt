@@ -1,9 +1,9 @@
 -- One more cap never costs more, if all caps count all modes.
-use Rattle.std.proofs.Common.{◌≡◌, ℕ, suc, ◌+◌, ◌-◌, ◌<◌, ◌≤◌, ◌==◌, Bool, true, false, cond, List}
+use Rattle.std.proofs.Common.{◌≡◌, ℕ, suc, ◌+◌, ◌-◌, ◌≤◌, ◌==◌, true, false, cond, List}
 use Rattle.std.proofs.Common.{[]}
-use Rattle.std.proofs.Common.{◌∷◌, Option, Some, None, refl, sym, ap, ◌∙◌, inl, inr, arith, min}
+use Rattle.std.proofs.Common.{◌∷◌, Option, Some, None, refl, ap, ◌∙◌, inl, inr, arith, min}
 use Rattle.std.proofs.Common.{nat_lt}
-use Rattle.std.proofs.Common.{All, map, sum_by, subst}
+use Rattle.std.proofs.Common.{All, map, sum_by}
 use Rattle.std.proofs.lemmas.Bool.{cases_Bool, eqb-true, ltb-false, ltb-true}
 use Rattle.std.proofs.lemmas.List.Elements.{All-head, All-tail}
 use Rattle.std.proofs.lemmas.List.Sums.{sum_by-cons}
@@ -24,7 +24,6 @@ use Rattle.fare_caps.specs.CapWindows.{Charged, charged, charged_after}
 use Rattle.fare_caps.specs.CappedReplies.{capped_replies}
 use Rattle.fare_caps.specs.Charges.{cap_cents, least_from, lesser, lowered, lowered_by}
 use Rattle.fare_caps.specs.Laws.{CountsAll, with_cap}
-use Rattle.fare_caps.specs.declared.cap_charge.CapCharge.TheVariants.{ByWindow, CapCut, CapReached}
 use Rattle.fare_caps.specs.declared.cap_charge.CapLeft.{CapLeft}
 use Rattle.fare_caps.specs.declared.cap_window.CapWindow.{CapWindow}
 use Rattle.fare_caps.proofs.BillLemmas.{rides-bill}

@@ -1,9 +1,8 @@
 -- What one more tap makes of the rides, by why it is answered as it is.
-use Rattle.std.proofs.Common.{◌≡◌, ℕ, Bool, true, false, cond, List, [], ◌∷◌, ◌++◌, Option, Some}
+use Rattle.std.proofs.Common.{◌≡◌, Bool, true, false, List, [], ◌∷◌, ◌++◌, Option, Some}
 use Rattle.std.proofs.Common.{None}
-use Rattle.std.proofs.Common.{refl, sym, ap, ◌∙◌, append-nil, ⊎_elim}
+use Rattle.std.proofs.Common.{refl, ap, ◌∙◌, append-nil, ⊎_elim}
 use Rattle.std.proofs.lemmas.Bool.{cases_Bool}
-use Rattle.std.specs.Option.{option_to_list}
 use Rattle.tariffs.specs.declared.mode.Mode.{Mode}
 use Rattle.account_rule.specs.declared.reason.Reason.{Reason}
 use Rattle.account_rule.specs.declared.reason.Reason.TheVariants.{Ride, Stale, Transfer, Unknown}
@@ -13,7 +12,7 @@ use Rattle.account_rule.specs.Reasons.{given_by, latest, live_reason, reason, ri
 use Rattle.account_rule.specs.TokenRules.{TokenRules}
 use Rattle.account_rule.specs.Taps.{LiveTap, is_later, live_at, live_tap}
 use Rattle.account_rule.specs.Trips.{TripEnd, ends_in_transfer, last_trip, rides, trips}
-use Rattle.account_rule.specs.Windows.{is_within, windows}
+use Rattle.account_rule.specs.Windows.{windows}
 use Rattle.account_rule.proofs.ReasonLemmas.{reason_live, reason_stale, reason_transfer}
 use Rattle.account_rule.proofs.ReasonLemmas.{reason_unknown}
 use Rattle.account_rule.proofs.StepLemmas.{is_live, not_known, not_later}

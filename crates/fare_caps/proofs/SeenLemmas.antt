@@ -1,7 +1,6 @@
 -- What one more tap makes of the states.
-use Rattle.std.proofs.Common.{◌≡◌, ℕ, false, List, [], ◌∷◌, ◌++◌, length, Option, Some, None, refl}
-use Rattle.std.proofs.Common.{sym}
-use Rattle.std.proofs.Common.{ap, ◌∙◌, option_map}
+use Rattle.std.proofs.Common.{◌≡◌, ℕ, false, List, [], ◌∷◌, ◌++◌, Option, Some, None, refl}
+use Rattle.std.proofs.Common.{ap, ◌∙◌}
 use Rattle.tariffs.specs.declared.mode.Mode.{Mode}
 use Rattle.account_rule.specs.declared.reason.Charge.{Charge}
 use Rattle.account_rule.specs.declared.reason.Reason.{Reason}
@@ -10,11 +9,10 @@ use Rattle.account_rule.specs.declared.tap.TapIn.{TapIn}
 use Rattle.account_rule.specs.declared.window.WindowView.{WindowView}
 use Rattle.account_rule.specs.Blocks.{last_block}
 use Rattle.account_rule.specs.Reasons as rule
-use Rattle.account_rule.specs.TokenRules.{TokenRules}
-use Rattle.account_rule.specs.Taps.{LiveTap, live_at}
+use Rattle.account_rule.specs.Taps.{live_at}
 use Rattle.account_rule.specs.Trips.{rides}
 use Rattle.account_rule.specs.Windows.{charge, last_window, windows}
-use Rattle.fare_caps.specs.Caps.{CapRules, CappedRules}
+use Rattle.fare_caps.specs.Caps.{CappedRules}
 use Rattle.fare_caps.specs.CapStates.{CapStates, after_ride, at_ride, no_rides, ride_charge}
 use Rattle.fare_caps.specs.CapStates.{states}
 use Rattle.fare_caps.specs.Laws.{without_caps}

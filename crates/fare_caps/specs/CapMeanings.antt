@@ -1,5 +1,5 @@
 -- What a table says of its caps, and the rules of a token by it.
-use Rattle.std.specs.Prelude.{ℕ, ◌<◌, ◌≤◌, Bool, false, if◌then◌else◌, List, [], ◌∷◌, All, map}
+use Rattle.std.specs.Prelude.{ℕ, ◌≤◌, false, if◌then◌else◌, List, [], ◌∷◌, All, map}
 use Rattle.std.specs.Prelude.{nat_le, slice_index_or}
 use Rattle.tariffs.specs.Fares.{Fares}
 use Rattle.tariffs.specs.Until.{window_end_in}

@@ -1,5 +1,5 @@
 -- Each way out of the step is one of the rule's cases: no caps, no ride, or a ride.
-use Rattle.std.proofs.Common.{◌≡◌, ◌≤◌, List, [], ◌∷◌, ◌++◌, Some, arith, sym, ap, ◌∙◌, length}
+use Rattle.std.proofs.Common.{List, [], ◌∷◌, ◌++◌, arith, sym, ◌∙◌}
 use Rattle.account_rule.specs.Represents as kept
 use Rattle.account_rule.specs.declared.tap.TapIn.{TapIn}
 use Rattle.fare_caps.specs.CapMeanings.{capped_rules_of}

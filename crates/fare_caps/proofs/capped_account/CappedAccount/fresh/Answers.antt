@@ -1,6 +1,5 @@
-use Rattle.std.proofs.Common.{◌≤◌, [], length}
-use Rattle.fare_caps.specs.Caps.{CappedRules}
-use Rattle.fare_caps.specs.Represents.{Represents, RepresentsSome}
+use Rattle.std.proofs.Common.{[]}
+use Rattle.fare_caps.specs.Represents.{RepresentsSome}
 use Rattle.fare_caps.proofs.FurtherLemmas.{keeps-nothing}
 use Rattle.fare_caps.proofs.capped_account.CappedAccount.fresh.Goals as goal
 

@@ -1,4 +1,4 @@
-use Rattle.std.proofs.Common.{◌≡◌, arith, sym, ap, ◌∙◌, length}
+use Rattle.std.proofs.Common.{arith, sym, ap, ◌∙◌}
 use Rattle.fare_caps.specs.declared.cap_window.CapWindow.{CapWindow}
 use Rattle.fare_caps.proofs.FurtherLemmas.{keeps-some}
 use Rattle.fare_caps.proofs.NoCapsLemmas.{window-empty}

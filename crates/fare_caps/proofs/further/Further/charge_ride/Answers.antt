@@ -1,5 +1,5 @@
 -- The numbers leave room at each step: what the caps leave bounds what the ride costs.
-use Rattle.std.proofs.Common.{◌≡◌, ◌≤◌, Option}
+use Rattle.std.proofs.Common.{Option}
 use Rattle.tariffs.specs.Until.{window_end_in}
 use Rattle.fare_caps.specs.declared.cap.RideCap.{RideCap}
 use Rattle.fare_caps.specs.declared.further.RideCaps.{RideCaps}
