@@ -7,7 +7,6 @@ use crate::step::put;
 use crate::stop::Stop;
 use crate::task::{Step, Task};
 use std::alloc::Global;
-use std::fmt::Display;
 use world::World;
 
 fn pull<T: Task<W>, W: World>(alloc: Global, task: &mut T, world: &mut W) -> Result<u8, Stop>
@@ -36,14 +35,13 @@ fn pull<T: Task<W>, W: World>(alloc: Global, task: &mut T, world: &mut W) -> Res
     Err(Stop::NoMemory)
 }
 
-/// Reports the line of what stopped a run, unless the reader of the output is gone.
-pub fn report<W: World, D: Display + Drop>(why: Stop, line: D, world: &mut W)
+fn report<T: Task<W>, W: World>(task: &T, why: Stop, world: &mut W)
     ensures { IsReported why (W.run world.old) (W.run world.new) }
 {
     if why.is_quiet() {
         return;
     }
-    let _ = world.report_line(line);
+    let _ = world.report_line(task.line(why));
 }
 
 /// Runs the task and writes its answer. What stops it from outside is reported, with status 1.
@@ -55,7 +53,7 @@ pub fn run_task<T: Task<W>, W: World>(alloc: Global, task: &mut T, world: &mut W
     match pull(alloc, task, world) {
         Ok(status) => status,
         Err(why) => {
-            report(why, task.line(why), world);
+            report(task, why, world);
             1
         }
     }

@@ -6,6 +6,7 @@ ghost use Rattle.line_folds.specs.inside.Fronts.{HasTaken, IsFirstLine};
 
 use memchr::memchr;
 use std::alloc::AllocError;
+use std::io;
 use std::io::{BufRead, ErrorKind};
 
 const MAX_LINE_BYTES: usize = 1_024;
@@ -25,15 +26,30 @@ pub enum ReadFault {
     NoMemory,
 }
 
+impl From<AllocError> for ReadFault {
+    fn from(_refused: AllocError) -> ReadFault {
+        ReadFault::NoMemory
+    }
+}
+
+fn fault_of(error: &io::Error) -> ReadFault {
+    if error.kind() == ErrorKind::OutOfMemory {
+        ReadFault::NoMemory
+    } else {
+        ReadFault::Unread
+    }
+}
+
 /// Appends the next line if the reader has it at hand, and says whether it has.
-fn take_line<R: BufRead>(from: &mut R, line: &mut Vec<u8>) -> Result<bool, AllocError>
+fn take_line<R: BufRead>(from: &mut R, line: &mut Vec<u8>) -> Result<bool, ReadFault>
     requires { line.old.items ≡ [] }
     ensures { IfOk result (λ taken. IfSome (R.remaining from.old) (λ text.
         HasTaken text line.new.items (R.remaining from.new) taken)) }
 {
     let front = match from.fill_buf() {
         Ok(front) => front,
-        Err(_) => return Ok(false),
+        Err(error) if error.kind() == ErrorKind::Interrupted => return Ok(false),
+        Err(error) => return Err(fault_of(&error)),
     };
     let Some(end) = memchr(b'\n', front) else {
         return Ok(false);
@@ -52,12 +68,11 @@ fn append_line<R: BufRead>(from: &mut R, line: &mut Vec<u8>) -> Result<(), ReadF
     match take_line(from, line) {
         Ok(true) => return Ok(()),
         Ok(false) => {}
-        Err(AllocError) => return Err(ReadFault::NoMemory),
+        Err(why) => return Err(why),
     }
     match from.read_until(b'\n', line) {
         Ok(_) => Ok(()),
-        Err(error) if error.kind() == ErrorKind::OutOfMemory => Err(ReadFault::NoMemory),
-        Err(_) => Err(ReadFault::Unread),
+        Err(error) => Err(fault_of(&error)),
     }
 }
 

@@ -1,5 +1,6 @@
 //! Standard output.
 
+use program_manners::Output;
 use std::alloc::AllocError;
 use std::io::{BufWriter, Write};
 
@@ -9,9 +10,9 @@ const WRITE_BYTES: usize = 65_536;
 pub(crate) fn collect<W: Write + Drop>(
     rt: &HostRuntime,
     to: W,
-) -> Result<BufWriter<W>, AllocError> {
+) -> Result<Output<BufWriter<W>>, AllocError> {
     match BufWriter::with_capacity(rt.alloc(), WRITE_BYTES, to) {
-        Ok(collected) => Ok(collected),
+        Ok(collected) => Ok(Output::new(collected)),
         Err(_) => Err(AllocError),
     }
 }

@@ -1,7 +1,6 @@
 pub mod AgencyStartedLemmas
 mod AgencyLemmas
-pub mod AgencyMomentLemmas
-mod NumberLemmas
+mod AgencyMomentLemmas
 mod AgencyRowLemmas
 pub mod StartedLemmas
 mod DeviceLemmas

@@ -4,4 +4,5 @@ pub mod Goings
 pub mod Positions
 pub mod RecordReaders
 pub mod TapTables
+pub mod Validators
 pub mod WaitingTaps

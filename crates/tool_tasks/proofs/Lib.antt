@@ -1,13 +1,10 @@
-mod Informing
-pub mod KnownBytes
-mod Loading
+pub mod DecodedTables
 pub mod Decoding
 pub mod Encoded
 pub mod EncodedRows
 pub mod Faults
 pub mod FilesMade
-pub mod Making
+pub mod ValidPrefixes
 pub mod MergedUploads
 pub mod Opened
 pub mod Sorting
-pub mod ValidPrefixes

@@ -4,7 +4,6 @@ pub mod Encode
 pub mod EncodeRows
 pub mod Fault
 pub mod ValidPrefix
-pub mod Informs
 pub mod Layout
 pub mod MergeSorted
 pub mod Names

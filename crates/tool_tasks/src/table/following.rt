@@ -1,20 +1,21 @@
 //! Tables that follow others.
 
 use crate::fault::Fault;
-use crate::informs::push_line;
 use crate::names::Escaped;
+use crate::table::say_lines;
 use fare_table::{FareTable, FollowFault, TableFault};
-use program_manners::{FollowLine, NextFault, TableWord, table_after};
+use program_manners::{Complaints, FollowLine, NextFault, TableWord, table_after};
 use std::alloc::{AllocError, Global};
+use std::io::Write;
 use table_report::TableText;
 use tap_views::MomentSpan;
 use tool_words::{LaterTable, TableQuestion};
 
-fn note_next<'a>(
+fn say_next<'a, E: Write>(
     alloc: Global,
     word: &'a str,
     fault: NextFault,
-    note: &mut Vec<u8>,
+    err: &mut Complaints<E>,
 ) -> Result<(), Fault<'a>> {
     match fault {
         NextFault::Table(TableFault::NoMemory) | NextFault::Follow(FollowFault::NoMemory) => {
@@ -22,24 +23,25 @@ fn note_next<'a>(
         }
         NextFault::Table(fault) => {
             let refused = Fault::FareTable(TableWord::of(word).name, fault);
-            push_line(alloc, refused, note)?;
+            let line = format!(in alloc; "{refused}")?;
+            say_lines(err, line.as_str());
         }
         NextFault::Follow(fault) => {
             let shown = Escaped(word);
             let word = format!(in alloc; "{shown}")?;
-            push_line(alloc, FollowLine { word: &word, fault }, note)?;
+            err.report_line(FollowLine { word: &word, fault });
         }
     }
     Ok(())
 }
 
-/// Nothing if it does not follow, which is noted.
-fn table_next<'a>(
+/// Nothing if it does not follow, which is reported.
+fn table_next<'a, E: Write>(
     alloc: Global,
     fares: FareTable,
     later: &LaterTable<'a>,
     text: &[u8],
-    note: &mut Vec<u8>,
+    err: &mut Complaints<E>,
 ) -> Result<Option<FareTable>, Fault<'a>> {
     let Some(date) = TableWord::of(later.word).date else {
         unreachable!();
@@ -47,26 +49,26 @@ fn table_next<'a>(
     match table_after(alloc, fares, date, text) {
         Ok(all) => Ok(Some(all)),
         Err(fault) => {
-            note_next(alloc, later.word, fault, note)?;
+            say_next(alloc, later.word, fault, err)?;
             Ok(None)
         }
     }
 }
 
-/// The tables of these texts as one; nothing if one does not follow, which is noted.
-pub(crate) fn joined<'a>(
+/// The tables of these texts as one; nothing if one does not follow, which is reported.
+pub(crate) fn joined<'a, E: Write>(
     alloc: Global,
     question: &TableQuestion<'a>,
     tables: &[TableText<'_>],
     texts: &[Vec<u8>],
-    note: &mut Vec<u8>,
+    err: &mut Complaints<E>,
 ) -> Result<Option<FareTable>, Fault<'a>> {
     let Some(first) = tables.first() else {
         return Ok(None);
     };
     let mut fares = first.fares(alloc)?;
     for (table, text) in question.later.iter().zip(texts.iter().skip(1)) {
-        match table_next(alloc, fares, table, text, note)? {
+        match table_next(alloc, fares, table, text, err)? {
             Some(all) => fares = all,
             None => return Ok(None),
         }

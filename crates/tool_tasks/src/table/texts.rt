@@ -3,8 +3,10 @@
 use crate::fault::Fault;
 use crate::names::Name;
 use crate::refused_text::RefusedText;
-use crate::table::push_lines;
+use crate::table::say_lines;
+use program_manners::Complaints;
 use std::alloc::Global;
+use std::io::Write;
 use table_report::{Refusal, TableText};
 
 /// Why a text is not a table.
@@ -22,35 +24,35 @@ fn lines_of<'a>(alloc: Global, word: &'a str, refusal: Refusal) -> Result<String
     Ok(format!(in alloc; "{refused}")?)
 }
 
-/// Nothing if it is not a table, which is noted.
-fn read_text<'a, 't>(
+/// Nothing if it is not a table, which is reported.
+fn read_text<'a, 't, E: Write>(
     alloc: Global,
     word: &'a str,
     text: &'t [u8],
-    note: &mut Vec<u8>,
+    err: &mut Complaints<E>,
 ) -> Result<Option<TableText<'t>>, Fault<'a>> {
     let shown = format!(in alloc; "{}", Name(word))?;
     match TableText::read(alloc, &shown, text) {
         Ok(table) => Ok(Some(table)),
         Err(refusal) => {
             let lines = lines_of(alloc, word, refusal)?;
-            push_lines(&lines, note)?;
+            say_lines(err, &lines);
             Ok(None)
         }
     }
 }
 
-/// What the texts mean; nothing if one is not a table. Why each of these is none is noted.
-pub(crate) fn read_texts<'a, 't>(
+/// What the texts mean; nothing if one is not a table. Why each of these is none is reported.
+pub(crate) fn read_texts<'a, 't, E: Write>(
     alloc: Global,
     words: &[&'a str],
     texts: &'t [Vec<u8>],
-    note: &mut Vec<u8>,
+    err: &mut Complaints<E>,
 ) -> Result<Option<Vec<TableText<'t>>>, Fault<'a>> {
     let mut tables = Vec::new(alloc);
     let mut succeeded = true;
     for (word, text) in words.iter().zip(texts.iter()) {
-        match read_text(alloc, word, text, note)? {
+        match read_text(alloc, word, text, err)? {
             Some(table) => tables.push(table)?,
             None => succeeded = false,
         }

@@ -1,0 +1,10 @@
+use Rattle.std.specs.Prelude.{take}
+use Rattle.std.specs.List.{AllZip}
+use Rattle.csv.specs.Records.{fields_of}
+use Rattle.tap_rows.specs.inside.Positions.{IsPositionOf}
+use Rattle.tap_rows.proofs.agency.positions.positions_of_conditions.Given as goal
+
+abbrev pub invariant-loop-index : goal.invariant-loop-index
+invariant-loop-index l =
+    AllZip (IsPositionOf (fields_of l.fn.head)) (take l.index l.fn.choice.only.now)
+    l.positions.items
